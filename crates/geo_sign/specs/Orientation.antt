@@ -1,0 +1,8 @@
+-- How four places lie.
+use Rattle.std.specs.Prelude.{ℤ}
+use Rattle.geo_sign.specs.Place.{Place, step, cross, dot}
+
+-- Six times the volume of the tetrahedron a b c d, positive where d is on the side of a b c to which their normal
+-- (b - a) x (c - a) points. Four places with a positive orientation are written positively.
+unfoldable pub orientation : Place → Place → Place → Place → ℤ
+orientation a b c d = dot (cross (step a b) (step a c)) (step a d)

@@ -1,0 +1,106 @@
+//! Points of the box, in scaled whole units, and the box's corners. It stands on nothing.
+
+ghost use Rattle.std.specs.Prelude.{◌≡◌, ◌<◌, IfSome, IfNone};
+ghost use Rattle.geo_sign.specs.Place.{place, IsWithin, corner_place};
+
+use std::marker::Model;
+
+/// The greatest absolute value of a point's coordinate: 2^23 scaled units, where the walls of the box are.
+const BOX_LIMIT: i32 = 8_388_608;
+
+/// The greatest absolute value of a coordinate that a scan states: 2^21 - 1 scaled units.
+const DATA_LIMIT: u64 = 2_097_151;
+
+/// A point of the box, in scaled whole units. Contracts see it as its place.
+#[derive(Clone, Copy, Debug, PartialEq, Eq, PartialOrd, Ord, Hash)]
+pub struct Point {
+    x: i32,
+    y: i32,
+    z: i32,
+}
+
+impl Model for Point {
+    ghost use Rattle.geo_sign.specs.Place.{Place, place, IsWithin};
+
+    ghost Value = { Place };
+
+    ghost view = { λ p. place p.x p.y p.z };
+
+    ghost invariant = { λ p. IsWithin 8388608 (place p.x p.y p.z) };
+
+    ghost inverse = { λ p. record { x = p.x; y = p.y; z = p.z } };
+}
+
+impl Point {
+    /// A data point: one that a scan may state. None exactly where a coordinate has an absolute value over 2,097,151.
+    pub fn data(x: i64, y: i64, z: i64) -> Option<Point>
+        ensures some { IfSome result (λ p. (p ≡ place x y z) × IsWithin 2097151 p) }
+        ensures none { IfNone result (¬ IsWithin 2097151 (place x y z)) }
+    {
+        if x.unsigned_abs() <= DATA_LIMIT
+            && y.unsigned_abs() <= DATA_LIMIT
+            && z.unsigned_abs() <= DATA_LIMIT
+        {
+            Some(Point {
+                x: x as i32,
+                y: y as i32,
+                z: z as i32,
+            })
+        } else {
+            None
+        }
+    }
+
+    /// A point of the box. None exactly where a coordinate has an absolute value over 8,388,608.
+    pub fn in_box(x: i64, y: i64, z: i64) -> Option<Point>
+        ensures some { IfSome result (λ p. (p ≡ place x y z) × IsWithin 8388608 p) }
+        ensures none { IfNone result (¬ IsWithin 8388608 (place x y z)) }
+    {
+        if x.unsigned_abs() <= BOX_LIMIT as u64
+            && y.unsigned_abs() <= BOX_LIMIT as u64
+            && z.unsigned_abs() <= BOX_LIMIT as u64
+        {
+            Some(Point {
+                x: x as i32,
+                y: y as i32,
+                z: z as i32,
+            })
+        } else {
+            None
+        }
+    }
+
+    /// The first coordinate.
+    pub fn x(&self) -> i32
+        ensures { result ≡ self.now.x }
+    {
+        self.x
+    }
+
+    /// The second coordinate.
+    pub fn y(&self) -> i32
+        ensures { result ≡ self.now.y }
+    {
+        self.y
+    }
+
+    /// The third coordinate.
+    pub fn z(&self) -> i32
+        ensures { result ≡ self.now.z }
+    {
+        self.z
+    }
+}
+
+/// Corner k of the box, with 2^23 along the axis of each bit that is set in k (bit 0 is x, bit 1 y, bit 2 z) and -2^23
+/// along the others.
+pub fn corner(k: u8) -> Point
+    requires { k < 8 }
+    ensures { result ≡ corner_place k }
+{
+    Point {
+        x: if k & 1 == 0 { -BOX_LIMIT } else { BOX_LIMIT },
+        y: if k & 2 == 0 { -BOX_LIMIT } else { BOX_LIMIT },
+        z: if k & 4 == 0 { -BOX_LIMIT } else { BOX_LIMIT },
+    }
+}
