@@ -1,9 +1,16 @@
--- The sign of a number.
+-- Signs.
 use Rattle.std.specs.Prelude.{ℤ, pos, negsuc, zero, suc}
 use Rattle.geo_sign.specs.declared.sign.Sign.{Sign}
 use Rattle.geo_sign.specs.declared.sign.Sign.TheVariants.{Neg, Zero, Pos}
 
+-- the sign of a number
 abbrev pub sign_of : ℤ → Sign
 sign_of (pos zero) = Zero
 sign_of (pos (suc n)) = Pos
 sign_of (negsuc n) = Neg
+
+-- the first of two signs that is not zero, and zero where both are
+abbrev pub first_sign : Sign → Sign → Sign
+first_sign Neg s = Neg
+first_sign Zero s = s
+first_sign Pos s = Pos

@@ -1,8 +1,30 @@
 //! Points of the box and the exact signs of how they lie.
+//!
+//! All signs are exact: each is the sign of a polynomial with whole coefficients in whole coordinates, computed without rounding
+//! in integers that hold its largest value. Nothing is filtered, scaled or perturbed in floating point.
+//!
+//! Orientation is right-handed. The orientation of a, b, c, d is positive where a, b, c turn counterclockwise as seen from d, which
+//! is where d lies on the side of their plane to which the normal (b - a) x (c - a) points. Four points with a positive orientation
+//! are written positively. A side of a facet a, b, c is positive in the same way, as seen from the place in question.
+//!
+//! | Sign | Polynomial | Degree | Bits |
+//! |---|---|---|---|
+//! | `orient` | six times the volume of a tetrahedron | 3 | 75 |
+//! | `in_sphere` | the power of a point at four others | 5 | 127 |
+//! | `side_of_scanner` | four signs of degree 3 and 2, the first that is not zero | 3 | 75 |
 #![tactic(auto)]
 
+mod orientation;
 mod point;
+mod scanner;
 mod sign;
+mod sphere;
+#[cfg(test)]
+mod tests;
+mod vector;
 
+pub use orientation::{orient, orient_value};
 pub use point::{Point, corner};
+pub use scanner::side_of_scanner;
 pub use sign::Sign;
+pub use sphere::in_sphere;

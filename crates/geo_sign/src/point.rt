@@ -1,8 +1,9 @@
-//! Points of the box, in scaled whole units, and the box's corners. It stands on nothing.
+//! Points of the box, in scaled whole units, the box's corners, and the vector between two points.
 
-ghost use Rattle.std.specs.Prelude.{◌≡◌, ◌<◌, IfSome, IfNone};
-ghost use Rattle.geo_sign.specs.Place.{place, IsWithin, corner_place};
+ghost use Rattle.std.specs.Prelude.{◌≡◌, ◌<◌, ◌^◌, IfSome, IfNone};
+ghost use Rattle.geo_sign.specs.Place.{place, IsWithin, corner_place, step};
 
+use crate::vector::Vector;
 use std::marker::Model;
 
 /// The greatest absolute value of a point's coordinate: 2^23 scaled units, where the walls of the box are.
@@ -89,6 +90,19 @@ impl Point {
         ensures { result ≡ self.now.z }
     {
         self.z
+    }
+
+    /// The vector from this point to another. Two coordinates are at most 2^24 apart.
+    pub(crate) fn to(self, end: Point) -> Vector
+        ensures value { result ≡ step self end }
+        ensures bound { IsWithin (2 ^ 24) result }
+        ensures kept { IsWithin 8388608 self × IsWithin 8388608 end }
+    {
+        Vector::new(
+            i64::from(end.x - self.x),
+            i64::from(end.y - self.y),
+            i64::from(end.z - self.z),
+        )
     }
 }
 

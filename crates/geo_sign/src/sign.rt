@@ -10,3 +10,32 @@ pub enum Sign {
     /// Above zero.
     Pos,
 }
+
+impl Sign {
+    ghost use Rattle.std.specs.Prelude.{◌≡◌};
+    ghost use Rattle.geo_sign.specs.Signs.{sign_of, first_sign};
+
+    /// The sign of a number.
+    pub(crate) fn of(number: i128) -> Sign
+        ensures { result ≡ sign_of number }
+    {
+        if number < 0 {
+            Sign::Neg
+        } else if number == 0 {
+            Sign::Zero
+        } else {
+            Sign::Pos
+        }
+    }
+
+    /// This sign, or the other where this one is zero.
+    pub fn or(self, other: Sign) -> Sign
+        ensures { result ≡ first_sign self other }
+    {
+        match self {
+            Sign::Neg => Sign::Neg,
+            Sign::Zero => other,
+            Sign::Pos => Sign::Pos,
+        }
+    }
+}

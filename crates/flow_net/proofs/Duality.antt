@@ -1,0 +1,215 @@
+use Rattle.std.proofs.Common.{ℕ, ◌≡◌, ◌<◌, ◌≤◌, ◌+◌, Bool, true, false, cond, not, ◌&&◌, List, length, get_or, refl, sym, arith}
+use Rattle.std.proofs.lemmas.Bool.{false≢true, both_ways, false_from_ne_true}
+use Rattle.flow_net.specs.Sums.{sum_below}
+use Rattle.flow_net.specs.Nets.{arc_at, flag_at}
+use Rattle.flow_net.specs.Flows.{IsValidFlow, IsAdmissible, IsLargest, IsLeastCost, value_of, cost_of, node_value, node_cost, arc_cost, amount_in, amount_out}
+use Rattle.flow_net.specs.declared.Net.{Net}
+use Rattle.flow_net.specs.declared.Labels.{Labels}
+use Rattle.flow_net.specs.declared.Flow.{Flow}
+use Rattle.flow_net.specs.declared.Arc.{Arc}
+use Rattle.flow_net.proofs.SumLemmas.{sum_below-le, sum_below-add, sum_below-cong, sum_below-ends, sum_below-tight}
+
+-- what the sinks of inside nodes take
+abbrev pub inside_sinks : List Bool → List ℕ → ℕ → ℕ
+inside_sinks inside on_sink v = cond (flag_at inside v) (get_or on_sink v 0) 0
+
+-- what arc j brings to inside nodes
+abbrev pub to_inside : List Arc → List ℕ → List Bool → ℕ → ℕ
+to_inside arcs on_arc inside j = cond (flag_at inside (arc_at arcs j).to) (get_or on_arc j 0) 0
+
+-- what arc j takes from inside nodes
+abbrev pub from_inside : List Arc → List ℕ → List Bool → ℕ → ℕ
+from_inside arcs on_arc inside j = cond (flag_at inside (arc_at arcs j).from) (get_or on_arc j 0) 0
+
+-- a balance under a test
+balance_if : (b : Bool) (x y z : ℕ) → (b ≡ true → x ≡ y + z) → cond b x 0 ≡ cond b y 0 + cond b z 0
+balance_if true x y z h = h refl
+balance_if false x y z h = omega arith
+
+-- an arc by where its ends are
+cut_if : (s t : Bool) (f c : ℕ) → f ≤ c → cond t f 0 ≤ cond s f 0 + cond (not s && t) c 0
+cut_if true true f c h = omega arith
+cut_if true false f c h = omega arith
+cut_if false true f c h = omega arith
+cut_if false false f c h = omega arith
+
+-- a node by where it is
+node_if : (b x : Bool) (taken sink : ℕ) → (x ≡ true → b ≡ false) → taken ≤ sink →
+    cond x sink taken ≤ cond b taken 0 + cond b 0 sink
+node_if true true taken sink h l = absurd (false≢true (sym (h refl)))
+node_if true false taken sink h l = omega arith
+node_if false true taken sink h l = omega arith
+node_if false false taken sink h l = omega arith
+
+-- at one node
+at_node : (net : Net) (flow : Flow) (labels : Labels) →
+    IsValidFlow net flow → IsAdmissible net labels → (v : ℕ) → v < length net.fixed →
+    cond (flag_at labels.inside v) (amount_in net.arcs flow.on_arc v) 0
+    ≡ cond (flag_at labels.inside v) (amount_out net.arcs flow.on_arc v) 0 + inside_sinks labels.inside flow.on_sink v
+at_node net flow labels valid admissible v l =
+    balance_if (flag_at labels.inside v) (amount_in net.arcs flow.on_arc v) (amount_out net.arcs flow.on_arc v) (get_or flow.on_sink v 0)
+    (λ is_in. valid.balanced v l
+    (false_from_ne_true (flag_at net.fixed v) (λ is_fixed. both_ways _ (admissible.none_fixed v l is_fixed) is_in)))
+
+-- what inside nodes get is what they give
+pub inside_balance : (net : Net) (flow : Flow) (labels : Labels) →
+    IsValidFlow net flow → IsAdmissible net labels →
+    sum_below (length net.arcs) (to_inside net.arcs flow.on_arc labels.inside)
+    ≡ sum_below (length net.arcs) (from_inside net.arcs flow.on_arc labels.inside)
+    + sum_below (length net.fixed) (inside_sinks labels.inside flow.on_sink)
+inside_balance net flow labels valid admissible =
+    let n : ℕ = length net.fixed in
+    let m : ℕ = length net.arcs in
+    let arcs : List Arc = net.arcs in
+    let ends_in = sum_below-ends n m (λ j. (arc_at arcs j).to) (λ j. get_or flow.on_arc j 0) (flag_at labels.inside) (λ j l. (net.valid.valid_arcs j l).to_in) in
+    let ends_out = sum_below-ends n m (λ j. (arc_at arcs j).from) (λ j. get_or flow.on_arc j 0) (flag_at labels.inside) (λ j l. (net.valid.valid_arcs j l).from_in) in
+    let at_nodes = sum_below-cong n
+    (λ v. cond (flag_at labels.inside v) (amount_in arcs flow.on_arc v) 0)
+    (λ v. cond (flag_at labels.inside v) (amount_out arcs flow.on_arc v) 0 + inside_sinks labels.inside flow.on_sink v)
+    (λ v l. at_node net flow labels valid admissible v l) in
+    let both = sum_below-add n (λ v. cond (flag_at labels.inside v) (amount_out arcs flow.on_arc v) 0) (inside_sinks labels.inside flow.on_sink) in
+    omega (arith, ends_in, ends_out, at_nodes, both)
+
+-- arc by arc, what comes in is what goes out and what the cut lets through
+pub arc_le : (net : Net) (flow : Flow) (labels : Labels) →
+    IsValidFlow net flow → (j : ℕ) → j < length net.arcs →
+    to_inside net.arcs flow.on_arc labels.inside j
+    ≤ from_inside net.arcs flow.on_arc labels.inside j + arc_cost net.arcs labels.inside j
+arc_le net flow labels valid j l =
+    cut_if (flag_at labels.inside (arc_at net.arcs j).from) (flag_at labels.inside (arc_at net.arcs j).to)
+    (get_or flow.on_arc j 0) (arc_at net.arcs j).cap (valid.within_cap j l)
+
+-- node by node
+pub node_le : (net : Net) (flow : Flow) (labels : Labels) →
+    IsValidFlow net flow → IsAdmissible net labels → (v : ℕ) → v < length net.fixed →
+    node_value net.fixed net.sink flow.on_sink v
+    ≤ inside_sinks labels.inside flow.on_sink v + node_cost net.sink labels.inside v
+node_le net flow labels valid admissible v l =
+    node_if (flag_at labels.inside v) (flag_at net.fixed v) (get_or flow.on_sink v 0) (get_or net.sink v 0)
+    (admissible.none_fixed v l) (valid.within_sink v l)
+
+-- the value of a valid flow is at most the cost of admissible labels
+pub value_le_cost : (net : Net) (flow : Flow) (labels : Labels) →
+    IsValidFlow net flow → IsAdmissible net labels → value_of net flow ≤ cost_of net labels
+value_le_cost net flow labels valid admissible =
+    let n : ℕ = length net.fixed in
+    let m : ℕ = length net.arcs in
+    let arcs : List Arc = net.arcs in
+    let nodes = sum_below-le n (node_value net.fixed net.sink flow.on_sink)
+    (λ v. inside_sinks labels.inside flow.on_sink v + node_cost net.sink labels.inside v)
+    (node_le net flow labels valid admissible) in
+    let nodes_add = sum_below-add n (inside_sinks labels.inside flow.on_sink) (node_cost net.sink labels.inside) in
+    let along = sum_below-le m (to_inside arcs flow.on_arc labels.inside)
+    (λ j. from_inside arcs flow.on_arc labels.inside j + arc_cost arcs labels.inside j)
+    (arc_le net flow labels valid) in
+    let along_add = sum_below-add m (from_inside arcs flow.on_arc labels.inside) (arc_cost arcs labels.inside) in
+    omega (arith, nodes, nodes_add, along, along_add, inside_balance net flow labels valid admissible)
+
+-- no room is left where labels cut: arcs into the inside are full, arcs out of it are empty, outside sinks are full
+pub record IsTight (net : Net) (flow : Flow) (labels : Labels) : Type 0 where
+  pub saturated :
+      (j : ℕ) → j < length net.arcs → flag_at labels.inside (arc_at net.arcs j).from ≡ false →
+      flag_at labels.inside (arc_at net.arcs j).to ≡ true → get_or flow.on_arc j 0 ≡ (arc_at net.arcs j).cap
+  pub unused :
+      (j : ℕ) → j < length net.arcs → flag_at labels.inside (arc_at net.arcs j).from ≡ true →
+      flag_at labels.inside (arc_at net.arcs j).to ≡ false → get_or flow.on_arc j 0 ≡ 0
+  pub full :
+      (v : ℕ) → v < length net.fixed → flag_at labels.inside v ≡ false → flag_at net.fixed v ≡ false →
+      get_or flow.on_sink v 0 ≡ get_or net.sink v 0
+
+-- an arc at which nothing is left over
+cut_is : (s t : Bool) (f c : ℕ) → (s ≡ false → t ≡ true → f ≡ c) → (s ≡ true → t ≡ false → f ≡ 0) →
+    cond t f 0 ≡ cond s f 0 + cond (not s && t) c 0
+cut_is true true f c h k = omega arith
+cut_is true false f c h k = omega (arith, k refl refl)
+cut_is false true f c h k = omega (arith, h refl refl)
+cut_is false false f c h k = omega arith
+
+-- a node at which nothing is left over
+node_is : (b x : Bool) (taken sink : ℕ) → (x ≡ true → b ≡ false) → (b ≡ false → x ≡ false → taken ≡ sink) →
+    cond x sink taken ≡ cond b taken 0 + cond b 0 sink
+node_is true true taken sink h l = absurd (false≢true (sym (h refl)))
+node_is true false taken sink h l = omega arith
+node_is false true taken sink h l = omega arith
+node_is false false taken sink h l = omega (arith, l refl refl)
+
+-- tight labels cost what the flow is worth
+pub value_is_cost : (net : Net) (flow : Flow) (labels : Labels) →
+    IsValidFlow net flow → IsAdmissible net labels → IsTight net flow labels →
+    value_of net flow ≡ cost_of net labels
+value_is_cost net flow labels valid admissible tight =
+    let n : ℕ = length net.fixed in
+    let m : ℕ = length net.arcs in
+    let arcs : List Arc = net.arcs in
+    let nodes = sum_below-cong n (node_value net.fixed net.sink flow.on_sink)
+    (λ v. inside_sinks labels.inside flow.on_sink v + node_cost net.sink labels.inside v)
+    (λ v l. node_is (flag_at labels.inside v) (flag_at net.fixed v) (get_or flow.on_sink v 0) (get_or net.sink v 0)
+    (admissible.none_fixed v l) (tight.full v l)) in
+    let nodes_add = sum_below-add n (inside_sinks labels.inside flow.on_sink) (node_cost net.sink labels.inside) in
+    let along = sum_below-cong m (to_inside arcs flow.on_arc labels.inside)
+    (λ j. from_inside arcs flow.on_arc labels.inside j + arc_cost arcs labels.inside j)
+    (λ j l. cut_is (flag_at labels.inside (arc_at arcs j).from) (flag_at labels.inside (arc_at arcs j).to)
+    (get_or flow.on_arc j 0) (arc_at arcs j).cap (tight.saturated j l) (tight.unused j l)) in
+    let along_add = sum_below-add m (from_inside arcs flow.on_arc labels.inside) (arc_cost arcs labels.inside) in
+    omega (arith, nodes, nodes_add, along, along_add, inside_balance net flow labels valid admissible)
+
+-- what a tight arc says
+cut_says : (s t : Bool) (f c : ℕ) → cond t f 0 ≡ cond s f 0 + cond (not s && t) c 0 →
+    (s ≡ false → t ≡ true → f ≡ c) × (s ≡ true → t ≡ false → f ≡ 0)
+cut_says true true f c h = (λ a b. absurd (false≢true (sym a)), λ a b. absurd (false≢true (sym b)))
+cut_says true false f c h = (λ a b. absurd (false≢true (sym a)), λ a b. omega arith)
+cut_says false true f c h = (λ a b. omega arith, λ a b. absurd (false≢true a))
+cut_says false false f c h = (λ a b. absurd (false≢true b), λ a b. absurd (false≢true a))
+
+-- what a tight node says
+node_says : (b x : Bool) (taken sink : ℕ) → cond x sink taken ≡ cond b taken 0 + cond b 0 sink →
+    b ≡ false → x ≡ false → taken ≡ sink
+node_says true x taken sink h a b = absurd (false≢true (sym a))
+node_says false true taken sink h a b = absurd (false≢true (sym b))
+node_says false false taken sink h a b = omega arith
+
+-- labels that cost what the flow is worth are tight
+pub tight_from_cost : (net : Net) (flow : Flow) (labels : Labels) →
+    IsValidFlow net flow → IsAdmissible net labels → cost_of net labels ≤ value_of net flow →
+    IsTight net flow labels
+tight_from_cost net flow labels valid admissible meets =
+    let n : ℕ = length net.fixed in
+    let m : ℕ = length net.arcs in
+    let arcs : List Arc = net.arcs in
+    let right_node : ℕ → ℕ = λ v. inside_sinks labels.inside flow.on_sink v + node_cost net.sink labels.inside v in
+    let right_arc : ℕ → ℕ = λ j. from_inside arcs flow.on_arc labels.inside j + arc_cost arcs labels.inside j in
+    let nodes = sum_below-le n (node_value net.fixed net.sink flow.on_sink) right_node
+    (node_le net flow labels valid admissible) in
+    let nodes_add = sum_below-add n (inside_sinks labels.inside flow.on_sink) (node_cost net.sink labels.inside) in
+    let along = sum_below-le m (to_inside arcs flow.on_arc labels.inside) right_arc (arc_le net flow labels valid) in
+    let along_add = sum_below-add m (from_inside arcs flow.on_arc labels.inside) (arc_cost arcs labels.inside) in
+    let balance = inside_balance net flow labels valid admissible in
+    let node_sums : sum_below n right_node ≤ sum_below n (node_value net.fixed net.sink flow.on_sink) =
+    omega (arith, nodes, nodes_add, along, along_add, balance) in
+    let arc_sums : sum_below m right_arc ≤ sum_below m (to_inside arcs flow.on_arc labels.inside) =
+    omega (arith, nodes, nodes_add, along, along_add, balance) in
+    let at_arc = sum_below-tight m (to_inside arcs flow.on_arc labels.inside) right_arc (arc_le net flow labels valid) arc_sums in
+    let at_node = sum_below-tight n (node_value net.fixed net.sink flow.on_sink) right_node
+    (node_le net flow labels valid admissible) node_sums in
+    record {
+      saturated = λ j l. (cut_says (flag_at labels.inside (arc_at arcs j).from) (flag_at labels.inside (arc_at arcs j).to)
+          (get_or flow.on_arc j 0) (arc_at arcs j).cap (at_arc j l)).0;
+      unused = λ j l. (cut_says (flag_at labels.inside (arc_at arcs j).from) (flag_at labels.inside (arc_at arcs j).to)
+          (get_or flow.on_arc j 0) (arc_at arcs j).cap (at_arc j l)).1;
+      full = λ v l. node_says (flag_at labels.inside v) (flag_at net.fixed v) (get_or flow.on_sink v 0)
+          (get_or net.sink v 0) (at_node v l);
+    }
+
+-- equal value and cost are largest and least
+pub equal_is_best : (net : Net) (flow : Flow) (labels : Labels) → IsValidFlow net flow → IsAdmissible net labels →
+    value_of net flow ≡ cost_of net labels → IsLargest net flow × IsLeastCost net labels
+equal_is_best net flow labels valid admissible equal = (
+  record {
+    valid = valid;
+    largest = λ other valid_other. omega (arith, equal, value_le_cost net other labels valid_other admissible);
+  },
+  record {
+    admissible = admissible;
+    least = λ other fits. omega (arith, equal, value_le_cost net flow other valid fits);
+  },
+)

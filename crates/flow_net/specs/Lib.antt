@@ -1,0 +1,4 @@
+pub mod Flows
+pub mod Laws
+pub mod Nets
+pub mod Sums

@@ -1,0 +1,109 @@
+//! Networks of nodes and arcs with a sink at each node, labels that cut them, and flows through them.
+//!
+//! The labelling of cells as inside or outside by minimum cut, as in Labatut, Pons and Keriven (2007 and 2009): each
+//! cell is a node, and each directed facet towards a free cell is an arc. The crate stands on the standard library
+//! alone and knows nothing of geometry.
+//!
+//! This file holds the types. `lists` holds the lists that stand in their fields, `votes` the settings and sights,
+//! `sums` the cost of labels and the value of a flow, `laws` what holds between the two, and `validity` the test that
+//! `Net::is_valid` makes.
+#![tactic(auto)]
+
+ghost use Rattle.std.specs.Prelude.{◌≡◌, ◌↔◌, IsTrue};
+ghost use Rattle.flow_net.specs.Nets.{IsValidNet};
+
+mod laws;
+mod lists;
+mod sums;
+mod validity;
+mod votes;
+
+pub use laws::{equal_value_and_cost_are_best, exactly_one_is_least_inside, value_is_at_most_cost};
+pub use lists::Sequence;
+pub use sums::{cost, value};
+pub use votes::{Settings, Sight};
+
+/// The largest capacity of an arc and the largest sink of a node, 2^60, so that sums of them fit in 128 bits.
+pub const AMOUNT_LIMIT: u64 = 1_152_921_504_606_846_976;
+
+/// An arc from one node of a network to another.
+///
+/// An arc stands for a directed facet of the cell `from` with the free cell `to` across it.
+#[derive(Clone, Copy, Debug, PartialEq, Eq)]
+pub struct Arc {
+    /// The node that the arc leaves.
+    pub from: usize,
+    /// The node that the arc enters.
+    pub to: usize,
+    /// The capacity: the most that can flow along the arc, and what it costs to cut it.
+    pub cap: u64,
+    /// The number of the reverse arc, or None where the arc leaves a fixed node.
+    pub pair: Option<usize>,
+}
+
+/// A network: nodes that are fixed or free, a sink at each node, and arcs that enter free nodes.
+///
+/// A fixed node stays outside. The type keeps what [`Net::is_valid`] tests.
+#[derive(Debug, Drop)]
+pub struct Net {
+    /// Which nodes are fixed.
+    pub fixed: Sequence<bool>,
+    /// The sink of each node: the most that can leave the network there, and what it costs to have the node outside.
+    pub sink: Sequence<u64>,
+    /// The arcs.
+    pub arcs: Sequence<Arc>,
+    pub ghost valid: { IsValidNet fixed sink arcs },
+}
+
+/// Labels of the nodes of a network.
+#[derive(Debug, Drop)]
+pub struct Labels {
+    /// Which nodes are inside.
+    pub inside: Sequence<bool>,
+}
+
+/// A flow from the fixed nodes along arcs into sinks.
+#[derive(Debug, Drop)]
+pub struct Flow {
+    /// The amount on each arc.
+    pub on_arc: Sequence<u64>,
+    /// The amount that leaves at each node's sink.
+    pub on_sink: Sequence<u64>,
+}
+
+/// A network made of cells and facets, with what each node and each arc stands for.
+#[derive(Debug, Drop)]
+pub struct Voted {
+    /// The network.
+    pub net: Net,
+    /// The four vertices of the cell that each node stands for.
+    pub cells: Sequence<[u32; 4]>,
+    /// The three vertices of the directed facet that each arc stands for.
+    pub facets: Sequence<[u32; 3]>,
+}
+
+impl Net {
+    /// Whether these parts make a valid network.
+    ///
+    /// There is one sink a node. Arcs join distinct nodes of the network and enter free ones. The pair of an arc that
+    /// leaves a free node is an arc the other way that names it back, and an arc that leaves a fixed node has none.
+    /// Capacities and sinks are at most [`AMOUNT_LIMIT`].
+    pub fn is_valid(fixed: &[bool], sink: &[u64], arcs: &[Arc]) -> bool
+        ensures { IsTrue result ↔ IsValidNet fixed.now sink.now arcs.now }
+    {
+        validity::are_valid(fixed, sink, arcs)
+    }
+
+    /// The network of these parts, which make a valid one by [`Net::is_valid`].
+    pub fn new(fixed: Sequence<bool>, sink: Sequence<u64>, arcs: Sequence<Arc>) -> Net
+        requires { IsValidNet fixed sink arcs }
+        ensures fixed { result.fixed ≡ fixed }
+        ensures sink { result.sink ≡ sink }
+        ensures arcs { result.arcs ≡ arcs }
+    {
+        Net { fixed, sink, arcs }
+    }
+}
+
+#[cfg(test)]
+mod tests;

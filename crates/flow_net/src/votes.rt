@@ -1,0 +1,38 @@
+//! What cells are voted on by: the settings and the sights. It stands on nothing else.
+
+ghost use Rattle.std.specs.Prelude.{◌≡◌, ◌≤◌, ◌↔◌, IsSome, IfSome};
+
+/// The weights of votes and of smoothing.
+#[derive(Clone, Copy, Debug, PartialEq, Eq)]
+pub struct Settings {
+    /// What each sight adds to the capacity of a facet that it crosses and to the sink of the cell behind it, 1 to 65,535.
+    pub vote: u32,
+    /// What each facet has as capacity beside its votes, 0 to 65,535.
+    pub smooth: u32,
+    pub ghost vote_at_least: { 1 ≤ vote },
+    pub ghost vote_at_most: { vote ≤ 65535 },
+    pub ghost smooth_at_most: { smooth ≤ 65535 },
+}
+
+impl Settings {
+    /// The settings of these weights, or None where a weight is out of its range.
+    pub fn new(vote: u32, smooth: u32) -> Option<Settings>
+        ensures within { IsSome result ↔ ((1 ≤ vote) × (vote ≤ 65535) × (smooth ≤ 65535)) }
+        ensures vote { IfSome result (λ settings. settings.vote ≡ vote) }
+        ensures smooth { IfSome result (λ settings. settings.smooth ≡ smooth) }
+    {
+        if vote < 1 || vote > 65_535 || smooth > 65_535 {
+            return None;
+        }
+        Some(Settings { vote, smooth })
+    }
+}
+
+/// A sight: a scanner saw a vertex.
+#[derive(Clone, Copy, Debug, PartialEq, Eq)]
+pub struct Sight {
+    /// The number of the vertex that was seen, from 8 on: the corners of the box round all vertices have 0 to 7.
+    pub vertex: u32,
+    /// The place of the scanner in the list of scanners.
+    pub scanner: u32,
+}

@@ -1,0 +1,4 @@
+pub mod Written
+pub mod Identities
+pub mod Bounds
+pub mod Digits

@@ -1,0 +1,5 @@
+pub mod Sizes
+pub mod Ties
+pub mod Own
+pub mod Rows
+pub mod Forms

@@ -1,0 +1,19 @@
+//! The tie rule among vertices on one sphere, and the cells of a few points by trying each four of them.
+//!
+//! A cell is a Delaunay tetrahedron by the empty-sphere definition: four vertices written positively with which no vertex is in
+//! conflict. Five vertices on one sphere are told apart by their numbers, so that the cells are never ambiguous.
+#![tactic(auto)]
+
+mod cells;
+mod laws;
+#[cfg(test)]
+mod tests;
+mod tie;
+
+pub use cells::plain_cells;
+pub use laws::rising_list_law;
+use std::alloc::AllocError;
+pub use tie::conflict;
+
+/// Want of memory: the one answer that any input may get.
+pub type NoMemory = AllocError;

@@ -1,0 +1,104 @@
+//! Conflict of a vertex with a cell, ties broken by the vertices' numbers.
+//!
+//! A vertex with number i has the height (x^2 + y^2 + z^2) B^n + B^i with B = 2^80 and n above all numbers. So the power of p at a cell
+//! is B^n times the plain power, and five more terms: a power of B for each of the five numbers, times an orientation below 2^75. The
+//! plain power decides where it is not zero, and else the greatest number whose orientation is not zero. No large number is computed.
+
+ghost use Rattle.std.specs.Prelude.{◌≡◌, ◌≢◌, ◌<ℤ◌, ◌↔◌, pos, ℕ, IsTrue, IsFalse};
+ghost use Rattle.geo_sign.specs.Orientation.{orientation};
+ghost use Rattle.geo_sign.specs.Signs.{sign_of};
+ghost use Rattle.geo_tie.specs.Tie.{tied_power};
+ghost use Rattle.geo_tie.specs.Conflict.{OfFour, AreApart, AreBelow};
+ghost use Rattle.geo_tie.specs.Terms.{leading_term, is_negative, term, deciding_term};
+
+use geo_sign::{Point, Sign, in_sphere, orient};
+
+/// A power of the base by its exponent, with the sign of its coefficient.
+#[derive(Clone, Copy)]
+struct Term {
+    number: u32,
+    sign: Sign,
+}
+
+/// The leading one of a term that is not zero and the term with this number, whose coefficient is the orientation of a, b, c, d. It is
+/// computed only where the number is the greater one.
+fn leading(leader: Term, number: u32, a: Point, b: Point, c: Point, d: Point) -> Term
+    ensures { result ≡ leading_term leader (term number (orientation a b c d)) }
+{
+    if number <= leader.number {
+        return leader;
+    }
+    match orient(a, b, c, d) {
+        Sign::Neg => Term {
+            number,
+            sign: Sign::Neg,
+        },
+        Sign::Zero => leader,
+        Sign::Pos => Term {
+            number,
+            sign: Sign::Pos,
+        },
+    }
+}
+
+fn is_below(sign: Sign) -> bool
+    ensures { result ≡ is_negative sign }
+{
+    match sign {
+        Sign::Neg => true,
+        Sign::Zero | Sign::Pos => false,
+    }
+}
+
+/// The sign of the term that decides a tie. The coefficient of the vertex p is the orientation of the cell, which is positive, and
+/// that of a vertex of the cell is the orientation with p in its place, turned. Large numbers first: most others are then left out.
+fn tie_sign(
+    a: (u32, Point),
+    b: (u32, Point),
+    c: (u32, Point),
+    d: (u32, Point),
+    p: (u32, Point),
+) -> Sign
+    ensures { result ≡ (deciding_term a b c d p).sign }
+{
+    let own = Term {
+        number: p.0,
+        sign: Sign::Pos,
+    };
+    let with_d = leading(own, d.0, a.1, b.1, p.1, c.1);
+    let with_c = leading(with_d, c.0, a.1, p.1, b.1, d.1);
+    let with_b = leading(with_c, b.0, p.1, a.1, c.1, d.1);
+    leading(with_b, a.0, b.1, p.1, c.1, d.1).sign
+}
+
+/// Whether the vertex p is in conflict with the cell a b c d.
+pub(crate) fn is_in_conflict(
+    a: (u32, Point),
+    b: (u32, Point),
+    c: (u32, Point),
+    d: (u32, Point),
+    p: (u32, Point),
+) -> bool
+    requires positive { pos 0 <ℤ orientation a.1 b.1 c.1 d.1 }
+    requires apart { AreApart a b c d p }
+    ensures inside { (n : ℕ) → AreBelow n a b c d p → IsTrue result ↔ (tied_power n a b c d p <ℤ pos 0) }
+    ensures outside { (n : ℕ) → AreBelow n a b c d p → IsFalse result ↔ (pos 0 <ℤ tied_power n a b c d p) }
+{
+    match in_sphere(a.1, b.1, c.1, d.1, p.1) {
+        Sign::Neg => true,
+        Sign::Zero => is_below(tie_sign(a, b, c, d, p)),
+        Sign::Pos => false,
+    }
+}
+
+/// Whether the vertex p is in conflict with the cell c, each vertex given by its number and its point: whether the power of p at c is
+/// negative, whatever number above the five is the exponent of the heights. The power is never zero.
+pub fn conflict(c: [(u32, Point); 4], p: (u32, Point)) -> bool
+    requires positive { OfFour c (λ c0 c1 c2 c3. pos 0 <ℤ orientation c0.1 c1.1 c2.1 c3.1) }
+    requires apart { OfFour c (λ c0 c1 c2 c3. AreApart c0 c1 c2 c3 p) }
+    ensures inside { OfFour c (λ c0 c1 c2 c3. (n : ℕ) → AreBelow n c0 c1 c2 c3 p → IsTrue result ↔ (tied_power n c0 c1 c2 c3 p <ℤ pos 0)) }
+    ensures outside { OfFour c (λ c0 c1 c2 c3. (n : ℕ) → AreBelow n c0 c1 c2 c3 p → IsFalse result ↔ (pos 0 <ℤ tied_power n c0 c1 c2 c3 p)) }
+{
+    let [c0, c1, c2, c3] = c;
+    is_in_conflict(c0, c1, c2, c3, p)
+}

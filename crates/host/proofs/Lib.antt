@@ -1,0 +1,4 @@
+pub mod Changes
+pub mod FileList
+pub mod Handed
+pub mod Reading

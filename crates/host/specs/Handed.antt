@@ -1,0 +1,42 @@
+-- The files that a host in memory is made with.
+--
+--     Handed                       a name, and the bytes of its file if there is one
+--     files_handed, names_handed   the files by name; the names, in their order
+--     NamesApart files             no two names are one
+--     IsKept room file handed      a file was made of what was handed in
+use Rattle.std.specs.Prelude.{◌≡◌, ◌≢◌, ℕ, zero, suc, ◌<◌, List, [], ◌∷◌, length, map, Vec, String, Option, None, string_bytes, if◌then◌else◌}
+use Rattle.std.specs.Option.{option_map}
+use Rattle.std.specs.Str.{bytes_eq}
+use Rattle.std.specs.declared.alloc.Global.{Global}
+use Rattle.host.specs.State.{Files}
+use Rattle.host.specs.Files.{content}
+use Rattle.host.specs.declared.files.MemFile.{MemFile}
+
+-- a name, and the bytes of its file if there is one
+abbrev pub Handed : Type 0
+Handed = String Global × Option (Vec ℕ Global)
+
+-- the files that are handed in, by name
+abbrev pub files_handed : List Handed → Files
+files_handed [] name = None
+files_handed (file ∷ files) name = if bytes_eq name (string_bytes file.0) then option_map (λ bytes. bytes.items) file.1 else files_handed files name
+
+-- the names, in their order
+abbrev pub names_handed : List Handed → List (List ℕ)
+names_handed files = map (λ file. string_bytes file.0) files
+
+-- the name at a place
+abbrev pub handed_name : List Handed → ℕ → List ℕ
+handed_name [] place = []
+handed_name (file ∷ files) zero = string_bytes file.0
+handed_name (file ∷ files) (suc place) = handed_name files place
+
+-- no two names are one
+abbrev pub NamesApart : List Handed → Type 0
+NamesApart files = (i j : ℕ) → i < j → j < length files → handed_name files i ≢ handed_name files j
+
+-- a file was made of what was handed in
+pub record IsKept (room : ℕ) (file : MemFile) (handed : Handed) : Type 0 where
+  pub name : string_bytes file.name ≡ string_bytes handed.0
+  pub bytes : content file ≡ option_map (λ bytes. bytes.items) handed.1
+  pub holds : file.store.room ≡ room

@@ -1,0 +1,64 @@
+-- What the calls over any host do to it: a file read or written whole, all bytes appended or said.
+--
+--     SaysFront, AppendsFront, WritesFront    what stands after a failure: a front of the bytes went out
+--     writes name bytes state                 the named file holds the bytes, and no file is open
+--     reads_whole name state                  the named file was opened and read to its end
+--     TakesFront, ReadFails                   what stands after a reading for which there was no memory, or in which a call failed
+--     OnlyReads before after                  what a reading leaves as it was, and that it opens one file
+--     HasCause result before after            the count of faults, by the answer of a reading
+use Rattle.std.specs.Prelude.{◌≡◌, ℕ, ◌≤◌, List, [], length, take, false, true, Option, Result, Ok, Err, ◌⊎◌}
+use Rattle.host.specs.Counts.{next, Rose}
+use Rattle.host.specs.State.{State, Told, after_change, FailedFrom, HasFile, with_file, opens_file, opens_none, takes, stops_reading, appends, says}
+use Rattle.host.specs.declared.calls.ReadRefusal.{ReadRefusal}
+use Rattle.host.specs.declared.calls.ReadRefusal.TheVariants as refusals
+
+-- a front of the bytes was said, and a call failed
+abbrev pub SaysFront : List ℕ → State → State → Type 0
+SaysFront bytes before after = (count : ℕ) × (count ≤ length bytes) × FailedFrom (says (take count bytes) before) after
+
+-- a front of the bytes was added to the file that is being written, and a call failed
+abbrev pub AppendsFront : List ℕ → State → State → Type 0
+AppendsFront bytes before after = (count : ℕ) × (count ≤ length bytes) × FailedFrom (appends (take count bytes) before) after
+
+-- the named file holds these bytes, and no file is read or written
+abbrev pub writes : List ℕ → List ℕ → State → State
+writes name bytes state = record state { reading = false; writing = false; told = after_change (λ told. record told { files = with_file name bytes told.files; left = []; target = [] }) state.told }
+
+-- a call failed: the file is as it was, or holds a front of the bytes, the whole included
+abbrev pub WritesFront : List ℕ → List ℕ → State → State → Type 0
+WritesFront name bytes before after =
+    FailedFrom (stops_reading before) after
+    ⊎ ((count : ℕ) × (count ≤ length bytes) × FailedFrom (writes name (take count bytes) before) after)
+
+-- the named file was opened, and all its bytes were taken
+abbrev pub reads_whole : List ℕ → State → State
+reads_whole name state = record state { opens = next state.opens; reading = true; told = after_change (λ told. record told { left = [] }) state.told }
+
+-- some bytes of the named file were taken, at most as many as the limit
+abbrev pub TakesFront : ℕ → List ℕ → State → State → Type 0
+TakesFront limit name before after =
+    HasFile name before × ((count : ℕ) × (count ≤ limit) × (after ≡ takes count (opens_file name before)))
+
+-- a call failed: the file was not opened, or it was, and after some bytes no more came
+abbrev pub ReadFails : ℕ → List ℕ → State → State → Type 0
+ReadFails limit name before after =
+    FailedFrom (opens_none before) after
+    ⊎ (HasFile name before × ((count : ℕ) × (count ≤ limit) × FailedFrom (takes count (opens_file name before)) after))
+
+-- what is told, but for the bytes left
+abbrev pub apart_from_left : Option Told → Option Told
+apart_from_left = after_change (λ told. record told { left = [] })
+
+-- one file was opened, and nothing else changed but what a reading changes:
+-- the bytes left, whether a file is read, and the count of faults
+pub record OnlyReads (before after : State) : Type 0 where
+  pub told : apart_from_left after.told ≡ apart_from_left before.told
+  pub writing : after.writing ≡ before.writing
+  pub opens : after.opens ≡ next before.opens
+
+-- the count of faults rose where a host call failed, and is else as it was
+abbrev pub HasCause : {T : Type 0} → Result T ReadRefusal → ℕ → ℕ → Type 0
+HasCause (Err refusals.Failed) before after = Rose before after
+HasCause (Err refusals.TooLong) before after = after ≡ before
+HasCause (Err refusals.NoMemory) before after = after ≡ before
+HasCause (Ok _) before after = after ≡ before

@@ -1,0 +1,4 @@
+pub mod Residual
+pub mod Paths
+pub mod Incidence
+pub mod Searches

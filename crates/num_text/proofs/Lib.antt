@@ -1,0 +1,3 @@
+mod DigitLemmas
+mod ScaleLemmas
+pub mod PrintedLemmas

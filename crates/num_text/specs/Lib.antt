@@ -1,0 +1,3 @@
+pub mod WholeNumbers
+pub mod Decimals
+pub mod Views

@@ -1,0 +1,22 @@
+//! Whole numbers printed as decimal text, by `itoa`.
+
+ghost use Rattle.std.specs.Prelude.{◌≡◌, ◌++◌, OnOk, OnErr};
+ghost use Rattle.std.specs.Fmt.{signed_decimal};
+
+use itoa::Buffer;
+use std::alloc::AllocError;
+
+/// Want of memory.
+pub type NoMemory = AllocError;
+
+/// Adds the decimal text of `n` at the end of `out`: a minus sign where `n` is
+/// negative, then its digits without leading zeros, and `0` for zero.
+///
+/// After `NoMemory`, `out` is as it was.
+pub fn push_whole(out: &mut Vec<u8>, n: i128) -> Result<(), NoMemory>
+    ensures printed { OnOk result (out.new.items ≡ out.old.items ++ signed_decimal n) }
+    ensures kept { OnErr result (out.new.items ≡ out.old.items) }
+{
+    let mut buffer = Buffer::new();
+    out.extend_from_slice(buffer.format(n).as_bytes())
+}

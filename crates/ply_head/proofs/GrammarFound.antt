@@ -1,0 +1,275 @@
+-- The reader and the grammar agree: where a header is read, the lines lead to it.
+use Rattle.std.proofs.Common.{◌≡◌, ℕ, zero, suc, ◌+◌, ◌<◌, ◌≤◌, Bool, true, false, cond, ltb, List, [], ◌∷◌, ◌++◌, length, get_or, drop, Option, Some, None, Result, Ok, Err, refl, sym, ap, subst, ◌∙◌, arith, All, codes, append_assoc, nat_eq, inl, inr, ◌⊎◌}
+use Rattle.std.specs.List.{starts_with, join_with_byte, slice_split, onto_first}
+use Rattle.std.proofs.lemmas.Bool.{ltb-false}
+use Rattle.std.proofs.lemmas.Bool.Decides.{Decides-eqb}
+use Rattle.std.proofs.lemmas.Slice.Eq.{starts_is}
+use Rattle.std.proofs.lemmas.List.{get_or_append_left}
+use Rattle.std.proofs.lemmas.List.Elements.{All-cons}
+use Rattle.std.proofs.lemmas.List.Splits.{join_with_byte-slice_split, slice_split-cons_yes, slice_split-cons_no}
+use Rattle.ply_head.specs.declared.header.Header.{Header}
+use Rattle.ply_head.specs.declared.header.Element.{Element}
+use Rattle.ply_head.specs.declared.header.Property.{Property}
+use Rattle.ply_head.specs.declared.refusal.HeadRefusal.{HeadRefusal}
+use Rattle.ply_head.specs.declared.refusal.HeadRefusal.TheVariants.{HeadCut, LongLine, NotPly}
+use Rattle.ply_head.specs.Lines.{parts_of, words_of, is_line_feed, line_text}
+use Rattle.ply_head.specs.Statements.{Statement, nothing, format, element, property, finish, statement_of_words}
+use Rattle.ply_head.specs.Headers.{◌>>=◌, text_of_line, with_property, has_property, has_element, step_of, Step, goes, ends, then_lines, header_from, header_of}
+use Rattle.ply_head.specs.Spelling.{joined}
+use Rattle.ply_head.specs.Grammar.{Says, Adds, Leads, HasHeader}
+use Rattle.ply_head.proofs.HeadLemmas.{Parts, some_part}
+use Rattle.ply_head.proofs.LoopLemmas.{Whole, whole_and}
+
+-- ---- results
+
+bind_ok : {A B : Type 0} (r : Result A HeadRefusal) (f : A → Result B HeadRefusal) (y : B) → (r >>= f) ≡ Ok y → (x : A) × (r ≡ Ok x) × (f x ≡ Ok y)
+bind_ok (Ok x) f y e = (x, refl, e)
+bind_ok (Err d) f y e = absurd cc
+
+guarded : {A : Type 0} (b : Bool) (d : HeadRefusal) (r : Result A HeadRefusal) (y : A) → cond b (Err d) r ≡ Ok y → (b ≡ false) × (r ≡ Ok y)
+guarded true d r y e = absurd cc
+guarded false d r y e = (refl, e)
+
+two_refusals : {A : Type 0} (b : Bool) (d e : HeadRefusal) (y : A) → cond b (Err d) (Err e) ≡ Ok y → ⊥
+two_refusals true d e y is = cc
+two_refusals false d e y is = cc
+
+abbrev step_ok : Step → Result Step HeadRefusal
+step_ok step = Ok step
+
+same_step : (a b : Step) → step_ok a ≡ step_ok b → a ≡ b
+same_step a b e = cc
+
+abbrev elements_ok : List Element → Result (List Element) HeadRefusal
+elements_ok elements = Ok elements
+
+same_elements : (a b : List Element) → elements_ok a ≡ elements_ok b → a ≡ b
+same_elements a b e = cc
+
+abbrev text_ok : List ℕ → Result (List ℕ) HeadRefusal
+text_ok text = Ok text
+
+same_text : (a b : List ℕ) → text_ok a ≡ text_ok b → a ≡ b
+same_text a b e = cc
+
+head_in : Header → Whole → Header
+head_in d (Ok y) = y.0
+head_in d (Err f) = d
+
+same_head : (a h : Header) (x body : List ℕ) → whole_and a x ≡ whole_and h body → a ≡ h
+unfolding head_in
+same_head a h x body e = ap (head_in a) e
+
+body_in : List ℕ → Whole → List ℕ
+body_in d (Ok y) = y.1
+body_in d (Err f) = d
+
+same_body : (a h : Header) (x body : List ℕ) → whole_and a x ≡ whole_and h body → x ≡ body
+unfolding body_in
+same_body a h x body e = ap (body_in x) e
+
+-- ---- what a step makes is what its statement adds
+
+record IsAdded (p : Property) (before after : List Element) : Type 0 where
+  front : List Element
+  last : Element
+  is_last : before ≡ front ++ last ∷ []
+  is_new : has_property p.name last.properties ≡ false
+  is : after ≡ front ++ record last { properties = last.properties ++ p ∷ [] } ∷ []
+
+property_added : (n : ℕ) (p : Property) (before after : List Element) → with_property n p before ≡ elements_ok after → IsAdded p before after
+property_added n p [] after e = absurd cc
+property_added n p (x ∷ []) after e =
+    let g = guarded (has_property p.name x.properties) _ (elements_ok (record x { properties = x.properties ++ p ∷ [] } ∷ [])) after e in
+    record { front = []; last = x; is_last = refl; is_new = g.0; is = sym (same_elements (record x { properties = x.properties ++ p ∷ [] } ∷ []) after g.1) }
+property_added n p (x ∷ y ∷ before) after e =
+    let b = bind_ok (with_property n p (y ∷ before)) (λ es. elements_ok (x ∷ es)) after e in
+    let rest : IsAdded p (y ∷ before) b.0 = property_added n p (y ∷ before) b.0 b.1 in
+    record {
+      front = x ∷ rest.front;
+      last = rest.last;
+      is_last = ap (λ (es : List Element). x ∷ es) rest.is_last;
+      is_new = rest.is_new;
+      is = sym (same_elements (x ∷ b.0) after b.2) ∙ ap (λ (es : List Element). x ∷ es) rest.is;
+    }
+
+abbrev IsStep : Option Header → Option Statement → Step → Type 0
+IsStep before said (goes next) = (s : Statement) × ((said ≡ Some s) × Adds before s next)
+IsStep before said (ends whole) = (said ≡ Some finish) × (before ≡ Some whole)
+
+abbrev with_elements : Header → List Element → Option Header
+with_elements head es = Some (record head { elements = es })
+
+is_step : (n : ℕ) (before : Option Header) (said : Option Statement) (step : Step) → step_of n before said ≡ step_ok step → IsStep before said step
+unfolding step_of
+is_step n None None step e = absurd cc
+is_step n (Some head) None step e = absurd cc
+is_step n None (Some nothing) step e = subst (IsStep None (Some nothing)) (same_step (goes None) step e) (nothing, (refl, refl))
+is_step n (Some head) (Some nothing) step e = subst (IsStep (Some head) (Some nothing)) (same_step (goes (Some head)) step e) (nothing, (refl, refl))
+is_step n None (Some (format kind)) step e = subst (IsStep None (Some (format kind))) (same_step (goes (Some (record { kind = kind; elements = [] }))) step e) (format kind, (refl, refl))
+is_step n None (Some (element name count)) step e = absurd cc
+is_step n None (Some (property name shape)) step e = absurd cc
+is_step n None (Some finish) step e = absurd cc
+is_step n (Some head) (Some (format kind)) step e = absurd cc
+is_step n (Some head) (Some (element name count)) step e =
+    let g = guarded (has_element name head.elements) _ (step_ok (goes (Some (record head { elements = head.elements ++ record { name = name; count = count; properties = [] } ∷ [] })))) step e in
+    subst (IsStep (Some head) (Some (element name count))) (same_step (goes (Some (record head { elements = head.elements ++ record { name = name; count = count; properties = [] } ∷ [] }))) step g.1)
+    (element name count, (refl, record { is_new = g.0; is = refl }))
+is_step n (Some head) (Some (property name shape)) step e =
+    let b = bind_ok (with_property n (record { name = name; shape = shape }) head.elements) (λ es. step_ok (goes (Some (record head { elements = es })))) step e in
+    let added : IsAdded (record { name = name; shape = shape }) head.elements b.0 = property_added n (record { name = name; shape = shape }) head.elements b.0 b.1 in
+    subst (IsStep (Some head) (Some (property name shape))) (same_step (goes (Some (record head { elements = b.0 }))) step b.2)
+    (property name shape, (refl, record { front = added.front; last = added.last; is_last = added.is_last; is_new = added.is_new; is = ap (λ (es : List Element). with_elements head es) added.is }))
+is_step n (Some head) (Some finish) step e = subst (IsStep (Some head) (Some finish)) (same_step (ends head) step e) (refl, refl)
+
+-- ---- lines
+
+record IsText (part : List ℕ) (more : List (List ℕ)) (text : List ℕ) : Type 0 where
+  next : List ℕ
+  rest : List (List ℕ)
+  is : more ≡ next ∷ rest
+  text_is : text ≡ line_text part
+  short : length (line_text part) ≤ 1000
+
+text_found : (n : ℕ) (part : List ℕ) (more : List (List ℕ)) (text : List ℕ) → text_of_line n part more ≡ text_ok text → IsText part more text
+text_found n part [] text e = absurd (two_refusals (ltb (length part) 1002) HeadCut (LongLine n) text e)
+text_found n part (next ∷ rest) text e =
+    let g = guarded (ltb 1000 (length (line_text part))) (LongLine n) (text_ok (line_text part)) text e in
+    record { next = next; rest = rest; is = refl; text_is = sym (same_text (line_text part) text g.1); short = ltb-false 1000 (length (line_text part)) g.0 }
+
+-- the lines that were read, and what is behind them
+record IsFound (n : ℕ) (before : Option Header) (parts : List (List ℕ)) (head : Header) (body : List ℕ) : Type 0 where
+  inner : List (List ℕ)
+  last : List ℕ
+  next : List ℕ
+  more : List (List ℕ)
+  are : parts ≡ inner ++ last ∷ next ∷ more
+  body_is : join_with_byte 10 (next ∷ more) ≡ body
+  few : n + length inner ≤ 1000
+  short : All (λ line. length (line_text line) ≤ 1000) inner
+  last_short : length (line_text last) ≤ 1000
+  leads : Leads before inner (Some head)
+  ends : Says last finish
+
+by_step : (n : ℕ) (before : Option Header) (part : List ℕ) (more : List (List ℕ)) (head : Header) (body text : List ℕ) → IsText part more text → (step : Step) → IsStep before (statement_of_words (words_of text)) step → n ≤ 1000
+    → ((next : Option Header) → header_from (n + 1) next more ≡ whole_and head body → IsFound (n + 1) next more head body) → then_lines step more (λ next. header_from (n + 1) next more) ≡ whole_and head body → IsFound n before (part ∷ more) head body
+by_step n before part more head body text found (goes next) is le later e =
+    let rest : IsFound (n + 1) next more head body = later next e in
+    record {
+      inner = part ∷ rest.inner;
+      last = rest.last;
+      next = rest.next;
+      more = rest.more;
+      are = ap (λ (ps : List (List ℕ)). part ∷ ps) rest.are;
+      body_is = rest.body_is;
+      few = omega (arith, rest.few);
+      short = All-cons (λ line. length (line_text line) ≤ 1000) part rest.inner found.short rest.short;
+      last_short = rest.last_short;
+      leads = (next, (is.0, (ap (λ (t : List ℕ). statement_of_words (words_of t)) (sym found.text_is) ∙ is.1.0, is.1.1, rest.leads)));
+      ends = rest.ends;
+    }
+by_step n before part more head body text found (ends whole) is le later e =
+    record {
+      inner = [];
+      last = part;
+      next = found.next;
+      more = found.rest;
+      are = ap (λ (ps : List (List ℕ)). part ∷ ps) found.is;
+      body_is = ap (join_with_byte 10) (sym found.is) ∙ same_body whole head (join_with_byte 10 more) body e;
+      few = omega (arith, le);
+      short = λ i d lt. absurd (omega arith);
+      last_short = found.short;
+      leads = sym (is.1 ∙ ap some_head (same_head whole head (join_with_byte 10 more) body e));
+      ends = ap (λ (t : List ℕ). statement_of_words (words_of t)) (sym found.text_is) ∙ is.0;
+    }
+  where
+    some_head : Header → Option Header
+    some_head h = Some h
+
+lines_found : (n : ℕ) (before : Option Header) (parts : List (List ℕ)) (head : Header) (body : List ℕ) → header_from n before parts ≡ whole_and head body → IsFound n before parts head body
+unfolding header_from
+lines_found n before [] head body e = absurd cc
+lines_found n before (part ∷ more) head body e =
+    let g = guarded (ltb 1000 n) _ (text_of_line n part more >>= λ text. step_of n before (statement_of_words (words_of text)) >>= λ step. then_lines step more (λ next. header_from (n + 1) next more)) (head, body) e in
+    let b = bind_ok (text_of_line n part more) (λ text. step_of n before (statement_of_words (words_of text)) >>= λ step. then_lines step more (λ next. header_from (n + 1) next more)) (head, body) g.1 in
+    let c = bind_ok (step_of n before (statement_of_words (words_of b.0))) (λ step. then_lines step more (λ next. header_from (n + 1) next more)) (head, body) b.2 in
+    by_step n before part more head body b.0 (text_found n part more b.0 b.1) c.0 (is_step n before (statement_of_words (words_of b.0)) c.0 c.1) (ltb-false 1000 n g.0) (λ next is. lines_found (n + 1) next more head body is) c.2
+
+-- ---- lines joined again are the text
+
+abbrev IsClean : List ℕ → Type 0
+IsClean part = All (λ b. is_line_feed b ≡ false) part
+
+parts_by_feed : (b : ℕ) (bytes : List ℕ) (f : Bool) → is_line_feed b ≡ f → All IsClean (parts_of bytes) → All IsClean (parts_of (b ∷ bytes))
+unfolding parts_of
+parts_by_feed b bytes true e rest =
+    subst (All IsClean) (sym (slice_split-cons_yes is_line_feed b bytes e)) (All-cons IsClean [] (slice_split is_line_feed bytes) (λ i d lt. absurd (omega arith)) rest)
+parts_by_feed b bytes false e rest =
+    let part : Parts bytes zero = some_part bytes in
+    let all : All IsClean (part.first ∷ part.more) = subst (All IsClean) part.is rest in
+    subst (All IsClean) (sym (slice_split-cons_no is_line_feed b bytes e ∙ ap (onto_first b) part.is))
+    (All-cons IsClean (b ∷ part.first) part.more (All-cons (λ x. is_line_feed x ≡ false) b part.first e (all 0 part.first (omega arith))) (λ i d lt. all (suc i) d (omega arith)))
+
+parts_clean : (bytes : List ℕ) → All IsClean (parts_of bytes)
+unfolding parts_of
+parts_clean [] = All-cons IsClean [] [] (λ i d lt. absurd (omega arith)) (λ i d lt. absurd (omega arith))
+parts_clean (b ∷ bytes) = parts_by_feed b bytes (is_line_feed b) refl (parts_clean bytes)
+
+joined_parts : (inner : List (List ℕ)) (last next : List ℕ) (more : List (List ℕ)) → join_with_byte 10 (inner ++ last ∷ next ∷ more) ≡ joined (inner ++ last ∷ []) ++ join_with_byte 10 (next ∷ more)
+joined_parts [] last next more = sym (append_assoc last (10 ∷ []) (join_with_byte 10 (next ∷ more)))
+joined_parts (x ∷ []) last next more =
+    ap (λ (r : List ℕ). x ++ 10 ∷ r) (joined_parts [] last next more) ∙ sym (append_assoc x (10 ∷ joined (last ∷ [])) (join_with_byte 10 (next ∷ more)))
+joined_parts (x ∷ y ∷ inner) last next more =
+    ap (λ (r : List ℕ). x ++ 10 ∷ r) (joined_parts (y ∷ inner) last next more) ∙ sym (append_assoc x (10 ∷ joined (y ∷ inner ++ last ∷ [])) (join_with_byte 10 (next ∷ more)))
+
+text_of_parts : (bytes : List ℕ) → join_with_byte 10 (parts_of bytes) ≡ bytes
+unfolding parts_of
+text_of_parts bytes = join_with_byte-slice_split 10 bytes
+
+get_last : (inner more : List (List ℕ)) (last d : List ℕ) → get_or (inner ++ last ∷ more) (length inner) d ≡ last
+get_last [] more last d = refl
+get_last (x ∷ inner) more last d = get_last inner more last d
+
+within : (inner more : List (List ℕ)) (last : List ℕ) → length inner < length (inner ++ last ∷ more)
+within [] more last = omega arith
+within (x ∷ inner) more last = omega (arith, within inner more last)
+
+text_has : (first rest bytes : List ℕ) (head : Header) (body : List ℕ) → (first ≡ codes "ply") ⊎ (first ≡ codes "ply\r") → bytes ≡ first ++ 10 ∷ rest → IsFound 2 None (parts_of rest) head body → HasHeader bytes head body
+text_has first rest bytes head body begins is found =
+    let clean : All IsClean (found.inner ++ found.last ∷ found.next ∷ found.more) = subst (All IsClean) found.are (parts_clean rest) in
+    let behind : rest ≡ joined (found.inner ++ found.last ∷ []) ++ body =
+    sym (text_of_parts rest) ∙ ap (join_with_byte 10) found.are ∙ joined_parts found.inner found.last found.next found.more ∙ ap (λ (b : List ℕ). joined (found.inner ++ found.last ∷ []) ++ b) found.body_is in
+    record {
+      first = first;
+      inner = found.inner;
+      last = found.last;
+      bytes_are = is ∙ ap (λ (r : List ℕ). first ++ 10 ∷ r) behind ∙ sym (append_assoc first (10 ∷ joined (found.inner ++ found.last ∷ [])) body);
+      begins = begins;
+      inner_lines = λ i d lt. record {
+        no_feed = subst IsClean (get_or_append_left found.inner (found.last ∷ found.next ∷ found.more) d i lt) (clean i d (omega (arith, within found.inner (found.next ∷ found.more) found.last)));
+        short = found.short i d lt;
+      };
+      last_line = record {
+        no_feed = subst IsClean (get_last found.inner (found.next ∷ found.more) found.last []) (clean (length found.inner) [] (within found.inner (found.next ∷ found.more) found.last));
+        short = found.last_short;
+      };
+      few = omega (arith, found.few);
+      leads = found.leads;
+      ends = found.ends;
+    }
+
+by_return : (bytes : List ℕ) (head : Header) (body : List ℕ) (b : Bool) → b ≡ starts_with nat_eq bytes (codes "ply\r\n") → cond b (header_from 2 None (parts_of (drop 5 bytes))) (Err NotPly) ≡ whole_and head body → HasHeader bytes head body
+by_return bytes head body true is e =
+    text_has (codes "ply\r") (drop 5 bytes) bytes head body (inr refl) ((starts_is Decides-eqb bytes (codes "ply\r\n") true is).0 refl) (lines_found 2 None (parts_of (drop 5 bytes)) head body e)
+by_return bytes head body false is e = absurd cc
+
+by_plain : (bytes : List ℕ) (head : Header) (body : List ℕ) (b : Bool) → b ≡ starts_with nat_eq bytes (codes "ply\n")
+    → cond b (header_from 2 None (parts_of (drop 4 bytes))) (cond (starts_with nat_eq bytes (codes "ply\r\n")) (header_from 2 None (parts_of (drop 5 bytes))) (Err NotPly)) ≡ whole_and head body → HasHeader bytes head body
+by_plain bytes head body true is e =
+    text_has (codes "ply") (drop 4 bytes) bytes head body (inl refl) ((starts_is Decides-eqb bytes (codes "ply\n") true is).0 refl) (lines_found 2 None (parts_of (drop 4 bytes)) head body e)
+by_plain bytes head body false is e = by_return bytes head body (starts_with nat_eq bytes (codes "ply\r\n")) refl e
+
+-- a text whose header is read has that header
+pub header_found : (bytes : List ℕ) (head : Header) (body : List ℕ) → header_of bytes ≡ whole_and head body → HasHeader bytes head body
+unfolding header_of
+header_found bytes head body e = by_plain bytes head body (starts_with nat_eq bytes (codes "ply\n")) refl e

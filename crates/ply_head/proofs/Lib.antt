@@ -1,0 +1,11 @@
+pub mod WordLemmas
+pub mod DigitLemmas
+pub mod HeadLemmas
+pub mod LoopLemmas
+pub mod SpellingLemmas
+pub mod GrammarLemmas
+pub mod SpellingReads
+pub mod SpellingLeads
+pub mod SpellingLaw
+pub mod GrammarFound
+pub mod ReadableLemmas

@@ -1,0 +1,49 @@
+-- The headers that a text may have, and those that can be printed.
+--
+-- IsName              what may name an element or a property
+-- HasWholeCount       a list's count is of a whole-number type
+-- IsReadableProperty, IsReadableElement, IsReadable   what holds of each that is read
+-- KeepsLimits         the printed header keeps the limits on lines
+use Rattle.std.specs.Prelude.{ℕ, ◌≡◌, ◌≢◌, ◌≤◌, ◌<◌, true, List, length, All, AllPairs, Some}
+use Rattle.std.specs.List.{list_all}
+use Rattle.ply_head.specs.declared.header.Shape.{Shape}
+use Rattle.ply_head.specs.declared.header.Shape.TheVariants.{One, Many}
+use Rattle.ply_head.specs.declared.header.Property.{Property}
+use Rattle.ply_head.specs.declared.header.Element.{Element}
+use Rattle.ply_head.specs.declared.header.Header.{Header}
+use Rattle.ply_head.specs.Statements.{is_name_byte, whole_scalar}
+use Rattle.ply_head.specs.Spelling.{header_lines}
+
+-- at least one byte, and each a visible ASCII character
+pub record IsName (name : List ℕ) : Type 0 where
+  pub some : 0 < length name
+  pub visible : list_all is_name_byte name ≡ true
+
+-- a list's count is of a whole-number type
+abbrev pub HasWholeCount : Shape → Type 0
+HasWholeCount (One scalar) = Unit {0}
+HasWholeCount (Many count item) = whole_scalar count ≡ Some count
+
+-- a property that an element may have
+pub record IsReadableProperty (p : Property) : Type 0 where
+  pub name : IsName p.name
+  pub count : HasWholeCount p.shape
+
+-- an element that a header may have: its properties have names of their own
+pub record IsReadableElement (e : Element) : Type 0 where
+  pub name : IsName e.name
+  pub count : e.count ≤ 4294967295
+  pub few : length e.properties ≤ 1000
+  pub properties : All IsReadableProperty e.properties
+  pub apart : AllPairs (λ p q. p.name ≢ q.name) e.properties
+
+-- a header that a text may have: its elements have names of their own
+pub record IsReadable (head : Header) : Type 0 where
+  pub few : length head.elements ≤ 1000
+  pub elements : All IsReadableElement head.elements
+  pub apart : AllPairs (λ d e. d.name ≢ e.name) head.elements
+
+-- the printed header has at most 1,000 lines, each of at most 1,000 bytes without its end
+pub record KeepsLimits (head : Header) : Type 0 where
+  pub few : length (header_lines head) ≤ 1000
+  pub short : All (λ line. length line ≤ 1000) (header_lines head)

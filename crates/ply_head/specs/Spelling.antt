@@ -1,0 +1,75 @@
+-- The one printed spelling of a header.
+--
+-- joined          lines one after another, each ended by LF
+-- kind_name, scalar_name   the first spelling of a kind and of a type
+-- format_text, element_text, property_text   the lines that say them, without their ends
+-- shape_text      what a `property` line says between the first word and the name
+-- element_lines   an element's line and those of its properties
+-- header_lines    the lines of a header, the first and the last included
+-- spelling        the printed header
+use Rattle.std.specs.Prelude.{ℕ, List, [], ◌∷◌, ◌++◌, map, codes, decimal}
+use Rattle.std.specs.List.{flat_map}
+use Rattle.ply_head.specs.declared.header.Kind.{Kind}
+use Rattle.ply_head.specs.declared.header.Kind.TheVariants.{Ascii, BinaryLittle, BinaryBig}
+use Rattle.ply_head.specs.declared.header.Scalar.{Scalar}
+use Rattle.ply_head.specs.declared.header.Scalar.TheVariants.{Char, Uchar, Short, Ushort, Int, Uint, Float, Double}
+use Rattle.ply_head.specs.declared.header.Shape.{Shape}
+use Rattle.ply_head.specs.declared.header.Shape.TheVariants.{One, Many}
+use Rattle.ply_head.specs.declared.header.Property.{Property}
+use Rattle.ply_head.specs.declared.header.Element.{Element}
+use Rattle.ply_head.specs.declared.header.Header.{Header}
+
+-- lines one after another, each ended by LF
+abbrev pub joined : List (List ℕ) → List ℕ
+joined [] = []
+joined (line ∷ lines) = line ++ 10 ∷ joined lines
+
+-- how a kind is spelled
+abbrev pub kind_name : Kind → List ℕ
+kind_name Ascii = codes "ascii"
+kind_name BinaryLittle = codes "binary_little_endian"
+kind_name BinaryBig = codes "binary_big_endian"
+
+-- how a type is spelled
+abbrev pub scalar_name : Scalar → List ℕ
+scalar_name Char = codes "char"
+scalar_name Uchar = codes "uchar"
+scalar_name Short = codes "short"
+scalar_name Ushort = codes "ushort"
+scalar_name Int = codes "int"
+scalar_name Uint = codes "uint"
+scalar_name Float = codes "float"
+scalar_name Double = codes "double"
+
+-- the `format` line
+abbrev pub format_text : Kind → List ℕ
+format_text kind = codes "format" ++ 32 ∷ (kind_name kind ++ 32 ∷ codes "1.0")
+
+-- an `element` line
+abbrev pub element_text : List ℕ → ℕ → List ℕ
+element_text name count = codes "element" ++ 32 ∷ (name ++ 32 ∷ decimal count)
+
+-- what a `property` line says its property holds
+abbrev pub shape_text : Shape → List ℕ
+shape_text (One scalar) = scalar_name scalar
+shape_text (Many count item) = codes "list" ++ 32 ∷ (scalar_name count ++ 32 ∷ scalar_name item)
+
+-- a `property` line
+abbrev pub property_text : Property → List ℕ
+property_text p = codes "property" ++ 32 ∷ (shape_text p.shape ++ 32 ∷ p.name)
+
+-- an element's line, and those of its properties
+abbrev pub element_lines : Element → List (List ℕ)
+element_lines element = element_text element.name element.count ∷ map property_text element.properties
+
+-- the lines between the first and the last
+abbrev pub inner_lines : Header → List (List ℕ)
+inner_lines head = format_text head.kind ∷ flat_map element_lines head.elements
+
+-- the lines of a header
+abbrev pub header_lines : Header → List (List ℕ)
+header_lines head = codes "ply" ∷ (inner_lines head ++ codes "end_header" ∷ [])
+
+-- the printed header
+unfoldable pub spelling : Header → List ℕ
+spelling head = joined (header_lines head)

@@ -1,0 +1,11 @@
+-- What the code says of a line, as a value.
+use Rattle.ply_head.specs.Statements as statements
+use Rattle.ply_head.specs.declared.statement.Statement.{Statement}
+use Rattle.ply_head.specs.declared.statement.Statement.TheVariants.{Nothing, Format, Element, Property, Finish}
+
+abbrev pub statement_view : Statement → statements.Statement
+statement_view Nothing = statements.nothing
+statement_view (Format kind) = statements.format kind
+statement_view (Element name count) = statements.element name.now count
+statement_view (Property name shape) = statements.property name.now shape
+statement_view Finish = statements.finish

@@ -1,0 +1,39 @@
+-- Polynomials over the whole numbers, as they are written.
+--
+--   Polynomial            one polynomial, built from:
+--     variable i            variable number i
+--     constant c            the number c
+--     sum e f               e + f
+--     difference e f        e - f
+--     product e f           e times f
+--     negation e            -e
+--     normal e              e itself, to be multiplied out before it is used, which shortens a long computation
+--   number_at numbers i   the number that variable i stands for: the one at place i of the list, and 0 past its end
+--   value numbers e       what e is worth there
+use Rattle.std.specs.Prelude.{ℕ, zero, suc, ℤ, pos, neg_ℤ, ◌+ℤ◌, ◌-ℤ◌, ◌*ℤ◌, List, [], ◌∷◌}
+
+-- a polynomial as it is written
+pub data Polynomial : Type 0 where
+  variable : ℕ → Polynomial
+  constant : ℤ → Polynomial
+  sum : Polynomial → Polynomial → Polynomial
+  difference : Polynomial → Polynomial → Polynomial
+  product : Polynomial → Polynomial → Polynomial
+  negation : Polynomial → Polynomial
+  normal : Polynomial → Polynomial
+
+-- the number that a variable stands for
+abbrev pub number_at : List ℤ → ℕ → ℤ
+number_at [] i = pos 0
+number_at (x ∷ xs) zero = x
+number_at (x ∷ xs) (suc i) = number_at xs i
+
+-- what a polynomial is worth where its variables stand for these numbers
+abbrev pub value : List ℤ → Polynomial → ℤ
+value x (variable i) = number_at x i
+value x (constant c) = c
+value x (sum e f) = value x e +ℤ value x f
+value x (difference e f) = value x e -ℤ value x f
+value x (product e f) = value x e *ℤ value x f
+value x (negation e) = neg_ℤ (value x e)
+value x (normal e) = value x e

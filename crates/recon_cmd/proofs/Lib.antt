@@ -1,0 +1,4 @@
+pub mod Carrying
+pub mod CellsReplies
+pub mod Completeness
+pub mod Outcomes

@@ -1,0 +1,8 @@
+pub mod Answers
+pub mod Laws
+pub mod Lines
+pub mod Outcome
+pub mod Replies
+pub mod Status
+pub mod Steps
+pub mod Words

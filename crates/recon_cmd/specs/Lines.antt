@@ -1,0 +1,31 @@
+-- The lines that are said, and the text of cells.
+--
+--   bad_words_line, too_long_scan_line, not_built_line    lines of refusals
+--   cells_line points cells                               the line of `cells`
+--   row_line numbers                                      numbers between single spaces, as a line
+--   cells_text rows                                       the text of cells
+use Rattle.std.specs.Prelude.{ℕ, List, [], ◌∷◌, ◌++◌, length, codes, decimal}
+use Rattle.std.specs.List.{flat_map}
+
+unfoldable pub bad_words_line : List ℕ
+bad_words_line = codes "refused words\n"
+
+unfoldable pub too_long_scan_line : List ℕ
+too_long_scan_line = codes "refused 19 too_long scan\n"
+
+unfoldable pub not_built_line : List ℕ
+not_built_line = codes "refused 20 not_built\n"
+
+-- `points P cells T`
+unfoldable pub cells_line : (points cells : ℕ) → List ℕ
+cells_line points cells = codes "points " ++ (decimal points ++ (codes " cells " ++ (decimal cells ++ (10 ∷ []))))
+
+-- the numbers between single spaces, ended by LF
+unfoldable pub row_line : List ℕ → List ℕ
+row_line [] = 10 ∷ []
+row_line (number ∷ []) = decimal number ++ (10 ∷ [])
+row_line (number ∷ next ∷ rest) = decimal number ++ (32 ∷ row_line (next ∷ rest))
+
+-- `cells N`, and then the N rows
+unfoldable pub cells_text : List (List ℕ) → List ℕ
+cells_text rows = codes "cells " ++ (decimal (length rows) ++ (10 ∷ flat_map row_line rows))

@@ -1,0 +1,24 @@
+-- The answers that the program holds in memory.
+use Rattle.std.specs.Prelude.{ℕ, List, map}
+use Rattle.recon_cmd.specs.Answers.{Answer, Write}
+use Rattle.recon_cmd.specs.declared.answer.Line.{Line}
+use Rattle.recon_cmd.specs.declared.answer.Line.TheVariants.{Fixed, Made}
+use Rattle.recon_cmd.specs.declared.answer.Text.{Text}
+use Rattle.recon_cmd.specs.declared.answer.Reply.{Reply}
+
+-- the bytes of a line
+abbrev pub line_bytes : Line → List ℕ
+line_bytes (Fixed bytes) = bytes.now
+line_bytes (Made bytes) = bytes.items
+
+-- a text, as what is written
+abbrev pub write_of : Text → Write
+write_of text = (text.name.now, text.bytes.items)
+
+-- the texts, as what is written
+abbrev pub texts_of : List Text → List Write
+texts_of texts = map write_of texts
+
+-- a reply after so many files were read, as an answer
+abbrev pub answer_of : ℕ → Reply → Answer
+answer_of reads reply = record { status = reply.status; reads = reads; writes = texts_of reply.texts.items; line = line_bytes reply.line }

@@ -1,0 +1,68 @@
+-- What the steps of a run do: the making of a reply, and the carrying out of one.
+use Rattle.std.specs.Prelude.{◌≡◌, ◌⊎◌, ℕ, ◌+◌, ◌≤◌, List, ⊤, false, Option, Some, IfSome, Result, Ok, Err}
+use Rattle.host.specs.Counts.{Rose}
+use Rattle.host.specs.State.{State}
+use Rattle.host.specs.Whole.{apart_from_left}
+use Rattle.recon_cmd.specs.Answers.{AnswerOf, Write, most_reads}
+use Rattle.recon_cmd.specs.Outcome.{WhereTold, IsCarriedOut, StoppedIn, StatusFits, ReadsNoMore, all_written}
+use Rattle.recon_cmd.specs.Replies.{answer_of}
+use Rattle.recon_cmd.specs.Words.{Asked}
+use Rattle.recon_cmd.specs.declared.answer.Reply.{Reply}
+use Rattle.recon_cmd.specs.declared.answer.Stop.{Stop}
+use Rattle.recon_cmd.specs.declared.answer.Stop.TheVariants as stops
+use Rattle.recon_cmd.specs.declared.status.Status.{Status}
+use Rattle.recon_cmd.specs.declared.status.Status.TheVariants.{Done, No, BadWords, Refused, Failed, NoMemory}
+
+-- a status that an answer may have
+abbrev pub IsAnswered : Status → Type 0
+IsAnswered Done = ⊤
+IsAnswered No = ⊤
+IsAnswered BadWords = ⊤
+IsAnswered Refused = ⊤
+IsAnswered Failed = ⊥
+IsAnswered NoMemory = ⊥
+
+-- the reply is the command's answer
+pub record IsReplied (asked : Asked) (reply : Reply) (before : State) : Type 0 where
+  pub fits : StatusFits reply.status (Some asked)
+  pub answered : IsAnswered reply.status
+  pub answers : IfSome before.told (λ told. (reads : ℕ) × AnswerOf (Some asked) told.files (answer_of reads reply))
+
+-- nothing changed but what readings change, and no more files were opened than the command reads
+pub record ReadsFor (asked : Option Asked) (before after : State) : Type 0 where
+  pub told : apart_from_left after.told ≡ apart_from_left before.told
+  pub writing : after.writing ≡ false
+  pub opens : after.opens ≤ before.opens + most_reads asked
+  pub no_more : ReadsNoMore asked before after
+
+-- the count of faults rose where a call failed, and is else as it was
+abbrev pub StopsFor : {T : Type 0} → Result T Stop → ℕ → ℕ → Type 0
+StopsFor (Ok reply) before after = after ≡ before
+StopsFor (Err stops.Failed) before after = Rose before after
+StopsFor (Err stops.NoMemory) before after = after ≡ before
+
+-- files were written, and nothing was said yet
+pub record IsWritten (writes : List Write) (before after : State) : Type 0 where
+  pub faults : after.faults ≡ before.faults
+  pub opens : after.opens ≡ before.opens
+  pub writing : after.writing ≡ false
+  pub told : WhereTold before after (λ old new. (new.files ≡ all_written writes old.files) × (new.said ≡ old.said))
+
+-- all files were written and the line was said
+pub record CarriesAllOut (writes : List Write) (line : List ℕ) (before after : State) : Type 0 where
+  pub faults : after.faults ≡ before.faults
+  pub opens : after.opens ≡ before.opens
+  pub writing : after.writing ≡ false
+  pub told : WhereTold before after (λ old new. IsCarriedOut writes line old new)
+
+-- a call failed on the way
+pub record StopsOnTheWay (writes : List Write) (line : List ℕ) (before after : State) : Type 0 where
+  pub faults : Rose before.faults after.faults
+  pub opens : after.opens ≡ before.opens
+  pub writing : after.writing ≡ false
+  pub told : WhereTold before after (λ old new. StoppedIn writes line old new)
+
+-- the answer was carried out, or a call failed on the way
+abbrev pub CarriesOut : List Write → List ℕ → (status result : Status) → State → State → Type 0
+CarriesOut writes line status result before after =
+    ((result ≡ status) × CarriesAllOut writes line before after) ⊎ ((result ≡ Failed) × StopsOnTheWay writes line before after)

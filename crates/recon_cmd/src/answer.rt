@@ -1,0 +1,100 @@
+//! What a command comes to, in memory, and the writing and saying of it. It stands on `host` alone.
+ghost use Rattle.std.specs.Prelude.{◌≡◌, false, Some, IfOk};
+ghost use Rattle.recon_cmd.specs.Replies.{line_bytes, texts_of};
+ghost use Rattle.recon_cmd.specs.Steps.{CarriesOut, IsReplied, ReadsFor, StopsFor};
+ghost use Rattle.recon_cmd.specs.Words.{asked};
+
+mod cells;
+
+use crate::status::Status;
+use crate::words::Command;
+use cells::reply_to_cells;
+use host::{Host, say_all, write_file};
+use std::alloc::Global;
+
+/// A line that is said last.
+#[derive(Drop)]
+pub enum Line {
+    /// A line without numbers.
+    Fixed(&'static [u8]),
+    /// A line that was made in memory.
+    Made(Vec<u8>),
+}
+
+impl Line {
+    fn as_bytes(&self) -> &[u8]
+        ensures { result.now ≡ line_bytes self.now }
+    {
+        match self {
+            Line::Fixed(bytes) => bytes,
+            Line::Made(bytes) => bytes,
+        }
+    }
+}
+
+/// A text that is written as a file of this name.
+#[derive(Drop)]
+pub struct Text<'a> {
+    pub name: &'a str,
+    pub bytes: Vec<u8>,
+}
+
+/// What a command comes to: its status, the texts that it writes in order, and its line.
+#[derive(Drop)]
+pub struct Reply<'a> {
+    pub status: Status,
+    pub texts: Vec<Text<'a>>,
+    pub line: Line,
+}
+
+/// Why a command comes to nothing.
+#[derive(Clone, Copy, Debug, PartialEq, Eq)]
+pub enum Stop {
+    /// A call of the host failed.
+    Failed,
+    /// There was no memory.
+    NoMemory,
+}
+
+/// Reads what a command reads, and makes its answer. Nothing is written or said.
+pub fn reply_to<'a, H: Host>(
+    alloc: Global,
+    host: &mut H,
+    command: Command<'a>,
+) -> Result<Reply<'a>, Stop>
+    requires { (H.state host.old).writing ≡ false }
+    ensures replied { IfOk result (λ reply. IsReplied (asked command.entry) reply (H.state host.old)) }
+    ensures reads { ReadsFor (Some (asked command.entry)) (H.state host.old) (H.state host.new) }
+    ensures cause { StopsFor result (H.state host.old).faults (H.state host.new).faults }
+{
+    match command {
+        Command::Cells(names) => reply_to_cells(alloc, host, names),
+    }
+}
+
+/// Writes the texts of a reply in order and says its line. The answer is the reply's status, or `Failed` at the first
+/// call that fails. It takes no memory.
+pub fn carry_out<H: Host>(host: &mut H, reply: &Reply) -> Status
+    requires { (H.state host.old).writing ≡ false }
+    ensures { CarriesOut (texts_of reply.now.texts.items) (line_bytes reply.now.line) reply.now.status result (H.state host.old) (H.state host.new) }
+{
+    conclude(host, &reply.texts, reply.line.as_bytes(), reply.status)
+}
+
+/// Writes the texts in order and says the line. The answer is the status, or `Failed` at the first call that fails.
+#[tactic(auto, using(crate::proofs::Carrying::written_none))]
+pub fn conclude<H: Host>(host: &mut H, texts: &[Text], line: &[u8], status: Status) -> Status
+    requires { (H.state host.old).writing ≡ false }
+    ensures { CarriesOut (texts_of texts.now) line.now status result (H.state host.old) (H.state host.new) }
+{
+    for text in texts {
+        match write_file(host, text.name, &text.bytes) {
+            Ok(()) => {}
+            Err(_) => return Status::Failed,
+        }
+    }
+    match say_all(host, line) {
+        Ok(()) => status,
+        Err(_) => Status::Failed,
+    }
+}

@@ -1,0 +1,90 @@
+//! The lines that are said and the text of cells, in memory. It stands on `num_text`, which prints whole numbers.
+ghost use Rattle.std.specs.Prelude.{◌≡◌, ◌++◌, ◌∷◌, [], IfOk, OnOk, decimal, length};
+ghost use Rattle.std.specs.List.{flat_map};
+ghost use Rattle.recon_cmd.specs.Lines.{bad_words_line, too_long_scan_line, not_built_line, cells_line, cells_text, row_line};
+
+use crate::NoMemory;
+use num_text::push_whole;
+use std::alloc::Global;
+
+/// What is said where the words are no command.
+#[tactic(auto, unfolding(crate::specs::Lines::bad_words_line))]
+pub fn line_of_bad_words() -> &'static [u8]
+    ensures { result.now ≡ bad_words_line }
+{
+    b"refused words\n"
+}
+
+/// What is said where the scan's file is longer than the limit.
+#[tactic(auto, unfolding(crate::specs::Lines::too_long_scan_line))]
+pub fn line_of_too_long_scan() -> &'static [u8]
+    ensures { result.now ≡ too_long_scan_line }
+{
+    b"refused 19 too_long scan\n"
+}
+
+/// What is said where the file is no plain scan of few distinct points.
+#[tactic(auto, unfolding(crate::specs::Lines::not_built_line))]
+pub fn line_of_not_built() -> &'static [u8]
+    ensures { result.now ≡ not_built_line }
+{
+    b"refused 20 not_built\n"
+}
+
+/// The line of `cells`: the numbers of points and of cells.
+#[tactic(auto, unfolding(crate::specs::Lines::cells_line))]
+pub fn line_of_cells(alloc: Global, points: usize, cells: usize) -> Result<Vec<u8>, NoMemory>
+    ensures { IfOk result (λ line. line.items ≡ cells_line points cells) }
+{
+    let mut line = Vec::new(alloc);
+    line.extend_from_slice(b"points ")?;
+    push_whole(&mut line, points as i128)?;
+    line.extend_from_slice(b" cells ")?;
+    push_whole(&mut line, cells as i128)?;
+    line.push(b'\n')?;
+    Ok(line)
+}
+
+/// The text of cells: their number, and a line for each.
+#[tactic(auto, unfolding(crate::specs::Lines::cells_text))]
+pub fn text_of_cells(alloc: Global, cells: &[[u32; 4]]) -> Result<Vec<u8>, NoMemory>
+    ensures { IfOk result (λ text. text.items ≡ cells_text cells.now) }
+{
+    let mut text = Vec::new(alloc);
+    text.extend_from_slice(b"cells ")?;
+    push_whole(&mut text, cells.len() as i128)?;
+    text.push(b'\n')?;
+    push_rows(&mut text, cells)?;
+    Ok(text)
+}
+
+// Adds a line for each cell.
+fn push_rows(text: &mut Vec<u8>, cells: &[[u32; 4]]) -> Result<(), NoMemory>
+    ensures { OnOk result (text.new.items ≡ text.old.items ++ flat_map row_line cells.now) }
+{
+    for cell in cells {
+        push_row(text, *cell)?;
+    }
+    Ok(())
+}
+
+// Adds the line of a cell.
+#[tactic(auto, unfolding(crate::specs::Lines::row_line))]
+fn push_row(text: &mut Vec<u8>, cell: [u32; 4]) -> Result<(), NoMemory>
+    ensures { OnOk result (text.new.items ≡ text.old.items ++ row_line cell) }
+{
+    let [a, b, c, d] = cell;
+    push_number(text, a, b' ')?;
+    push_number(text, b, b' ')?;
+    push_number(text, c, b' ')?;
+    push_number(text, d, b'\n')
+}
+
+// Adds a number and the byte behind it.
+fn push_number(text: &mut Vec<u8>, number: u32, behind: u8) -> Result<(), NoMemory>
+    ensures { OnOk result (text.new.items ≡ text.old.items ++ (decimal number ++ behind ∷ [])) }
+{
+    push_whole(text, i128::from(number))?;
+    text.push(behind)?;
+    Ok(())
+}

@@ -1,0 +1,37 @@
+-- What a scan says: the rows of its points and the rows of its scanners.
+--
+--   VertexRow        a point's place and the number of the scanner that saw it
+--   ScanRows         the vertex rows and the scanners' places
+--   IsVertexRow n    a data point, seen by one of n scanners
+--   IsScan           rows that a scan may have
+--   vertex_rows      the points and the numbers of their scanners, side by side
+use Rattle.std.specs.Prelude.{ℕ, ◌<◌, ◌≤◌, List, [], ◌∷◌, length, All}
+use Rattle.geo_sign.specs.Place.{Place, IsWithin}
+
+-- a point, and the number of the scanner that saw it: its place among the scanners, counted from 0
+pub record VertexRow : Type 0 where
+  pub point : Place
+  pub seen_by : ℕ
+
+-- the rows of a scan, in order
+pub record ScanRows : Type 0 where
+  pub vertices : List VertexRow
+  pub scanners : List Place
+
+-- a data point (no coordinate over 2 ^ 21 - 1), seen by one of so many scanners
+pub record IsVertexRow (scanners : ℕ) (row : VertexRow) : Type 0 where
+  pub data_point : IsWithin 2097151 row.point
+  pub scanner : row.seen_by < scanners
+
+-- data points alone, each seen by a scanner that is there, at most 2 ^ 20 of them, and at most 2 ^ 16 scanners
+pub record IsScan (rows : ScanRows) : Type 0 where
+  pub vertices : All (IsVertexRow (length rows.scanners)) rows.vertices
+  pub scanners : All (IsWithin 2097151) rows.scanners
+  pub vertex_count : length rows.vertices ≤ 1048576
+  pub scanner_count : length rows.scanners ≤ 65536
+
+-- each point with the number that stands at its place
+abbrev pub vertex_rows : List Place → List ℕ → List VertexRow
+vertex_rows [] seen_by = []
+vertex_rows (p ∷ points) [] = []
+vertex_rows (p ∷ points) (k ∷ seen_by) = record { point = p; seen_by = k } ∷ vertex_rows points seen_by
