@@ -201,7 +201,8 @@ fn units_over(units: u128, exponent: u128) -> Option<u64>
     let power = power_of_ten(exponent as u32);
     let twice = 2 * power;
     let raised = 2 * units + power;
-    limited(raised / twice)
+    let rounded = raised / twice;
+    limited(rounded)
 }
 
 // The fraction `value · 10^up / 10^down` in units.

@@ -13,7 +13,7 @@ use crate::words::{is_either, is_word, next_word};
 
 /// What a line says.
 #[derive(Clone, Copy, Debug)]
-pub enum Statement<'a> {
+pub(crate) enum Statement<'a> {
     /// Nothing: it is skipped.
     Nothing,
     /// How the body spells its values.
@@ -185,7 +185,7 @@ fn finish_words<'a>(line: &'a [u8]) -> Option<Statement<'a>>
 
 /// What a line without its end says, if it is one that a header may have at all.
 #[tactic(auto, unfolding(crate::specs::Statements::statement_of_words))]
-pub fn statement_of<'a>(line: &'a [u8]) -> Option<Statement<'a>>
+pub(crate) fn statement_of<'a>(line: &'a [u8]) -> Option<Statement<'a>>
     ensures { option_map statement_view result ≡ statement_of_words (words_of line.now) }
 {
     match next_word(line) {

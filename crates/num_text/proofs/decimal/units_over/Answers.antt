@@ -12,5 +12,5 @@ overflow_add-raised c = omega (arith, c.power_of_ten-power.ensures, power_fits c
 pub overflow_mul-twice : goal.overflow_mul-twice
 overflow_mul-twice c = omega (arith, c.power_of_ten-power.ensures, power_fits c.args.exponent 36 c.if-exponent-gt36.false)
 
-pub nonzero_div-raised : goal.nonzero_div-raised
-nonzero_div-raised c = omega (arith, c.power_of_ten-power.ensures, power_some c.args.exponent)
+pub nonzero_div-rounded : goal.nonzero_div-rounded
+nonzero_div-rounded c = omega (arith, c.power_of_ten-power.ensures, power_some c.args.exponent)
