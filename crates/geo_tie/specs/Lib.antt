@@ -4,4 +4,5 @@ pub mod Tie
 pub mod Terms
 pub mod Conflict
 pub mod Cells
+pub mod Sights
 pub mod Rising

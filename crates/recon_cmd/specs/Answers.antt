@@ -1,8 +1,11 @@
 -- What a command comes to: a relation on bytes, apart from any host.
 --
+--   Write                            a name, and the bytes that are written as its file
 --   Answer                           a status, how many files were read, the files that are written, and the line
+--   bad_words_answer, refusal        the answer of words that are no command, and of an input that is refused
 --   file_limit                       how long a file that is read may be
 --   points_of scan                   where a scan's points are
+--   CellsTooLong, CellsNotBuilt, CellsDone    the three cases of the answer of `cells`
 --   CellsAnswer output bytes answer  the answer of `cells` where the scan's file has these bytes
 --   AnswerOf asked files answer      the answer of a command, or of words that are none, where the files are these
 --   most_reads asked                 how many files a command reads at most

@@ -1,7 +1,12 @@
 -- What a run does to its host.
 --
+--   WhereTold before after Holds        where the host tells, what it tells before and after is so related
 --   all_written writes files            the files after these were written in order
+--   IsUntouched old new                 the files and what was said are as before
+--   IsCarriedOut writes line old new    all files were written and the line was said
+--   SaidFront, WroteFront               a front of the line was said; a front of a file was written
 --   StoppedIn writes line old new       what stands after a call failed on the way through an answer
+--   EndsWith, StopsWith                 the command's answer was carried out; it was up to a failed call
 --   Tells asked status old new          what is told after a run that ended so
 --   StatusFits status asked             the statuses that a command may end with at all
 --   FaultsFit status before after       the count of faults rose exactly where the run failed
@@ -18,7 +23,7 @@ use Rattle.recon_cmd.specs.declared.status.Status.TheVariants.{Done, No, BadWord
 
 -- where the host tells before, it tells after, and the two are so related
 abbrev pub WhereTold : State → State → (Told → Told → Type 0) → Type 0
-WhereTold before after P = IfSome before.told (λ old. IsSomeAnd after.told (λ new. P old new))
+WhereTold before after Holds = IfSome before.told (λ old. IsSomeAnd after.told (λ new. Holds old new))
 
 -- the files after these were written in order
 abbrev pub all_written : List Write → Files → Files

@@ -1,4 +1,8 @@
 -- The answers that the program holds in memory.
+--
+--   line_bytes line            the bytes of a line
+--   write_of, texts_of         a text and texts, as what is written
+--   answer_of reads reply      a reply, as an answer
 use Rattle.std.specs.Prelude.{ℕ, List, map}
 use Rattle.recon_cmd.specs.Answers.{Answer, Write}
 use Rattle.recon_cmd.specs.declared.answer.Line.{Line}

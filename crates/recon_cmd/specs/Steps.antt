@@ -1,4 +1,12 @@
 -- What the steps of a run do: the making of a reply, and the carrying out of one.
+--
+--   IsAnswered status                  a status that an answer may have
+--   IsReplied asked reply before       the reply is the command's answer
+--   ReadsFor asked before after        what the making of a reply does to the host
+--   StopsFor result before after       the count of faults, by whether there is a reply
+--   IsWritten writes before after      files were written, and nothing was said yet
+--   CarriesAllOut, StopsOnTheWay       an answer was carried out, or a call failed on the way
+--   CarriesOut                         one of the two
 use Rattle.std.specs.Prelude.{◌≡◌, ◌⊎◌, ℕ, ◌+◌, ◌≤◌, List, ⊤, false, Option, Some, IfSome, Result, Ok, Err}
 use Rattle.host.specs.Counts.{Rose}
 use Rattle.host.specs.State.{State}

@@ -1,0 +1,96 @@
+//! Numbers at the front of a text, read. Exactly the text that is printed is read: digits
+//! without a leading zero and without a sign.
+
+ghost use Rattle.std.specs.Prelude.{◌≡◌, ◌<◌, ◌≤◌, ◌^◌, ◌++◌, ◌∷◌, ℕ, List, IfSome, IfNone, length, slice_index, decimal};
+ghost use Rattle.std.specs.Bool.{OnTrue, OnFalse};
+ghost use Rattle.line_text.specs.Numbers.{ended, counted, BeginsWithNone, Lacks, IsPlain};
+
+// The place of the first such byte, or the length where there is none.
+fn place_of(text: &[u8], byte: u8) -> usize
+    ensures within { result ≤ length text.now }
+    ensures before { (k : ℕ) → k < result → slice_index text.now k ≡ byte → ⊥ }
+    ensures found { result < length text.now → slice_index text.now result ≡ byte }
+{
+    for (i, x) in text.iter().enumerate() {
+        if *x == byte {
+            return i;
+        }
+    }
+    text.len()
+}
+
+/// What stands before the first such byte and what stands behind it, or None where the text
+/// lacks the byte.
+pub fn cut_at(text: &[u8], byte: u8) -> Option<(&[u8], &[u8])>
+    ensures some { IfSome result (λ parts. (text.now ≡ parts.0.now ++ (byte ∷ parts.1.now)) × Lacks byte parts.0.now) }
+    ensures none { IfNone result (Lacks byte text.now) }
+{
+    let place = place_of(text, byte);
+    if place < text.len() {
+        Some((&text[..place], &text[place + 1..]))
+    } else {
+        None
+    }
+}
+
+// Whether the first byte is one that a printed number may have.
+fn is_plain(token: &[u8]) -> bool
+    ensures yes { OnTrue result (IsPlain token.now) }
+    ensures no { OnFalse result (¬ IsPlain token.now) }
+{
+    if token.is_empty() {
+        return false;
+    }
+    let first = token[0];
+    first != b'+' && (first != b'0' || token.len() == 1)
+}
+
+/// The number whose decimal text the token is, or None where it is the text of no number of
+/// 64 bits.
+pub fn number_of(token: &[u8]) -> Option<u64>
+    ensures some { IfSome result (λ n. token.now ≡ decimal n) }
+    ensures none { IfNone result ((n : ℕ) → n < 2 ^ 64 → ¬ (token.now ≡ decimal n)) }
+{
+    if !is_plain(token) {
+        return None;
+    }
+    let text = match str::from_utf8(token) {
+        Ok(text) => text,
+        Err(_) => return None,
+    };
+    match text.parse::<u64>() {
+        Ok(n) => Some(n),
+        Err(_) => None,
+    }
+}
+
+/// The number of at most `limit` at the front of a text, with the byte that ends it, and
+/// what stands behind that byte. None where no such number stands there.
+pub fn number_first(text: &[u8], end: u8, limit: u64) -> Option<(u64, &[u8])>
+    requires { end < 48 }
+    ensures some { IfSome result (λ read. (read.0 ≤ limit) × (text.now ≡ ended read.0 end ++ read.1.now)) }
+    ensures none { IfNone result (BeginsWithNone (λ n. n ≤ limit) (λ n. ended n end) text.now) }
+{
+    let (token, rest) = cut_at(text, end)?;
+    let n = number_of(token)?;
+    if n <= limit { Some((n, rest)) } else { None }
+}
+
+/// The number of at most `limit` that a line with this word states, and what stands behind
+/// the line. None where no such line stands at the front of the text.
+pub fn counted_first<'a>(text: &'a [u8], word: &[u8], limit: u64) -> Option<(u64, &'a [u8])>
+    ensures some { IfSome result (λ read. (read.0 ≤ limit) × (text.now ≡ counted word.now read.0 ++ read.1.now)) }
+    ensures none { IfNone result (BeginsWithNone (λ n. n ≤ limit) (counted word.now) text.now) }
+{
+    let rest = behind(text, word)?;
+    number_first(rest, b'\n', limit)
+}
+
+/// What stands behind these bytes at the front of a text, or None where the text does not
+/// begin with them.
+pub fn behind<'a>(text: &'a [u8], front: &[u8]) -> Option<&'a [u8]>
+    ensures some { IfSome result (λ rest. text.now ≡ front.now ++ rest.now) }
+    ensures none { IfNone result ((rest : List ℕ) → ¬ (text.now ≡ front.now ++ rest)) }
+{
+    text.strip_prefix(front)
+}

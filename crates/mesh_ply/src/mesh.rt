@@ -1,0 +1,19 @@
+//! What a mesh is. It stands on the points of `geo_sign`.
+
+use geo_sign::Point;
+use std::alloc::AllocError;
+
+/// Want of memory.
+pub type NoMemory = AllocError;
+
+/// A triangle mesh: points in scaled whole units, and faces as places in `points`.
+///
+/// It is *valid* where there are at most 2^32 - 1 points and as many faces, and each face
+/// has three distinct places in `points`, the smallest first. The order of a face's places
+/// says where outside is; moving all three round leaves it the same face, so the smallest
+/// place can come first.
+#[derive(Debug, Drop)]
+pub struct Mesh {
+    pub points: Vec<Point>,
+    pub faces: Vec<[u32; 3]>,
+}

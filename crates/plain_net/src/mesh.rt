@@ -1,0 +1,96 @@
+//! The mesh of labels: the facets of outside cells with an inside cell across. It stands on `network`'s arcs and on `mesh_ply`.
+
+ghost use Rattle.std.specs.Prelude.{◌≡◌, ◌<◌, ◌≤◌, ◌++◌, IfOk, AllPairs, length};
+ghost use Rattle.flow_net.specs.Flows.{IsAdmissible};
+ghost use Rattle.geo_tie.specs.Vertices.{corners, vertices_of};
+ghost use Rattle.line_text.specs.Rising.{IsBefore};
+ghost use Rattle.mesh_ply.specs.Meshes.{mesh_of, IsMesh};
+ghost use Rattle.visibility.specs.Cuts.{cut_facets};
+ghost use Rattle.visibility.specs.Laws.{test_of};
+ghost use Rattle.visibility.specs.Networks.{complex_of, IsNetworkAmong};
+ghost use Rattle.plain_net.specs.CutRows.{is_cut_arc, cut_rows};
+
+use crate::NoMemory;
+use crate::vertices::flag;
+use flow_net::{Arc, Labels, Voted};
+use geo_sign::{Point, corner};
+use mesh_ply::{Mesh, mesh_of_facets};
+use std::alloc::Global;
+
+/// The corners of the box, and the points after them.
+fn places(alloc: Global, points: &[Point]) -> Result<Vec<Point>, NoMemory>
+    ensures { IfOk result (λ places. places.items ≡ corners ++ points.now) }
+{
+    let mut places = Vec::from_slice(
+        alloc,
+        &[
+            corner(0),
+            corner(1),
+            corner(2),
+            corner(3),
+            corner(4),
+            corner(5),
+            corner(6),
+            corner(7),
+        ],
+    )?;
+    places.extend_from_slice(points)?;
+    Ok(places)
+}
+
+/// Whether an arc leads from an outside node to an inside one.
+fn is_cut(arcs: &[Arc], inside: &[bool], place: usize) -> bool
+    requires { place < length arcs.now }
+    ensures { result ≡ is_cut_arc arcs.now inside.now place }
+{
+    let arc = &arcs[place];
+    !flag(inside, arc.from) && flag(inside, arc.to)
+}
+
+/// The facets of the arcs that lead from an outside node to an inside one.
+fn cut(
+    alloc: Global,
+    arcs: &[Arc],
+    inside: &[bool],
+    facets: &[[u32; 3]],
+) -> Result<Vec<[u32; 3]>, NoMemory>
+    requires { length facets.now ≡ length arcs.now }
+    ensures { IfOk result (λ v. v.items ≡ cut_rows (length facets.now) arcs.now inside.now facets.now) }
+{
+    let mut list = Vec::new(alloc);
+    for (place, numbers) in facets.iter().enumerate() {
+        if is_cut(arcs, inside, place) {
+            list.push(*numbers)?;
+        }
+    }
+    Ok(list)
+}
+
+/// The mesh of labels of the network of these points: the facets of outside cells with an inside cell across, as outside cells have
+/// them, so that a face's three points turn counterclockwise as seen from outside.
+///
+/// Points that no face has are left out, and the others are numbered in the order of their vertex numbers. The faces have their
+/// smallest number first and rise. The only error is want of memory, which also stands for more than 2^32 - 1 faces.
+pub fn plain_mesh(
+    alloc: Global,
+    points: &[Point],
+    voted: &Voted,
+    labels: &Labels,
+) -> Result<Mesh, NoMemory>
+    requires few { length points.now ≤ 56 }
+    requires network { IsNetworkAmong (vertices_of points.now) voted.now }
+    requires labels { IsAdmissible voted.now.net labels.now }
+    ensures points { IfOk result (λ mesh. mesh.points.items ≡ (mesh_of (corners ++ points.now) (cut_facets (vertices_of points.now) (complex_of voted.now) (test_of voted.now.cells labels.now.inside))).points) }
+    ensures faces { IfOk result (λ mesh. mesh.faces.items ≡ (mesh_of (corners ++ points.now) (cut_facets (vertices_of points.now) (complex_of voted.now) (test_of voted.now.cells labels.now.inside))).faces) }
+    ensures valid { IfOk result (λ mesh. IsMesh mesh.points.items mesh.faces.items) }
+    ensures rising { IfOk result (λ mesh. AllPairs IsBefore mesh.faces.items) }
+{
+    let places = places(alloc, points)?;
+    let cut = cut(
+        alloc,
+        voted.net.arcs.as_slice(),
+        labels.inside.as_slice(),
+        voted.facets.as_slice(),
+    )?;
+    mesh_of_facets(alloc, &places, &cut)
+}

@@ -1,0 +1,9 @@
+pub mod Places
+pub mod Networks
+pub mod Labels
+pub mod Flows
+pub mod Amounts
+pub mod Validity
+pub mod Cuts
+pub mod Ordered
+pub mod LeastCost

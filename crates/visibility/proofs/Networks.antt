@@ -1,0 +1,45 @@
+-- The network of a scene at a node and at an arc.
+use Rattle.std.proofs.Common.{ℕ, ◌<◌, ◌≡◌, ap, ◌∙◌, Bool, List, [], length, get_or, AllPairs}
+use Rattle.std.proofs.lemmas.List.{get_or-map, length-map}
+use Rattle.flow_net.specs.Nets.{arc_at, flag_at, no_arc}
+use Rattle.flow_net.specs.declared.Arc.{Arc}
+use Rattle.flow_net.specs.declared.Voted.{Voted}
+use Rattle.geo_tie.specs.Cells.{IsBefore}
+use Rattle.visibility.specs.Scenes.{Scene}
+use Rattle.visibility.specs.Complexes.{facet_at, turned, has_facet, cell_place}
+use Rattle.visibility.specs.Votes.{is_fixed, sink, HasCapacity}
+use Rattle.visibility.specs.Networks.{complex_of, arc_of, IsNetworkOf}
+use Rattle.visibility.proofs.Places.{first_within, place_has}
+
+pub cells_rise : (s : Scene) (voted : Voted) → IsNetworkOf s voted → AllPairs IsBefore voted.cells
+cells_rise s voted n = n.complex_is.cells_are.rising
+
+pub node_count : (s : Scene) (voted : Voted) → IsNetworkOf s voted → length voted.net.fixed ≡ length voted.cells
+node_count s voted n = ap length n.fixed_is ∙ length-map voted.cells (is_fixed s.vertices s.scanners)
+
+pub arc_count : (s : Scene) (voted : Voted) → IsNetworkOf s voted → length voted.net.arcs ≡ length voted.facets
+arc_count s voted n = ap length n.arcs_are ∙ length-map voted.facets (arc_of s (complex_of voted))
+
+pub fixed_at : (s : Scene) (voted : Voted) (k : ℕ) → IsNetworkOf s voted → k < length voted.cells → flag_at voted.net.fixed k ≡ is_fixed s.vertices s.scanners (get_or voted.cells k [])
+fixed_at s voted k n l = ap (λ (flags : List Bool). flag_at flags k) n.fixed_is ∙ get_or-map (is_fixed s.vertices s.scanners) voted.cells k [] _ l
+
+pub sink_at : (s : Scene) (voted : Voted) (k : ℕ) → IsNetworkOf s voted → k < length voted.cells → get_or voted.net.sink k 0 ≡ sink s (get_or voted.cells k [])
+sink_at s voted k n l = ap (λ (sinks : List ℕ). get_or sinks k 0) n.sink_is ∙ get_or-map (sink s) voted.cells k [] _ l
+
+pub arc_is : (s : Scene) (voted : Voted) (j : ℕ) → IsNetworkOf s voted → j < length voted.facets → arc_at voted.net.arcs j ≡ arc_of s (complex_of voted) (get_or voted.facets j [])
+arc_is s voted j n l = ap (λ (arcs : List Arc). arc_at arcs j) n.arcs_are ∙ get_or-map (arc_of s (complex_of voted)) voted.facets j [] no_arc l
+
+-- the two cells of a facet that has a capacity are in the list
+pub record IsJoined (s : Scene) (cells : List (List ℕ)) (f : List ℕ) : Type 0 where
+  pub own : cell_place s.vertices cells (facet_at f) < length cells
+  pub across : cell_place s.vertices cells (turned (facet_at f)) < length cells
+
+pub joined : (s : Scene) (cells : List (List ℕ)) (f : List ℕ) → HasCapacity s cells f → IsJoined s cells f
+joined s cells f h =
+    record {
+      own = first_within (λ row. has_facet s.vertices row (facet_at f)) cells h.own;
+      across = first_within (λ row. has_facet s.vertices row (turned (facet_at f))) cells h.across;
+    }
+
+pub joined_at : (s : Scene) (voted : Voted) (j : ℕ) → IsNetworkOf s voted → j < length voted.facets → IsJoined s voted.cells (get_or voted.facets j [])
+joined_at s voted j n l = joined s voted.cells (get_or voted.facets j []) (n.complex_is.facets_are.only (get_or voted.facets j []) (place_has voted.facets j l))

@@ -1,0 +1,227 @@
+-- The network of a scene is valid.
+use Rattle.std.proofs.Common.{ℕ, ◌<◌, ◌≤◌, ◌^◌, ◌≡◌, ◌≢◌, refl, ap, sym, subst, ◌∙◌, arith, Bool, true, false, cond, ◌&&◌, ◌||◌, ◌⊎◌, inl, inr, ⊎_elim, List, [], ◌∷◌, length, get_or, map, eqb, Some, None, Option, AllPairs, Contains, pos, int_lt}
+use Rattle.std.proofs.lemmas.Bool.{and_parts, and_from, or_cases, eqb-true, eq-eqb, false_from_ne_true}
+use Rattle.std.proofs.lemmas.List.{get_or-map, length-map}
+use Rattle.std.proofs.lemmas.List.Sums.{position_or_len_is, passes_at_first}
+use Rattle.flow_net.specs.Nets.{arc_at, flag_at, no_arc, IsReverse, IsValidArc, IsValidNet}
+use Rattle.flow_net.specs.declared.Arc.{Arc}
+use Rattle.geo_tie.specs.Tetrahedron.{Tetrahedron, Facet, tetrahedron, facet, facet_of}
+use Rattle.geo_tie.specs.Vertices.{Vertices, orientation_of}
+use Rattle.geo_tie.specs.Cells.{IsBefore, IsRisingCell}
+use Rattle.visibility.specs.Scenes.{Scene}
+use Rattle.visibility.specs.Complexes.{Complex, facet_at, numbers_of, turned, written, is_same, is_among, has_facet, cell_place, cell_of}
+use Rattle.visibility.specs.Votes.{is_fixed, capacity, sink, HasCapacity, IsComplexOf}
+use Rattle.visibility.specs.Networks.{facet_place, pair_of, arc_of}
+use Rattle.visibility.proofs.Places.{not_before_itself, at_place, place_has}
+use Rattle.visibility.proofs.Networks.{IsJoined, joined}
+use Rattle.visibility.proofs.Amounts.{capacity_fits, sink_fits}
+
+-- the numbers of two facets that pass the test
+same_means : (f g : Facet) → is_same f g ≡ true → (f.a ≡ g.a) × (f.b ≡ g.b) × (f.c ≡ g.c)
+same_means f g h =
+    let p = and_parts (eqb f.a g.a && eqb f.b g.b) (eqb f.c g.c) h in
+    let q = and_parts (eqb f.a g.a) (eqb f.b g.b) p.0 in
+    (eqb-true f.a g.a q.0, eqb-true f.b g.b q.1, eqb-true f.c g.c p.1)
+
+pub same_facets : (f g : Facet) → is_same f g ≡ true → f ≡ g
+same_facets f g h =
+    let p = same_means f g h in
+    ap (λ (n : ℕ). facet n f.b f.c) p.0 ∙ ap (λ (n : ℕ). facet g.a n f.c) p.1 ∙ ap (λ (n : ℕ). facet g.a g.b n) p.2
+
+pub is_same_itself : (f : Facet) → is_same f f ≡ true
+is_same_itself f = and_from (eqb f.a f.a && eqb f.b f.b) (eqb f.c f.c) (and_from (eqb f.a f.a) (eqb f.b f.b) (eq-eqb f.a f.a refl) (eq-eqb f.b f.b refl)) (eq-eqb f.c f.c refl)
+
+-- four numbers of which no two are equal
+pub record AreApart (t : Tetrahedron) : Type 0 where
+  pub a_b : t.a ≢ t.b
+  pub a_c : t.a ≢ t.c
+  pub a_d : t.a ≢ t.d
+  pub b_c : t.b ≢ t.c
+  pub b_d : t.b ≢ t.d
+  pub c_d : t.c ≢ t.d
+
+-- which of the four directed facets it is
+abbrev pub OneOf : Tetrahedron → Facet → Type 0
+OneOf t f =
+    ((t.b ≡ f.a) × (t.d ≡ f.b) × (t.c ≡ f.c)) ⊎ (((t.a ≡ f.a) × (t.c ≡ f.b) × (t.d ≡ f.c)) ⊎ (((t.a ≡ f.a) × (t.d ≡ f.b) × (t.b ≡ f.c)) ⊎ ((t.a ≡ f.a) × (t.b ≡ f.b) × (t.c ≡ f.c))))
+
+pub one_of : (t : Tetrahedron) (f : Facet) → is_among t f ≡ true → OneOf t f
+one_of t f h =
+    let first : Bool = is_same (facet_of t 0) f in
+    let second : Bool = is_same (facet_of t 1) f in
+    let third : Bool = is_same (facet_of t 2) f in
+    let last : Bool = is_same (facet_of t 3) f in
+    ⊎_elim (λ p. ⊎_elim (λ q. ⊎_elim (λ r. inl (same_means (facet_of t 0) f r)) (λ r. inr (inl (same_means (facet_of t 1) f r))) (or_cases first second q)) (λ q. inr (inr (inl (same_means (facet_of t 2) f q)))) (or_cases (first || second) third p))
+    (λ p. inr (inr (inr (same_means (facet_of t 3) f p))))
+    (or_cases (first || second || third) last h)
+
+-- no cell has a facet and the one turned round
+not_both : (t : Tetrahedron) (f : Facet) → AreApart t → OneOf t f → OneOf t (turned f) → ⊥
+not_both t f o (inl p) (inl q) = omega (arith, o.c_d)
+not_both t f o (inl p) (inr (inl q)) = omega (arith, o.a_b)
+not_both t f o (inl p) (inr (inr (inl q))) = omega (arith, o.a_b)
+not_both t f o (inl p) (inr (inr (inr q))) = omega (arith, o.a_b)
+not_both t f o (inr (inl p)) (inl q) = omega (arith, o.a_b)
+not_both t f o (inr (inl p)) (inr (inl q)) = omega (arith, o.c_d)
+not_both t f o (inr (inl p)) (inr (inr (inl q))) = omega (arith, o.b_c)
+not_both t f o (inr (inl p)) (inr (inr (inr q))) = omega (arith, o.b_d)
+not_both t f o (inr (inr (inl p))) (inl q) = omega (arith, o.a_b)
+not_both t f o (inr (inr (inl p))) (inr (inl q)) = omega (arith, o.b_c)
+not_both t f o (inr (inr (inl p))) (inr (inr (inl q))) = omega (arith, o.b_d)
+not_both t f o (inr (inr (inl p))) (inr (inr (inr q))) = omega (arith, o.c_d)
+not_both t f o (inr (inr (inr p))) (inl q) = omega (arith, o.a_b)
+not_both t f o (inr (inr (inr p))) (inr (inl q)) = omega (arith, o.b_d)
+not_both t f o (inr (inr (inr p))) (inr (inr (inl q))) = omega (arith, o.c_d)
+not_both t f o (inr (inr (inr p))) (inr (inr (inr q))) = omega (arith, o.b_c)
+
+-- a cell's numbers, as it is written, are distinct
+pub written_apart : (v : Vertices) (row : List ℕ) → IsRisingCell v row → AreApart (written v row)
+unfolding written
+written_apart v [] h = elim h [ ]
+written_apart v (a ∷ []) h = elim h [ ]
+written_apart v (a ∷ b ∷ []) h = elim h [ ]
+written_apart v (a ∷ b ∷ c ∷ []) h = elim h [ ]
+written_apart v (a ∷ b ∷ c ∷ d ∷ e ∷ rest) h = elim h [ ]
+written_apart v (a ∷ b ∷ c ∷ d ∷ []) h = by (int_lt (pos 0) (orientation_of v a b c d))
+  where
+    by : (positive : Bool) → AreApart (cond positive (tetrahedron a b c d) (tetrahedron a b d c))
+    by true = record { a_b = omega (arith, h.0); a_c = omega (arith, h.0, h.1); a_d = omega (arith, h.0, h.1, h.2); b_c = omega (arith, h.1); b_d = omega (arith, h.1, h.2); c_d = omega (arith, h.2) }
+    by false = record { a_b = omega (arith, h.0); a_c = omega (arith, h.0, h.1, h.2); a_d = omega (arith, h.0, h.1); b_c = omega (arith, h.1, h.2); b_d = omega (arith, h.1); c_d = omega (arith, h.2) }
+
+-- a facet and the one turned round belong to two cells
+cells_differ : (s : Scene) (complex : Complex) (f : List ℕ) → IsComplexOf s complex → IsJoined s complex.cells f → cell_place s.vertices complex.cells (facet_at f) ≢ cell_place s.vertices complex.cells (turned (facet_at f))
+cells_differ s complex f o p e =
+    let own : ℕ = cell_place s.vertices complex.cells (facet_at f) in
+    let row : List ℕ = get_or complex.cells own [] in
+    let apart : AreApart (written s.vertices row) = written_apart s.vertices row (o.cells_are.cells row (place_has complex.cells own p.own)) in
+    let first : is_among (written s.vertices row) (facet_at f) ≡ true = passes_at_first (λ r. has_facet s.vertices r (facet_at f)) complex.cells [] p.own in
+    let second : is_among (written s.vertices row) (turned (facet_at f)) ≡ true =
+    subst (λ (k : ℕ). has_facet s.vertices (get_or complex.cells k []) (turned (facet_at f)) ≡ true) (sym e) (passes_at_first (λ r. has_facet s.vertices r (turned (facet_at f))) complex.cells [] p.across) in
+    not_both (written s.vertices row) (facet_at f) apart (one_of (written s.vertices row) (facet_at f) first) (one_of (written s.vertices row) (turned (facet_at f)) second)
+
+-- the place of a facet that is listed
+facet_place_at : (facets : List (List ℕ)) (j : ℕ) → AllPairs IsBefore facets → ((k : ℕ) → k < length facets → get_or facets k [] ≡ numbers_of (facet_at (get_or facets k []))) → j < length facets → facet_place facets (facet_at (get_or facets j [])) ≡ j
+facet_place_at facets j r three l =
+    position_or_len_is (λ numbers. is_same (facet_at numbers) (facet_at (get_or facets j []))) facets j [] (omega arith)
+    (λ k m. false_from_ne_true (is_same (facet_at (get_or facets k [])) (facet_at (get_or facets j []))) (λ h. clash k m (same_facets (facet_at (get_or facets k [])) (facet_at (get_or facets j [])) h)))
+    (λ m. is_same_itself (facet_at (get_or facets j [])))
+  where
+    clash : (k : ℕ) → k < j → facet_at (get_or facets k []) ≡ facet_at (get_or facets j []) → ⊥
+    clash k m e =
+        let same : get_or facets k [] ≡ get_or facets j [] = three k (omega arith) ∙ ap numbers_of e ∙ sym (three j l) in
+        not_before_itself (get_or facets j []) (subst (λ (u : List ℕ). IsBefore u (get_or facets j [])) same (r k j [] m l))
+
+three_at : (s : Scene) (complex : Complex) → IsComplexOf s complex → (k : ℕ) → k < length complex.facets → get_or complex.facets k [] ≡ numbers_of (facet_at (get_or complex.facets k []))
+three_at s complex o k l = (o.facets_are.only (get_or complex.facets k []) (place_has complex.facets k l)).three
+
+-- the facet turned round, where it is listed
+record IsPaired (facets : List (List ℕ)) (f : Facet) : Type 0 where
+  at : ℕ
+  in_range : at < length facets
+  is : facet_at (get_or facets at []) ≡ f
+  place : facet_place facets f ≡ at
+
+paired : (s : Scene) (complex : Complex) (f : List ℕ) → IsComplexOf s complex → HasCapacity s complex.cells f → is_fixed s.vertices s.scanners (cell_of s.vertices complex.cells (facet_at f)) ≡ false → IsPaired complex.facets (turned (facet_at f))
+paired s complex f o h own =
+    let g : List ℕ = numbers_of (turned (facet_at f)) in
+    let there : Contains complex.facets g = o.facets_are.all g (record { three = refl; own = h.across; across = h.own; free = own }) in
+    let here : get_or complex.facets there.0 [] ≡ g = at_place complex.facets g there in
+    record {
+      at = there.0;
+      in_range = there.1;
+      is = ap facet_at here;
+      place = ap (λ (r : List ℕ). facet_place complex.facets (facet_at r)) (sym here) ∙ facet_place_at complex.facets there.0 o.facets_are.rising (three_at s complex o) there.1;
+    }
+
+abbrev arcs_of : Scene → Complex → List Arc
+arcs_of s complex = map (arc_of s complex) complex.facets
+
+arc_there : (s : Scene) (complex : Complex) (j : ℕ) → j < length complex.facets → arc_at (arcs_of s complex) j ≡ arc_of s complex (get_or complex.facets j [])
+arc_there s complex j l = get_or-map (arc_of s complex) complex.facets j [] no_arc l
+
+-- the arc of a facet, with its reverse as a choice
+abbrev arc_with : Scene → Complex → Facet → Option ℕ → Arc
+arc_with s complex f pair = record { from = cell_place s.vertices complex.cells f; to = cell_place s.vertices complex.cells (turned f); cap = capacity s f; pair = pair }
+
+pub flag_there : (s : Scene) (complex : Complex) (f : Facet) → cell_place s.vertices complex.cells f < length complex.cells
+    → flag_at (map (is_fixed s.vertices s.scanners) complex.cells) (cell_place s.vertices complex.cells f) ≡ is_fixed s.vertices s.scanners (cell_of s.vertices complex.cells f)
+flag_there s complex f l = get_or-map (is_fixed s.vertices s.scanners) complex.cells (cell_place s.vertices complex.cells f) [] false l
+
+turned_back : (s : Scene) (complex : Complex) (j : ℕ) (f : Facet) (g : List ℕ) (pair : Option ℕ) → facet_at g ≡ turned f → is_fixed s.vertices s.scanners (cell_of s.vertices complex.cells (turned f)) ≡ false → facet_place complex.facets f ≡ j
+    → IsReverse (arc_with s complex f pair) j (arc_of s complex g)
+unfolding arc_of
+turned_back s complex j f g pair e free place =
+    record {
+      from_is = ap (λ (h : Facet). cell_place s.vertices complex.cells h) e;
+      to_is = ap (λ (h : Facet). cell_place s.vertices complex.cells (turned h)) e;
+      back = ap (λ (h : Facet). pair_of s complex h) e ∙ ap (λ (b : Bool). cond b None (Some (facet_place complex.facets f))) free ∙ ap (λ (i : ℕ). Some i) place;
+    }
+
+some_is : {m n : ℕ} → Some m ≡ Some n → m ≡ n
+some_is h = cc
+
+valid_with : (s : Scene) (complex : Complex) (j : ℕ) (f : List ℕ) → length s.sights ≤ 1048576 → IsComplexOf s complex → HasCapacity s complex.cells f → facet_place complex.facets (facet_at f) ≡ j
+    → (b : Bool) → is_fixed s.vertices s.scanners (cell_of s.vertices complex.cells (facet_at f)) ≡ b
+    → IsValidArc (map (is_fixed s.vertices s.scanners) complex.cells) (arcs_of s complex) j (arc_with s complex (facet_at f) (cond b None (Some (facet_place complex.facets (turned (facet_at f))))))
+valid_with s complex j f few o h place b own =
+    by b own (flag_there s complex (facet_at f) (joined s complex.cells f h).own ∙ own)
+  where
+    small : capacity s (facet_at f) ≤ 2 ^ 60
+    small = omega (arith, capacity_fits s (facet_at f) few)
+
+    by : (b : Bool) → is_fixed s.vertices s.scanners (cell_of s.vertices complex.cells (facet_at f)) ≡ b → flag_at (map (is_fixed s.vertices s.scanners) complex.cells) (cell_place s.vertices complex.cells (facet_at f)) ≡ b
+        → IsValidArc (map (is_fixed s.vertices s.scanners) complex.cells) (arcs_of s complex) j (arc_with s complex (facet_at f) (cond b None (Some (facet_place complex.facets (turned (facet_at f))))))
+    by true own own_flag =
+        let p : IsJoined s complex.cells f = joined s complex.cells f h in
+        let count = length-map complex.cells (is_fixed s.vertices s.scanners) in
+        record {
+          from_in = omega (arith, p.own, count);
+          to_in = omega (arith, p.across, count);
+          distinct = cells_differ s complex f o p;
+          to_free = flag_there s complex (turned (facet_at f)) p.across ∙ h.free;
+          cap_fits = small;
+          no_pair = λ e. own_flag;
+          pair_free = λ k e. absurd (cc);
+          pair_in = λ k e. absurd (cc);
+          pair_is = λ k e. absurd (cc);
+        }
+    by false own own_flag =
+        let p : IsJoined s complex.cells f = joined s complex.cells f h in
+        let count = length-map complex.cells (is_fixed s.vertices s.scanners) in
+        let pair : IsPaired complex.facets (turned (facet_at f)) = paired s complex f o h own in
+        record {
+          from_in = omega (arith, p.own, count);
+          to_in = omega (arith, p.across, count);
+          distinct = cells_differ s complex f o p;
+          to_free = flag_there s complex (turned (facet_at f)) p.across ∙ h.free;
+          cap_fits = small;
+          no_pair = λ e. absurd (cc);
+          pair_free = λ k e. own_flag;
+          pair_in = λ k e. let at : pair.at ≡ k = sym pair.place ∙ some_is e in omega (arith, at, pair.in_range, length-map complex.facets (arc_of s complex));
+          pair_is = λ k e.
+              subst (λ (i : ℕ). IsReverse (arc_with s complex (facet_at f) (Some (facet_place complex.facets (turned (facet_at f))))) j (arc_at (arcs_of s complex) i)) (sym pair.place ∙ some_is e)
+              (subst (λ (a : Arc). IsReverse (arc_with s complex (facet_at f) (Some (facet_place complex.facets (turned (facet_at f))))) j a) (sym (arc_there s complex pair.at pair.in_range))
+              (turned_back s complex j (facet_at f) (get_or complex.facets pair.at []) (Some (facet_place complex.facets (turned (facet_at f)))) pair.is h.free place));
+        }
+
+valid_arc : (s : Scene) (complex : Complex) (j : ℕ) → length s.sights ≤ 1048576 → IsComplexOf s complex → j < length complex.facets
+    → IsValidArc (map (is_fixed s.vertices s.scanners) complex.cells) (arcs_of s complex) j (arc_of s complex (get_or complex.facets j []))
+unfolding arc_of
+valid_arc s complex j few o l =
+    valid_with s complex j (get_or complex.facets j []) few o (o.facets_are.only (get_or complex.facets j []) (place_has complex.facets j l)) (facet_place_at complex.facets j o.facets_are.rising (three_at s complex o) l)
+    (is_fixed s.vertices s.scanners (cell_of s.vertices complex.cells (facet_at (get_or complex.facets j [])))) refl
+
+-- the flags, sinks and arcs of a scene with at most 1,048,576 sights make a valid network
+pub network_valid : (s : Scene) (complex : Complex) → length s.sights ≤ 1048576 → IsComplexOf s complex
+    → IsValidNet (map (is_fixed s.vertices s.scanners) complex.cells) (map (sink s) complex.cells) (map (arc_of s complex) complex.facets)
+network_valid s complex few o =
+    record {
+      sink_count = length-map complex.cells (sink s) ∙ sym (length-map complex.cells (is_fixed s.vertices s.scanners));
+      sinks_fit = λ k l.
+          let m : k < length complex.cells = omega (arith, l, length-map complex.cells (sink s)) in
+          let at : get_or (map (sink s) complex.cells) k 0 ≡ sink s (get_or complex.cells k []) = get_or-map (sink s) complex.cells k [] 0 m in
+          omega (arith, at, sink_fits s (get_or complex.cells k []) few);
+      valid_arcs = λ j l.
+          let m : j < length complex.facets = omega (arith, l, length-map complex.facets (arc_of s complex)) in
+          subst (λ (a : Arc). IsValidArc (map (is_fixed s.vertices s.scanners) complex.cells) (arcs_of s complex) j a) (sym (arc_there s complex j m)) (valid_arc s complex j few o m);
+    }

@@ -1,0 +1,12 @@
+use Rattle.visibility.proofs.Amounts.{capacity_fits, sink_fits}
+use Rattle.visibility.proofs.LeastCost.{least_cost_fits}
+use Rattle.visibility.proofs.laws.amounts_fit.Goals as goal
+
+pub returns-clause-capacities : goal.returns-clause-capacities
+returns-clause-capacities c = capacity_fits
+
+pub returns-clause-sinks : goal.returns-clause-sinks
+returns-clause-sinks c = sink_fits
+
+pub returns-clause-least_cost : goal.returns-clause-least_cost
+returns-clause-least_cost c = least_cost_fits

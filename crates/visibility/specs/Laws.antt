@@ -1,0 +1,105 @@
+-- From the network by numbers to cells and directed facets, and back.
+--
+--   labels_of complex inside           labels by number that say what a test of cells says
+--   flow_of complex on_facet on_cell   a flow by number that has these amounts
+--   test_of cells flags                the flag at a cell's place
+--   amount_of rows amounts             the amount at a row's place
+--   LabelsAgree, FlowsAgree            what holds by numbers holds over cells and facets, and back
+--   FlagsAreTests, AmountsAreTests     each list of flags or amounts is that of a test or an amount
+--   CapacitiesFit, SinksFit            no capacity and no sink is large
+--   LeastCostFits                      nor is the least cost of at most 64 vertices
+--   IsOrdered n f                      three distinct numbers below n, the smallest first
+--   FacetsAreOrdered                   each facet that has a capacity is written so
+--   OneComplex                         a scene has no two lists of cells and of facets
+use Rattle.std.specs.Prelude.{ℕ, ◌≡◌, ◌≢◌, ◌<◌, ◌≤◌, ◌^◌, ◌↔◌, Bool, List, map, length, slice_index, AllPairs, Contains}
+use Rattle.std.specs.List.{position_or_len}
+use Rattle.flow_net.specs.declared.Voted.{Voted}
+use Rattle.flow_net.specs.declared.Labels.{Labels}
+use Rattle.flow_net.specs.declared.Flow.{Flow}
+use Rattle.flow_net.specs.Nets.{flag_at}
+use Rattle.flow_net.specs.Flows.{cost_of, value_of, IsAdmissible as IsAdmissibleNet, IsLeastCost as IsLeastCostNet, IsLeastInside as IsLeastInsideNet, IsValidFlow as IsValidFlowNet}
+use Rattle.geo_tie.specs.Tetrahedron.{Facet}
+use Rattle.geo_tie.specs.Cells.{IsBefore}
+use Rattle.visibility.specs.Scenes.{Scene}
+use Rattle.visibility.specs.Complexes.{Complex, facet_at, numbers_of}
+use Rattle.visibility.specs.Votes.{capacity, sink, IsComplexOf}
+use Rattle.visibility.specs.Cuts.{cost, IsAdmissible, IsLeastCost, IsLeastInside}
+use Rattle.visibility.specs.Flows.{is_equal, value, IsValidFlow}
+use Rattle.visibility.specs.Networks.{complex_of, IsNetworkOf}
+
+-- a flag for each cell
+abbrev pub labels_of : Complex → (List ℕ → Bool) → Labels
+labels_of complex inside = record { inside = map inside complex.cells }
+
+-- an amount for each facet and for each cell
+abbrev pub flow_of : Complex → (on_facet on_cell : List ℕ → ℕ) → Flow
+flow_of complex on_facet on_cell = record { on_arc = map on_facet complex.facets; on_sink = map on_cell complex.cells }
+
+-- the place of a row in a list
+abbrev pub row_place : List (List ℕ) → List ℕ → ℕ
+row_place rows row = position_or_len (λ other. is_equal other row) rows
+
+-- the flag at the cell's place
+abbrev pub test_of : List (List ℕ) → List Bool → List ℕ → Bool
+test_of cells flags row = flag_at flags (row_place cells row)
+
+-- the amount at the row's place
+abbrev pub amount_of : List (List ℕ) → List ℕ → List ℕ → ℕ
+amount_of rows amounts row = slice_index amounts (row_place rows row)
+
+-- what a test of cells says, and its labels by number: they cost the same, and are admissible, of the least cost and the
+-- least inside together
+pub record AgreeAsLabels (s : Scene) (voted : Voted) (inside : List ℕ → Bool) : Type 0 where
+  pub cost_is : cost_of voted.net (labels_of (complex_of voted) inside) ≡ cost s (complex_of voted) inside
+  pub admissible : IsAdmissibleNet voted.net (labels_of (complex_of voted) inside) ↔ IsAdmissible s (complex_of voted) inside
+  pub least_cost : IsLeastCostNet voted.net (labels_of (complex_of voted) inside) ↔ IsLeastCost s (complex_of voted) inside
+  pub least_inside : IsLeastInsideNet voted.net (labels_of (complex_of voted) inside) ↔ IsLeastInside s (complex_of voted) inside
+
+abbrev pub LabelsAgree : Type 0
+LabelsAgree = (s : Scene) (voted : Voted) (inside : List ℕ → Bool) → IsNetworkOf s voted → AgreeAsLabels s voted inside
+
+-- amounts on facets and cells, and the flow by number: they are worth the same, and valid together
+pub record AgreeAsFlows (s : Scene) (voted : Voted) (on_facet on_cell : List ℕ → ℕ) : Type 0 where
+  pub value_is : value_of voted.net (flow_of (complex_of voted) on_facet on_cell) ≡ value s (complex_of voted) on_cell
+  pub valid : IsValidFlowNet voted.net (flow_of (complex_of voted) on_facet on_cell) ↔ IsValidFlow s (complex_of voted) on_facet on_cell
+
+abbrev pub FlowsAgree : Type 0
+FlowsAgree = (s : Scene) (voted : Voted) (on_facet on_cell : List ℕ → ℕ) → IsNetworkOf s voted → AgreeAsFlows s voted on_facet on_cell
+
+-- flags of rising rows are those of a test of rows
+abbrev pub FlagsAreTests : Type 0
+FlagsAreTests = (rows : List (List ℕ)) (flags : List Bool) → AllPairs IsBefore rows → length flags ≡ length rows → map (test_of rows flags) rows ≡ flags
+
+-- amounts of rising rows are amounts by row
+abbrev pub AmountsAreTests : Type 0
+AmountsAreTests = (rows : List (List ℕ)) (amounts : List ℕ) → AllPairs IsBefore rows → length amounts ≡ length rows → map (amount_of rows amounts) rows ≡ amounts
+
+-- with at most 1,048,576 sights a capacity and a sink are below 2^37
+abbrev pub CapacitiesFit : Type 0
+CapacitiesFit = (s : Scene) (f : Facet) → length s.sights ≤ 1048576 → capacity s f < 2 ^ 37
+
+abbrev pub SinksFit : Type 0
+SinksFit = (s : Scene) (row : List ℕ) → length s.sights ≤ 1048576 → sink s row < 2 ^ 37
+
+-- with at most 64 vertices besides, the least cost is below 2^60
+abbrev pub LeastCostFits : Type 0
+LeastCostFits =
+    (s : Scene) (complex : Complex) (inside : List ℕ → Bool) → IsComplexOf s complex → s.vertices.count ≤ 64 → length s.sights ≤ 1048576 → IsLeastCost s complex inside →
+    cost s complex inside < 2 ^ 60
+
+-- three distinct numbers below n, the smallest first
+pub record IsOrdered (n : ℕ) (f : List ℕ) : Type 0 where
+  pub three : f ≡ numbers_of (facet_at f)
+  pub first_second : (facet_at f).a < (facet_at f).b
+  pub first_third : (facet_at f).a < (facet_at f).c
+  pub apart : (facet_at f).b ≢ (facet_at f).c
+  pub second_below : (facet_at f).b < n
+  pub third_below : (facet_at f).c < n
+
+-- each facet that has a capacity is written so
+abbrev pub FacetsAreOrdered : Type 0
+FacetsAreOrdered = (s : Scene) (complex : Complex) → IsComplexOf s complex → (f : List ℕ) → Contains complex.facets f → IsOrdered s.vertices.count f
+
+-- two lists of all cells and of all facets that have a capacity are the same
+abbrev pub OneComplex : Type 0
+OneComplex = (s : Scene) (complex other : Complex) → IsComplexOf s complex → IsComplexOf s other → complex ≡ other

@@ -1,0 +1,67 @@
+-- What sights vote for (Labatut, Pons and Keriven 2007, with whole numbers): a sight penalises each facet that it crosses
+-- on its way from the scanner to the vertex, and favours the cell behind the vertex as inside.
+--
+--   is_fixed v scanners row     the cell has a corner or a scanner, and stays outside
+--   crossings s f               how many of the sights cross the directed facet
+--   capacity s f                the facet's capacity
+--   sights_before s row         how many of the sights the cell is behind
+--   sink s row                  the cell's sink
+--   HasCapacity s cells f       a directed facet of a cell with a free cell across
+--   IsFacetList s cells facets  all of these, rising
+--   IsComplexOf s complex       all cells of the scene, and all facets that have a capacity
+use Rattle.std.specs.Prelude.{ℕ, ◌≡◌, ◌+◌, ◌*◌, ◌||◌, nat_lt, Bool, false, List, count_by, AllPairs, Contains}
+use Rattle.std.specs.List.{list_any}
+use Rattle.geo_sign.specs.Place.{Place}
+use Rattle.geo_sign.specs.Ratio.{displaced}
+use Rattle.geo_tie.specs.Tetrahedron.{Tetrahedron, Facet}
+use Rattle.geo_tie.specs.Vertices.{Vertices}
+use Rattle.geo_tie.specs.Cells.{IsBefore, IsCellList}
+use Rattle.geo_tie.specs.Sights.{is_crossed, is_behind, is_cell_of}
+use Rattle.visibility.specs.Scenes.{Scene, scanner_place}
+use Rattle.visibility.specs.Complexes.{Complex, facet_at, numbers_of, turned, written, HasFacet, cell_of}
+
+-- one of the four vertices is a corner of the box
+abbrev pub has_corner : Tetrahedron → Bool
+has_corner t = nat_lt t.a 8 || nat_lt t.b 8 || nat_lt t.c 8 || nat_lt t.d 8
+
+-- a scanner lies in the cell, whether it sees a vertex or none
+abbrev pub has_scanner : Vertices → List Place → Tetrahedron → Bool
+has_scanner v scanners t = list_any (λ q. is_cell_of v (displaced q) t) scanners
+
+-- the cell is fixed: it stays outside. Other cells are free.
+unfoldable pub is_fixed : Vertices → List Place → List ℕ → Bool
+is_fixed v scanners row = has_corner (written v row) || has_scanner v scanners (written v row)
+
+-- how many of the sights cross the directed facet, each as often as it occurs
+unfoldable pub crossings : Scene → Facet → ℕ
+crossings s f = count_by (λ sight. is_crossed s.vertices sight.vertex (scanner_place s.scanners sight.scanner) f) s.sights
+
+-- the capacity of a directed facet: a vote for each crossing, and the smoothing
+abbrev pub capacity : Scene → Facet → ℕ
+capacity s f = s.settings.vote * crossings s f + s.settings.smooth
+
+-- how many of the sights the cell is behind, each as often as it occurs
+unfoldable pub sights_before : Scene → List ℕ → ℕ
+sights_before s row = count_by (λ sight. is_behind s.vertices sight.vertex (scanner_place s.scanners sight.scanner) (written s.vertices row)) s.sights
+
+-- the sink of a cell: a vote for each of these sights
+unfoldable pub sink : Scene → List ℕ → ℕ
+sink s row = s.settings.vote * sights_before s row
+
+-- a directed facet of a cell, where the cell across is free
+pub record HasCapacity (s : Scene) (cells : List (List ℕ)) (f : List ℕ) : Type 0 where
+  pub three : f ≡ numbers_of (facet_at f)
+  pub own : HasFacet s.vertices cells (facet_at f)
+  pub across : HasFacet s.vertices cells (turned (facet_at f))
+  pub free : is_fixed s.vertices s.scanners (cell_of s.vertices cells (turned (facet_at f))) ≡ false
+
+-- the list of all facets that have a capacity: each once, in rising order
+pub record IsFacetList (s : Scene) (cells facets : List (List ℕ)) : Type 0 where
+  pub rising : AllPairs IsBefore facets
+  pub only : (f : List ℕ) → Contains facets f → HasCapacity s cells f
+  pub all : (f : List ℕ) → HasCapacity s cells f → Contains facets f
+
+-- all cells of the scene, and all facets that have a capacity
+pub record IsComplexOf (s : Scene) (complex : Complex) : Type 0 where
+  pub cells_are : IsCellList s.vertices complex.cells
+  pub facets_are : IsFacetList s complex.cells complex.facets

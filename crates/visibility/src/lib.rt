@@ -1,0 +1,10 @@
+//! What a scan's lines of sight say of cells, and the network that finds the best surface.
+//!
+//! The definitions stand in `specs/`: fixed cells, capacities of directed facets, sinks of cells, labels and their cost, flows,
+//! all over lists of cells and of directed facets, and under them the network by numbers (Labatut, Pons and Keriven 2007 and
+//! 2009, with whole numbers and a constant smoothing term). The crate has no code but a law that leads from the one to the other.
+#![tactic(auto)]
+
+mod laws;
+
+pub use laws::{amounts_fit, facets_are_listed_once, network_is_over_cells};
