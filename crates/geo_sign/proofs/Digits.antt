@@ -6,7 +6,8 @@ use Rattle.polynomial.specs.Polynomial.{Polynomial, variable, constant, sum, pro
 use Rattle.polynomial.proofs.Ring.{ring}
 use Rattle.geo_sign.specs.declared.sign.Sign.TheVariants.{Neg, Pos}
 use Rattle.geo_sign.specs.Signs.{sign_of, first_sign}
-use Rattle.geo_sign.specs.Place.{Place, IsWithin, cross, dot, step}
+use Rattle.geo_sign.specs.Place.{Place, place, IsWithin, cross, dot, step}
+use Rattle.geo_sign.specs.Orientation.{IsOnLine}
 use Rattle.geo_sign.specs.Ratio.{side, displaced}
 use Rattle.geo_sign.proofs.Bounds.{abs_add, abs_mul}
 use Rattle.geo_sign.proofs.Identities.{side_digits}
@@ -68,3 +69,19 @@ side_bound a b c s n o e f w h =
     (let p = abs_mul K1 n.y (2 ^ 64) (2 ^ 49) (lit≤ tt) y in omega (arith, p)))
     z)
     (ltb→lt (2 ^ 269 + 2 ^ 49) (2 ^ 270) tt))
+
+-- the digits of zero are zero
+no_digits : (o x y z : ℤ) → unsigned_abs x ≤ 2 ^ 49 → unsigned_abs y ≤ 2 ^ 49 → unsigned_abs z ≤ 2 ^ 49 →
+    pos (2 ^ 192) *ℤ o +ℤ pos (2 ^ 128) *ℤ x +ℤ pos (2 ^ 64) *ℤ y +ℤ z ≡ pos 0 → place x y z ≡ place (pos 0) (pos 0) (pos 0)
+no_digits o x y z h k l e =
+    let first : x ≡ pos 0 = omega (arith, ints) in
+    let second : y ≡ pos 0 = omega (arith, ints) in
+    let third : z ≡ pos 0 = omega (arith, ints) in
+    ap (λ v. place v y z) first ∙ ap (λ v. place (pos 0) v z) second ∙ ap (λ v. place (pos 0) (pos 0) v) third
+
+-- where it is zero the three places are on one line
+pub side_on_line : (a b c s : Place) (n : Place) → n ≡ cross (step a b) (step a c) → IsWithin (2 ^ 49) n → side a b c (displaced s) ≡ pos 0 → IsOnLine a b c
+side_on_line a b c s n e w level =
+    sym e
+    ∙ no_digits (dot n (step a s)) n.x n.y n.z w.x_within w.y_within w.z_within
+    (ap (λ (m : Place). pos (2 ^ 192) *ℤ dot m (step a s) +ℤ pos (2 ^ 128) *ℤ m.x +ℤ pos (2 ^ 64) *ℤ m.y +ℤ m.z) e ∙ side_is a b c s ∙ level)

@@ -4,7 +4,8 @@
 //! are at most 2^49, so the first of o, n.x, n.y, n.z that is not zero gives the sign, and no number over 75 bits is computed. It is
 //! zero only where a, b, c are on one line.
 
-ghost use Rattle.std.specs.Prelude.{◌≡◌, ◌<◌, ◌^◌, unsigned_abs};
+ghost use Rattle.std.specs.Prelude.{◌≡◌, ◌<◌, ◌^◌, unsigned_abs, pos};
+ghost use Rattle.geo_sign.specs.Orientation.{IsOnLine};
 ghost use Rattle.geo_sign.specs.Ratio.{side, displaced};
 ghost use Rattle.geo_sign.specs.Signs.{sign_of};
 
@@ -15,6 +16,7 @@ use crate::{Point, Sign};
 pub fn side_of_scanner(a: Point, b: Point, c: Point, s: Point) -> Sign
     ensures value { result ≡ sign_of (side a b c (displaced s)) }
     ensures bound { unsigned_abs (side a b c (displaced s)) < 2 ^ 270 }
+    ensures zero { side a b c (displaced s) ≡ pos 0 → IsOnLine a b c }
 {
     let normal = a.to(b).cross(a.to(c));
     Sign::of(normal.dot(a.to(s)))

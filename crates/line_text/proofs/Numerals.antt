@@ -1,5 +1,5 @@
 -- A token is the text of a number where it is plain and consists of digits.
-use Rattle.std.proofs.Common.{ℕ, zero, suc, ◌≡◌, ◌<◌, ◌≤◌, ◌^◌, refl, ap, sym, subst, ◌∙◌, append_assoc, arith, List, [], ◌∷◌, ◌++◌, length, get_or, decimal, Result, Ok, Err}
+use Rattle.std.proofs.Common.{ℕ, zero, suc, ◌≡◌, ◌<◌, ◌≤◌, ◌^◌, refl, ap, sym, subst, ◌∙◌, append_assoc, arith, List, ◌∷◌, ◌++◌, length, get_or, decimal, Result, Ok, Err}
 use Rattle.std.specs.Str.{IsUtf8}
 use Rattle.std.specs.Str.Parse.{AllDigits, IsNumeral, digits_value, without_leading_plus, ParsesUnsigned}
 use Rattle.std.proofs.lemmas.Str.{IsUtf8-from_ascii}
@@ -52,16 +52,6 @@ not_parsed token text n lt same h e =
 -- ---- numbers at the front of a text
 ended_is : (n end : ℕ) (rest : List ℕ) → ended n end ++ rest ≡ decimal n ++ (end ∷ rest)
 ended_is n end rest = simp append_assoc
-
-pub ended_first : (text token rest : List ℕ) (n end : ℕ) → text ≡ token ++ (end ∷ rest) → token ≡ decimal n → text ≡ ended n end ++ rest
-ended_first text token rest n end e f = e ∙ (ap (λ (t : List ℕ). t ++ (end ∷ rest)) f ∙ sym (ended_is n end rest))
-
-lacks_nothing : (byte : ℕ) (xs ys : List ℕ) → Lacks byte (xs ++ (byte ∷ ys)) → ⊥
-lacks_nothing byte [] ys h = h 0 (omega arith) refl
-lacks_nothing byte (x ∷ xs) ys h = lacks_nothing byte xs ys (λ k l. h (suc k) (omega arith))
-
-pub no_end : (text : List ℕ) (n end : ℕ) (rest : List ℕ) → Lacks end text → text ≡ ended n end ++ rest → ⊥
-no_end text n end rest lacks e = lacks_nothing end (decimal n) rest (subst (λ (t : List ℕ). Lacks end t) (e ∙ ended_is n end rest) lacks)
 
 -- the token before the end is the number's text
 same_token : (text token behind : List ℕ) (n end : ℕ) (rest : List ℕ) → end < 48 → n < 2 ^ 64 → text ≡ token ++ (end ∷ behind) → Lacks end token → text ≡ ended n end ++ rest → token ≡ decimal n

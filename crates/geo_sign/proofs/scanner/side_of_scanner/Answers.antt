@@ -3,7 +3,7 @@ use mir.Syntax.{w64, w128}
 use Rattle.geo_sign.specs.Place.{cross, dot}
 use Rattle.geo_sign.specs.Signs.{sign_of, first_sign}
 use Rattle.geo_sign.proofs.Bounds.{Held, kept, held, held_kept}
-use Rattle.geo_sign.proofs.Digits.{scanner_signs, side_bound}
+use Rattle.geo_sign.proofs.Digits.{scanner_signs, side_bound, side_on_line}
 use Rattle.geo_sign.proofs.scanner.side_of_scanner.Goals as goal
 
 -- the sign of a part of the normal, read and widened
@@ -31,3 +31,8 @@ returns-clause-bound c =
     side_bound c.args.a c.args.b c.args.c c.args.s c.cross-normal.result c.dot.result
     (c.cross-normal.ensures.value ∙ ap₂ (λ u v. cross u v) c.to.ensures.value c.to-2.ensures.value) (c.dot.ensures.value ∙ ap (λ v. dot c.cross-normal.result v) c.to-3.ensures.value)
     c.cross-normal.ensures.bound c.dot.ensures.bound
+
+pub returns-clause-zero : goal.returns-clause-zero
+returns-clause-zero c =
+    side_on_line c.args.a c.args.b c.args.c c.args.s c.cross-normal.result
+    (c.cross-normal.ensures.value ∙ ap₂ (λ u v. cross u v) c.to.ensures.value c.to-2.ensures.value) c.cross-normal.ensures.bound

@@ -1,0 +1,168 @@
+-- The text of a certificate says which certificate it is.
+use Rattle.std.proofs.Common.{ℕ, ◌≡◌, ◌<◌, ◌^◌, refl, ap, sym, ◌∙◌, arith, List, [], ◌∷◌, ◌++◌, length, decimal, append_assoc}
+use Rattle.std.specs.List.{flat_map, All}
+use Rattle.line_text.specs.Numbers.{ended, counted}
+use Rattle.line_text.proofs.Codes.{IsCode, behind_same, number_first, code_list}
+use Rattle.cert_text.specs.declared.certificate.FlowRow.{FlowRow}
+use Rattle.cert_text.specs.declared.certificate.SinkRow.{SinkRow}
+use Rattle.cert_text.specs.Rows.{IsCell, IsFacet, IsFlowRow, IsSinkRow}
+use Rattle.cert_text.specs.Certificates.{Counts, Claim, FitCounts, IsWellFormed}
+use Rattle.cert_text.specs.Texts.{title, points_word, scanners_word, sights_word, vote_word, smooth_word, cost_word, inside_word, flow_word, sink_word, end_line, cell_fields, facet_fields, cell_line, flow_line, sink_line, head_text, cert_text}
+
+-- ---- numbers
+pub ended_parts : (n end : ℕ) (r : List ℕ) → ended n end ++ r ≡ decimal n ++ (end ∷ r)
+ended_parts n end r = simp append_assoc
+
+pub ended_code : (m n end : ℕ) (r s : List ℕ) → end < 48 → m < 2 ^ 64 → n < 2 ^ 64 → ended m end ++ r ≡ ended n end ++ s → (m ≡ n) × (r ≡ s)
+ended_code m n end r s low a b e = number_first end m n r s low a b (sym (ended_parts m end r) ∙ e ∙ ended_parts n end s)
+
+pub counted_code : (word : List ℕ) (m n : ℕ) (r s : List ℕ) → m < 2 ^ 64 → n < 2 ^ 64 → counted word m ++ r ≡ counted word n ++ s → (m ≡ n) × (r ≡ s)
+counted_code word m n r s a b e =
+    ended_code m n 10 r s (omega arith) a b (behind_same word _ _ (sym (append_assoc word (ended m 10) r) ∙ e ∙ append_assoc word (ended n 10) s))
+
+-- ---- cells and facets
+abbrev pub four : (a b c d : ℕ) → List ℕ
+four a b c d = a ∷ b ∷ c ∷ d ∷ []
+
+four_parts : (a b c d end : ℕ) (r : List ℕ) → cell_fields (four a b c d) end ++ r ≡ ended a 32 ++ (ended b 32 ++ (ended c 32 ++ (ended d end ++ r)))
+four_parts a b c d end r = simp append_assoc
+
+four_code : (a b c d x y z w end : ℕ) (r s : List ℕ) → end < 48 → IsCell (four a b c d) → IsCell (four x y z w) → cell_fields (four a b c d) end ++ r ≡ cell_fields (four x y z w) end ++ s → (four a b c d ≡ four x y z w) × (r ≡ s)
+four_code a b c d x y z w end r s low k l e =
+    let p = ended_code a x 32 _ _ (omega arith) (omega (arith, k.0, k.1, k.2, k.3)) (omega (arith, l.0, l.1, l.2, l.3)) (sym (four_parts a b c d end r) ∙ e ∙ four_parts x y z w end s) in
+    let q = ended_code b y 32 _ _ (omega arith) (omega (arith, k.1, k.2, k.3)) (omega (arith, l.1, l.2, l.3)) p.1 in
+    let t = ended_code c z 32 _ _ (omega arith) (omega (arith, k.2, k.3)) (omega (arith, l.2, l.3)) q.1 in
+    let u = ended_code d w end r s low (omega (arith, k.3)) (omega (arith, l.3)) t.1 in
+    (ap (λ (n : ℕ). four n b c d) p.0 ∙ (ap (λ (n : ℕ). four x n c d) q.0 ∙ (ap (λ (n : ℕ). four x y n d) t.0 ∙ ap (λ (n : ℕ). four x y z n) u.0)), u.1)
+
+pub record Four (f : List ℕ) : Type 0 where
+  pub a : ℕ
+  pub b : ℕ
+  pub c : ℕ
+  pub d : ℕ
+  pub is : f ≡ four a b c d
+  pub cell : IsCell (four a b c d)
+
+pub four_of : (f : List ℕ) → IsCell f → Four f
+four_of [] h = absurd h
+four_of (a ∷ []) h = absurd h
+four_of (a ∷ b ∷ []) h = absurd h
+four_of (a ∷ b ∷ c ∷ []) h = absurd h
+four_of (a ∷ b ∷ c ∷ d ∷ []) h = record { a = a; b = b; c = c; d = d; is = refl; cell = h }
+four_of (a ∷ b ∷ c ∷ d ∷ e ∷ t) h = absurd h
+
+pub cell_code : (end : ℕ) → end < 48 → IsCode IsCell (λ c. cell_fields c end)
+cell_code end low f g r s k l e =
+    let p = four_of f k in
+    let q = four_of g l in
+    let m = four_code p.a p.b p.c p.d q.a q.b q.c q.d end r s low p.cell q.cell (ap (λ (t : List ℕ). cell_fields t end ++ r) (sym p.is) ∙ e ∙ ap (λ (t : List ℕ). cell_fields t end ++ s) q.is) in
+    (p.is ∙ m.0 ∙ sym q.is, m.1)
+
+abbrev pub three : (a b c : ℕ) → List ℕ
+three a b c = a ∷ b ∷ c ∷ []
+
+three_parts : (a b c : ℕ) (r : List ℕ) → facet_fields (three a b c) ++ r ≡ ended a 32 ++ (ended b 32 ++ (ended c 32 ++ r))
+three_parts a b c r = simp append_assoc
+
+three_code : (a b c x y z : ℕ) (r s : List ℕ) → IsFacet (three a b c) → IsFacet (three x y z) → facet_fields (three a b c) ++ r ≡ facet_fields (three x y z) ++ s → (three a b c ≡ three x y z) × (r ≡ s)
+three_code a b c x y z r s k l e =
+    let p = ended_code a x 32 _ _ (omega arith) (omega (arith, k.0, k.3)) (omega (arith, l.0, l.3)) (sym (three_parts a b c r) ∙ e ∙ three_parts x y z s) in
+    let q = ended_code b y 32 _ _ (omega arith) (omega (arith, k.3)) (omega (arith, l.3)) p.1 in
+    let t = ended_code c z 32 r s (omega arith) (omega (arith, k.4)) (omega (arith, l.4)) q.1 in
+    (ap (λ (n : ℕ). three n b c) p.0 ∙ (ap (λ (n : ℕ). three x n c) q.0 ∙ ap (λ (n : ℕ). three x y n) t.0), t.1)
+
+pub record Three (f : List ℕ) : Type 0 where
+  pub a : ℕ
+  pub b : ℕ
+  pub c : ℕ
+  pub is : f ≡ three a b c
+  pub facet : IsFacet (three a b c)
+
+pub three_of : (f : List ℕ) → IsFacet f → Three f
+three_of [] h = absurd h
+three_of (a ∷ []) h = absurd h
+three_of (a ∷ b ∷ []) h = absurd h
+three_of (a ∷ b ∷ c ∷ []) h = record { a = a; b = b; c = c; is = refl; facet = h }
+three_of (a ∷ b ∷ c ∷ d ∷ t) h = absurd h
+
+pub facet_code : IsCode IsFacet facet_fields
+facet_code f g r s k l e =
+    let p = three_of f k in
+    let q = three_of g l in
+    let m = three_code p.a p.b p.c q.a q.b q.c r s p.facet q.facet (ap (λ (t : List ℕ). facet_fields t ++ r) (sym p.is) ∙ e ∙ ap (λ (t : List ℕ). facet_fields t ++ s) q.is) in
+    (p.is ∙ m.0 ∙ sym q.is, m.1)
+
+-- ---- rows
+flow_row : List ℕ → ℕ → FlowRow
+flow_row f n = record { facet = f; amount = n }
+
+sink_row : List ℕ → ℕ → SinkRow
+sink_row c n = record { cell = c; amount = n }
+
+pub flow_code : IsCode IsFlowRow flow_line
+unfolding flow_row
+flow_code v w r s a b e =
+    let f = facet_code v.facet w.facet _ _ a.facet b.facet (sym (append_assoc (facet_fields v.facet) (ended v.amount 10) r) ∙ e ∙ append_assoc (facet_fields w.facet) (ended w.amount 10) s) in
+    let n = ended_code v.amount w.amount 10 r s (omega arith) a.fits b.fits f.1 in
+    (ap (λ (x : List ℕ). flow_row x v.amount) f.0 ∙ ap (flow_row w.facet) n.0, n.1)
+
+pub sink_code : IsCode IsSinkRow sink_line
+unfolding sink_row
+sink_code v w r s a b e =
+    let f = cell_code 32 (omega arith) v.cell w.cell _ _ a.cell b.cell (sym (append_assoc (cell_fields v.cell 32) (ended v.amount 10) r) ∙ e ∙ append_assoc (cell_fields w.cell 32) (ended w.amount 10) s) in
+    let n = ended_code v.amount w.amount 10 r s (omega arith) a.fits b.fits f.1 in
+    (ap (λ (x : List ℕ). sink_row x v.amount) f.0 ∙ ap (sink_row w.cell) n.0, n.1)
+
+-- ---- the whole text
+pub list_code : {A : Type 0} (P : A → Type 0) (line : A → List ℕ) (word : List ℕ) → IsCode P line → (xs ys : List A) (r s : List ℕ) → length xs < 2 ^ 64 → length ys < 2 ^ 64 → All P xs → All P ys
+    → (counted word (length xs) ++ flat_map line xs) ++ r ≡ (counted word (length ys) ++ flat_map line ys) ++ s → (xs ≡ ys) × (r ≡ s)
+list_code P line word code xs ys r s a b h k e =
+    let n = counted_code word (length xs) (length ys) _ _ a b (sym (append_assoc (counted word (length xs)) (flat_map line xs) r) ∙ e ∙ append_assoc (counted word (length ys)) (flat_map line ys) s) in
+    code_list P line code xs ys r s n.0 h k n.1
+
+counts : (a b c d e f : ℕ) → Counts
+counts a b c d e f = record { points = a; scanners = b; sights = c; vote = d; smooth = e; cost = f }
+
+pub head_parts : (c : Counts) (r : List ℕ) → head_text c ++ r ≡ title ++ (counted points_word c.points ++ (counted scanners_word c.scanners ++ (counted sights_word c.sights ++ (counted vote_word c.vote ++ (counted smooth_word c.smooth ++ (counted cost_word c.cost ++ r))))))
+head_parts c r = simp append_assoc
+
+pub head_code : IsCode FitCounts head_text
+unfolding counts
+head_code v w r s a b e =
+    let t = behind_same title _ _ (sym (head_parts v r) ∙ e ∙ head_parts w s) in
+    let m = counted_code points_word v.points w.points _ _ (omega (arith, a.points)) (omega (arith, b.points)) t in
+    let n = counted_code scanners_word v.scanners w.scanners _ _ (omega (arith, a.scanners)) (omega (arith, b.scanners)) m.1 in
+    let o = counted_code sights_word v.sights w.sights _ _ (omega (arith, a.sights)) (omega (arith, b.sights)) n.1 in
+    let p = counted_code vote_word v.vote w.vote _ _ (omega (arith, a.vote)) (omega (arith, b.vote)) o.1 in
+    let q = counted_code smooth_word v.smooth w.smooth _ _ (omega (arith, a.smooth)) (omega (arith, b.smooth)) p.1 in
+    let u = counted_code cost_word v.cost w.cost r s a.cost b.cost q.1 in (
+      ap (λ (x : ℕ). counts x v.scanners v.sights v.vote v.smooth v.cost) m.0
+          ∙ (ap (λ (x : ℕ). counts w.points x v.sights v.vote v.smooth v.cost) n.0
+          ∙ (ap (λ (x : ℕ). counts w.points w.scanners x v.vote v.smooth v.cost) o.0
+          ∙ (ap (λ (x : ℕ). counts w.points w.scanners w.sights x v.smooth v.cost) p.0
+          ∙ (ap (λ (x : ℕ). counts w.points w.scanners w.sights w.vote x v.cost) q.0 ∙ ap (λ (x : ℕ). counts w.points w.scanners w.sights w.vote w.smooth x) u.0)))),
+      u.1,
+    )
+
+claim : Counts → List (List ℕ) → List FlowRow → List SinkRow → Claim
+claim h i f s = record { counts = h; inside = i; flow = f; sink = s }
+
+pub cert_parts : (c : Claim) (r : List ℕ) → cert_text c ++ r ≡ head_text c.counts ++ ((counted inside_word (length c.inside) ++ flat_map cell_line c.inside) ++ ((counted flow_word (length c.flow) ++ flat_map flow_line c.flow) ++ ((counted sink_word (length c.sink) ++ flat_map sink_line c.sink) ++ (end_line ++ r))))
+cert_parts c r =
+    append_assoc (head_text c.counts) _ r
+    ∙ ap (λ (t : List ℕ). head_text c.counts ++ t) (append_assoc (counted inside_word (length c.inside) ++ flat_map cell_line c.inside) _ r
+    ∙ ap (λ (t : List ℕ). (counted inside_word (length c.inside) ++ flat_map cell_line c.inside) ++ t) (append_assoc (counted flow_word (length c.flow) ++ flat_map flow_line c.flow) _ r
+    ∙ ap (λ (t : List ℕ). (counted flow_word (length c.flow) ++ flat_map flow_line c.flow) ++ t) (append_assoc (counted sink_word (length c.sink) ++ flat_map sink_line c.sink) end_line r)))
+
+pub cert_code : IsCode IsWellFormed cert_text
+unfolding claim
+cert_code v w r s a b e =
+    let h = head_code v.counts w.counts _ _ a.counts b.counts (sym (cert_parts v r) ∙ e ∙ cert_parts w s) in
+    let i = list_code IsCell cell_line inside_word (cell_code 10 (omega arith)) v.inside w.inside _ _ a.inside.few b.inside.few a.inside.each b.inside.each h.1 in
+    let f = list_code IsFlowRow flow_line flow_word flow_code v.flow w.flow _ _ a.flow.few b.flow.few a.flow.each b.flow.each i.1 in
+    let k = list_code IsSinkRow sink_line sink_word sink_code v.sink w.sink _ _ a.sink.few b.sink.few a.sink.each b.sink.each f.1 in (
+      ap (λ (x : Counts). claim x v.inside v.flow v.sink) h.0
+          ∙ (ap (λ (x : List (List ℕ)). claim w.counts x v.flow v.sink) i.0
+          ∙ (ap (λ (x : List FlowRow). claim w.counts w.inside x v.sink) f.0 ∙ ap (λ (x : List SinkRow). claim w.counts w.inside w.flow x) k.0)),
+      behind_same end_line r s k.1,
+    )

@@ -1,0 +1,71 @@
+-- What a certificate states, and when it is well formed.
+--
+--   Claim               the numbers and the rows of a certificate
+--   claim_of c          those that a certificate states
+--   IsWellFormed c      the rows are of their forms and rise
+use Rattle.std.specs.Prelude.{ℕ, ◌<◌, ◌^◌, List, All, AllPairs, length, map}
+use Rattle.line_text.specs.Rising.{IsBefore}
+use Rattle.cert_text.specs.declared.certificate.Certificate.{Certificate}
+use Rattle.cert_text.specs.declared.certificate.FlowRow.{FlowRow}
+use Rattle.cert_text.specs.declared.certificate.SinkRow.{SinkRow}
+use Rattle.cert_text.specs.Rows.{IsCell, IsFlowRow, IsSinkRow}
+
+-- the numbers that head a certificate
+pub record Counts : Type 0 where
+  pub points : ℕ
+  pub scanners : ℕ
+  pub sights : ℕ
+  pub vote : ℕ
+  pub smooth : ℕ
+  pub cost : ℕ
+
+-- counts, a cost, the cells that are inside, and a flow
+pub record Claim : Type 0 where
+  pub counts : Counts
+  pub inside : List (List ℕ)
+  pub flow : List FlowRow
+  pub sink : List SinkRow
+
+-- what a certificate states
+abbrev pub claim_of : Certificate → Claim
+claim_of c =
+    record {
+      counts = record { points = c.points; scanners = c.scanners; sights = c.sights; vote = c.vote; smooth = c.smooth; cost = c.cost };
+      inside = c.inside.items;
+      flow = c.flow.items;
+      sink = c.sink.items;
+    }
+
+-- five numbers of 32 bits and a cost of 64
+pub record FitCounts (c : Counts) : Type 0 where
+  pub points : c.points < 2 ^ 32
+  pub scanners : c.scanners < 2 ^ 32
+  pub sights : c.sights < 2 ^ 32
+  pub vote : c.vote < 2 ^ 32
+  pub smooth : c.smooth < 2 ^ 32
+  pub cost : c.cost < 2 ^ 64
+
+-- cells in strictly rising order
+pub record IsCellList (cells : List (List ℕ)) : Type 0 where
+  pub few : length cells < 2 ^ 64
+  pub each : All IsCell cells
+  pub rising : AllPairs IsBefore cells
+
+-- amounts on facets, in strictly rising order of the facets
+pub record IsFlowList (rows : List FlowRow) : Type 0 where
+  pub few : length rows < 2 ^ 64
+  pub each : All IsFlowRow rows
+  pub rising : AllPairs IsBefore (map (λ r. r.facet) rows)
+
+-- amounts at cells, in strictly rising order of the cells
+pub record IsSinkList (rows : List SinkRow) : Type 0 where
+  pub few : length rows < 2 ^ 64
+  pub each : All IsSinkRow rows
+  pub rising : AllPairs IsBefore (map (λ r. r.cell) rows)
+
+-- the numbers fit, the rows are of their forms, and the three lists rise strictly
+pub record IsWellFormed (c : Claim) : Type 0 where
+  pub counts : FitCounts c.counts
+  pub inside : IsCellList c.inside
+  pub flow : IsFlowList c.flow
+  pub sink : IsSinkList c.sink

@@ -1,0 +1,6 @@
+-- The numbers that are read before the lists.
+use Rattle.cert_text.specs.declared.read.Heading.{Heading}
+use Rattle.cert_text.specs.Certificates.{Counts}
+
+abbrev pub counts_of : Heading → Counts
+counts_of h = record { points = h.points; scanners = h.scanners; sights = h.sights; vote = h.vote; smooth = h.smooth; cost = h.cost }

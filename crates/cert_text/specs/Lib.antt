@@ -1,0 +1,5 @@
+pub mod Rows
+pub mod Certificates
+pub mod Texts
+pub mod Refusals
+pub mod Headings
