@@ -1,33 +1,22 @@
 -- The answer of `cells`, from what the calls below it answer.
-use Rattle.std.proofs.Common.{◌≡◌, inl, inr, ℕ, suc, ◌+◌, ◌≤◌, ◌<◌, List, [], ◌∷◌, length, map, Option, Some, None, IfSome, false, refl, sym, ap, subst, ◌∙◌, arith, unwrap_or}
+use Rattle.std.proofs.Common.{◌≡◌, inl, inr, ℕ, ◌≤◌, ◌<◌, List, [], ◌∷◌, length, Some, IfSome, false, refl, sym, ap, subst, ◌∙◌}
 use Rattle.geo_sign.specs.Place.{Place}
 use Rattle.geo_tie.specs.Vertices.{vertices_of}
 use Rattle.geo_tie.specs.Cells.{IsCellList}
-use Rattle.host.specs.State.{State, Told, Files, bytes_of}
+use Rattle.host.specs.State.{State, bytes_of}
 use Rattle.host.specs.Whole.{OnlyReads}
-use Rattle.scan.specs.ScanRows.{VertexRow, vertex_rows}
+use Rattle.scan.specs.ScanRows.{vertex_rows}
 use Rattle.scan.specs.PlainScans.{IsPlainScan}
-use Rattle.recon_cmd.specs.Answers.{Answer, AnswerOf, CellsAnswer, file_limit, refusal}
+use Rattle.recon_build.proofs.SightLists.{points-vertex_rows, length-vertex_rows}
+use Rattle.recon_cmd.specs.Answers.{Answer, CellsAnswer, file_limit, refusal}
 use Rattle.recon_cmd.specs.Lines.{cells_line, cells_text, too_long_scan_line}
 use Rattle.recon_cmd.specs.Outcome.{StatusFits}
 use Rattle.recon_cmd.specs.Replies.{answer_of}
 use Rattle.recon_cmd.specs.Steps.{IsAnswered, IsReplied, ReadsFor}
 use Rattle.recon_cmd.specs.Words.{cells, Names}
 use Rattle.recon_cmd.specs.declared.answer.Reply.{Reply}
-use Rattle.recon_cmd.specs.declared.status.Status.{Status}
 use Rattle.recon_cmd.specs.declared.status.Status.TheVariants.{Done}
-
--- the points of rows are those that they were made of
-pub points-vertex_rows : (points : List Place) (seen_by : List ℕ) → length seen_by ≡ length points → map (λ (row : VertexRow). row.point) (vertex_rows points seen_by) ≡ points
-points-vertex_rows [] seen_by same = refl
-points-vertex_rows (point ∷ points) [] same = absurd (omega (arith, same))
-points-vertex_rows (point ∷ points) (scanner ∷ seen_by) same = ap (λ (places : List Place). point ∷ places) (points-vertex_rows points seen_by (omega (arith, same)))
-
--- there is a row for each point
-pub length-vertex_rows : (points : List Place) (seen_by : List ℕ) → length seen_by ≡ length points → length (vertex_rows points seen_by) ≡ length points
-length-vertex_rows [] seen_by same = refl
-length-vertex_rows (point ∷ points) [] same = absurd (omega (arith, same))
-length-vertex_rows (point ∷ points) (scanner ∷ seen_by) same = ap (λ (n : ℕ). suc n) (length-vertex_rows points seen_by (omega (arith, same)))
+use Rattle.recon_cmd.proofs.OneReading.{reads_one, replied_one, too_long_one}
 
 -- a scan was read, and its cells are listed
 pub cells_done : (output bytes : List ℕ) (points : List Place) (seen_by : List ℕ) (scanners : List Place) (rows : List (List ℕ)) (text line : List ℕ)
@@ -57,20 +46,7 @@ cells_read_one output bytes answer (inr (inr done)) = ap (λ (a : Answer). a.rea
 
 -- one reading is what `cells` reads
 pub cells_reads : (names : Names) (before after : State) → before.writing ≡ false → OnlyReads before after → ReadsFor (Some (cells names)) before after
-cells_reads names before after closed only =
-    record {
-      told = only.told;
-      writing = only.writing ∙ closed;
-      opens = one;
-      no_more = by_cases before.told;
-    }
-  where
-    one : after.opens ≤ before.opens + 1
-    one = omega (arith, only.opens)
-
-    by_cases : (o : Option Told) → IfSome o (λ old. (answer : Answer) → AnswerOf (Some (cells names)) old.files answer → after.opens ≤ before.opens + answer.reads)
-    by_cases None = tt
-    by_cases (Some old) = λ answer (bytes, there, answers). subst (λ (n : ℕ). after.opens ≤ before.opens + n) (sym (cells_read_one names.output bytes answer answers)) one
+cells_reads names before after closed only = reads_one (cells names) before after refl (λ files answer (bytes, there, answers). cells_read_one names.output bytes answer answers) closed only
 
 -- a status of an answer of `cells`
 cells_status : (output bytes : List ℕ) (names : Names) (answer : Answer) → CellsAnswer output bytes answer → StatusFits answer.status (Some (cells names)) × IsAnswered answer.status
@@ -83,14 +59,7 @@ pub cells_replied : (names : Names) (bytes : List ℕ) (reply : Reply) (before :
     → IfSome before.told (λ told. told.files names.input ≡ Some bytes) → CellsAnswer names.output bytes (answer_of 1 reply)
     → IsReplied (cells names) reply before
 cells_replied names bytes reply before there answers =
-    record { fits = status.0; answered = status.1; answers = by_cases before.told there }
-  where
-    status : StatusFits reply.status (Some (cells names)) × IsAnswered reply.status
-    status = cells_status names.output bytes names (answer_of 1 reply) answers
-
-    by_cases : (o : Option Told) → IfSome o (λ told. told.files names.input ≡ Some bytes) → IfSome o (λ told. (reads : ℕ) × AnswerOf (Some (cells names)) told.files (answer_of reads reply))
-    by_cases None has = tt
-    by_cases (Some told) has = (1, (bytes, has, answers))
+    replied_one (cells names) names.input bytes reply before (cells_status names.output bytes names (answer_of 1 reply) answers) there (λ files has. (bytes, has, answers))
 
 -- the answer where the file is longer than the limit
 pub cells_too_long : (names : Names) (reply : Reply) (before : State)
@@ -98,15 +67,4 @@ pub cells_too_long : (names : Names) (reply : Reply) (before : State)
     → IfSome before.told (λ told. file_limit < length (bytes_of told.files names.input))
     → IsReplied (cells names) reply before
 cells_too_long names reply before is longer =
-    record { fits = status.0; answered = status.1; answers = by_cases before.told longer }
-  where
-    status : StatusFits reply.status (Some (cells names)) × IsAnswered reply.status
-    status = subst (λ (s : Status). StatusFits s (Some (cells names)) × IsAnswered s) (sym (ap (λ (a : Answer). a.status) is)) (tt, tt)
-
-    with_bytes : (files : Files) (o : Option (List ℕ)) → files names.input ≡ o → file_limit < length (unwrap_or o []) → AnswerOf (Some (cells names)) files (answer_of 1 reply)
-    with_bytes files None has more = absurd (omega arith)
-    with_bytes files (Some bytes) has more = (bytes, has, inl (record { longer = more; is = is }))
-
-    by_cases : (o : Option Told) → IfSome o (λ told. file_limit < length (bytes_of told.files names.input)) → IfSome o (λ told. (reads : ℕ) × AnswerOf (Some (cells names)) told.files (answer_of reads reply))
-    by_cases None more = tt
-    by_cases (Some told) more = (1, with_bytes told.files (told.files names.input) refl more)
+    too_long_one (cells names) names.input reply before tt is longer (λ files bytes has more. (bytes, has, inl (record { longer = more; is = is })))

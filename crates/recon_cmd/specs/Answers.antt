@@ -4,20 +4,26 @@
 --   Answer                           a status, how many files were read, the files that are written, and the line
 --   bad_words_answer, refusal        the answer of words that are no command, and of an input that is refused
 --   file_limit                       how long a file that is read may be
---   points_of scan                   where a scan's points are
 --   CellsTooLong, CellsNotBuilt, CellsDone    the three cases of the answer of `cells`
 --   CellsAnswer output bytes answer  the answer of `cells` where the scan's file has these bytes
+--   BuildDone, BuildAnswer names     the answer of `build`, which refuses what `cells` refuses
 --   AnswerOf asked files answer      the answer of a command, or of words that are none, where the files are these
 --   most_reads asked                 how many files a command reads at most
-use Rattle.std.specs.Prelude.{◌≡◌, ◌⊎◌, ℕ, ◌≤◌, ◌<◌, List, [], ◌∷◌, length, map, Option, Some, None}
+use Rattle.std.specs.Prelude.{◌≡◌, ◌⊎◌, ℕ, ◌≤◌, ◌<◌, List, [], ◌∷◌, length, Option, Some, None}
+use Rattle.cert_text.specs.Certificates.{Claim, IsWellFormed}
+use Rattle.cert_text.specs.Texts.{cert_text}
+use Rattle.flow_net.specs.declared.votes.Settings.{Settings}
 use Rattle.geo_tie.specs.Vertices.{vertices_of}
 use Rattle.geo_tie.specs.Cells.{IsCellList}
 use Rattle.host.specs.State.{Files}
-use Rattle.geo_sign.specs.Place.{Place}
-use Rattle.scan.specs.ScanRows.{ScanRows, VertexRow}
+use Rattle.mesh_ply.specs.Meshes.{Surface, IsMesh}
+use Rattle.mesh_ply.specs.Texts.{mesh_text}
+use Rattle.scan.specs.ScanRows.{ScanRows}
 use Rattle.scan.specs.PlainScans.{IsPlainScan}
-use Rattle.recon_cmd.specs.Lines.{bad_words_line, too_long_scan_line, not_built_line, cells_line, cells_text}
-use Rattle.recon_cmd.specs.Words.{Asked, cells}
+use Rattle.recon_build.specs.Scans.{points_of}
+use Rattle.recon_build.specs.Solutions.{IsSolution}
+use Rattle.recon_cmd.specs.Lines.{bad_words_line, too_long_scan_line, not_built_line, cells_line, cells_text, build_line}
+use Rattle.recon_cmd.specs.Words.{Asked, SurfaceNames, cells, build}
 use Rattle.recon_cmd.specs.declared.status.Status.{Status}
 use Rattle.recon_cmd.specs.declared.status.Status.TheVariants.{Done, BadWords, Refused}
 
@@ -43,10 +49,6 @@ refusal reads line = record { status = Refused; reads = reads; writes = []; line
 -- how many bytes a file that is read may have
 abbrev pub file_limit : ℕ
 file_limit = 4294967296
-
--- where a scan's points are, in the order of their rows
-abbrev pub points_of : ScanRows → List Place
-points_of scan = map (λ (row : VertexRow). row.point) scan.vertices
 
 -- the scan's file is longer than the limit
 pub record CellsTooLong (bytes : List ℕ) (answer : Answer) : Type 0 where
@@ -77,12 +79,40 @@ pub record CellsDone (output : List ℕ) (bytes : List ℕ) (answer : Answer) : 
 abbrev pub CellsAnswer : (output bytes : List ℕ) → Answer → Type 0
 CellsAnswer output bytes answer = CellsTooLong bytes answer ⊎ (CellsNotBuilt bytes answer ⊎ CellsDone output bytes answer)
 
+-- The bytes are the plain form of a scan, and its best surface at 8 for a vote and 1 for smoothing is written, with the
+-- certificate that shows it best: the mesh first.
+pub record BuildDone (names : SurfaceNames) (bytes : List ℕ) (answer : Answer) : Type 0 where
+  pub within : length bytes ≤ file_limit
+  pub scan : ScanRows
+  pub plain : IsPlainScan bytes scan
+  pub settings : Settings
+  pub vote : settings.vote ≡ 8
+  pub smooth : settings.smooth ≡ 1
+  pub mesh : Surface
+  pub claim : Claim
+  pub solution : IsSolution scan settings mesh claim
+  pub valid : IsMesh mesh.points mesh.faces
+  pub well_formed : IsWellFormed claim
+  pub is : answer ≡ record {
+    status = Done;
+    reads = 1;
+    writes = (names.mesh, mesh_text mesh.points mesh.faces) ∷ (names.cert, cert_text claim) ∷ [];
+    line = build_line claim.counts (length claim.inside) (length mesh.faces);
+  }
+
+-- the answer of `build` where the scan's file has these bytes: a file that is too long or holds no scan that is taken is
+-- refused as by `cells`
+abbrev pub BuildAnswer : SurfaceNames → (bytes : List ℕ) → Answer → Type 0
+BuildAnswer names bytes answer = CellsTooLong bytes answer ⊎ (CellsNotBuilt bytes answer ⊎ BuildDone names bytes answer)
+
 -- the answer of a command, or of words that are none, where the files are these
 abbrev pub AnswerOf : Option Asked → Files → Answer → Type 0
 AnswerOf None files answer = answer ≡ bad_words_answer
 AnswerOf (Some (cells names)) files answer = (bytes : List ℕ) × (files names.input ≡ Some bytes) × CellsAnswer names.output bytes answer
+AnswerOf (Some (build names)) files answer = (bytes : List ℕ) × (files names.input ≡ Some bytes) × BuildAnswer names bytes answer
 
 -- how many files a command reads at most
 abbrev pub most_reads : Option Asked → ℕ
 most_reads None = 0
 most_reads (Some (cells names)) = 1
+most_reads (Some (build names)) = 1

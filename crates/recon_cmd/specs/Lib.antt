@@ -1,4 +1,5 @@
 pub mod Answers
+pub mod Headline
 pub mod Laws
 pub mod Lines
 pub mod Outcome

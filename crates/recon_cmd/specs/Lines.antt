@@ -2,10 +2,13 @@
 --
 --   bad_words_line, too_long_scan_line, not_built_line    lines of refusals
 --   cells_line points cells                               the line of `cells`
+--   labelled label number                                 a label, and a number behind it
+--   build_line counts inside faces                        the line of `build`
 --   row_line numbers                                      numbers between single spaces, as a line
 --   cells_text rows                                       the text of cells
 use Rattle.std.specs.Prelude.{ℕ, List, [], ◌∷◌, ◌++◌, length, codes, decimal}
 use Rattle.std.specs.List.{flat_map}
+use Rattle.cert_text.specs.Certificates.{Counts}
 
 unfoldable pub bad_words_line : List ℕ
 bad_words_line = codes "refused words\n"
@@ -19,6 +22,17 @@ not_built_line = codes "refused 20 not_built\n"
 -- `points P cells T`
 unfoldable pub cells_line : (points cells : ℕ) → List ℕ
 cells_line points cells = codes "points " ++ (decimal points ++ (codes " cells " ++ (decimal cells ++ (10 ∷ []))))
+
+-- a label, and a number behind it
+abbrev pub labelled : List ℕ → ℕ → List ℕ
+labelled label number = label ++ decimal number
+
+-- `points P scanners S sights R inside I faces F cost C`: the counts and the cost, and how many cells are inside and how
+-- many faces there are
+unfoldable pub build_line : Counts → (inside faces : ℕ) → List ℕ
+build_line counts inside faces =
+    labelled (codes "points ") counts.points ++ labelled (codes " scanners ") counts.scanners ++ labelled (codes " sights ") counts.sights
+    ++ labelled (codes " inside ") inside ++ labelled (codes " faces ") faces ++ labelled (codes " cost ") counts.cost ++ (10 ∷ [])
 
 -- the numbers between single spaces, ended by LF
 unfoldable pub row_line : List ℕ → List ℕ

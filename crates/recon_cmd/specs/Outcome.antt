@@ -17,7 +17,7 @@ use Rattle.std.specs.Option.{IsSomeAnd}
 use Rattle.host.specs.Counts.{Rose}
 use Rattle.host.specs.State.{State, Told, Files, with_file}
 use Rattle.recon_cmd.specs.Answers.{Answer, AnswerOf, Write, most_reads}
-use Rattle.recon_cmd.specs.Words.{Asked, cells}
+use Rattle.recon_cmd.specs.Words.{Asked, cells, build}
 use Rattle.recon_cmd.specs.declared.status.Status.{Status}
 use Rattle.recon_cmd.specs.declared.status.Status.TheVariants.{Done, No, BadWords, Refused, Failed, NoMemory}
 
@@ -83,12 +83,15 @@ Tells asked Refused old new = EndsWith asked Refused old new
 abbrev pub StatusFits : Status → Option Asked → Type 0
 StatusFits Done None = ⊥
 StatusFits Done (Some (cells names)) = ⊤
+StatusFits Done (Some (build names)) = ⊤
 StatusFits No None = ⊥
 StatusFits No (Some (cells names)) = ⊥
+StatusFits No (Some (build names)) = ⊥
 StatusFits BadWords None = ⊤
 StatusFits BadWords (Some asked) = ⊥
 StatusFits Refused None = ⊥
 StatusFits Refused (Some (cells names)) = ⊤
+StatusFits Refused (Some (build names)) = ⊤
 StatusFits Failed asked = ⊤
 StatusFits NoMemory None = ⊥
 StatusFits NoMemory (Some asked) = ⊤

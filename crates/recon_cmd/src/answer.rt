@@ -4,10 +4,13 @@ ghost use Rattle.recon_cmd.specs.Replies.{line_bytes, texts_of};
 ghost use Rattle.recon_cmd.specs.Steps.{CarriesOut, IsReplied, ReadsFor, StopsFor};
 ghost use Rattle.recon_cmd.specs.Words.{asked};
 
+mod build;
 mod cells;
+mod refusals;
 
 use crate::status::Status;
 use crate::words::Command;
+use build::reply_to_build;
 use cells::reply_to_cells;
 use host::{Host, say_all, write_file};
 use std::alloc::Global;
@@ -69,6 +72,7 @@ pub fn reply_to<'a, H: Host>(
 {
     match command {
         Command::Cells(names) => reply_to_cells(alloc, host, names),
+        Command::Build(names) => reply_to_build(alloc, host, names),
     }
 }
 

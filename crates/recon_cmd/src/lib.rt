@@ -15,11 +15,13 @@ mod tests;
 mod whole_run;
 mod words;
 
-pub use laws::{a_refused_scan_is_refused, an_accepted_scan_is_done};
+pub use laws::{
+    a_refused_scan_is_refused, a_surface_that_was_built_is_best, an_accepted_scan_is_done,
+};
 pub use status::Status;
 use std::alloc::AllocError;
 pub use whole_run::run;
-pub use words::{CellsNames, Command, understand};
+pub use words::{BuildNames, CellsNames, Command, understand};
 
 /// There was no memory.
 pub type NoMemory = AllocError;

@@ -1,9 +1,12 @@
-//! The lines that are said and the text of cells, in memory. It stands on `num_text`, which prints whole numbers.
+//! The lines that are said and the text of cells, in memory. It stands on `num_text`, which prints whole
+//! numbers.
 ghost use Rattle.std.specs.Prelude.{◌≡◌, ◌++◌, ◌∷◌, [], IfOk, OnOk, decimal, length};
 ghost use Rattle.std.specs.List.{flat_map};
-ghost use Rattle.recon_cmd.specs.Lines.{bad_words_line, too_long_scan_line, not_built_line, cells_line, cells_text, row_line};
+ghost use Rattle.cert_text.specs.Certificates.{claim_of};
+ghost use Rattle.recon_cmd.specs.Lines.{bad_words_line, too_long_scan_line, not_built_line, cells_line, labelled, build_line, cells_text, row_line};
 
 use crate::NoMemory;
+use cert_text::Certificate;
 use num_text::push_whole;
 use std::alloc::Global;
 
@@ -43,6 +46,31 @@ pub fn line_of_cells(alloc: Global, points: usize, cells: usize) -> Result<Vec<u
     push_whole(&mut line, cells as i128)?;
     line.push(b'\n')?;
     Ok(line)
+}
+
+/// The line of `build`: the counts and the cost of the certificate, and the numbers of inside cells and of faces.
+#[tactic(auto, unfolding(crate::specs::Lines::build_line))]
+pub fn line_of_build(alloc: Global, cert: &Certificate, faces: usize) -> Result<Vec<u8>, NoMemory>
+    ensures { IfOk result (λ line. line.items ≡ build_line (claim_of cert.now).counts (length cert.now.inside.items) faces) }
+{
+    let mut line = Vec::new(alloc);
+    push_labelled(&mut line, b"points ", u64::from(cert.points))?;
+    push_labelled(&mut line, b" scanners ", u64::from(cert.scanners))?;
+    push_labelled(&mut line, b" sights ", u64::from(cert.sights))?;
+    push_labelled(&mut line, b" inside ", cert.inside.len() as u64)?;
+    push_labelled(&mut line, b" faces ", faces as u64)?;
+    push_labelled(&mut line, b" cost ", cert.cost)?;
+    line.push(b'\n')?;
+    Ok(line)
+}
+
+// Adds a label, and a number behind it.
+fn push_labelled(line: &mut Vec<u8>, label: &[u8], number: u64) -> Result<(), NoMemory>
+    ensures { OnOk result (line.new.items ≡ line.old.items ++ labelled label.now number) }
+{
+    line.extend_from_slice(label)?;
+    push_whole(line, i128::from(number))?;
+    Ok(())
 }
 
 /// The text of cells: their number, and a line for each.

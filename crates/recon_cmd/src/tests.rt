@@ -1,5 +1,8 @@
-//! Runs of `cells` over a host in memory: that they are done, what they print, and that they stop at a failure.
+//! Runs over a host in memory: that they are done, what they print, and that they stop at a failure.
+ghost use Rattle.std.specs.Prelude.{◌<◌};
 ghost use Rattle.host.specs.Memory.{AreNumbers};
+
+mod build;
 
 use crate::run;
 use host::{HostCall, MemHost};
@@ -12,16 +15,20 @@ struct Ran {
     status: u8,
     said: Vec<u8>,
     output: Option<Vec<u8>>,
+    mesh: Option<Vec<u8>>,
+    cert: Option<Vec<u8>>,
 }
 
-// A run where the file `in` has this text, if there is one, and `out` is a name without a file.
+// A run where the file `in` has this text, if there is one, and `out`, `mesh` and `cert` are names without a file.
 fn run_with(
     alloc: Global,
     words: &[&str],
     input: Option<&str>,
+    piece: usize,
     failing: Vec<(HostCall, u64)>,
 ) -> Result<Ran, Fail>
-    requires { AreNumbers failing.items }
+    requires piece { 0 < piece }
+    requires failing { AreNumbers failing.items }
 {
     let mut owned = Vec::new(alloc);
     for word in words {
@@ -34,28 +41,40 @@ fn run_with(
     let files = vec![in alloc;
         (String::from_str(alloc, "in")?, input),
         (String::from_str(alloc, "out")?, None),
+        (String::from_str(alloc, "mesh")?, None),
+        (String::from_str(alloc, "cert")?, None),
     ]?;
-    let mut host = MemHost::new(alloc, files, 10, 1_048_576, failing)?;
+    let mut host = MemHost::new(alloc, files, piece, 1_048_576, failing)?;
     let status = run(alloc, &owned, &mut host);
-    let output = match host.file("out") {
-        Some(bytes) => Some(bytes.to_vec(alloc)?),
-        None => None,
-    };
     Ok(Ran {
         status,
         said: host.said().to_vec(alloc)?,
-        output,
+        output: written(alloc, &host, "out")?,
+        mesh: written(alloc, &host, "mesh")?,
+        cert: written(alloc, &host, "cert")?,
     })
 }
 
-// Whether a run ended so.
-fn ended(ran: &Ran, status: u8, said: &str, output: Option<&str>) -> bool {
-    let same = match (&ran.output, output) {
+// The file of this name, if there is one.
+fn written(alloc: Global, host: &MemHost, name: &str) -> Result<Option<Vec<u8>>, Fail> {
+    match host.file(name) {
+        Some(bytes) => Ok(Some(bytes.to_vec(alloc)?)),
+        None => Ok(None),
+    }
+}
+
+// Whether a file has this text, or is not there.
+fn is_text(file: &Option<Vec<u8>>, text: Option<&str>) -> bool {
+    match (file, text) {
         (Some(bytes), Some(text)) => bytes.as_slice() == text.as_bytes(),
         (None, None) => true,
         _ => false,
-    };
-    ran.status == status && ran.said.as_slice() == said.as_bytes() && same
+    }
+}
+
+// Whether a run with one output ended so.
+fn ended(ran: &Ran, status: u8, said: &str, output: Option<&str>) -> bool {
+    ran.status == status && ran.said.as_slice() == said.as_bytes() && is_text(&ran.output, output)
 }
 
 const WORDS: [&str; 3] = ["cells", "in", "out"];
@@ -82,17 +101,20 @@ const EQUAL_POINTS: &str =
 #[test]
 fn words_that_are_no_command_are_refused_with_no_call_but_say(rt: HostRuntime) -> Result<(), Fail> {
     let alloc = rt.alloc();
-    let lists: [&[&str]; 6] = [
+    let lists: [&[&str]; 9] = [
         &[],
         &["cells", "in", "in"],
         &["cells", "in"],
         &["cells", "", "out"],
-        &["build", "in", "out", "more"],
         &["cells", "in", "out", "more"],
+        &["build", "in", "out"],
+        &["build", "in", "out", "in"],
+        &["build", "in", "out", "out"],
+        &["build", "in", "out", ""],
     ];
     for words in lists {
         let failing = vec![in alloc; (HostCall::Open, 1), (HostCall::Create, 1)]?;
-        let ran = run_with(alloc, words, Some(NO_POINT), failing)?;
+        let ran = run_with(alloc, words, Some(NO_POINT), 10, failing)?;
         assert!(rt; ended(&ran, 2, "refused words\n", None));
     }
     Ok(())
@@ -119,7 +141,7 @@ fn scans_give_their_cells_or_a_refusal(rt: HostRuntime) -> Result<(), Fail> {
         (None, 4, "", None),
     ];
     for (input, status, said, output) in cases {
-        let ran = run_with(alloc, &WORDS, input, Vec::new(alloc))?;
+        let ran = run_with(alloc, &WORDS, input, 10, Vec::new(alloc))?;
         assert!(rt; ended(&ran, status, said, output));
     }
     Ok(())
@@ -129,7 +151,7 @@ fn scans_give_their_cells_or_a_refusal(rt: HostRuntime) -> Result<(), Fail> {
 fn a_failed_append_leaves_a_front_and_says_nothing(rt: HostRuntime) -> Result<(), Fail> {
     let alloc = rt.alloc();
     let failing = vec![in alloc; (HostCall::Append, 2)]?;
-    let ran = run_with(alloc, &WORDS, Some(NO_POINT), failing)?;
+    let ran = run_with(alloc, &WORDS, Some(NO_POINT), 10, failing)?;
     assert!(rt; ended(&ran, 4, "", Some("cells 6\n0 ")));
     Ok(())
 }

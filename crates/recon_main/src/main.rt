@@ -42,26 +42,32 @@ mod tests {
     use std::fs;
     use std::test::Fail;
 
+    // Four points round the origin, each seen from ten times itself.
+    const SCAN: &str =
+        "ply\nformat ascii 1.0\nelement vertex 4\nproperty int x\nproperty int y\nproperty int z\nproperty int scanner\nelement scanner 4\nproperty int x\nproperty int y\nproperty int z\nend_header\n100 100 100 0\n100 -100 -100 1\n-100 100 -100 2\n-100 -100 100 3\n1000 1000 1000\n1000 -1000 -1000\n-1000 1000 -1000\n-1000 -1000 1000\n";
+
+    const MESH: &str =
+        "ply\nformat ascii 1.0\nelement vertex 4\nproperty int x\nproperty int y\nproperty int z\nelement face 4\nproperty list uchar int vertex_indices\nend_header\n100 100 100\n100 -100 -100\n-100 100 -100\n-100 -100 100\n3 0 1 2\n3 0 2 3\n3 0 3 1\n3 1 3 2\n";
+
+    const CERT: &str =
+        "recon certificate 1\npoints 4\nscanners 4\nsights 4\nvote 8\nsmooth 1\ncost 4\ninside 1\n8 9 10 11\nflow 4\n8 9 10 1\n8 10 11 1\n8 11 9 1\n9 11 10 1\nsink 1\n8 9 10 11 4\nend\n";
+
     #[test]
-    fn cells_of_one_point_are_written_in_a_folder(rt: HostRuntime) -> Result<(), Fail> {
+    fn the_tetrahedron_is_built_in_a_folder(rt: HostRuntime) -> Result<(), Fail> {
         let alloc = rt.alloc();
-        fs::write(
-            &rt,
-            "scan.ply",
-            "ply\nformat ascii 1.0\nelement vertex 1\nproperty int x\nproperty int y\nproperty int z\nproperty int scanner\nelement scanner 1\nproperty int x\nproperty int y\nproperty int z\nend_header\n0 0 0 0\n100 0 0\n",
-        )?;
+        fs::write(&rt, "scan.ply", SCAN)?;
         let words = vec![in alloc;
-            String::from_str(alloc, "cells")?,
+            String::from_str(alloc, "build")?,
             String::from_str(alloc, "scan.ply")?,
-            String::from_str(alloc, "cells.txt")?,
+            String::from_str(alloc, "mesh.ply")?,
+            String::from_str(alloc, "scan.cert")?,
         ]?;
         let mut host = RealHost::new(rt.clone()?);
         assert_eq!(rt; run(alloc, &words, &mut host), 0);
-        let text = fs::read_to_string(&rt, "cells.txt")?;
-        assert_eq!(rt;
-            text.as_str(),
-            "cells 12\n0 1 2 8\n0 1 4 8\n0 2 4 8\n1 2 3 8\n1 3 5 8\n1 4 5 8\n2 3 6 8\n2 4 6 8\n3 5 7 8\n3 6 7 8\n4 5 6 8\n5 6 7 8\n"
-        );
+        let mesh = fs::read_to_string(&rt, "mesh.ply")?;
+        assert_eq!(rt; mesh.as_str(), MESH);
+        let cert = fs::read_to_string(&rt, "scan.cert")?;
+        assert_eq!(rt; cert.as_str(), CERT);
         Ok(())
     }
 }

@@ -2,11 +2,12 @@
 //! which reads the plain form, and on `geo_tie`, which lists the cells.
 ghost use Rattle.std.specs.Prelude.{◌≡◌, ◌≤◌, ℕ, false, Some, IfOk, length};
 ghost use Rattle.recon_cmd.specs.Words.{cells, cells_names};
-ghost use Rattle.recon_cmd.specs.Answers.{CellsAnswer, file_limit, refusal as refused};
+ghost use Rattle.recon_cmd.specs.Answers.{CellsAnswer, file_limit};
 ghost use Rattle.recon_cmd.specs.Replies.{answer_of};
 ghost use Rattle.recon_cmd.specs.Steps.{IsReplied, ReadsFor, StopsFor};
 
 use crate::NoMemory;
+use crate::answer::refusals::{FILE_LIMIT, refusal};
 use crate::answer::{Line, Reply, Stop, Text};
 use crate::lines::{line_of_cells, line_of_not_built, line_of_too_long_scan, text_of_cells};
 use crate::status::Status;
@@ -15,9 +16,6 @@ use geo_tie::plain_cells;
 use host::{Host, ReadRefusal, read_all};
 use scan::{PlainRefusal, read_plain};
 use std::alloc::{AllocError, Global};
-
-// How many bytes a file that is read may have.
-const FILE_LIMIT: u64 = 4_294_967_296;
 
 /// Reads the scan and makes the answer of `cells`. Nothing is written or said.
 pub fn reply_to_cells<'a, H: Host>(
@@ -39,17 +37,6 @@ pub fn reply_to_cells<'a, H: Host>(
     match reply_to_bytes(alloc, &bytes, names.output) {
         Ok(reply) => Ok(reply),
         Err(_) => Err(Stop::NoMemory),
-    }
-}
-
-// A refusal writes no file.
-fn refusal<'a>(alloc: Global, line: &'static [u8]) -> Reply<'a>
-    ensures { (reads : ℕ) → answer_of reads result ≡ refused reads line.now }
-{
-    Reply {
-        status: Status::Refused,
-        texts: Vec::new(alloc),
-        line: Line::Fixed(line),
     }
 }
 

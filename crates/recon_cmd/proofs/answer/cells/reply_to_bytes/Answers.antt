@@ -9,7 +9,8 @@ use Rattle.recon_cmd.specs.Lines.{cells_line, cells_text}
 use Rattle.recon_cmd.specs.Replies.{texts_of}
 use Rattle.recon_cmd.specs.declared.answer.Text.{Text}
 use Rattle.recon_cmd.specs.declared.status.Status.TheVariants.{Done}
-use Rattle.recon_cmd.proofs.CellsReplies.{cells_done, length-vertex_rows}
+use Rattle.recon_build.proofs.SightLists.{length-vertex_rows}
+use Rattle.recon_cmd.proofs.CellsReplies.{cells_done}
 use Rattle.recon_cmd.proofs.answer.cells.reply_to_bytes.Goals as goal
 
 pub returns-in-Err-NotBuilt : goal.returns-in-Err-NotBuilt

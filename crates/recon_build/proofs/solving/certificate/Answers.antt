@@ -1,0 +1,75 @@
+use Rattle.std.proofs.Common.{ℕ, ◌≡◌, ◌≤◌, ◌<◌, ◌^◌, refl, ap, sym, ◌∙◌, arith, Bool, List, length, map, filter}
+use Rattle.cert_text.specs.declared.certificate.FlowRow.{FlowRow}
+use Rattle.cert_text.specs.declared.certificate.SinkRow.{SinkRow}
+use Rattle.visibility.proofs.Networks.{node_count, arc_count}
+use Rattle.scan.specs.ScanRows.{ScanRows}
+use Rattle.scan.specs.Views.{rows_of}
+use Rattle.visibility.specs.Laws.{test_of}
+use Rattle.visibility.specs.Networks.{complex_of}
+use Rattle.visibility.specs.Scenes.{Scene}
+use Rattle.recon_build.specs.Scans.{scene_of_rows}
+use Rattle.recon_build.specs.Solutions.{flow_rows, sink_rows}
+use Rattle.recon_build.proofs.Certificates.{flags_are, on_arcs_are, at_nodes_are, certificate_is}
+use Rattle.recon_build.proofs.SightLists.{count_of_rows, sight_count, length-vertex_rows}
+use Rattle.recon_build.proofs.WellFormed.{well_formed, fit_counts}
+use Rattle.recon_build.proofs.solving.certificate.Goals as goal
+
+pub returns-clause-counts : goal.returns-clause-counts
+returns-clause-counts c =
+    let points = length-vertex_rows c.args.scan.now.points.items c.args.scan.now.seen_by.items c.args.scan.now.one_each in
+    let each : length c.args.scan.now.seen_by.items ≡ length c.args.scan.now.points.items = c.args.scan.now.one_each in
+    record {
+      points = omega (arith, c.len.ensures, c.args.scan.now.points.ok, points);
+      scanners = omega (arith, c.len-2.ensures, c.args.scan.now.scanners.ok);
+      sights = omega (arith, c.len-3.ensures, c.args.scan.now.seen_by.ok, each, points);
+      vote = refl;
+      smooth = refl;
+    }
+
+pub returns-clause-states : goal.returns-clause-states
+returns-clause-states c =
+    certificate_is (scene_of_rows (rows_of c.args.scan.now) c.args.settings) c.args.voted.now c.args.labels.now c.args.flow.now _ c.requires.network c.requires.labels c.requires.flow c.requires.equal
+    c.least_cost.ensures
+    (inside_is _ _ _ _ _ _ c.as_slice-cells.ensures c.as_slice.ensures (flags_are (scene_of_rows (rows_of c.args.scan.now) c.args.settings) c.args.voted.now c.args.labels.now c.requires.network c.requires.labels) c.in_ok-inside_rows.ensures)
+    (flow_is _ _ _ _ _ _ c.as_slice-2.ensures c.as_slice-3.ensures (on_arcs_are (scene_of_rows (rows_of c.args.scan.now) c.args.settings) c.args.voted.now c.args.flow.now c.requires.network c.requires.flow) c.in_ok-flow_rows.ensures)
+    (sink_is _ _ _ _ _ _ c.as_slice-cells.ensures c.as_slice-4.ensures (at_nodes_are (scene_of_rows (rows_of c.args.scan.now) c.args.settings) c.args.voted.now c.args.flow.now c.requires.network c.requires.flow) c.in_ok-sink_rows.ensures)
+  where
+    inside_is : (rows cells given : List (List ℕ)) (flags inside : List Bool) (test : List ℕ → Bool) → given ≡ cells → inside ≡ flags → map test cells ≡ flags
+        → ((t : List ℕ → Bool) → map t given ≡ inside → rows ≡ filter t given) → rows ≡ filter test cells
+    inside_is rows cells given flags inside test a b e f = f test (ap (map test) a ∙ (e ∙ sym b)) ∙ ap (filter test) a
+
+    flow_is : (rows : List FlowRow) (facets given : List (List ℕ)) (amounts on_arc : List ℕ) (on : List ℕ → ℕ) → given ≡ facets → amounts ≡ on_arc → map on facets ≡ on_arc
+        → ((t : List ℕ → ℕ) → map t given ≡ amounts → rows ≡ flow_rows given t) → rows ≡ flow_rows facets on
+    flow_is rows facets given amounts on_arc on a b e f = f on (ap (map on) a ∙ (e ∙ sym b)) ∙ ap (λ (list : List (List ℕ)). flow_rows list on) a
+
+    sink_is : (rows : List SinkRow) (cells given : List (List ℕ)) (amounts on_sink : List ℕ) (at : List ℕ → ℕ) → given ≡ cells → amounts ≡ on_sink → map at cells ≡ on_sink
+        → ((t : List ℕ → ℕ) → map t given ≡ amounts → rows ≡ sink_rows given t) → rows ≡ sink_rows cells at
+    sink_is rows cells given amounts on_sink at a b e f = f at (ap (map at) a ∙ (e ∙ sym b)) ∙ ap (λ (list : List (List ℕ)). sink_rows list at) a
+
+pub inside_rows-requires : goal.inside_rows-requires
+inside_rows-requires c =
+    omega (arith, ap length c.as_slice-cells.ensures, ap length c.as_slice.ensures, c.requires.labels.least_cost.admissible.count, node_count (scene_of_rows (rows_of c.args.scan.now) c.args.settings) c.args.voted.now c.requires.network)
+
+pub flow_rows-requires : goal.flow_rows-requires
+flow_rows-requires c =
+    omega (arith, ap length c.as_slice-2.ensures, ap length c.as_slice-3.ensures, c.requires.flow.arc_count, arc_count (scene_of_rows (rows_of c.args.scan.now) c.args.settings) c.args.voted.now c.requires.network)
+
+pub sink_rows-requires : goal.sink_rows-requires
+sink_rows-requires c =
+    omega (arith, ap length c.as_slice-cells.ensures, ap length c.as_slice-4.ensures, c.requires.flow.node_count, node_count (scene_of_rows (rows_of c.args.scan.now) c.args.settings) c.args.voted.now c.requires.network)
+
+pub returns-clause-well_formed : goal.returns-clause-well_formed
+returns-clause-well_formed c =
+    let rows : ScanRows = rows_of c.args.scan.now in
+    let s : Scene = scene_of_rows rows c.args.settings in
+    let few : s.vertices.count ≤ 64 = omega (arith, count_of_rows rows c.args.settings, c.requires.small.few) in
+    let few_sights : length s.sights ≤ 1048576 = omega (arith, sight_count rows, c.requires.small.few) in
+    let cost : c.least_cost.result < 2 ^ 64 = omega (arith, c.least_cost.type_inv) in
+    well_formed s (complex_of c.args.voted.now) (test_of c.args.voted.now.cells c.args.labels.now.inside) _ c.requires.network.complex_is few few_sights
+    (fit_counts _ rows c.args.settings (returns-clause-counts c) c.requires.small cost)
+    (record {
+      inside = omega (arith, c.in_ok-inside_rows.field-0.ok, c.in_ok-inside_rows.field-0.small);
+      flow = omega (arith, c.in_ok-flow_rows.field-0.ok, c.in_ok-flow_rows.field-0.small);
+      sink = omega (arith, c.in_ok-sink_rows.field-0.ok, c.in_ok-sink_rows.field-0.small);
+    })
+    (returns-clause-states c)
