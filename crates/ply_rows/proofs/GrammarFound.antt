@@ -1,0 +1,175 @@
+-- The reader and the grammar agree: what is read of a property is what the body begins with.
+use Rattle.std.proofs.Common.{◌≡◌, ℕ, ◌+◌, ◌*◌, ◌≤◌, Bool, true, false, cond, ltb, ℤ, pos, negsuc, List, [], ◌∷◌, ◌++◌, length, take, drop, Result, Ok, Err, refl, sym, ap, subst, ◌∙◌, arith}
+use Rattle.std.proofs.lemmas.Bool.{ltb-false}
+use Rattle.std.proofs.lemmas.List.{take-append-drop, length-take-le, length-append, append_assoc}
+use Rattle.std.proofs.Math.Seq.{take-append_seam}
+use Rattle.num_text.specs.WholeNumbers.{whole_of}
+use Rattle.num_text.specs.declared.refusal.NumRefusal.{NumRefusal}
+use Rattle.ply_head.specs.declared.header.Kind.{Kind}
+use Rattle.ply_head.specs.declared.header.Shape.{Shape}
+use Rattle.ply_head.specs.declared.header.Shape.TheVariants.{One, Many}
+use Rattle.ply_rows.specs.declared.place.Field.{Field}
+use Rattle.ply_rows.specs.declared.place.Place.{Place}
+use Rattle.ply_rows.specs.declared.refusal.RowRefusal.{RowRefusal}
+use Rattle.ply_rows.specs.declared.refusal.RowRefusal.TheVariants.{BadCount, Cut}
+use Rattle.ply_rows.specs.Tokens.{Token}
+use Rattle.ply_rows.specs.Texts.{◌>>=◌, count_in, count_of, items_of, field_of_items, text_field}
+use Rattle.ply_rows.specs.Binaries.{size_of, number_of, bytes_of, list_field, binary_field}
+use Rattle.ply_rows.specs.Rests.{Rest, text, raw, field_of, fields_of}
+use Rattle.ply_head.specs.declared.header.Property.{Property}
+use Rattle.ply_rows.specs.Grammar.{BeginsText, BeginsBytes, Begins, BeginsRow}
+
+-- ---- results
+
+pub bind_ok : {A B : Type 0} (r : Result A RowRefusal) (f : A → Result B RowRefusal) (y : B) → (r >>= f) ≡ Ok y → (x : A) × (r ≡ Ok x) × (f x ≡ Ok y)
+bind_ok (Ok x) f y e = (x, refl, e)
+bind_ok (Err d) f y e = absurd cc
+
+guarded : {A : Type 0} (b : Bool) (d : RowRefusal) (r : Result A RowRefusal) (y : A) → cond b (Err d) r ≡ Ok y → (b ≡ false) × (r ≡ Ok y)
+guarded true d r y e = absurd cc
+guarded false d r y e = (refl, e)
+
+abbrev pub done : {A : Type 0} → A → Result A RowRefusal
+done x = Ok x
+
+pub value_or : {A : Type 0} → A → Result A RowRefusal → A
+value_or d (Ok x) = x
+value_or d (Err e) = d
+
+pub same_done : {A : Type 0} (x y : A) → done x ≡ done y → x ≡ y
+unfolding value_or
+same_done x y e = ap (value_or x) e
+
+abbrev pub FieldRead : Type 0
+FieldRead = Result (Field × Rest) RowRefusal
+
+abbrev pub TextRead : Type 0
+TextRead = Result (Field × List Token) RowRefusal
+
+-- ---- in a text
+
+counted : (at : Place) (z : ℤ) (n : ℕ) → count_in at z ≡ Ok n → (z ≡ pos n) × (n ≤ 4294967295)
+counted at (negsuc m) n e = absurd cc
+counted at (pos m) n e =
+    let both = guarded (ltb 4294967295 m) (BadCount at) (done m) n e in
+    let same : m ≡ n = same_done m n both.1 in
+    (ap pos same, omega (arith, same, ltb-false 4294967295 m both.0))
+
+abbrev pub whole_number : ℤ → Result ℤ NumRefusal
+whole_number z = Ok z
+
+count_found : (at : Place) (r : Result ℤ NumRefusal) (n : ℕ) → count_of at r ≡ Ok n → (r ≡ whole_number (pos n)) × (n ≤ 4294967295)
+count_found at (Err e) n is = absurd cc
+count_found at (Ok z) n is = let both = counted at z n is in (ap whole_number both.0, both.1)
+
+one_field : (t : Token) (field : Field) → record { place = t.place; size = length t.bytes; items = 1 } ≡ field → field ≡ field_of_items (t ∷ [])
+one_field t field e = sym e ∙ ap (λ (n : ℕ). record { place = t.place; size = n; items = 1 }) (omega arith)
+
+text_found : (at : Place) (shape : Shape) (tokens : List Token) (field : Field) (behind : List Token) → text_field at shape tokens ≡ done (field, behind) → BeginsText shape field tokens (text behind)
+unfolding text_field
+text_found at (One scalar) [] field behind e = absurd cc
+text_found at (Many count item) [] field behind e = absurd cc
+text_found at (One scalar) (t ∷ tokens) field behind e =
+    let same = same_done (record { place = t.place; size = length t.bytes; items = 1 }, tokens) (field, behind) e in
+    record {
+      group = t ∷ [];
+      behind = tokens;
+      is_group = refl;
+      cut = refl;
+      field_is = one_field t field (ap (λ (x : Field × List Token). x.0) same);
+      left_is = ap (λ (x : Field × List Token). text x.1) (sym same);
+    }
+text_found at (Many count item) (t ∷ tokens) field behind e =
+    let read = bind_ok (count_of at (whole_of t.bytes)) (λ n. items_of at n tokens) (field, behind) e in
+    let count_is = count_found at (whole_of t.bytes) read.0 read.1 in
+    let enough = guarded (ltb (length tokens) read.0) (Cut at) (done (field_of_items (take read.0 tokens), drop read.0 tokens)) (field, behind) read.2 in
+    let least : read.0 ≤ length tokens = ltb-false (length tokens) read.0 enough.0 in
+    let items : length (take read.0 tokens) ≡ read.0 = length-take-le read.0 tokens least in
+    let same = same_done (field_of_items (take read.0 tokens), drop read.0 tokens) (field, behind) enough.1 in
+    record {
+      group = t ∷ take read.0 tokens;
+      behind = drop read.0 tokens;
+      is_group = (count_is.0 ∙ ap (λ (n : ℕ). whole_number (pos n)) (sym items), omega (arith, items, count_is.1));
+      cut = ap (λ (ts : List Token). t ∷ ts) (sym (take-append-drop read.0 tokens));
+      field_is = ap (λ (x : Field × List Token). x.0) (sym same);
+      left_is = ap (λ (x : Field × List Token). text x.1) (sym same);
+    }
+
+-- ---- in a binary body
+
+bytes_found : (at : Place) (n : ℕ) (bytes : List ℕ) (read : List ℕ × List ℕ) → bytes_of at n bytes ≡ done read → (n ≤ length bytes) × (read ≡ (take n bytes, drop n bytes))
+bytes_found at n bytes read e =
+    let enough = guarded (ltb (length bytes) n) (Cut at) (done (take n bytes, drop n bytes)) read e in
+    (ltb-false (length bytes) n enough.0, sym (same_done (take n bytes, drop n bytes) read enough.1))
+
+abbrev ByteRead : Type 0
+ByteRead = Field × (ℕ × List ℕ)
+
+binary_found : (kind : Kind) (at : Place) (shape : Shape) (place : ℕ) (bytes : List ℕ) (field : Field) (next : ℕ) (behind : List ℕ) → binary_field kind at shape (place, bytes) ≡ done (field, (next, behind)) → BeginsBytes kind shape field place bytes (raw kind next behind)
+unfolding binary_field
+binary_found kind at (One scalar) place bytes field next behind e =
+    let read = bind_ok (bytes_of at (size_of scalar) bytes) (λ value. done (record { place = place; size = size_of scalar; items = 1 }, (place + size_of scalar, value.1))) (field, (next, behind)) e in
+    let value = bytes_found at (size_of scalar) bytes read.0 read.1 in
+    let same = same_done (record { place = place; size = size_of scalar; items = 1 }, (place + size_of scalar, read.0.1)) (field, (next, behind)) read.2 in
+    let size : length (take (size_of scalar) bytes) ≡ size_of scalar = length-take-le (size_of scalar) bytes value.0 in
+    let rest : drop (size_of scalar) bytes ≡ behind = ap (λ (x : List ℕ × List ℕ). x.1) (sym value.1) ∙ ap (λ (x : ByteRead). x.1.1) same in
+    let place_is : place + length (take (size_of scalar) bytes) ≡ next = ap (λ (n : ℕ). place + n) size ∙ ap (λ (x : ByteRead). x.1.0) same in
+    record {
+      items = 1;
+      piece = take (size_of scalar) bytes;
+      behind = drop (size_of scalar) bytes;
+      is_piece = size;
+      cut = sym (take-append-drop (size_of scalar) bytes);
+      field_is = ap (λ (x : ByteRead). x.0) (sym same);
+      left_is = ap (λ (n : ℕ). raw kind n behind) (sym place_is) ∙ ap (λ (xs : List ℕ). raw kind (place + length (take (size_of scalar) bytes)) xs) (sym rest);
+    }
+binary_found kind at (Many count item) place bytes field next behind e =
+    let a = size_of count in
+    let read = bind_ok (bytes_of at (size_of count) bytes) (λ first. count_in at (number_of kind count first.0) >>= λ n. bytes_of at (n * size_of item) first.1 >>= λ items. done (list_field (place + size_of count) (n * size_of item) n, (place + size_of count + n * size_of item, items.1))) (field, (next, behind)) e in
+    let first = bytes_found at (size_of count) bytes read.0 read.1 in
+    let counts = bind_ok (count_in at (number_of kind count read.0.0)) (λ n. bytes_of at (n * size_of item) read.0.1 >>= λ items. done (list_field (place + size_of count) (n * size_of item) n, (place + size_of count + n * size_of item, items.1))) (field, (next, behind)) read.2 in
+    let count_is = counted at (number_of kind count read.0.0) counts.0 counts.1 in
+    let third = bind_ok (bytes_of at (counts.0 * size_of item) read.0.1) (λ items. done (list_field (place + size_of count) (counts.0 * size_of item) counts.0, (place + size_of count + counts.0 * size_of item, items.1))) (field, (next, behind)) counts.2 in
+    let items = bytes_found at (counts.0 * size_of item) read.0.1 third.0 third.1 in
+    let same = same_done (list_field (place + size_of count) (counts.0 * size_of item) counts.0, (place + size_of count + counts.0 * size_of item, third.0.1)) (field, (next, behind)) third.2 in
+    let front : read.0.0 ≡ take (size_of count) bytes = ap (λ (x : List ℕ × List ℕ). x.0) first.1 in
+    let rest : read.0.1 ≡ drop (size_of count) bytes = ap (λ (x : List ℕ × List ℕ). x.1) first.1 in
+    let front_size : length read.0.0 ≡ size_of count = ap length front ∙ length-take-le (size_of count) bytes first.0 in
+    let items_size : length (take (counts.0 * size_of item) read.0.1) ≡ counts.0 * size_of item = length-take-le (counts.0 * size_of item) read.0.1 items.0 in
+    let size : length (read.0.0 ++ take (counts.0 * size_of item) read.0.1) ≡ size_of count + counts.0 * size_of item = length-append read.0.0 (take (counts.0 * size_of item) read.0.1) ∙ omega (arith, front_size, items_size) in
+    let left : third.0.1 ≡ drop (counts.0 * size_of item) read.0.1 = ap (λ (x : List ℕ × List ℕ). x.1) items.1 in
+    record {
+      items = counts.0;
+      piece = read.0.0 ++ take (counts.0 * size_of item) read.0.1;
+      behind = behind;
+      is_piece = (size, ap (number_of kind count) (ap (λ (n : ℕ). take n (read.0.0 ++ take (counts.0 * size_of item) read.0.1)) (sym front_size) ∙ take-append_seam read.0.0 (take (counts.0 * size_of item) read.0.1)) ∙ count_is.0, count_is.1);
+      cut = sym (append_assoc read.0.0 (take (counts.0 * size_of item) read.0.1) behind
+          ∙ ap (λ (xs : List ℕ). read.0.0 ++ (take (counts.0 * size_of item) read.0.1 ++ xs)) (ap (λ (x : ByteRead). x.1.1) (sym same) ∙ left)
+          ∙ ap (λ (xs : List ℕ). read.0.0 ++ xs) (take-append-drop (counts.0 * size_of item) read.0.1)
+          ∙ ap (λ (xs : List ℕ). xs ++ read.0.1) front ∙ ap (λ (xs : List ℕ). take (size_of count) bytes ++ xs) rest
+          ∙ take-append-drop (size_of count) bytes);
+      field_is = ap (λ (x : ByteRead). x.0) (sym same);
+      left_is = ap (λ (n : ℕ). raw kind n behind) (ap (λ (x : ByteRead). x.1.0) (sym same) ∙ omega (arith, size));
+    }
+
+-- ---- in either
+
+pub property_found : (at : Place) (shape : Shape) (rest : Rest) (field : Field) (left : Rest) → field_of at shape rest ≡ done (field, left) → Begins shape field rest left
+unfolding field_of
+property_found at shape (text tokens) field left e =
+    let read = bind_ok (text_field at shape tokens) (λ read. done (read.0, text read.1)) (field, left) e in
+    let same = same_done (read.0.0, text read.0.1) (field, left) read.2 in
+    subst (λ (x : Field × Rest). BeginsText shape x.0 tokens x.1) same (text_found at shape tokens read.0.0 read.0.1 read.1)
+property_found at shape (raw kind place bytes) field left e =
+    let read = bind_ok (binary_field kind at shape (place, bytes)) (λ read. done (read.0, raw kind read.1.0 read.1.1)) (field, left) e in
+    let same = same_done (read.0.0, raw kind read.0.1.0 read.0.1.1) (field, left) read.2 in
+    subst (λ (x : Field × Rest). BeginsBytes kind shape x.0 place bytes x.1) same (binary_found kind at shape place bytes read.0.0 read.0.1.0 read.0.1.1 read.1)
+
+pub fields_found : (e r k : ℕ) (properties : List Property) (rest : Rest) (fields : List Field) (left : Rest) → fields_of e r k properties rest ≡ done (fields, left) → BeginsRow properties fields rest left
+unfolding fields_of
+fields_found e r k [] rest fields left is = subst (λ (x : List Field × Rest). BeginsRow [] x.0 rest x.1) (same_done ([], rest) (fields, left) is) refl
+fields_found e r k (p ∷ properties) rest fields left is =
+    let first = bind_ok (field_of (record { element = e; row = r; property = k }) p.shape rest) (λ first. fields_of e r (k + 1) properties first.1 >>= λ others. done (first.0 ∷ others.0, others.1)) (fields, left) is in
+    let others = bind_ok (fields_of e r (k + 1) properties first.0.1) (λ others. done (first.0.0 ∷ others.0, others.1)) (fields, left) first.2 in
+    subst (λ (x : List Field × Rest). BeginsRow (p ∷ properties) x.0 rest x.1) (same_done (first.0.0 ∷ others.0.0, others.0.1) (fields, left) others.2)
+    (first.0.1, (property_found (record { element = e; row = r; property = k }) p.shape rest first.0.0 first.0.1 first.1, fields_found e r (k + 1) properties first.0.1 others.0.0 others.0.1 others.1))

@@ -1,0 +1,9 @@
+pub mod TokenLemmas
+pub mod ItemLemmas
+pub mod RowLemmas
+pub mod ElementLemmas
+pub mod FitLemmas
+pub mod NextLemmas
+pub mod GrammarFound
+pub mod GrammarRead
+pub mod GrammarLaw

@@ -1,0 +1,42 @@
+-- What is left of a body, and the fields of a row in it.
+--
+-- Rest        what is left of a body: tokens, or bytes from a place on
+-- rest_at     what is left of a body behind a place
+-- field_of    the field of a property, and what is left behind it
+-- fields_of   the fields of a row's properties, and what is left behind them
+use Rattle.std.specs.Prelude.{ℕ, ◌+◌, List, [], ◌∷◌, drop, Result, Ok}
+use Rattle.ply_head.specs.declared.header.Kind.{Kind}
+use Rattle.ply_head.specs.declared.header.Kind.TheVariants.{Ascii, BinaryLittle, BinaryBig}
+use Rattle.ply_head.specs.declared.header.Shape.{Shape}
+use Rattle.ply_head.specs.declared.header.Property.{Property}
+use Rattle.ply_rows.specs.declared.place.Field.{Field}
+use Rattle.ply_rows.specs.declared.place.Place.{Place}
+use Rattle.ply_rows.specs.declared.refusal.RowRefusal.{RowRefusal}
+use Rattle.ply_rows.specs.Tokens.{Token, tokens_at}
+use Rattle.ply_rows.specs.Texts.{◌>>=◌, text_field}
+use Rattle.ply_rows.specs.Binaries.{binary_field}
+
+-- what is left of a body: tokens, or, in a binary body, bytes from a place on
+pub data Rest : Type 0 where
+  text : List Token → Rest
+  raw : Kind → ℕ → List ℕ → Rest
+
+-- what is left of a body from a place on
+abbrev pub rest_at : Kind → List ℕ → ℕ → Rest
+rest_at Ascii body place = text (tokens_at body place)
+rest_at BinaryLittle body place = raw BinaryLittle place (drop place body)
+rest_at BinaryBig body place = raw BinaryBig place (drop place body)
+
+-- the field of a property, and what is left behind it
+unfoldable pub field_of : Place → Shape → Rest → Result (Field × Rest) RowRefusal
+field_of at shape (text tokens) = text_field at shape tokens >>= λ read. Ok (read.0, text read.1)
+field_of at shape (raw kind place bytes) = binary_field kind at shape (place, bytes) >>= λ read. Ok (read.0, raw kind read.1.0 read.1.1)
+
+-- the fields of some properties of a row, the first of which has this number, and what is
+-- left behind them
+unfoldable pub fields_of : ℕ → ℕ → ℕ → List Property → Rest → Result (List Field × Rest) RowRefusal
+fields_of element row number [] rest = Ok ([], rest)
+fields_of element row number (property ∷ properties) rest = do
+  first ← field_of (record { element = element; row = row; property = number }) property.shape rest
+  others ← fields_of element row (number + 1) properties first.1
+  Ok (first.0 ∷ others.0, others.1)

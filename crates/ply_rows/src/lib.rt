@@ -1,0 +1,36 @@
+//! The rows of a PLY body, one after another.
+//!
+//! The format is Greg Turk's PLY. Behind the header stand the rows of its elements, in the
+//! header's order, and each row has its element's properties in order. An element without
+//! properties takes no bytes, and its rows aren't walked.
+//!
+//! In an `ascii` body a token is a run of bytes other than white space (space, tab, CR and
+//! LF), and line ends mean no more than that. A single value is one token. A list is a token
+//! that counts the items, and then as many item tokens. In a binary body a value has its
+//! type's size and the file's byte order. A list is its count and then its items, with
+//! nothing between.
+//!
+//! The reader looks at the body where it lies and copies nothing of it. It looks at each byte
+//! a fixed number of times, and holds the fields of one row at a time. A count, of rows or of
+//! items, is never trusted: it costs no memory and no time before the rows or items are there.
+//!
+//! The crate stands on `ply_head` (headers), `num_text` (the counts of lists in text),
+//! `byteorder` and `thiserror`.
+#![tactic(auto)]
+
+mod binary;
+mod fields;
+mod laws;
+mod place;
+mod refusal;
+mod rows;
+#[cfg(test)]
+mod tests;
+mod text;
+mod tokens;
+
+pub use binary::{binary_whole, size};
+pub use laws::bodies_with_rows_are_read;
+pub use place::{Field, Place, RowAt};
+pub use refusal::{NoMemory, RowRefusal};
+pub use rows::Rows;
