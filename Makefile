@@ -2,7 +2,7 @@
 PREFIX ?= /usr/local
 PROGRAM = crates/recon_main/out/recon_main
 
-.PHONY: run test install clean
+.PHONY: run recon test install clean
 
 # Proves and builds the program (the first time about ten minutes on four processors, afterwards seconds), leaves it
 # as ./recon and runs it on an example.
