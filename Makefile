@@ -4,26 +4,30 @@ PROGRAM = crates/recon_main/out/recon_main
 
 .PHONY: run recon test install clean
 
-# Proves and builds the program (the first time about ten minutes on four processors, afterwards seconds), leaves it
+# Proves and builds the program (the first time about twenty minutes on four processors, afterwards seconds), leaves it
 # as ./recon and runs it on an example.
 run: recon
 	@echo "recon build: the surface of the tetrahedron in examples/"
 	./recon build examples/tetrahedron.ply tetrahedron_mesh.ply tetrahedron.cert
+	@echo "recon check: whether mesh and certificate are those of the scan"
+	./recon check examples/tetrahedron.ply tetrahedron_mesh.ply tetrahedron.cert
+	@echo "tetrahedron_mesh.ply opens in any viewer of PLY meshes"
 
 recon:
-	@echo "proving and building the program: about ten minutes the first time, then seconds"
-	cd crates/recon_main && rt run -- cells data/scan.ply out/cells.txt
+	@echo "proving and building the program: about twenty minutes the first time, then seconds"
+	cd crates/recon_main && rt run -- demo 1 7
 	cp $(PROGRAM) recon
 
 # The gate: proves every crate and its tests from nothing, tries the edits that must be refused, runs every test and
-# the program. About half an hour the first time on four processors; afterwards what has not changed is not proved again.
+# the program. About an hour the first time on four processors; afterwards what has not changed is not proved again.
 test:
-	@echo "rt ci: every proof, every edit that must be refused, every test (half an hour the first time)"
+	@echo "rt ci: every proof, every edit that must be refused, every test (about an hour the first time)"
 	rt ci
 
-# Installs the built program under PREFIX (a second).
+# Installs the built program and its manual page under PREFIX (a second).
 install: recon
 	install -D -m 755 recon $(DESTDIR)$(PREFIX)/bin/recon
+	install -D -m 644 docs/recon.1 $(DESTDIR)$(PREFIX)/share/man/man1/recon.1
 
 # Removes what was built and what the proofs kept (a second; the next run proves from nothing).
 clean:

@@ -1,33 +1,33 @@
 -- The sights of a scan.
-use Rattle.std.proofs.Common.{ℕ, suc, ◌≡◌, ◌+◌, ◌<◌, ◌++◌, arith, ap, sym, subst, ◌∙◌, List, [], ◌∷◌, length, get_or, map, refl, take}
-use Rattle.std.proofs.lemmas.List.{take_more, length-take-le, length-map}
+use Rattle.std.proofs.Common.{ℕ, ◌≡◌, ◌+◌, ◌<◌, ◌≤◌, ◌++◌, arith, ap, sym, subst, ◌∙◌, List, [], ◌∷◌, length, get_or, map, refl, take}
+use Rattle.std.proofs.lemmas.List.{take_more, length-map, get_or-map, map-append}
 use Rattle.flow_net.specs.declared.votes.Sight.{Sight}
-use Rattle.geo_sign.specs.Place.{Place}
-use Rattle.scan.specs.ScanRows.{ScanRows, VertexRow, vertex_rows}
 use Rattle.flow_net.specs.declared.votes.Settings.{Settings}
 use Rattle.flow_net.specs.declared.Voted.{Voted}
+use Rattle.geo_sign.specs.Place.{Place, origin}
+use Rattle.merge.specs.Merging.{distinct_points, place_among}
+use Rattle.merge.proofs.Distinct.{few}
+use Rattle.merge.proofs.Places.{each_stands}
+use Rattle.scan.specs.ScanRows.{ScanRows, VertexRow, vertex_rows}
 use Rattle.scan.specs.Views.{rows_of}
 use Rattle.scan.specs.declared.scan.Scan.{Scan}
+use Rattle.scan.proofs.RowLemmas.{length-vertex_rows}
 use Rattle.visibility.specs.Scenes.{scene_of}
 use Rattle.visibility.specs.Networks.{IsNetworkOf}
-use Rattle.recon_build.specs.Scans.{points_of, sights_from, sights_of, scene_of_rows}
+use Rattle.recon_build.specs.Scans.{points_of, sight_of, sights_of, scene_of_rows}
 
--- one sight more
-pub sights_from-push : (vertex : ℕ) (scanners : List ℕ) (scanner : ℕ)
-    → sights_from vertex (scanners ++ scanner ∷ []) ≡ sights_from vertex scanners ++ (record { vertex = vertex + length scanners; scanner = scanner }) ∷ []
-sights_from-push vertex [] scanner = ap (λ (v : ℕ). (record { vertex = v; scanner = scanner }) ∷ []) (omega arith)
-sights_from-push vertex (first ∷ rest) scanner =
-    let later : suc vertex + length rest ≡ vertex + suc (length rest) = omega arith in
-    ap (λ (list : List Sight). (record { vertex = vertex; scanner = first }) ∷ list)
-    (sights_from-push (suc vertex) rest scanner ∙ ap (λ (v : ℕ). sights_from (suc vertex) rest ++ (record { vertex = v; scanner = scanner }) ∷ []) later)
-
--- the sight of the row at a place
-pub sights_from-more : (vertex : ℕ) (scanners : List ℕ) (i : ℕ) → i < length scanners
-    → sights_from vertex (take (i + 1) scanners) ≡ sights_from vertex (take i scanners) ++ (record { vertex = vertex + i; scanner = get_or scanners i 0 }) ∷ []
-sights_from-more vertex scanners i within =
-    ap (sights_from vertex) (take_more scanners i 0 within)
-    ∙ sights_from-push vertex (take i scanners) (get_or scanners i 0)
-    ∙ ap (λ (n : ℕ). sights_from vertex (take i scanners) ++ (record { vertex = vertex + n; scanner = get_or scanners i 0 }) ∷ []) (length-take-le i scanners (omega arith))
+-- the sight of the row at a place, by the lists that have the places and the scanners of all rows
+pub sights_more : (points : List Place) (rows : List VertexRow) (of_row seen_by : List ℕ) (i : ℕ) → of_row ≡ map (λ (row : VertexRow). place_among points row.point) rows → seen_by ≡ map (λ (row : VertexRow). row.seen_by) rows → i < length rows
+    → map (sight_of points) (take (i + 1) rows) ≡ map (sight_of points) (take i rows) ++ (record { vertex = 8 + get_or of_row i 0; scanner = get_or seen_by i 0 }) ∷ []
+sights_more points rows of_row seen_by i places scanners within =
+    let d : VertexRow = record { point = origin; seen_by = 0 } in
+    let place : get_or of_row i 0 ≡ place_among points (get_or rows i d).point =
+    ap (λ (list : List ℕ). get_or list i 0) places ∙ get_or-map (λ (row : VertexRow). place_among points row.point) rows i d 0 within in
+    let scanner : get_or seen_by i 0 ≡ (get_or rows i d).seen_by = ap (λ (list : List ℕ). get_or list i 0) scanners ∙ get_or-map (λ (row : VertexRow). row.seen_by) rows i d 0 within in
+    ap (map (sight_of points)) (take_more rows i d within)
+    ∙ map-append (sight_of points) (take i rows) (get_or rows i d ∷ [])
+    ∙ ap (λ (n : ℕ). map (sight_of points) (take i rows) ++ (record { vertex = 8 + n; scanner = (get_or rows i d).seen_by }) ∷ []) (sym place)
+    ∙ ap (λ (n : ℕ). map (sight_of points) (take i rows) ++ (record { vertex = 8 + get_or of_row i 0; scanner = n }) ∷ []) (sym scanner)
 
 -- the points of rows are those that they were made of
 pub points-vertex_rows : (points : List Place) (seen_by : List ℕ) → length seen_by ≡ length points → map (λ (row : VertexRow). row.point) (vertex_rows points seen_by) ≡ points
@@ -42,31 +42,59 @@ scanners-vertex_rows [] (scanner ∷ seen_by) same = absurd (omega (arith, same)
 scanners-vertex_rows (point ∷ points) [] same = absurd (omega (arith, same))
 scanners-vertex_rows (point ∷ points) (scanner ∷ seen_by) same = ap (λ (list : List ℕ). scanner ∷ list) (scanners-vertex_rows points seen_by (omega (arith, same)))
 
--- there is a row for each point
-pub length-vertex_rows : (points : List Place) (seen_by : List ℕ) → length seen_by ≡ length points → length (vertex_rows points seen_by) ≡ length points
-length-vertex_rows [] seen_by same = refl
-length-vertex_rows (point ∷ points) [] same = absurd (omega (arith, same))
-length-vertex_rows (point ∷ points) (scanner ∷ seen_by) same = ap (λ (n : ℕ). suc n) (length-vertex_rows points seen_by (omega (arith, same)))
+-- the distinct points of a scan are those of its list of points
+pub points_are : (scan : Scan) → points_of (rows_of scan) ≡ distinct_points scan.points.items
+points_are scan = ap distinct_points (points-vertex_rows scan.points.items scan.seen_by.items scan.one_each)
+
+-- each row has the place of its point
+pub places_are : (scan : Scan) (points : List Place) → map (λ (row : VertexRow). place_among points row.point) (rows_of scan).vertices ≡ map (place_among points) scan.points.items
+places_are scan points = by scan.points.items scan.seen_by.items scan.one_each
+  where
+    by : (list : List Place) (seen_by : List ℕ) → length seen_by ≡ length list → map (λ (row : VertexRow). place_among points row.point) (vertex_rows list seen_by) ≡ map (place_among points) list
+    by [] seen_by same = refl
+    by (point ∷ list) [] same = absurd (omega (arith, same))
+    by (point ∷ list) (scanner ∷ seen_by) same = ap (λ (places : List ℕ). place_among points point ∷ places) (by list seen_by (omega (arith, same)))
+
+pub row_count : (scan : Scan) → length (rows_of scan).vertices ≡ length scan.points.items
+row_count scan = length-vertex_rows scan.points.items scan.seen_by.items scan.one_each
+
+-- there is a place for each row
+pub place_count : (scan : Scan) (of_row : List ℕ) → of_row ≡ map (λ (row : VertexRow). place_among (points_of (rows_of scan)) row.point) (rows_of scan).vertices → length of_row ≡ length scan.seen_by.items
+place_count scan of_row places =
+    ap length places ∙ length-map (rows_of scan).vertices (λ (row : VertexRow). place_among (points_of (rows_of scan)) row.point) ∙ row_count scan ∙ sym scan.one_each
+
+-- there are few points
+pub few_points : (scan : Scan) → length (points_of (rows_of scan)) ≤ 56
+few_points scan = omega (arith, ap length (points_are scan), few scan.points.items, scan.points_fit)
+
+-- a row's place is that of a point
+pub few_places : (scan : Scan) (of_row : List ℕ) (i : ℕ) → of_row ≡ map (λ (row : VertexRow). place_among (points_of (rows_of scan)) row.point) (rows_of scan).vertices → i < length scan.seen_by.items → get_or of_row i 0 < 56
+few_places scan of_row i places within =
+    let points : List Place = points_of (rows_of scan) in
+    let row : i < length scan.points.items = omega (arith, within, scan.one_each) in
+    let is : get_or of_row i 0 ≡ place_among points (get_or scan.points.items i origin) =
+    ap (λ (list : List ℕ). get_or list i 0) (places ∙ places_are scan points) ∙ get_or-map (place_among points) scan.points.items i origin 0 row in
+    let below : place_among (distinct_points scan.points.items) (get_or scan.points.items i origin) < length (distinct_points scan.points.items) = (each_stands scan.points.items i origin row).0 in
+    let here : place_among points (get_or scan.points.items i origin) < length points =
+    subst (λ (list : List Place). place_among list (get_or scan.points.items i origin) < length list) (sym (points_are scan)) below in
+    omega (arith, is, here, few_points scan)
+
+-- and few sights: each row is one
+pub sight_count : (rows : ScanRows) → length (sights_of rows) ≡ length rows.vertices
+sight_count rows = length-map rows.vertices (sight_of (points_of rows))
+
+pub few_sights : (scan : Scan) → length (sights_of (rows_of scan)) ≤ 1048576
+few_sights scan = omega (arith, sight_count (rows_of scan), row_count scan, scan.points_fit)
 
 -- the corners and the points are the vertices
-pub count_of_rows : (rows : ScanRows) (settings : Settings) → (scene_of_rows rows settings).vertices.count ≡ 8 + length rows.vertices
-count_of_rows rows settings = ap (λ (n : ℕ). 8 + n) (length-map rows.vertices (λ (row : VertexRow). row.point))
+pub few_vertices : (scan : Scan) (settings : Settings) → (scene_of_rows (rows_of scan) settings).vertices.count ≤ 64
+few_vertices scan settings = omega (arith, few_points scan)
 
-pub length-sights_from : (vertex : ℕ) (scanners : List ℕ) → length (sights_from vertex scanners) ≡ length scanners
-length-sights_from vertex [] = refl
-length-sights_from vertex (scanner ∷ rest) = ap (λ (n : ℕ). suc n) (length-sights_from (suc vertex) rest)
-
--- each row is a sight
-pub sight_count : (rows : ScanRows) → length (sights_of rows) ≡ length rows.vertices
-sight_count rows = length-sights_from 8 (map (λ (row : VertexRow). row.seen_by) rows.vertices) ∙ length-map rows.vertices (λ (row : VertexRow). row.seen_by)
-
--- the network over what a scan has is that of its rows
+-- the network over lists that are the scan's is that of its rows
 pub network_of_rows : (scan : Scan) (settings : Settings) (points scanners : List Place) (sights : List Sight) (voted : Voted)
-    → points ≡ scan.points.items → scanners ≡ scan.scanners.items → sights ≡ sights_from 8 scan.seen_by.items
+    → points ≡ points_of (rows_of scan) → scanners ≡ scan.scanners.items → sights ≡ sights_of (rows_of scan)
     → IsNetworkOf (scene_of points scanners sights settings) voted → IsNetworkOf (scene_of_rows (rows_of scan) settings) voted
-network_of_rows scan settings points scanners sights voted points_are scanners_are sights_are network =
-    let same_points : points ≡ points_of (rows_of scan) = points_are ∙ sym (points-vertex_rows scan.points.items scan.seen_by.items scan.one_each) in
-    let same_sights : sights ≡ sights_of (rows_of scan) = sights_are ∙ ap (sights_from 8) (sym (scanners-vertex_rows scan.points.items scan.seen_by.items scan.one_each)) in
+network_of_rows scan settings points scanners sights voted same_points same_scanners same_sights network =
     subst (λ (list : List Place). IsNetworkOf (scene_of list scan.scanners.items (sights_of (rows_of scan)) settings) voted) same_points
-    (subst (λ (list : List Place). IsNetworkOf (scene_of points list (sights_of (rows_of scan)) settings) voted) scanners_are
+    (subst (λ (list : List Place). IsNetworkOf (scene_of points list (sights_of (rows_of scan)) settings) voted) same_scanners
     (subst (λ (list : List Sight). IsNetworkOf (scene_of points scanners list settings) voted) same_sights network))

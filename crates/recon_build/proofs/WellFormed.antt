@@ -18,8 +18,9 @@ use Rattle.visibility.specs.Laws.{IsOrdered}
 use Rattle.visibility.proofs.Amounts.{capacity_fits, sink_fits}
 use Rattle.visibility.proofs.Ordered.{facets_are_ordered, form_below}
 use Rattle.flow_net.specs.declared.votes.Settings.{Settings}
-use Rattle.scan.specs.ScanRows.{ScanRows}
-use Rattle.scan.specs.PlainScans.{IsSmall}
+use Rattle.scan.specs.Views.{rows_of}
+use Rattle.scan.specs.declared.scan.Scan.{Scan}
+use Rattle.recon_build.proofs.SightLists.{few_points, row_count}
 use Rattle.recon_build.specs.Solutions.{HasCounts, IsCertificate, flow_on, sink_at, flow_row, sink_row, flow_rows, sink_rows}
 
 -- the two orders of rows are one
@@ -148,13 +149,13 @@ well_formed s complex inside claim is few few_sights counts short certificate =
       sink = subst IsSinkList (sym sink_is) (sink_list s complex claim is few few_sights (subst (λ (rows : List SinkRow). length rows < 2 ^ 64) sink_is short.sink) certificate.flow);
     }
 
--- the counts of a small scan fit
-pub fit_counts : (claim : Claim) (rows : ScanRows) (settings : Settings) → HasCounts claim rows settings → IsSmall rows → claim.counts.cost < 2 ^ 64 → FitCounts claim.counts
-fit_counts claim rows settings has small cost =
+-- the counts of a scan fit
+pub fit_counts : (claim : Claim) (scan : Scan) (settings : Settings) → HasCounts claim (rows_of scan) settings → claim.counts.cost < 2 ^ 64 → FitCounts claim.counts
+fit_counts claim scan settings has cost =
     record {
-      points = omega (arith, has.points, small.few);
-      scanners = omega (arith, has.scanners, small.scan.scanner_count);
-      sights = omega (arith, has.sights, small.few);
+      points = omega (arith, has.points, few_points scan);
+      scanners = omega (arith, has.scanners, scan.scanners_fit);
+      sights = omega (arith, has.sights, row_count scan, scan.points_fit);
       vote = omega (arith, has.vote, settings.vote_at_most);
       smooth = omega (arith, has.smooth, settings.smooth_at_most);
       cost = cost;

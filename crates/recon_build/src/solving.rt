@@ -1,14 +1,13 @@
-//! The best surface of a scan. It stands on `plain_net`, `max_flow` and the rows of `cert_text`.
+//! The best surface of a scan. It stands on `merge`, `plain_net`, `max_flow` and the rows of `cert_text`.
 
 ghost use Rattle.std.specs.Prelude.{◌≡◌, ◌<◌, ◌^◌, IfOk};
 ghost use Rattle.cert_text.specs.Certificates.{claim_of, IsWellFormed};
 ghost use Rattle.flow_net.specs.Flows.{IsValidFlow, IsLeastInside, cost_of, value_of};
 ghost use Rattle.mesh_ply.specs.Meshes.{IsMesh};
-ghost use Rattle.scan.specs.PlainScans.{IsSmall};
 ghost use Rattle.scan.specs.Views.{rows_of};
 ghost use Rattle.visibility.specs.Laws.{test_of};
 ghost use Rattle.visibility.specs.Networks.{complex_of, IsNetworkOf};
-ghost use Rattle.recon_build.specs.Scans.{scene_of_rows};
+ghost use Rattle.recon_build.specs.Scans.{points_of, scene_of_rows};
 ghost use Rattle.recon_build.specs.Solutions.{HasCounts, IsCertificate, IsSolution, surface_of};
 
 use crate::NoMemory;
@@ -16,7 +15,9 @@ use crate::rows::{flow_rows, inside_rows, sink_rows};
 use crate::sights::sights_of;
 use cert_text::Certificate;
 use flow_net::{Flow, Labels, Settings, Voted, cost};
+use geo_sign::Point;
 use max_flow::{least_inside, solve};
+use merge::merge;
 use mesh_ply::Mesh;
 use plain_net::{plain_mesh, plain_net};
 use scan::Scan;
@@ -32,8 +33,7 @@ pub struct Solved {
 }
 
 /// What the least-inside labels of a scan's network cost. It fits, since they cost no more than to have all cells outside.
-fn least_cost(scan: &Scan, settings: Settings, voted: &Voted, labels: &Labels) -> u64
-    requires small { IsSmall (rows_of scan.now) }
+pub fn least_cost(scan: &Scan, settings: Settings, voted: &Voted, labels: &Labels) -> u64
     requires network { IsNetworkOf (scene_of_rows (rows_of scan.now) settings) voted.now }
     requires labels { IsLeastInside voted.now.net labels.now }
     ensures { result ≡ cost_of voted.now.net labels.now }
@@ -41,16 +41,17 @@ fn least_cost(scan: &Scan, settings: Settings, voted: &Voted, labels: &Labels) -
     cost(&voted.net, labels) as u64
 }
 
-/// The certificate of labels and of a flow that is worth their cost.
+/// The certificate of labels and of a flow that is worth their cost. `points` are the scan's distinct points.
 fn certificate(
     alloc: Global,
     scan: &Scan,
+    points: &[Point],
     settings: Settings,
     voted: &Voted,
     labels: &Labels,
     flow: &Flow,
 ) -> Result<Certificate, NoMemory>
-    requires small { IsSmall (rows_of scan.now) }
+    requires points { points.now ≡ points_of (rows_of scan.now) }
     requires network { IsNetworkOf (scene_of_rows (rows_of scan.now) settings) voted.now }
     requires labels { IsLeastInside voted.now.net labels.now }
     requires flow { IsValidFlow voted.now.net flow.now }
@@ -61,7 +62,7 @@ fn certificate(
 {
     let cells = voted.cells.as_slice();
     Ok(Certificate {
-        points: scan.points.len() as u32,
+        points: points.len() as u32,
         scanners: scan.scanners.len() as u32,
         sights: scan.seen_by.len() as u32,
         vote: settings.vote,
@@ -76,19 +77,20 @@ fn certificate(
 /// The best surface of a scan at these settings, and its certificate.
 ///
 /// The surface is the mesh of the directed facets between outside and inside cells, under the labels of least sight-line cost whose
-/// inside is smallest. The certificate has these labels and a flow whose value is that cost, so that no labels can cost less. The
-/// scan's points are distinct and there are at most 56 of them. The only error is want of memory.
+/// inside is smallest. The certificate has these labels and a flow whose value is that cost, so that no labels can cost less. Points
+/// that stand in several rows are one vertex, and each row is a sight. The only error is want of memory.
 pub fn solve_scan(alloc: Global, scan: &Scan, settings: Settings) -> Result<Solved, NoMemory>
-    requires { IsSmall (rows_of scan.now) }
     ensures solution { IfOk result (λ solved. IsSolution (rows_of scan.now) settings (surface_of solved.mesh) (claim_of solved.cert)) }
     ensures valid { IfOk result (λ solved. IsMesh solved.mesh.points.items solved.mesh.faces.items) }
     ensures well_formed { IfOk result (λ solved. IsWellFormed (claim_of solved.cert)) }
 {
-    let sights = sights_of(alloc, &scan.seen_by)?;
-    let voted = plain_net(alloc, &scan.points, &sights, &scan.scanners, settings)?;
+    let merged = merge(alloc, &scan.points)?;
+    let points = merged.points.as_slice();
+    let sights = sights_of(alloc, scan, &merged.of_row)?;
+    let voted = plain_net(alloc, points, &sights, &scan.scanners, settings)?;
     let flow = solve(alloc, &voted.net)?;
     let labels = least_inside(alloc, &voted.net, &flow)?;
-    let mesh = plain_mesh(alloc, &scan.points, &voted, &labels)?;
-    let cert = certificate(alloc, scan, settings, &voted, &labels, &flow)?;
+    let mesh = plain_mesh(alloc, points, &voted, &labels)?;
+    let cert = certificate(alloc, scan, points, settings, &voted, &labels, &flow)?;
     Ok(Solved { mesh, cert })
 }

@@ -22,7 +22,7 @@ told_so (Some old) None A P Q each a p = p
 told_so (Some old) (Some new) A P Q each a p = each old new a p
 
 -- a reading changes no file and says nothing
-same_told : (mid old : Told) → apart_from_left (Some mid) ≡ apart_from_left (Some old) → IsUntouched old mid
+pub same_told : (mid old : Told) → apart_from_left (Some mid) ≡ apart_from_left (Some old) → IsUntouched old mid
 same_told mid old e = record { files = ap (λ (o : Option Told). files_in o) e; said = ap (λ (o : Option Told). said_in o) e }
   where
     files_in : Option Told → Files

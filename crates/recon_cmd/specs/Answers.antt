@@ -4,26 +4,43 @@
 --   Answer                           a status, how many files were read, the files that are written, and the line
 --   bad_words_answer, refusal        the answer of words that are no command, and of an input that is refused
 --   file_limit                       how long a file that is read may be
---   CellsTooLong, CellsNotBuilt, CellsDone    the three cases of the answer of `cells`
---   CellsAnswer output bytes answer  the answer of `cells` where the scan's file has these bytes
---   BuildDone, BuildAnswer names     the answer of `build`, which refuses what `cells` refuses
+--   read_as options bytes            the scan that the bytes of a file are under these options, or why they are none
+--   ScanTooLong, ScanRefused         the file of the scan is too long, or is no scan
+--   IsUnread                         one of the two
+--   ScanAnswered                     the file is a scan, which is answered so
+--   ScanAnswer                       the answer of a command to the bytes of the scan that it reads
+--   WritesCells output scan answer   the answer that writes the cells of a scan
+--   WritesSurface names options ..   the answer that writes the best surface of a scan and its certificate
+--   FileTooLong reads line bytes answer    a file is too long, and this many were read
+--   HasVerdict options scan mesh cert answer    the verdict on a mesh and a certificate
+--   CertAnswer, MeshAnswer           the answer to the bytes of a certificate, and to those of a mesh
+--   default_options                  what a command is told where no word says otherwise
+--   Demonstrates count seed answer   what `build` says of a generated scan
 --   AnswerOf asked files answer      the answer of a command, or of words that are none, where the files are these
 --   most_reads asked                 how many files a command reads at most
-use Rattle.std.specs.Prelude.{◌≡◌, ◌⊎◌, ℕ, ◌≤◌, ◌<◌, List, [], ◌∷◌, length, Option, Some, None}
+use Rattle.std.specs.Prelude.{◌≡◌, ◌⊎◌, ℕ, ◌≤◌, ◌<◌, List, [], ◌∷◌, length, Option, Some, None, Result, Ok, Err}
 use Rattle.cert_text.specs.Certificates.{Claim, IsWellFormed}
 use Rattle.cert_text.specs.Texts.{cert_text}
 use Rattle.flow_net.specs.declared.votes.Settings.{Settings}
 use Rattle.geo_tie.specs.Vertices.{vertices_of}
 use Rattle.geo_tie.specs.Cells.{IsCellList}
+use Rattle.gen_scan.specs.Generated.{generated}
 use Rattle.host.specs.State.{Files}
 use Rattle.mesh_ply.specs.Meshes.{Surface, IsMesh}
 use Rattle.mesh_ply.specs.Texts.{mesh_text}
+use Rattle.scan.specs.Outcomes.{scan_of}
+use Rattle.scan.specs.PlainForm.{plain_text}
 use Rattle.scan.specs.ScanRows.{ScanRows}
-use Rattle.scan.specs.PlainScans.{IsPlainScan}
+use Rattle.scan.specs.declared.refusal.ScanRefusal.{ScanRefusal}
 use Rattle.recon_build.specs.Scans.{points_of}
 use Rattle.recon_build.specs.Solutions.{IsSolution}
-use Rattle.recon_cmd.specs.Lines.{bad_words_line, too_long_scan_line, not_built_line, cells_line, cells_text, build_line}
-use Rattle.recon_cmd.specs.Words.{Asked, SurfaceNames, cells, build}
+use Rattle.recon_check.specs.Answers.{IsAnswer}
+use Rattle.recon_check.specs.declared.answer.Answer.{Answer as Verdict}
+use Rattle.recon_cmd.specs.Lines.{bad_words_line, too_long_scan_line, too_long_mesh_line, too_long_cert_line, cells_line, cells_text, build_line, demo_line}
+use Rattle.recon_cmd.specs.Options.{Options}
+use Rattle.recon_cmd.specs.Refusals.{refusal_line}
+use Rattle.recon_cmd.specs.Verdicts.{verdict_line, verdict_status}
+use Rattle.recon_cmd.specs.Words.{Asked, SurfaceNames, cells, build, check, demo}
 use Rattle.recon_cmd.specs.declared.status.Status.{Status}
 use Rattle.recon_cmd.specs.declared.status.Status.TheVariants.{Done, BadWords, Refused}
 
@@ -50,44 +67,56 @@ refusal reads line = record { status = Refused; reads = reads; writes = []; line
 abbrev pub file_limit : ℕ
 file_limit = 4294967296
 
+-- the scan that the bytes of a file are, in the unit and with the fixed scanner of these options, or why they are none
+abbrev pub read_as : Options → List ℕ → Result ScanRows ScanRefusal
+read_as options bytes = scan_of bytes options.unit options.fixed
+
 -- the scan's file is longer than the limit
-pub record CellsTooLong (bytes : List ℕ) (answer : Answer) : Type 0 where
+pub record ScanTooLong (bytes : List ℕ) (answer : Answer) : Type 0 where
   pub longer : file_limit < length bytes
   pub is : answer ≡ refusal 1 too_long_scan_line
 
--- the bytes are the plain form of no scan that is taken
-pub record CellsNotBuilt (bytes : List ℕ) (answer : Answer) : Type 0 where
+-- the bytes are no scan, and the first reason why is said
+pub record ScanRefused (options : Options) (bytes : List ℕ) (answer : Answer) : Type 0 where
   pub within : length bytes ≤ file_limit
-  pub no_scan : (scan : ScanRows) → ¬ IsPlainScan bytes scan
-  pub is : answer ≡ refusal 1 not_built_line
+  pub why : ScanRefusal
+  pub refused : read_as options bytes ≡ Err why
+  pub line : List ℕ
+  pub line_is : refusal_line why ≡ Some line
+  pub is : answer ≡ refusal 1 line
 
--- the bytes are the plain form of a scan, and its cells are written
-pub record CellsDone (output : List ℕ) (bytes : List ℕ) (answer : Answer) : Type 0 where
+-- the scan's file is refused, by its length or by what it says
+abbrev pub IsUnread : Options → (bytes : List ℕ) → Answer → Type 0
+IsUnread options bytes answer = ScanTooLong bytes answer ⊎ ScanRefused options bytes answer
+
+-- the bytes are a scan, which is answered so
+pub record ScanAnswered (options : Options) (Answers : ScanRows → Answer → Type 0) (bytes : List ℕ) (answer : Answer) : Type 0 where
   pub within : length bytes ≤ file_limit
   pub scan : ScanRows
-  pub plain : IsPlainScan bytes scan
+  pub read : read_as options bytes ≡ Ok scan
+  pub answers : Answers scan answer
+
+-- the answer of a command to the bytes of the scan that it reads: a refusal, or what it answers to that scan
+abbrev pub ScanAnswer : Options → (ScanRows → Answer → Type 0) → (bytes : List ℕ) → Answer → Type 0
+ScanAnswer options Answers bytes answer = IsUnread options bytes answer ⊎ ScanAnswered options Answers bytes answer
+
+-- the cells of the scan are written
+pub record WritesCells (output : List ℕ) (scan : ScanRows) (answer : Answer) : Type 0 where
   pub rows : List (List ℕ)
   pub cells : IsCellList (vertices_of (points_of scan)) rows
   pub is : answer ≡ record {
     status = Done;
     reads = 1;
     writes = (output, cells_text rows) ∷ [];
-    line = cells_line (length scan.vertices) (length rows);
+    line = cells_line (length (points_of scan)) (length rows);
   }
 
--- the answer of `cells` where the scan's file has these bytes
-abbrev pub CellsAnswer : (output bytes : List ℕ) → Answer → Type 0
-CellsAnswer output bytes answer = CellsTooLong bytes answer ⊎ (CellsNotBuilt bytes answer ⊎ CellsDone output bytes answer)
-
--- The bytes are the plain form of a scan, and its best surface at 8 for a vote and 1 for smoothing is written, with the
--- certificate that shows it best: the mesh first.
-pub record BuildDone (names : SurfaceNames) (bytes : List ℕ) (answer : Answer) : Type 0 where
-  pub within : length bytes ≤ file_limit
-  pub scan : ScanRows
-  pub plain : IsPlainScan bytes scan
+-- the best surface of the scan at the weights of these options is written, with the certificate that shows it best: the
+-- mesh first
+pub record WritesSurface (names : SurfaceNames) (options : Options) (scan : ScanRows) (answer : Answer) : Type 0 where
   pub settings : Settings
-  pub vote : settings.vote ≡ 8
-  pub smooth : settings.smooth ≡ 1
+  pub vote : settings.vote ≡ options.vote
+  pub smooth : settings.smooth ≡ options.smooth
   pub mesh : Surface
   pub claim : Claim
   pub solution : IsSolution scan settings mesh claim
@@ -100,19 +129,60 @@ pub record BuildDone (names : SurfaceNames) (bytes : List ℕ) (answer : Answer)
     line = build_line claim.counts (length claim.inside) (length mesh.faces);
   }
 
--- the answer of `build` where the scan's file has these bytes: a file that is too long or holds no scan that is taken is
--- refused as by `cells`
-abbrev pub BuildAnswer : SurfaceNames → (bytes : List ℕ) → Answer → Type 0
-BuildAnswer names bytes answer = CellsTooLong bytes answer ⊎ (CellsNotBuilt bytes answer ⊎ BuildDone names bytes answer)
+-- a file is longer than the limit, and it is the last of so many that were read
+pub record FileTooLong (reads : ℕ) (line bytes : List ℕ) (answer : Answer) : Type 0 where
+  pub longer : file_limit < length bytes
+  pub is : answer ≡ refusal reads line
+
+-- the mesh and the certificate are the best surface of the scan at the weights of these options and the certificate that
+-- shows it best, or the first reason why they are not is said
+pub record HasVerdict (options : Options) (scan : ScanRows) (mesh cert : List ℕ) (answer : Answer) : Type 0 where
+  pub settings : Settings
+  pub vote : settings.vote ≡ options.vote
+  pub smooth : settings.smooth ≡ options.smooth
+  pub verdict : Verdict
+  pub holds : IsAnswer scan settings mesh cert verdict
+  pub is : answer ≡ record { status = verdict_status verdict; reads = 3; writes = []; line = verdict_line verdict }
+
+-- the file of the certificate is too long, or there is a verdict
+pub record CertAnswer (names : SurfaceNames) (options : Options) (scan : ScanRows) (mesh : List ℕ) (files : Files) (answer : Answer) : Type 0 where
+  pub cert : List ℕ
+  pub there : files names.cert ≡ Some cert
+  pub answers : FileTooLong 3 too_long_cert_line cert answer ⊎ ((length cert ≤ file_limit) × HasVerdict options scan mesh cert answer)
+
+-- the file of the mesh is too long, or the certificate decides
+pub record MeshAnswer (names : SurfaceNames) (options : Options) (scan : ScanRows) (files : Files) (answer : Answer) : Type 0 where
+  pub mesh : List ℕ
+  pub there : files names.mesh ≡ Some mesh
+  pub answers : FileTooLong 2 too_long_mesh_line mesh answer ⊎ ((length mesh ≤ file_limit) × CertAnswer names options scan mesh files answer)
+
+-- what a command is told where no word says otherwise
+abbrev pub default_options : Options
+default_options = record { unit = 1; vote = 8; smooth = 1; fixed = None }
+
+-- What `build` at these options says of the plain text of the generated scan, where it is done. No file is written.
+pub record Demonstrates (count seed : ℕ) (answer : Answer) : Type 0 where
+  pub names : SurfaceNames
+  pub built : Answer
+  pub builds : ScanAnswer default_options (WritesSurface names default_options) (plain_text (generated count seed)) built
+  pub done : built.status ≡ Done
+  pub is : answer ≡ record { status = Done; reads = 0; writes = []; line = demo_line count seed built.line }
 
 -- the answer of a command, or of words that are none, where the files are these
 abbrev pub AnswerOf : Option Asked → Files → Answer → Type 0
 AnswerOf None files answer = answer ≡ bad_words_answer
-AnswerOf (Some (cells names)) files answer = (bytes : List ℕ) × (files names.input ≡ Some bytes) × CellsAnswer names.output bytes answer
-AnswerOf (Some (build names)) files answer = (bytes : List ℕ) × (files names.input ≡ Some bytes) × BuildAnswer names bytes answer
+AnswerOf (Some (cells names options)) files answer =
+    (bytes : List ℕ) × (files names.input ≡ Some bytes) × ScanAnswer options (WritesCells names.output) bytes answer
+AnswerOf (Some (build names options)) files answer =
+    (bytes : List ℕ) × (files names.input ≡ Some bytes) × ScanAnswer options (WritesSurface names options) bytes answer
+AnswerOf (Some (check names options)) files answer =
+    (bytes : List ℕ) × (files names.input ≡ Some bytes) × ScanAnswer options (λ scan. MeshAnswer names options scan files) bytes answer
+AnswerOf (Some (demo count seed)) files answer = Demonstrates count seed answer
 
 -- how many files a command reads at most
 abbrev pub most_reads : Option Asked → ℕ
 most_reads None = 0
-most_reads (Some (cells names)) = 1
-most_reads (Some (build names)) = 1
+most_reads (Some (cells names options)) = 1
+most_reads (Some (build names options)) = 1
+most_reads (Some (check names options)) = 3
+most_reads (Some (demo count seed)) = 0

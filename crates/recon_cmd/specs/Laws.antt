@@ -6,13 +6,20 @@
 --   RefusedIsRefused              `cells`, a refused scan: it is refused, or there was no memory
 --   AcceptedIsBuilt               `build`, an accepted scan: the surface is written, or there was no memory
 --   RefusedIsNotBuilt             `build`, a refused scan: it is refused, or there was no memory
-use Rattle.std.specs.Prelude.{◌≡◌, ◌⊎◌, ℕ, ◌<◌, ◌≤◌, List, length, Some}
+--   CellsAnswerIsOne              `cells` has one answer where the files are given
+--   DifferInFlows                 two answers write one surface, with certificates that differ in their flows alone
+--   BuildAnswerIsOneButForFlows   and so do two answers of `build`, or they are one
+use Rattle.std.specs.Prelude.{◌≡◌, ◌⊎◌, ℕ, ◌<◌, ◌≤◌, List, length, Some, Ok, Err}
+use Rattle.cert_text.specs.Certificates.{Claim}
 use Rattle.host.specs.Counts.{Rose}
-use Rattle.host.specs.State.{State, Told}
+use Rattle.host.specs.State.{Files, State, Told}
+use Rattle.mesh_ply.specs.Meshes.{Surface}
 use Rattle.scan.specs.ScanRows.{ScanRows}
-use Rattle.scan.specs.PlainScans.{IsPlainScan}
-use Rattle.recon_cmd.specs.Answers.{file_limit}
+use Rattle.scan.specs.declared.refusal.ScanRefusal.{ScanRefusal}
+use Rattle.recon_cmd.specs.Answers.{Answer, AnswerOf, file_limit, read_as}
+use Rattle.recon_cmd.specs.Options.{Options}
 use Rattle.recon_cmd.specs.Outcome.{Outcome}
+use Rattle.recon_cmd.specs.Replies.{Shows}
 use Rattle.recon_cmd.specs.Words.{Asked, Names, SurfaceNames, cells, build}
 use Rattle.recon_cmd.specs.declared.status.Status.{Status}
 use Rattle.recon_cmd.specs.declared.status.Status.TheVariants.{Done, Refused, NoMemory}
@@ -26,25 +33,45 @@ pub record RunsOn (asked : Asked) (input bytes : List ℕ) (status : Status) (be
   pub outcome : Outcome (Some asked) status before after
 
 -- the scan is accepted: the command is done, or there was no memory
-abbrev pub IsDoneIfAccepted : Asked → (input : List ℕ) → Type 0
-IsDoneIfAccepted asked input =
+abbrev pub IsDoneIfAccepted : Asked → Options → (input : List ℕ) → Type 0
+IsDoneIfAccepted asked options input =
     (bytes : List ℕ) (scan : ScanRows) (status : Status) (before after : State) → RunsOn asked input bytes status before after
-    → length bytes ≤ file_limit → IsPlainScan bytes scan → (status ≡ Done) ⊎ (status ≡ NoMemory)
+    → length bytes ≤ file_limit → read_as options bytes ≡ Ok scan → (status ≡ Done) ⊎ (status ≡ NoMemory)
 
--- the file is too long or holds no scan that is taken: it is refused, or there was no memory
-abbrev pub IsRefusedIfRefused : Asked → (input : List ℕ) → Type 0
-IsRefusedIfRefused asked input =
+-- the file is too long, or is no scan for whichever reason: it is refused, or there was no memory
+abbrev pub IsRefusedIfRefused : Asked → Options → (input : List ℕ) → Type 0
+IsRefusedIfRefused asked options input =
     (bytes : List ℕ) (status : Status) (before after : State) → RunsOn asked input bytes status before after
-    → (file_limit < length bytes) ⊎ ((scan : ScanRows) → ¬ IsPlainScan bytes scan) → (status ≡ Refused) ⊎ (status ≡ NoMemory)
+    → (file_limit < length bytes) ⊎ ((why : ScanRefusal) × (read_as options bytes ≡ Err why)) → (status ≡ Refused) ⊎ (status ≡ NoMemory)
 
 abbrev pub AcceptedIsDone : Type 0
-AcceptedIsDone = (names : Names) → IsDoneIfAccepted (cells names) names.input
+AcceptedIsDone = (names : Names) (options : Options) → IsDoneIfAccepted (cells names options) options names.input
 
 abbrev pub RefusedIsRefused : Type 0
-RefusedIsRefused = (names : Names) → IsRefusedIfRefused (cells names) names.input
+RefusedIsRefused = (names : Names) (options : Options) → IsRefusedIfRefused (cells names options) options names.input
 
 abbrev pub AcceptedIsBuilt : Type 0
-AcceptedIsBuilt = (names : SurfaceNames) → IsDoneIfAccepted (build names) names.input
+AcceptedIsBuilt = (names : SurfaceNames) (options : Options) → IsDoneIfAccepted (build names options) options names.input
 
 abbrev pub RefusedIsNotBuilt : Type 0
-RefusedIsNotBuilt = (names : SurfaceNames) → IsRefusedIfRefused (build names) names.input
+RefusedIsNotBuilt = (names : SurfaceNames) (options : Options) → IsRefusedIfRefused (build names options) options names.input
+
+abbrev pub CellsAnswerIsOne : Type 0
+CellsAnswerIsOne =
+    (names : Names) (options : Options) (files : Files) (answer other : Answer) → AnswerOf (Some (cells names options)) files answer
+    → AnswerOf (Some (cells names options)) files other → answer ≡ other
+
+-- the answers write one surface, and certificates that state the same counts, cost and inside cells
+pub record DifferInFlows (names : SurfaceNames) (answer other : Answer) : Type 0 where
+  pub mesh : Surface
+  pub claim : Claim
+  pub other_claim : Claim
+  pub shown : Shows names.mesh names.cert mesh claim answer
+  pub other_shown : Shows names.mesh names.cert mesh other_claim other
+  pub counts_are : claim.counts ≡ other_claim.counts
+  pub inside_is : claim.inside ≡ other_claim.inside
+
+abbrev pub BuildAnswerIsOneButForFlows : Type 0
+BuildAnswerIsOneButForFlows =
+    (names : SurfaceNames) (options : Options) (files : Files) (answer other : Answer) → AnswerOf (Some (build names options)) files answer
+    → AnswerOf (Some (build names options)) files other → (answer ≡ other) ⊎ DifferInFlows names answer other

@@ -1,9 +1,15 @@
 pub mod Answers
+pub mod CheckLaws
+pub mod Checking
 pub mod Headline
 pub mod Laws
 pub mod Lines
+pub mod OptionViews
+pub mod Options
 pub mod Outcome
+pub mod Refusals
 pub mod Replies
 pub mod Status
+pub mod Verdicts
 pub mod Steps
 pub mod Words

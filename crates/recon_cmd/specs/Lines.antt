@@ -1,9 +1,11 @@
 -- The lines that are said, and the text of cells.
 --
---   bad_words_line, too_long_scan_line, not_built_line    lines of refusals
+--   bad_words_line, too_long_scan_line                    lines of refusals that say no number of theirs
+--   too_long_mesh_line, too_long_cert_line                the same of the other files of `check`
 --   cells_line points cells                               the line of `cells`
 --   labelled label number                                 a label, and a number behind it
 --   build_line counts inside faces                        the line of `build`
+--   demo_line count seed line                             the line of `demo`, before the line of `build`
 --   row_line numbers                                      numbers between single spaces, as a line
 --   cells_text rows                                       the text of cells
 use Rattle.std.specs.Prelude.{ℕ, List, [], ◌∷◌, ◌++◌, length, codes, decimal}
@@ -16,8 +18,11 @@ bad_words_line = codes "refused words\n"
 unfoldable pub too_long_scan_line : List ℕ
 too_long_scan_line = codes "refused 19 too_long scan\n"
 
-unfoldable pub not_built_line : List ℕ
-not_built_line = codes "refused 20 not_built\n"
+unfoldable pub too_long_mesh_line : List ℕ
+too_long_mesh_line = codes "refused 19 too_long mesh\n"
+
+unfoldable pub too_long_cert_line : List ℕ
+too_long_cert_line = codes "refused 19 too_long cert\n"
 
 -- `points P cells T`
 unfoldable pub cells_line : (points cells : ℕ) → List ℕ
@@ -33,6 +38,10 @@ unfoldable pub build_line : Counts → (inside faces : ℕ) → List ℕ
 build_line counts inside faces =
     labelled (codes "points ") counts.points ++ labelled (codes " scanners ") counts.scanners ++ labelled (codes " sights ") counts.sights
     ++ labelled (codes " inside ") inside ++ labelled (codes " faces ") faces ++ labelled (codes " cost ") counts.cost ++ (10 ∷ [])
+
+-- `demo N SEED `, and then a line
+unfoldable pub demo_line : (count seed : ℕ) → (line : List ℕ) → List ℕ
+demo_line count seed line = labelled (codes "demo ") count ++ (labelled (codes " ") seed ++ (32 ∷ line))
 
 -- the numbers between single spaces, ended by LF
 unfoldable pub row_line : List ℕ → List ℕ

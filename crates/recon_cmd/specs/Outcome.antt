@@ -17,7 +17,7 @@ use Rattle.std.specs.Option.{IsSomeAnd}
 use Rattle.host.specs.Counts.{Rose}
 use Rattle.host.specs.State.{State, Told, Files, with_file}
 use Rattle.recon_cmd.specs.Answers.{Answer, AnswerOf, Write, most_reads}
-use Rattle.recon_cmd.specs.Words.{Asked, cells, build}
+use Rattle.recon_cmd.specs.Words.{Asked, cells, build, check, demo}
 use Rattle.recon_cmd.specs.declared.status.Status.{Status}
 use Rattle.recon_cmd.specs.declared.status.Status.TheVariants.{Done, No, BadWords, Refused, Failed, NoMemory}
 
@@ -82,16 +82,22 @@ Tells asked Refused old new = EndsWith asked Refused old new
 -- the statuses that a command, or words that are none, may end with at all
 abbrev pub StatusFits : Status → Option Asked → Type 0
 StatusFits Done None = ⊥
-StatusFits Done (Some (cells names)) = ⊤
-StatusFits Done (Some (build names)) = ⊤
+StatusFits Done (Some (cells names options)) = ⊤
+StatusFits Done (Some (build names options)) = ⊤
+StatusFits Done (Some (check names options)) = ⊤
+StatusFits Done (Some (demo count seed)) = ⊤
 StatusFits No None = ⊥
-StatusFits No (Some (cells names)) = ⊥
-StatusFits No (Some (build names)) = ⊥
+StatusFits No (Some (cells names options)) = ⊥
+StatusFits No (Some (build names options)) = ⊥
+StatusFits No (Some (check names options)) = ⊤
+StatusFits No (Some (demo count seed)) = ⊥
 StatusFits BadWords None = ⊤
 StatusFits BadWords (Some asked) = ⊥
 StatusFits Refused None = ⊥
-StatusFits Refused (Some (cells names)) = ⊤
-StatusFits Refused (Some (build names)) = ⊤
+StatusFits Refused (Some (cells names options)) = ⊤
+StatusFits Refused (Some (build names options)) = ⊤
+StatusFits Refused (Some (check names options)) = ⊤
+StatusFits Refused (Some (demo count seed)) = ⊥
 StatusFits Failed asked = ⊤
 StatusFits NoMemory None = ⊥
 StatusFits NoMemory (Some asked) = ⊤

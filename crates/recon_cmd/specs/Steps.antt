@@ -2,20 +2,25 @@
 --
 --   IsAnswered status                  a status that an answer may have
 --   IsReplied asked reply before       the reply is the command's answer
+--   IsUnderstood, IsReading            what the bytes of a scan, and those of the named file, come to
 --   ReadsFor asked before after        what the making of a reply does to the host
 --   StopsFor result before after       the count of faults, by whether there is a reply
 --   IsWritten writes before after      files were written, and nothing was said yet
 --   CarriesAllOut, StopsOnTheWay       an answer was carried out, or a call failed on the way
 --   CarriesOut                         one of the two
-use Rattle.std.specs.Prelude.{◌≡◌, ◌⊎◌, ℕ, ◌+◌, ◌≤◌, List, ⊤, false, Option, Some, IfSome, Result, Ok, Err}
+use Rattle.std.specs.Prelude.{◌≡◌, ◌⊎◌, ℕ, ◌+◌, ◌≤◌, List, ⊤, false, length, Option, Some, IfSome, Result, Ok, Err}
 use Rattle.host.specs.Counts.{Rose}
-use Rattle.host.specs.State.{State}
+use Rattle.host.specs.State.{State, Told}
 use Rattle.host.specs.Whole.{apart_from_left}
-use Rattle.recon_cmd.specs.Answers.{AnswerOf, Write, most_reads}
+use Rattle.scan.specs.Views.{rows_of}
+use Rattle.recon_cmd.specs.Answers.{AnswerOf, IsUnread, Write, file_limit, most_reads, read_as, refusal}
 use Rattle.recon_cmd.specs.Outcome.{WhereTold, IsCarriedOut, StoppedIn, StatusFits, ReadsNoMore, all_written}
-use Rattle.recon_cmd.specs.Replies.{answer_of}
+use Rattle.recon_cmd.specs.Options.{Options}
+use Rattle.recon_cmd.specs.Replies.{answer_of, line_bytes}
 use Rattle.recon_cmd.specs.Words.{Asked}
 use Rattle.recon_cmd.specs.declared.answer.Reply.{Reply}
+use Rattle.recon_cmd.specs.declared.answer.reading.Reading.{Reading}
+use Rattle.recon_cmd.specs.declared.answer.reading.Reading.TheVariants as readings
 use Rattle.recon_cmd.specs.declared.answer.Stop.{Stop}
 use Rattle.recon_cmd.specs.declared.answer.Stop.TheVariants as stops
 use Rattle.recon_cmd.specs.declared.status.Status.{Status}
@@ -35,6 +40,15 @@ pub record IsReplied (asked : Asked) (reply : Reply) (before : State) : Type 0 w
   pub fits : StatusFits reply.status (Some asked)
   pub answered : IsAnswered reply.status
   pub answers : IfSome before.told (λ told. (reads : ℕ) × AnswerOf (Some asked) told.files (answer_of reads reply))
+
+-- the scan that the bytes of its file are, or the line that refuses them
+abbrev pub IsUnderstood : (bytes : List ℕ) → Options → Reading → Type 0
+IsUnderstood bytes options (readings.Scan scan) = (length bytes ≤ file_limit) × (read_as options bytes ≡ Ok (rows_of scan))
+IsUnderstood bytes options (readings.Refused line) = IsUnread options bytes (refusal 1 (line_bytes line))
+
+-- the bytes of the named file are understood so
+abbrev pub IsReading : (name : List ℕ) → Options → Reading → Told → Type 0
+IsReading name options reading told = (bytes : List ℕ) × (told.files name ≡ Some bytes) × IsUnderstood bytes options reading
 
 -- nothing changed but what readings change, and no more files were opened than the command reads
 pub record ReadsFor (asked : Option Asked) (before after : State) : Type 0 where

@@ -1,15 +1,25 @@
 -- The words of a command line, and what they ask for.
 --
 --   Names                 the names of `cells IN OUT`
---   SurfaceNames          the names of `build IN MESH CERT`
---   Asked                 a command with its names
+--   SurfaceNames          the names of `build IN MESH CERT` and of `check IN MESH CERT`
+--   Asked                 a command with its names and options
 --   are_names names       none is empty, and no two are one
+--   cells_of, build_of    what the words behind `cells` and behind `build` ask for
+--   check_of, demo_of     what the words behind `check` and behind `demo` ask for
+--   seed_of text          the number that a seed is, if it is one
 --   command_of words      the command that the words are, if they are one
 --   asked command         what a command of the program is
 use Rattle.std.specs.Prelude.{ℕ, List, [], ◌∷◌, Bool, true, not, ◌&&◌, ◌==◌, length, codes, Option, Some, None, if◌then◌else◌}
+use Rattle.std.specs.Option.{option_map}
 use Rattle.std.specs.Str.{bytes_eq}
+use Rattle.scan.specs.ScanRows.{point_limit}
+use Rattle.recon_cmd.specs.Options.{◌>>=◌, Options, number_in, number_of, options_of, within}
+use Rattle.recon_cmd.specs.OptionViews.{options_view}
+use Rattle.recon_cmd.specs.declared.options.keys.Key.{Key}
+use Rattle.recon_cmd.specs.declared.options.keys.Key.TheVariants.{Unit as unit_key, Vote as vote_key, Smooth as smooth_key, Scanner as scanner_key}
 use Rattle.recon_cmd.specs.declared.words.BuildNames.{BuildNames}
 use Rattle.recon_cmd.specs.declared.words.CellsNames.{CellsNames}
+use Rattle.recon_cmd.specs.declared.words.CheckNames.{CheckNames}
 use Rattle.recon_cmd.specs.declared.words.Command.{Command}
 use Rattle.recon_cmd.specs.declared.words.Command.TheVariants as commands
 
@@ -18,16 +28,19 @@ pub record Names : Type 0 where
   pub input : List ℕ
   pub output : List ℕ
 
--- the names of `build IN MESH CERT`
+-- the names of `build IN MESH CERT` and of `check IN MESH CERT`
 pub record SurfaceNames : Type 0 where
   pub input : List ℕ
   pub mesh : List ℕ
   pub cert : List ℕ
 
--- a command with its names
+-- a command with its names and options
 pub data Asked : Type 0 where
-  cells : Names → Asked
-  build : SurfaceNames → Asked
+  cells : Names → Options → Asked
+  build : SurfaceNames → Options → Asked
+  check : SurfaceNames → Options → Asked
+  -- how many rows, and what their generator starts from
+  demo : (count seed : ℕ) → Asked
 
 -- the name is none of these
 abbrev pub is_other : List ℕ → List (List ℕ) → Bool
@@ -39,17 +52,58 @@ abbrev pub are_names : List (List ℕ) → Bool
 are_names [] = true
 are_names (first ∷ rest) = not (length first == 0) && (is_other first rest && are_names rest)
 
+-- the options of `cells`, and those of `build`
+abbrev pub cells_keys : List Key
+cells_keys = unit_key ∷ scanner_key ∷ []
+
+abbrev pub build_keys : List Key
+build_keys = unit_key ∷ vote_key ∷ smooth_key ∷ scanner_key ∷ []
+
+-- two names, and then options in any order
+abbrev pub cells_of : List (List ℕ) → Option Asked
+cells_of (input ∷ output ∷ words) =
+    if are_names (input ∷ output ∷ [])
+    then option_map (cells (record { input = input; output = output })) (options_of cells_keys words)
+    else None
+cells_of words = None
+
+-- three names, and then options in any order
+abbrev pub build_of : List (List ℕ) → Option Asked
+build_of (input ∷ mesh ∷ cert ∷ words) =
+    if are_names (input ∷ mesh ∷ cert ∷ [])
+    then option_map (build (record { input = input; mesh = mesh; cert = cert })) (options_of build_keys words)
+    else None
+build_of words = None
+
+-- three names, and then options in any order
+abbrev pub check_of : List (List ℕ) → Option Asked
+check_of (input ∷ mesh ∷ cert ∷ words) =
+    if are_names (input ∷ mesh ∷ cert ∷ [])
+    then option_map (check (record { input = input; mesh = mesh; cert = cert })) (options_of build_keys words)
+    else None
+check_of words = None
+
+-- the number that 1 to 20 digits are, if it is below 2 ^ 64
+abbrev pub seed_of : List ℕ → Option ℕ
+seed_of text = number_of 20 text >>= within 0 18446744073709551615
+
+-- a number of rows that a scan may have, and a seed
+abbrev pub demo_of : List (List ℕ) → Option Asked
+demo_of (count ∷ seed ∷ []) = do
+  rows ← number_in 1 point_limit count
+  start ← seed_of seed
+  Some (demo rows start)
+demo_of words = None
+
 -- the command that the words are, if they are one
 abbrev pub command_of : List (List ℕ) → Option Asked
-command_of (word ∷ input ∷ output ∷ []) =
-    if bytes_eq word (codes "cells") && are_names (input ∷ output ∷ [])
-    then Some (cells (record { input = input; output = output }))
-    else None
-command_of (word ∷ input ∷ mesh ∷ cert ∷ []) =
-    if bytes_eq word (codes "build") && are_names (input ∷ mesh ∷ cert ∷ [])
-    then Some (build (record { input = input; mesh = mesh; cert = cert }))
-    else None
-command_of words = None
+command_of [] = None
+command_of (word ∷ words) =
+    if bytes_eq word (codes "cells") then cells_of words
+    else (if bytes_eq word (codes "build") then build_of words
+    else (if bytes_eq word (codes "check") then check_of words
+    else (if bytes_eq word (codes "demo") then demo_of words
+    else None)))
 
 -- the names of `cells` that the program holds
 abbrev pub cells_names : CellsNames → Names
@@ -59,7 +113,13 @@ cells_names names = record { input = names.input.now; output = names.output.now 
 abbrev pub build_names : BuildNames → SurfaceNames
 build_names names = record { input = names.input.now; mesh = names.mesh.now; cert = names.cert.now }
 
+-- the names of `check` that the program holds
+abbrev pub check_names : CheckNames → SurfaceNames
+check_names names = record { input = names.input.now; mesh = names.mesh.now; cert = names.cert.now }
+
 -- what a command of the program is
 abbrev pub asked : Command → Asked
-asked (commands.Cells names) = cells (cells_names names)
-asked (commands.Build names) = build (build_names names)
+asked (commands.Cells names options) = cells (cells_names names) (options_view options)
+asked (commands.Build names options) = build (build_names names) (options_view options)
+asked (commands.Check names options) = check (check_names names) (options_view options)
+asked (commands.Demo made) = demo made.count made.seed

@@ -6,12 +6,17 @@ ghost use Rattle.recon_cmd.specs.Words.{asked};
 
 mod build;
 mod cells;
+mod check;
+mod demo;
+mod reading;
 mod refusals;
 
 use crate::status::Status;
 use crate::words::Command;
 use build::reply_to_build;
 use cells::reply_to_cells;
+use check::reply_to_check;
+use demo::reply_to_demo;
 use host::{Host, say_all, write_file};
 use std::alloc::Global;
 
@@ -63,16 +68,21 @@ pub enum Stop {
 pub fn reply_to<'a, H: Host>(
     alloc: Global,
     host: &mut H,
-    command: Command<'a>,
+    command: &Command<'a>,
 ) -> Result<Reply<'a>, Stop>
     requires { (H.state host.old).writing ≡ false }
-    ensures replied { IfOk result (λ reply. IsReplied (asked command.entry) reply (H.state host.old)) }
-    ensures reads { ReadsFor (Some (asked command.entry)) (H.state host.old) (H.state host.new) }
+    ensures replied { IfOk result (λ reply. IsReplied (asked command.now) reply (H.state host.old)) }
+    ensures reads { ReadsFor (Some (asked command.now)) (H.state host.old) (H.state host.new) }
     ensures cause { StopsFor result (H.state host.old).faults (H.state host.new).faults }
 {
     match command {
-        Command::Cells(names) => reply_to_cells(alloc, host, names),
-        Command::Build(names) => reply_to_build(alloc, host, names),
+        Command::Cells(names, options) => reply_to_cells(alloc, host, names, options),
+        Command::Build(names, options) => reply_to_build(alloc, host, names, options),
+        Command::Check(names, options) => reply_to_check(alloc, host, names, options),
+        Command::Demo(demo) => match reply_to_demo(alloc, *demo) {
+            Ok(reply) => Ok(reply),
+            Err(_) => Err(Stop::NoMemory),
+        },
     }
 }
 

@@ -1,7 +1,8 @@
 //! Laws over the definitions, for a reader of `run`'s contract: functions with empty bodies, whose contracts are the
 //! laws.
+ghost use Rattle.recon_cmd.specs.CheckLaws.{CheckIsExact, RefusedIsNotChecked, BuiltIsAccepted, CheckAnswerIsOne, DemoAnswerIsOne};
 ghost use Rattle.recon_cmd.specs.Headline.{DoneIsBest};
-ghost use Rattle.recon_cmd.specs.Laws.{AcceptedIsDone, RefusedIsRefused, AcceptedIsBuilt, RefusedIsNotBuilt};
+ghost use Rattle.recon_cmd.specs.Laws.{AcceptedIsDone, RefusedIsRefused, AcceptedIsBuilt, RefusedIsNotBuilt, CellsAnswerIsOne, BuildAnswerIsOneButForFlows};
 
 /// Where the host tells its files and no call fails, `cells` on a scan that is accepted is done, or finds no memory, and
 /// so is `build`.
@@ -10,8 +11,8 @@ pub fn an_accepted_scan_is_done()
     ensures build { AcceptedIsBuilt }
 {}
 
-/// Where the host tells its files and no call fails, `cells` on a file that is too long or holds no scan that is taken
-/// refuses it, or finds no memory, and so does `build`.
+/// Where the host tells its files and no call fails, `cells` on a file that is too long or is no scan, for whichever
+/// reason, refuses it, or finds no memory, and so does `build`.
 pub fn a_refused_scan_is_refused()
     ensures cells { RefusedIsRefused }
     ensures build { RefusedIsNotBuilt }
@@ -21,4 +22,28 @@ pub fn a_refused_scan_is_refused()
 /// read, the certificate that shows it best, and all other files as they were.
 pub fn a_surface_that_was_built_is_best()
     ensures { DoneIsBest }
+{}
+
+/// Where the files are given, `cells` has one answer, and so have `check` and `demo`. Two answers of `build` are one, or
+/// write one surface and say one line, and their certificates state the same counts, cost and inside cells: only the flows
+/// may differ.
+pub fn a_command_has_one_answer()
+    ensures cells { CellsAnswerIsOne }
+    ensures build { BuildAnswerIsOneButForFlows }
+    ensures check { CheckAnswerIsOne }
+    ensures demo { DemoAnswerIsOne }
+{}
+
+/// Where the host tells its files and no call fails, `check` says yes exactly where none of its three files is longer than
+/// the limit, the first is a scan, and the other two are a solution of it at these weights. It says no exactly where they
+/// are readable and no solution, and refuses exactly where they are not readable; or it finds no memory.
+pub fn a_check_says_what_its_files_are()
+    ensures exact { CheckIsExact }
+    ensures refused { RefusedIsNotChecked }
+{}
+
+/// Where `build` was done, and `check` with the same names and options follows, in which no call fails, it says yes of the
+/// two files, if they are no longer than the limit, or finds no memory.
+pub fn a_surface_that_was_built_is_accepted()
+    ensures { BuiltIsAccepted }
 {}

@@ -1,14 +1,16 @@
 //! The commands of the program, from the words of a command line to the files that are written and the line that is
 //! said.
 //!
-//! `run` is the program apart from the system: it works over any `Host`. What a command answers, a status, files and
-//! a line, is a relation on bytes (`specs/Answers`); what a run does to its host with an answer is said once for all
-//! commands (`specs/Outcome`).
+//! `run` is the program apart from the system: it works over any `Host`. Which words are a command, with its names and
+//! options, stands in `specs/Words` and `specs/Options`. What a command answers, a status, files and a line, is a relation
+//! on bytes (`specs/Answers`), and the line of each refusal is in `specs/Refusals`, that of each verdict in
+//! `specs/Verdicts`. What a run does to its host with an answer is said once for all commands (`specs/Outcome`).
 #![tactic(auto)]
 
 mod answer;
 mod laws;
 mod lines;
+mod options;
 mod status;
 #[cfg(test)]
 mod tests;
@@ -16,12 +18,15 @@ mod whole_run;
 mod words;
 
 pub use laws::{
-    a_refused_scan_is_refused, a_surface_that_was_built_is_best, an_accepted_scan_is_done,
+    a_check_says_what_its_files_are, a_command_has_one_answer, a_refused_scan_is_refused,
+    a_surface_that_was_built_is_accepted, a_surface_that_was_built_is_best,
+    an_accepted_scan_is_done,
 };
+pub use options::Options;
 pub use status::Status;
 use std::alloc::AllocError;
 pub use whole_run::run;
-pub use words::{BuildNames, CellsNames, Command, understand};
+pub use words::{BuildNames, CellsNames, CheckNames, Command, Demo, understand};
 
 /// There was no memory.
 pub type NoMemory = AllocError;

@@ -3,12 +3,17 @@
 ghost use Rattle.std.specs.Prelude.{◌≡◌, ◌++◌, ◌∷◌, [], IfOk, OnOk, decimal, length};
 ghost use Rattle.std.specs.List.{flat_map};
 ghost use Rattle.cert_text.specs.Certificates.{claim_of};
-ghost use Rattle.recon_cmd.specs.Lines.{bad_words_line, too_long_scan_line, not_built_line, cells_line, labelled, build_line, cells_text, row_line};
+ghost use Rattle.recon_cmd.specs.Lines.{bad_words_line, too_long_scan_line, too_long_mesh_line, too_long_cert_line, cells_line, labelled, build_line, demo_line, cells_text, row_line};
+
+mod refusals;
+mod verdicts;
 
 use crate::NoMemory;
 use cert_text::Certificate;
 use num_text::push_whole;
+pub use refusals::line_of_refusal;
 use std::alloc::Global;
+pub use verdicts::line_of_verdict;
 
 /// What is said where the words are no command.
 #[tactic(auto, unfolding(crate::specs::Lines::bad_words_line))]
@@ -26,12 +31,20 @@ pub fn line_of_too_long_scan() -> &'static [u8]
     b"refused 19 too_long scan\n"
 }
 
-/// What is said where the file is no plain scan of few distinct points.
-#[tactic(auto, unfolding(crate::specs::Lines::not_built_line))]
-pub fn line_of_not_built() -> &'static [u8]
-    ensures { result.now ≡ not_built_line }
+/// What is said where the mesh's file is longer than the limit.
+#[tactic(auto, unfolding(crate::specs::Lines::too_long_mesh_line))]
+pub fn line_of_too_long_mesh() -> &'static [u8]
+    ensures { result.now ≡ too_long_mesh_line }
 {
-    b"refused 20 not_built\n"
+    b"refused 19 too_long mesh\n"
+}
+
+/// What is said where the certificate's file is longer than the limit.
+#[tactic(auto, unfolding(crate::specs::Lines::too_long_cert_line))]
+pub fn line_of_too_long_cert() -> &'static [u8]
+    ensures { result.now ≡ too_long_cert_line }
+{
+    b"refused 19 too_long cert\n"
 }
 
 /// The line of `cells`: the numbers of points and of cells.
@@ -64,8 +77,21 @@ pub fn line_of_build(alloc: Global, cert: &Certificate, faces: usize) -> Result<
     Ok(line)
 }
 
-// Adds a label, and a number behind it.
-fn push_labelled(line: &mut Vec<u8>, label: &[u8], number: u64) -> Result<(), NoMemory>
+/// The line of `demo`: the number of rows, the seed, and then what `build` says.
+#[tactic(auto, unfolding(crate::specs::Lines::demo_line))]
+pub fn line_of_demo(alloc: Global, count: u32, seed: u64, built: &[u8]) -> Result<Vec<u8>, NoMemory>
+    ensures { IfOk result (λ line. line.items ≡ demo_line count seed built.now) }
+{
+    let mut line = Vec::new(alloc);
+    push_labelled(&mut line, b"demo ", u64::from(count))?;
+    push_labelled(&mut line, b" ", seed)?;
+    line.push(b' ')?;
+    line.extend_from_slice(built)?;
+    Ok(line)
+}
+
+/// Adds a label, and a number behind it.
+pub fn push_labelled(line: &mut Vec<u8>, label: &[u8], number: u64) -> Result<(), NoMemory>
     ensures { OnOk result (line.new.items ≡ line.old.items ++ labelled label.now number) }
 {
     line.extend_from_slice(label)?;

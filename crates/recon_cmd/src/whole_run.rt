@@ -18,22 +18,29 @@ use std::alloc::Global;
 ///
 /// | Status | When |
 /// |---|---|
-/// | 0 | the command is done |
+/// | 0 | the command is done, or `check` says yes |
+/// | 1 | `check` says no |
 /// | 2 | the words are no command |
-/// | 3 | the scan is refused, or its file is longer than 4,294,967,296 bytes |
+/// | 3 | the scan is refused, or a file that is read is longer than 4,294,967,296 bytes |
 /// | 4 | a call of the host failed |
 /// | 5 | there was no memory |
 ///
-/// All but 4 come only where no call of the host failed. Status 5 says nothing, and each of 0, 2 and 3 one line. No
+/// All but 4 come only where no call of the host failed. Status 5 says nothing, and each of 0, 1, 2 and 3 one line. No
 /// file is created before all texts stand in memory, and no part of the line is said before all files are whole. No
-/// file but the command's outputs ever changes.
+/// file but the command's outputs ever changes; `check` and `demo` have none.
+///
+/// | Command | Files that are opened, in order |
+/// |---|---|
+/// | `cells`, `build` | the scan |
+/// | `check` | the scan, then the mesh if the scan is not refused, then the certificate if the mesh is not too long |
+/// | `demo` | none |
 pub fn run<H: Host>(alloc: Global, words: &[String], host: &mut H) -> u8
     requires { (H.state host.old).writing ≡ false }
     ensures { (status : RunStatus) × (result ≡ code_of status)
         × Outcome (command_of (map string_bytes words.now)) status (H.state host.old) (H.state host.new) }
 {
     let status = match understand(words) {
-        Some(command) => obey(alloc, command, host),
+        Some(command) => obey(alloc, &command, host),
         None => refuse_words(host),
     };
     status.code()
@@ -48,9 +55,9 @@ fn refuse_words<H: Host>(host: &mut H) -> Status
 }
 
 // Carries out the answer of a command.
-fn obey<H: Host>(alloc: Global, command: Command, host: &mut H) -> Status
+fn obey<H: Host>(alloc: Global, command: &Command, host: &mut H) -> Status
     requires { (H.state host.old).writing ≡ false }
-    ensures { Outcome (Some (asked command.entry)) result (H.state host.old) (H.state host.new) }
+    ensures { Outcome (Some (asked command.now)) result (H.state host.old) (H.state host.new) }
 {
     match reply_to(alloc, host, command) {
         Ok(reply) => carry_out(host, &reply),

@@ -1,6 +1,18 @@
-//! The words of a command line, understood without taking memory. It stands on nothing.
+//! The words of a command line, understood without taking memory. It stands on the options.
 ghost use Rattle.std.specs.Prelude.{◌≡◌, [], ◌∷◌, IfSome, IfNone, None, Some, map, string_bytes};
-ghost use Rattle.recon_cmd.specs.Words.{are_names, command_of, asked};
+ghost use Rattle.std.specs.Option.{option_map};
+ghost use Rattle.recon_cmd.specs.Words.{are_names, asked, build_of, cells_of, check_of, command_of, demo_of};
+
+mod demo;
+
+use crate::options::{Key, Options, number_in, seed_in, understand_options};
+pub use demo::Demo;
+use scan::POINT_LIMIT;
+
+// The options of each command.
+const CELLS_KEYS: [Key; 2] = [Key::Unit, Key::Scanner];
+
+const BUILD_KEYS: [Key; 4] = [Key::Unit, Key::Vote, Key::Smooth, Key::Scanner];
 
 /// The names of `cells IN OUT`.
 #[derive(Clone, Copy, Debug)]
@@ -22,64 +34,131 @@ pub struct BuildNames<'a> {
     pub cert: &'a str,
 }
 
-/// A command with its names.
+/// The names of `check IN MESH CERT`.
+#[derive(Clone, Copy, Debug)]
+pub struct CheckNames<'a> {
+    /// The scan that is read.
+    pub input: &'a str,
+    /// The mesh that is checked.
+    pub mesh: &'a str,
+    /// The certificate that is checked.
+    pub cert: &'a str,
+}
+
+/// A command with its names and options.
 #[derive(Clone, Copy, Debug)]
 pub enum Command<'a> {
-    /// `cells IN OUT`: the Delaunay cells of a scan.
-    Cells(CellsNames<'a>),
+    /// `cells IN OUT`: the Delaunay cells of a scan. Its weights are the defaults and count for nothing.
+    Cells(CellsNames<'a>, Options),
     /// `build IN MESH CERT`: the best surface of a scan, and the certificate that shows it best.
-    Build(BuildNames<'a>),
+    Build(BuildNames<'a>, Options),
+    /// `check IN MESH CERT`: whether a mesh is the best surface of a scan, and a certificate shows it best.
+    Check(CheckNames<'a>, Options),
+    /// `demo N SEED`: what `build` says of a scan that is made from a number.
+    Demo(Demo),
 }
 
 /// The command that the words are, and None exactly where they are none.
 ///
 /// The words are those after the program's name. Names take the places right after the command, whatever they look
-/// like; they are not empty, and no two are one.
+/// like; they are not empty, and no two are one. Behind them stand options, each a key with its value, in any order, and
+/// none with the key of another.
+///
+/// | Command | Options |
+/// |---|---|
+/// | `cells IN OUT` | `unit=`, `scanner=` |
+/// | `build IN MESH CERT` | `unit=`, `vote=`, `smooth=`, `scanner=` |
+/// | `check IN MESH CERT` | `unit=`, `vote=`, `smooth=`, `scanner=` |
+/// | `demo N SEED` | none; N is 1 to 56 in 1 to 10 digits, SEED at most 2^64 - 1 in 1 to 20 |
 pub fn understand(words: &[String]) -> Option<Command<'_>>
     ensures some { IfSome result (λ command. command_of (map string_bytes words.now) ≡ Some (asked command)) }
     ensures none { IfNone result (command_of (map string_bytes words.now) ≡ None) }
 {
-    match words {
-        [command, input, output] => cells_command(
-            command.as_str(),
-            input.as_str(),
-            output.as_str(),
-        ),
-        [command, input, mesh, cert] => build_command(
-            command.as_str(),
-            input.as_str(),
-            mesh.as_str(),
-            cert.as_str(),
-        ),
+    let [command, words @ ..] = words else {
+        return None;
+    };
+    match command.as_str() {
+        "cells" => cells_command(words),
+        "build" => build_command(words),
+        "check" => check_command(words),
+        "demo" => demo_command(words),
         _ => None,
     }
 }
 
-fn cells_command<'a>(command: &str, input: &'a str, output: &'a str) -> Option<Command<'a>>
-    ensures some { IfSome result (λ found. command_of (command.now ∷ input.now ∷ output.now ∷ []) ≡ Some (asked found)) }
-    ensures none { IfNone result (command_of (command.now ∷ input.now ∷ output.now ∷ []) ≡ None) }
+// What the words behind `cells` ask for.
+fn cells_command(words: &[String]) -> Option<Command<'_>>
+    ensures { option_map asked result ≡ cells_of (map string_bytes words.now) }
 {
-    if command == "cells" && !input.is_empty() && !output.is_empty() && input != output {
-        Some(Command::Cells(CellsNames { input, output }))
-    } else {
-        None
+    let [input, output, words @ ..] = words else {
+        return None;
+    };
+    if !are_two_names(input.as_str(), output.as_str()) {
+        return None;
     }
+    let options = understand_options(&CELLS_KEYS, words)?;
+    let names = CellsNames {
+        input: input.as_str(),
+        output: output.as_str(),
+    };
+    Some(Command::Cells(names, options))
 }
 
-fn build_command<'a>(
-    command: &str,
-    input: &'a str,
-    mesh: &'a str,
-    cert: &'a str,
-) -> Option<Command<'a>>
-    ensures some { IfSome result (λ found. command_of (command.now ∷ input.now ∷ mesh.now ∷ cert.now ∷ []) ≡ Some (asked found)) }
-    ensures none { IfNone result (command_of (command.now ∷ input.now ∷ mesh.now ∷ cert.now ∷ []) ≡ None) }
+// What the words behind `build` ask for.
+fn build_command(words: &[String]) -> Option<Command<'_>>
+    ensures { option_map asked result ≡ build_of (map string_bytes words.now) }
 {
-    if command == "build" && are_three_names(input, mesh, cert) {
-        Some(Command::Build(BuildNames { input, mesh, cert }))
-    } else {
-        None
+    let [input, mesh, cert, words @ ..] = words else {
+        return None;
+    };
+    if !are_three_names(input.as_str(), mesh.as_str(), cert.as_str()) {
+        return None;
     }
+    let options = understand_options(&BUILD_KEYS, words)?;
+    let names = BuildNames {
+        input: input.as_str(),
+        mesh: mesh.as_str(),
+        cert: cert.as_str(),
+    };
+    Some(Command::Build(names, options))
+}
+
+// What the words behind `check` ask for.
+fn check_command(words: &[String]) -> Option<Command<'_>>
+    ensures { option_map asked result ≡ check_of (map string_bytes words.now) }
+{
+    let [input, mesh, cert, words @ ..] = words else {
+        return None;
+    };
+    if !are_three_names(input.as_str(), mesh.as_str(), cert.as_str()) {
+        return None;
+    }
+    let options = understand_options(&BUILD_KEYS, words)?;
+    let names = CheckNames {
+        input: input.as_str(),
+        mesh: mesh.as_str(),
+        cert: cert.as_str(),
+    };
+    Some(Command::Check(names, options))
+}
+
+// What the words behind `demo` ask for.
+fn demo_command(words: &[String]) -> Option<Command<'_>>
+    ensures { option_map asked result ≡ demo_of (map string_bytes words.now) }
+{
+    let [count, seed] = words else {
+        return None;
+    };
+    let count = number_in(count.as_bytes(), 1, POINT_LIMIT)?;
+    let seed = seed_in(seed.as_str())?;
+    Some(Command::Demo(Demo { count, seed }))
+}
+
+// Whether neither of two names is empty, and they are not one.
+fn are_two_names(a: &str, b: &str) -> bool
+    ensures { result ≡ are_names (a.now ∷ b.now ∷ []) }
+{
+    !a.is_empty() && !b.is_empty() && a != b
 }
 
 // Whether none of three names is empty, and no two are one.

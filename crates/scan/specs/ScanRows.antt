@@ -2,6 +2,7 @@
 --
 --   VertexRow        a point's place and the number of the scanner that saw it
 --   ScanRows         the vertex rows and the scanners' places
+--   point_limit, scanner_limit   the most vertex rows, and the most scanner rows, of a scan
 --   IsVertexRow n    a data point, seen by one of n scanners
 --   IsScan           rows that a scan may have
 --   vertex_rows      the points and the numbers of their scanners, side by side
@@ -18,17 +19,25 @@ pub record ScanRows : Type 0 where
   pub vertices : List VertexRow
   pub scanners : List Place
 
+-- the most vertex rows of a scan
+abbrev pub point_limit : ℕ
+point_limit = 56
+
+-- the most scanner rows of a scan: 2 ^ 16
+abbrev pub scanner_limit : ℕ
+scanner_limit = 65536
+
 -- a data point (no coordinate over 2 ^ 21 - 1), seen by one of so many scanners
 pub record IsVertexRow (scanners : ℕ) (row : VertexRow) : Type 0 where
   pub data_point : IsWithin 2097151 row.point
   pub scanner : row.seen_by < scanners
 
--- data points alone, each seen by a scanner that is there, at most 2 ^ 20 of them, and at most 2 ^ 16 scanners
+-- data points alone, each seen by a scanner that is there, and no more points and scanners than a scan may have
 pub record IsScan (rows : ScanRows) : Type 0 where
   pub vertices : All (IsVertexRow (length rows.scanners)) rows.vertices
   pub scanners : All (IsWithin 2097151) rows.scanners
-  pub vertex_count : length rows.vertices ≤ 1048576
-  pub scanner_count : length rows.scanners ≤ 65536
+  pub vertex_count : length rows.vertices ≤ point_limit
+  pub scanner_count : length rows.scanners ≤ scanner_limit
 
 -- each point with the number that stands at its place
 abbrev pub vertex_rows : List Place → List ℕ → List VertexRow

@@ -2,13 +2,14 @@
 
 ghost use Rattle.std.specs.Prelude.{◌≡◌, ◌<◌, ◌≤◌, length, All};
 ghost use Rattle.geo_sign.specs.Place.{IsWithin};
+ghost use Rattle.scan.specs.ScanRows.{point_limit, scanner_limit};
 
 use geo_sign::Point;
 
-/// The most points that a scan has: 2^20.
-pub const POINT_LIMIT: u32 = 1_048_576;
+/// The most vertex rows of a scan.
+pub const POINT_LIMIT: u32 = 56;
 
-/// The most scanners that a scan has: 2^16.
+/// The most scanner rows of a scan: 2^16.
 pub const SCANNER_LIMIT: u32 = 65_536;
 
 /// A scan: points, the scanners' places, and for each point the scanner that saw it.
@@ -28,6 +29,6 @@ pub struct Scan {
     pub ghost scanners_are_data: { All (IsWithin 2097151) scanners.items },
     pub ghost one_each: { length seen_by.items ≡ length points.items },
     pub ghost scanners_are_there: { All (λ k. k < length scanners.items) seen_by.items },
-    pub ghost points_fit: { length points.items ≤ 1048576 },
-    pub ghost scanners_fit: { length scanners.items ≤ 65536 },
+    pub ghost points_fit: { length points.items ≤ point_limit },
+    pub ghost scanners_fit: { length scanners.items ≤ scanner_limit },
 }

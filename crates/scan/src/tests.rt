@@ -1,125 +1,236 @@
-//! Files in plain form, read and printed.
+//! Files whose scans and refusals are known from the format.
 
-use crate::{PlainRefusal, push_scan, read_plain};
+use super::*;
+use geo_sign::Point;
+use ply_head::HeadRefusal;
+use ply_rows::Place;
 use std::alloc::{AllocError, Global};
 use std::test::Fail;
 
-// Four points round the origin, each seen from ten times itself.
-const FOUR_POINTS: &str =
-    "ply\nformat ascii 1.0\nelement vertex 4\nproperty int x\nproperty int y\nproperty int z\nproperty int scanner\nelement scanner 4\nproperty int x\nproperty int y\nproperty int z\nend_header\n100 100 100 0\n100 -100 -100 1\n-100 100 -100 2\n-100 -100 100 3\n1000 1000 1000\n1000 -1000 -1000\n-1000 1000 -1000\n-1000 -1000 1000\n";
+// The header and the body of four points round the origin, each seen from ten times itself.
+const HEAD: &str =
+    "ply\nformat ascii 1.0\nelement vertex 4\nproperty int x\nproperty int y\nproperty int z\nproperty int scanner\nelement scanner 4\nproperty int x\nproperty int y\nproperty int z\nend_header\n";
 
-// The body of the same file behind its first row.
+const FIRST_ROW: &str = "100 100 100 0\n";
+
 const OTHER_ROWS: &str =
-    "100 -100 -100 1\n-100 100 -100 2\n-100 -100 100 3\n1000 1000 1000\n1000 -1000 -1000\n-1000 1000 -1000\n-1000 -1000 1000\n";
+    "100 -100 -100 1\n-100 100 -100 2\n-100 -100 100 3\n1000 1000 1000\n1000 -1000 -1000\n-1000 1000 -1000\n";
 
-// Whether a scan is read from the file with this end of each header line, these counts and
-// this body. None where memory ran out.
-fn is_read(
-    alloc: Global,
-    end: &str,
-    vertices: u32,
-    scanners: u32,
-    body: &str,
-) -> Result<Option<bool>, AllocError> {
-    let axes = format!(in alloc; "property int x{end}property int y{end}property int z{end}")?;
-    let text = format!(in alloc;
-        "ply{end}format ascii 1.0{end}element vertex {vertices}{end}{axes}property int scanner{end}element scanner {scanners}{end}{axes}end_header{end}{body}"
-    )?;
-    Ok(match read_plain(alloc, text.as_bytes()) {
-        Ok(_) => Some(true),
-        Err(PlainRefusal::NotBuilt) => Some(false),
-        Err(PlainRefusal::NoMemory) => None,
-    })
+const LAST_ROW: &str = "-1000 -1000 1000\n";
+
+// The same scan in binary, without its last byte.
+const BINARY: &[u8] =
+    b"ply\nformat binary_big_endian 1.0\nelement vertex 4\nproperty int x\nproperty int y\nproperty int z\nproperty double quality\nproperty uchar scanner\nelement scanner 4\nproperty int x\nproperty int y\nproperty int z\nend_header\n\x00\x00\x00\x64\x00\x00\x00\x64\x00\x00\x00\x64\x00\x00\x00\x00\x00\x00\x00\x00\x00\x00\x00\x00\x64\xff\xff\xff\x9c\xff\xff\xff\x9c\x00\x00\x00\x00\x00\x00\x00\x00\x01\xff\xff\xff\x9c\x00\x00\x00\x64\xff\xff\xff\x9c\x00\x00\x00\x00\x00\x00\x00\x00\x02\xff\xff\xff\x9c\xff\xff\xff\x9c\x00\x00\x00\x64\x00\x00\x00\x00\x00\x00\x00\x00\x03\x00\x00\x03\xe8\x00\x00\x03\xe8\x00\x00\x03\xe8\x00\x00\x03\xe8\xff\xff\xfc\x18\xff\xff\xfc\x18\xff\xff\xfc\x18\x00\x00\x03\xe8\xff\xff\xfc\x18\xff\xff\xfc\x18\xff\xff\xfc\x18\x00\x00\x03";
+
+// A file as a scan tool writes it: lines of the header end by CR LF, the coordinates are
+// decimals, and the scanner isn't told.
+const TOOL: &[u8] =
+    b"ply\r\nformat ascii 1.0\r\ncomment made by a scan tool\r\nobj_info num_cols 2\r\nelement vertex 4\r\nproperty float x\r\nproperty float y\r\nproperty float z\r\nproperty float confidence\r\nelement face 1\r\nproperty list uchar int vertex_indices\r\nend_header\r\n0.1 0.1 0.1 0.5\n0.1 -0.1 -0.1 0.5\n-0.1 0.1 -0.1 1\n-1e-1 -0.1 0.1 1\n3 0 1 2\n";
+
+// Why the bytes are no scan at unit 1. None where they are one.
+fn refusal_of(alloc: Global, bytes: &[u8]) -> Option<ScanRefusal> {
+    read_scan(alloc, bytes, 1, None).err()
+}
+
+// The plain form of the scan that the bytes are at unit 1.
+fn printed(alloc: Global, bytes: &[u8]) -> Result<Vec<u8>, ScanRefusal> {
+    let scan = read_scan(alloc, bytes, 1, None)?;
+    let mut text = Vec::new(alloc);
+    push_scan(&mut text, &scan)?;
+    Ok(text)
+}
+
+fn four_points(alloc: Global, first_row: &str, last_row: &str) -> Result<String, AllocError> {
+    format!(in alloc; "{HEAD}{first_row}{OTHER_ROWS}{last_row}")
+}
+
+const fn at(element: u32, row: u32, property: u32) -> Place {
+    Place {
+        element,
+        row,
+        property,
+    }
 }
 
 #[test]
-fn a_file_of_four_points_is_read_and_printed_again(rt: HostRuntime) -> Result<(), Fail> {
+fn files_of_one_scan_have_one_plain_form(rt: HostRuntime) -> Result<(), Fail> {
     let alloc = rt.alloc();
-    let scan = read_plain(alloc, FOUR_POINTS.as_bytes())?;
-    assert_eq!(rt; scan.seen_by.as_slice(), [0, 1, 2, 3].as_slice());
-    assert_eq!(rt; scan.points.len(), 4);
-    assert_eq!(rt; (scan.points[1].x(), scan.points[1].y()), (100, -100));
-    assert_eq!(rt; scan.scanners.len(), 4);
-    assert_eq!(rt; scan.scanners[3].z(), 1000);
-    let mut text = b"kept ".to_vec(alloc)?;
-    push_scan(&mut text, &scan)?;
+    let plain = four_points(alloc, FIRST_ROW, LAST_ROW)?;
+    let other = four_points(alloc, " +1e2\t100.0 0100\r\n0 ", "-1e3 -1000 1000")?;
+    let mut binary = BINARY.to_vec(alloc)?;
+    binary.push(0xe8)?;
+    for bytes in [plain.as_bytes(), other.as_bytes(), binary.as_slice()] {
+        let text = printed(alloc, bytes)?;
+        assert_eq!(rt; text.as_slice(), plain.as_bytes());
+    }
+    Ok(())
+}
+
+#[test]
+fn the_first_refusal_of_a_header_is_told(rt: HostRuntime) -> Result<(), Fail> {
+    let alloc = rt.alloc();
+    let places = "property int x\nproperty int y\nproperty int z\n";
+    let cases = [
+        (
+            "element vertex 1\nelement vertex 1\n",
+            ScanRefusal::Head(HeadRefusal::Twice(4)),
+        ),
+        (
+            "element scanner 1\n",
+            ScanRefusal::Missing(Need::VertexElement),
+        ),
+        (
+            "element vertex 1048577\n",
+            ScanRefusal::TooMany {
+                need: Need::VertexElement,
+                count: 1048577,
+            },
+        ),
+        (
+            "element vertex 57\n",
+            ScanRefusal::TooMany {
+                need: Need::VertexElement,
+                count: 57,
+            },
+        ),
+        (
+            "element vertex 56\nproperty int y\n",
+            ScanRefusal::Missing(Need::VertexX),
+        ),
+        (
+            "element vertex 1\nproperty int x\nproperty list char int y\n",
+            ScanRefusal::ListProperty(Need::VertexY),
+        ),
+        (
+            "element vertex 1\nproperty float x\n",
+            ScanRefusal::BinaryFloat(Need::VertexX),
+        ),
+        (
+            "element vertex 1\n@",
+            ScanRefusal::Missing(Need::VertexScanner),
+        ),
+        (
+            "element vertex 1\n@property double scanner\n",
+            ScanRefusal::BinaryFloat(Need::VertexScanner),
+        ),
+        (
+            "element vertex 1\n@property int scanner\n",
+            ScanRefusal::Missing(Need::ScannerElement),
+        ),
+        (
+            "element scanner 65537\nelement vertex 1\n@property int scanner\n",
+            ScanRefusal::TooMany {
+                need: Need::ScannerElement,
+                count: 65537,
+            },
+        ),
+        (
+            "element vertex 1\n@property int scanner\nelement scanner 1\nproperty int x\nproperty int z\n",
+            ScanRefusal::Missing(Need::ScannerY),
+        ),
+    ];
+    for (elements, refusal) in cases {
+        let lines = elements.replace(alloc, "@", places)?;
+        let text = format!(in alloc; "ply\nformat binary_little_endian 1.0\n{lines}end_header\n")?;
+        assert_eq!(rt;
+            refusal_of(alloc, text.as_bytes()),
+            Some(refusal),
+            "{elements:?}"
+        );
+    }
+    Ok(())
+}
+
+#[test]
+fn the_first_refusal_of_the_rows_is_told(rt: HostRuntime) -> Result<(), Fail> {
+    let alloc = rt.alloc();
+    let cases = [
+        ("2097151 -2097151 0 3\n", LAST_ROW, None),
+        (
+            "2097152 x 100 9\n",
+            LAST_ROW,
+            Some(ScanRefusal::OutOfRange(at(0, 0, 0))),
+        ),
+        (
+            "100 100 -2097152 0\n",
+            LAST_ROW,
+            Some(ScanRefusal::OutOfRange(at(0, 0, 2))),
+        ),
+        (
+            "100 1oo 100 0\n",
+            LAST_ROW,
+            Some(ScanRefusal::BadToken(at(0, 0, 1))),
+        ),
+        (
+            "100 100 100 0.0\n",
+            LAST_ROW,
+            Some(ScanRefusal::BadToken(at(0, 0, 3))),
+        ),
+        (
+            "100 100 100 1234567890123456789\n",
+            LAST_ROW,
+            Some(ScanRefusal::LongNumber(at(0, 0, 3))),
+        ),
+        (
+            "100 100 100 4\n",
+            LAST_ROW,
+            Some(ScanRefusal::NoSuchScanner { row: 0, index: 4 }),
+        ),
+        (
+            "100 100 100 -1\n",
+            LAST_ROW,
+            Some(ScanRefusal::NoSuchScanner { row: 0, index: -1 }),
+        ),
+        (
+            FIRST_ROW,
+            "-1000 -1000",
+            Some(ScanRefusal::Cut(at(1, 3, 2))),
+        ),
+        (FIRST_ROW, "", Some(ScanRefusal::Cut(at(1, 3, 0)))),
+        (
+            FIRST_ROW,
+            "-1000 -1000 1000\nx",
+            Some(ScanRefusal::Trailing { place: 306 }),
+        ),
+    ];
+    for (first_row, last_row, refusal) in cases {
+        let text = four_points(alloc, first_row, last_row)?;
+        assert_eq!(rt;
+            refusal_of(alloc, text.as_bytes()),
+            refusal,
+            "{first_row:?} {last_row:?}"
+        );
+    }
     assert_eq!(rt;
-        text.as_slice().strip_prefix(b"kept ".as_slice()),
-        Some(FOUR_POINTS.as_bytes())
+        refusal_of(alloc, BINARY),
+        Some(ScanRefusal::Cut(at(1, 3, 2)))
+    );
+    let mut binary = BINARY.to_vec(alloc)?;
+    binary.extend_from_slice(&[0xe8, 0])?;
+    assert_eq!(rt;
+        refusal_of(alloc, binary.as_slice()),
+        Some(ScanRefusal::Trailing { place: 348 })
     );
     Ok(())
 }
 
 #[test]
-fn a_first_row_decides_whether_the_file_is_read(rt: HostRuntime) -> Result<(), Fail> {
+fn a_fixed_scanner_sees_each_point(rt: HostRuntime) -> Result<(), Fail> {
     let alloc = rt.alloc();
-    let rows = [
-        ("100 100 100 0\n", true),
-        ("2097151 -2097151 0 3\n", true),
-        ("2097152 100 100 0\n", false),
-        ("100 100 -2097152 0\n", false),
-        ("100 100 100 4\n", false),
-        ("100 100 100 -1\n", false),
-        ("100 -100 -100 0\n", false),
-        ("0100 100 100 0\n", false),
-        ("100 100 -0 0\n", false),
-        ("+100 100 100 0\n", false),
-        ("100 100 100  0\n", false),
-        ("100 100 100 0 \n", false),
-        ("100 100 100 0\r\n", false),
-        ("100 100 100\n", false),
-        ("", false),
-    ];
-    for (row, read) in rows {
-        let body = format!(in alloc; "{row}{OTHER_ROWS}")?;
-        assert_eq!(rt;
-            is_read(alloc, "\n", 4, 4, body.as_str())?,
-            Some(read),
-            "{row:?}"
-        );
-    }
-    Ok(())
-}
-
-#[test]
-fn a_file_is_read_to_its_last_byte(rt: HostRuntime) -> Result<(), Fail> {
-    let alloc = rt.alloc();
-    let cases = [
-        ("\n", 0, 1, "0 0 0\n", true),
-        ("\n", 0, 0, "", true),
-        ("\n", 1, 1, "1 2 3 0\n5 5 5\n", true),
-        ("\r\n", 1, 1, "1 2 3 0\n5 5 5\n", false),
-        ("\n", 1, 1, "1 2 3 0\n5 5 5", false),
-        ("\n", 1, 1, "1 2 3 0\n5 5 5\n\n", false),
-        ("\n", 1, 1, "1 2 3 0\n5 5 5\n6 6 6\n", false),
-        ("\n", 1, 2, "1 2 3 0\n5 5 5\n", false),
-        ("\n", 0, 65537, "0 0 0\n", false),
-    ];
-    for (end, vertices, scanners, body, read) in cases {
-        assert_eq!(rt;
-            is_read(alloc, end, vertices, scanners, body)?,
-            Some(read),
-            "{body:?}"
-        );
-    }
-    Ok(())
-}
-
-#[test]
-fn at_most_56_points_are_read(rt: HostRuntime) -> Result<(), Fail> {
-    let alloc = rt.alloc();
-    for (count, read) in [(56, true), (57, false)] {
-        let mut body = String::new(alloc);
-        for i in 0..count {
-            let line = format!(in alloc; "{i} -7 2 0\n")?;
-            body.push_str(line.as_str())?;
-        }
-        body.push_str("5 5 5\n")?;
-        assert_eq!(rt;
-            is_read(alloc, "\n", count, 1, body.as_str())?,
-            Some(read),
-            "{count}"
-        );
-    }
+    let origin = Point::data(0, 0, 0).ok_or("the origin is a data point")?;
+    let scan = read_scan(alloc, TOOL, 1000, Some(origin))?;
+    assert_eq!(rt; scan.points.len(), 4);
+    assert_eq!(rt; Point::data(-100, -100, 100), Some(scan.points[3]));
+    assert_eq!(rt; scan.seen_by.as_slice(), [0, 0, 0, 0].as_slice());
+    assert_eq!(rt; scan.scanners.as_slice(), [origin].as_slice());
+    assert_eq!(rt;
+        refusal_of(alloc, TOOL),
+        Some(ScanRefusal::Missing(Need::VertexScanner))
+    );
+    let plain = four_points(alloc, FIRST_ROW, LAST_ROW)?;
+    assert_eq!(rt;
+        read_scan(alloc, plain.as_bytes(), 1, Some(origin)).err(),
+        Some(ScanRefusal::TwoScanners)
+    );
     Ok(())
 }

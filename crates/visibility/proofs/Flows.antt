@@ -20,7 +20,7 @@ amount_is : (amount : List ℕ → ℕ) (rows : List (List ℕ)) (k : ℕ) → k
 amount_is amount rows k l = get_or-map amount rows k [] 0 l
 
 -- what enters a node is what enters its cell
-amounts_in : (s : Scene) (voted : Voted) (amount : List ℕ → ℕ) (k : ℕ) → IsNetworkOf s voted → k < length voted.cells
+pub amounts_in : (s : Scene) (voted : Voted) (amount : List ℕ → ℕ) (k : ℕ) → IsNetworkOf s voted → k < length voted.cells
     → amount_in_net voted.net.arcs (map amount voted.facets) k ≡ amount_in s.vertices (complex_of voted) amount (get_or voted.cells k [])
 unfolding arc_of
 amounts_in s voted amount k n l =
@@ -36,7 +36,7 @@ amounts_in s voted amount k n l =
     ∙ ap (λ (i : ℕ). cond (is_equal (get_or voted.cells place []) (get_or voted.cells k [])) i 0) (amount_is amount voted.facets j m))
     ∙ sym (sum_by-below term voted.facets [])
 
-amounts_out : (s : Scene) (voted : Voted) (amount : List ℕ → ℕ) (k : ℕ) → IsNetworkOf s voted → k < length voted.cells
+pub amounts_out : (s : Scene) (voted : Voted) (amount : List ℕ → ℕ) (k : ℕ) → IsNetworkOf s voted → k < length voted.cells
     → amount_out_net voted.net.arcs (map amount voted.facets) k ≡ amount_out s.vertices (complex_of voted) amount (get_or voted.cells k [])
 unfolding arc_of
 amounts_out s voted amount k n l =

@@ -1,77 +1,67 @@
-//! The answer of `build IN MESH CERT`: the best surface of a plain scan, and the certificate that shows it best. It stands on
-//! `scan`, which reads the plain form, on `recon_build`, and on `mesh_ply` and `cert_text`, which print what it finds.
-ghost use Rattle.std.specs.Prelude.{◌≡◌, ◌≤◌, ℕ, List, false, Some, IfOk, length};
+//! The answer of `build IN MESH CERT`: the best surface of a scan, and the certificate that shows it best. It stands on
+//! `recon_build`, which finds both, and on `mesh_ply` and `cert_text`, which print them.
+ghost use Rattle.std.specs.Prelude.{◌≡◌, false, Some, IfOk};
 ghost use Rattle.cert_text.specs.Certificates.{claim_of, IsWellFormed};
 ghost use Rattle.mesh_ply.specs.Meshes.{IsMesh};
+ghost use Rattle.scan.specs.Views.{rows_of};
 ghost use Rattle.recon_build.specs.Solutions.{surface_of};
-ghost use Rattle.recon_cmd.specs.Words.{build, build_names};
-ghost use Rattle.recon_cmd.specs.Answers.{BuildAnswer, file_limit};
+ghost use Rattle.recon_cmd.specs.Answers.{WritesSurface};
+ghost use Rattle.recon_cmd.specs.OptionViews.{options_view};
 ghost use Rattle.recon_cmd.specs.Replies.{answer_of, Shows};
 ghost use Rattle.recon_cmd.specs.Steps.{IsReplied, ReadsFor, StopsFor};
+ghost use Rattle.recon_cmd.specs.Words.{build, build_names};
 
 use crate::NoMemory;
-use crate::answer::refusals::{FILE_LIMIT, refusal};
+use crate::answer::reading::{Reading, read_input};
+use crate::answer::refusals::refusal;
 use crate::answer::{Line, Reply, Stop, Text};
-use crate::lines::{line_of_build, line_of_not_built, line_of_too_long_scan};
+use crate::lines::line_of_build;
+use crate::options::Options;
 use crate::status::Status;
 use crate::words::BuildNames;
 use cert_text::push_cert;
-use flow_net::Settings;
-use host::{Host, ReadRefusal, read_all};
+use host::Host;
 use mesh_ply::push_mesh;
 use recon_build::{Solved, solve_scan};
-use scan::{PlainRefusal, read_plain};
-use std::alloc::{AllocError, Global};
-
-// The weights of a sight and of a facet where the words name none.
-const VOTE: u32 = 8;
-
-const SMOOTH: u32 = 1;
+use scan::Scan;
+use std::alloc::Global;
 
 /// Reads the scan and makes the answer of `build`. Nothing is written or said.
 pub fn reply_to_build<'a, H: Host>(
     alloc: Global,
     host: &mut H,
-    names: BuildNames<'a>,
+    names: &BuildNames<'a>,
+    options: &Options,
 ) -> Result<Reply<'a>, Stop>
     requires { (H.state host.old).writing ≡ false }
-    ensures replied { IfOk result (λ reply. IsReplied (build (build_names names.entry)) reply (H.state host.old)) }
-    ensures reads { ReadsFor (Some (build (build_names names.entry))) (H.state host.old) (H.state host.new) }
+    ensures replied { IfOk result (λ reply. IsReplied (build (build_names names.now) (options_view options.now)) reply (H.state host.old)) }
+    ensures reads { ReadsFor (Some (build (build_names names.now) (options_view options.now))) (H.state host.old) (H.state host.new) }
     ensures cause { StopsFor result (H.state host.old).faults (H.state host.new).faults }
 {
-    let bytes = match read_all(alloc, host, names.input, FILE_LIMIT) {
-        Ok(bytes) => bytes,
-        Err(ReadRefusal::TooLong) => return Ok(refusal(alloc, line_of_too_long_scan())),
-        Err(ReadRefusal::Failed) => return Err(Stop::Failed),
-        Err(ReadRefusal::NoMemory) => return Err(Stop::NoMemory),
+    let reading = match read_input(alloc, host, names.input, options) {
+        Ok(reading) => reading,
+        Err(stop) => return Err(stop),
     };
-    match reply_to_bytes(alloc, &bytes, names.mesh, names.cert) {
-        Ok(reply) => Ok(reply),
-        Err(_) => Err(Stop::NoMemory),
+    match reading {
+        Reading::Scan(scan) => match reply_to_scan(alloc, &scan, names, options) {
+            Ok(reply) => Ok(reply),
+            Err(_) => Err(Stop::NoMemory),
+        },
+        Reading::Refused(line) => Ok(refusal(alloc, line)),
     }
 }
 
-// The answer where the scan's file has these bytes.
-fn reply_to_bytes<'a>(
+// The answer to a scan.
+fn reply_to_scan<'a>(
     alloc: Global,
-    bytes: &[u8],
-    mesh: &'a str,
-    cert: &'a str,
+    scan: &Scan,
+    names: &BuildNames<'a>,
+    options: &Options,
 ) -> Result<Reply<'a>, NoMemory>
-    requires { length bytes.now ≤ file_limit }
-    ensures { IfOk result (λ reply. (input : List ℕ) → BuildAnswer (record { input = input; mesh = mesh.now; cert = cert.now }) bytes.now (answer_of 1 reply)) }
+    ensures { IfOk result (λ reply. WritesSurface (build_names names.now) (options_view options.now) (rows_of scan.now) (answer_of 1 reply)) }
 {
-    let scan = match read_plain(alloc, bytes) {
-        Ok(scan) => scan,
-        Err(PlainRefusal::NotBuilt) => return Ok(refusal(alloc, line_of_not_built())),
-        Err(PlainRefusal::NoMemory) => return Err(AllocError),
-    };
-    let settings = Settings {
-        vote: VOTE,
-        smooth: SMOOTH,
-    };
-    let solved = solve_scan(alloc, &scan, settings)?;
-    reply_of(alloc, &solved, mesh, cert)
+    let solved = solve_scan(alloc, scan, options.settings)?;
+    reply_of(alloc, &solved, names.mesh, names.cert)
 }
 
 // The texts of a surface and its certificate, and the line.

@@ -1,4 +1,4 @@
-use Rattle.std.proofs.Common.{ℕ, ◌≡◌, ◌≤◌, ◌<◌, ◌^◌, refl, ap, sym, ◌∙◌, arith, Bool, List, length, map, filter}
+use Rattle.std.proofs.Common.{ℕ, ◌≡◌, ◌<◌, ◌^◌, refl, ap, sym, ◌∙◌, arith, Bool, List, length, map, filter}
 use Rattle.cert_text.specs.declared.certificate.FlowRow.{FlowRow}
 use Rattle.cert_text.specs.declared.certificate.SinkRow.{SinkRow}
 use Rattle.visibility.proofs.Networks.{node_count, arc_count}
@@ -10,18 +10,17 @@ use Rattle.visibility.specs.Scenes.{Scene}
 use Rattle.recon_build.specs.Scans.{scene_of_rows}
 use Rattle.recon_build.specs.Solutions.{flow_rows, sink_rows}
 use Rattle.recon_build.proofs.Certificates.{flags_are, on_arcs_are, at_nodes_are, certificate_is}
-use Rattle.recon_build.proofs.SightLists.{count_of_rows, sight_count, length-vertex_rows}
+use Rattle.recon_build.proofs.SightLists.{few_points, row_count, few_vertices, few_sights}
 use Rattle.recon_build.proofs.WellFormed.{well_formed, fit_counts}
 use Rattle.recon_build.proofs.solving.certificate.Goals as goal
 
 pub returns-clause-counts : goal.returns-clause-counts
 returns-clause-counts c =
-    let points = length-vertex_rows c.args.scan.now.points.items c.args.scan.now.seen_by.items c.args.scan.now.one_each in
     let each : length c.args.scan.now.seen_by.items ≡ length c.args.scan.now.points.items = c.args.scan.now.one_each in
     record {
-      points = omega (arith, c.len.ensures, c.args.scan.now.points.ok, points);
-      scanners = omega (arith, c.len-2.ensures, c.args.scan.now.scanners.ok);
-      sights = omega (arith, c.len-3.ensures, c.args.scan.now.seen_by.ok, each, points);
+      points = ap length c.requires.points;
+      scanners = omega (arith, c.len.ensures, c.args.scan.now.scanners.ok);
+      sights = omega (arith, c.len-2.ensures, c.args.scan.now.seen_by.ok, each, row_count c.args.scan.now);
       vote = refl;
       smooth = refl;
     }
@@ -62,14 +61,15 @@ pub returns-clause-well_formed : goal.returns-clause-well_formed
 returns-clause-well_formed c =
     let rows : ScanRows = rows_of c.args.scan.now in
     let s : Scene = scene_of_rows rows c.args.settings in
-    let few : s.vertices.count ≤ 64 = omega (arith, count_of_rows rows c.args.settings, c.requires.small.few) in
-    let few_sights : length s.sights ≤ 1048576 = omega (arith, sight_count rows, c.requires.small.few) in
     let cost : c.least_cost.result < 2 ^ 64 = omega (arith, c.least_cost.type_inv) in
-    well_formed s (complex_of c.args.voted.now) (test_of c.args.voted.now.cells c.args.labels.now.inside) _ c.requires.network.complex_is few few_sights
-    (fit_counts _ rows c.args.settings (returns-clause-counts c) c.requires.small cost)
+    well_formed s (complex_of c.args.voted.now) (test_of c.args.voted.now.cells c.args.labels.now.inside) _ c.requires.network.complex_is (few_vertices c.args.scan.now c.args.settings) (few_sights c.args.scan.now)
+    (fit_counts _ c.args.scan.now c.args.settings (returns-clause-counts c) cost)
     (record {
       inside = omega (arith, c.in_ok-inside_rows.field-0.ok, c.in_ok-inside_rows.field-0.small);
       flow = omega (arith, c.in_ok-flow_rows.field-0.ok, c.in_ok-flow_rows.field-0.small);
       sink = omega (arith, c.in_ok-sink_rows.field-0.ok, c.in_ok-sink_rows.field-0.small);
     })
     (returns-clause-states c)
+
+pub overflow_cast-result : goal.overflow_cast-result
+overflow_cast-result c = omega (arith, ap length c.requires.points, few_points c.args.scan.now)

@@ -6,6 +6,6 @@ use Rattle.recon_cmd.proofs.whole_run.obey.Goals as goal
 
 pub returns-in-Ok : goal.returns-in-Ok
 returns-in-Ok g c =
-    obeyed (Some (asked c.args.command)) c.in-Ok.reply.status (texts_of c.in-Ok.reply.texts.items) (line_bytes c.in-Ok.reply.line) c.carry_out.result
+    obeyed (Some (asked c.args.command.now)) c.in-Ok.reply.status (texts_of c.in-Ok.reply.texts.items) (line_bytes c.in-Ok.reply.line) c.carry_out.result
     (g.H.Host.state c.args.host.now) (g.H.Host.state c.reply_to.new.host) (g.H.Host.state c.carry_out.new.host)
     c.in-Ok.ensures.replied.fits c.in-Ok.ensures.replied.answered c.in-Ok.ensures.replied.answers c.reply_to.ensures.reads c.in-Ok.ensures.cause c.carry_out.ensures

@@ -1,17 +1,23 @@
-use Rattle.std.proofs.Common.{rules, ap, subst, ◌∙◌, List, ℕ}
-use Rattle.recon_cmd.specs.Answers.{BuildAnswer, refusal}
-use Rattle.recon_cmd.specs.Replies.{answer_of}
-use Rattle.recon_cmd.specs.Words.{build_names}
-use Rattle.recon_cmd.proofs.BuildReplies.{build_too_long, build_replied}
+use Rattle.std.proofs.Common.{IfSome, subst}
+use Rattle.recon_cmd.specs.Answers.{WritesSurface}
+use Rattle.recon_cmd.specs.OptionViews.{options_view}
+use Rattle.recon_cmd.specs.Steps.{IsReading}
+use Rattle.recon_cmd.specs.declared.answer.reading.Reading.{Reading}
+use Rattle.recon_cmd.specs.Words.{build, build_names, SurfaceNames}
+use Rattle.recon_cmd.specs.Options.{Options}
+use Rattle.recon_cmd.proofs.ScanReplies.{build_scan, refused_reply, scan_reply}
 use Rattle.recon_cmd.proofs.answer.build.reply_to_build.Goals as goal
 
-pub returns-in-Err-TooLong-clause-replied : goal.returns-in-Err-TooLong-clause-replied
-returns-in-Err-TooLong-clause-replied g c =
-    build_too_long (build_names c.args.names) c.refusal.result (g.H.Host.state c.args.host.now)
-    (c.refusal.ensures 1 ∙ ap (λ (line : List ℕ). refusal 1 line) c.line_of_too_long_scan.ensures)
-    (c.in-Err-TooLong.ensures.longer (search rules))
+pub returns-in-Ok-reply_to_scan-clause-replied : goal.returns-in-Ok-reply_to_scan-clause-replied
+returns-in-Ok-reply_to_scan-clause-replied g c =
+    let names : SurfaceNames = build_names c.args.names.now in
+    let options : Options = options_view c.args.options.now in
+    scan_reply (build names options) names.input options (WritesSurface names options) (build_scan names options) c.in-Scan.scan c.in-Ok-reply_to_scan.reply (g.H.Host.state c.args.host.now)
+    c.in-Ok-reply_to_scan.ensures (subst (λ (reading : Reading). IfSome (g.H.Host.state c.args.host.now).told (IsReading names.input options reading)) c.in-Scan.is c.in-Ok.ensures.read)
 
-pub returns-in-Ok-reply_to_bytes-clause-replied : goal.returns-in-Ok-reply_to_bytes-clause-replied
-returns-in-Ok-reply_to_bytes-clause-replied g c =
-    build_replied (build_names c.args.names) c.in-Ok.bytes.items c.in-Ok-reply_to_bytes.reply (g.H.Host.state c.args.host.now) c.in-Ok.ensures.bytes
-    (subst (λ (bytes : List ℕ). BuildAnswer (build_names c.args.names) bytes (answer_of 1 c.in-Ok-reply_to_bytes.reply)) c.deref.ensures.value (c.in-Ok-reply_to_bytes.ensures c.args.names.input.now))
+pub returns-clause-replied : goal.returns-clause-replied
+returns-clause-replied g c =
+    let names : SurfaceNames = build_names c.args.names.now in
+    let options : Options = options_view c.args.options.now in
+    refused_reply (build names options) names.input options (WritesSurface names options) (build_scan names options) c.in-Refused.line c.refusal.result (g.H.Host.state c.args.host.now)
+    (c.refusal.ensures 1) (subst (λ (reading : Reading). IfSome (g.H.Host.state c.args.host.now).told (IsReading names.input options reading)) c.in-Refused.is c.in-Ok.ensures.read)

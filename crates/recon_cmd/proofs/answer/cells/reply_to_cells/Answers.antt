@@ -1,11 +1,16 @@
-use Rattle.std.proofs.Common.{rules, ap, ◌∙◌, List, ℕ}
-use Rattle.recon_cmd.specs.Answers.{refusal}
-use Rattle.recon_cmd.specs.Words.{cells_names}
-use Rattle.recon_cmd.proofs.CellsReplies.{cells_too_long}
+use Rattle.std.proofs.Common.{IfSome, subst}
+use Rattle.recon_cmd.specs.Answers.{WritesCells}
+use Rattle.recon_cmd.specs.OptionViews.{options_view}
+use Rattle.recon_cmd.specs.Steps.{IsReading}
+use Rattle.recon_cmd.specs.declared.answer.reading.Reading.{Reading}
+use Rattle.recon_cmd.specs.Words.{cells, cells_names, Names}
+use Rattle.recon_cmd.specs.Options.{Options}
+use Rattle.recon_cmd.proofs.ScanReplies.{cells_scan, refused_reply}
 use Rattle.recon_cmd.proofs.answer.cells.reply_to_cells.Goals as goal
 
-pub returns-in-Err-TooLong-clause-replied : goal.returns-in-Err-TooLong-clause-replied
-returns-in-Err-TooLong-clause-replied g c =
-    cells_too_long (cells_names c.args.names) c.refusal.result (g.H.Host.state c.args.host.now)
-    (c.refusal.ensures 1 ∙ ap (λ (line : List ℕ). refusal 1 line) c.line_of_too_long_scan.ensures)
-    (c.in-Err-TooLong.ensures.longer (search rules))
+pub returns-clause-replied : goal.returns-clause-replied
+returns-clause-replied g c =
+    let names : Names = cells_names c.args.names.now in
+    let options : Options = options_view c.args.options.now in
+    refused_reply (cells names options) names.input options (WritesCells names.output) (cells_scan names options) c.in-Refused.line c.refusal.result (g.H.Host.state c.args.host.now)
+    (c.refusal.ensures 1) (subst (λ (reading : Reading). IfSome (g.H.Host.state c.args.host.now).told (IsReading names.input options reading)) c.in-Refused.is c.in-Ok.ensures.read)

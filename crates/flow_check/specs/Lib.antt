@@ -1,0 +1,4 @@
+pub mod Firsts
+pub mod Totals
+pub mod Verdicts
+pub mod Laws

@@ -1,0 +1,8 @@
+//! A law over the definitions, as the contract of a call that does nothing.
+
+ghost use Rattle.flow_check.specs.Laws.{OneVerdict};
+
+/// No labels and flow have two verdicts.
+pub fn verdicts_are_unique()
+    ensures { OneVerdict }
+{}

@@ -1,0 +1,26 @@
+//! Checks that labels are the least-inside ones of a network, by a flow that is worth what they cost.
+//!
+//! Nothing is known of labels and flow but that there is one label and one amount a node and one amount an arc. A valid
+//! flow whose value is the cost of admissible labels shows that no labels cost less (Ford and Fulkerson 1956). The first
+//! fault is named, with its node or arc and its numbers.
+//!
+//! `verdict` holds the answers, `limits` finds fixed nodes inside and amounts over their limits, `balance` finds nodes at
+//! which a flow is not balanced, `checking` puts them together, and `laws` says what holds of all verdicts. The crate stands
+//! on `flow_net`, and on `max_flow` for the least-inside labels.
+#![tactic(auto)]
+
+mod balance;
+mod checking;
+mod laws;
+mod limits;
+mod verdict;
+
+pub use checking::check_flow;
+pub use laws::verdicts_are_unique;
+pub use verdict::Verdict;
+
+/// The error of a call for which there was no memory.
+pub type NoMemory = std::alloc::AllocError;
+
+#[cfg(test)]
+mod tests;

@@ -1,0 +1,2 @@
+pub mod Scanners
+pub mod Words

@@ -1,0 +1,55 @@
+-- The scan that a number makes: points on the six faces of a cube, each face seen from before it.
+--
+--   on_axis axis along u v        the place so far along an axis, at u and v on the other two axes
+--   on_face face distance u v     the place on a face's side, so far from the middle
+--   spread word                   the number from -1000 to 1000 that a word gives
+--   generator seed                the generator of words that a seed starts
+--   row_of number first second    the row of this number, made of two words
+--   rows_of_words number words    a row for each two words, from this number on
+--   generated count seed          the scan
+use Rattle.std.specs.Prelude.{ℕ, ◌+◌, ◌*◌, ◌/◌, ◌%◌, ◌==◌, List, [], ◌∷◌, ℤ, pos, neg_ℤ, ◌-ℤ◌, if◌then◌else◌}
+use Rattle.geo_sign.specs.Place.{Place, place}
+use Rattle.rand_core.specs.Steps.{first_words}
+use Rattle.rand_pcg.specs.Lcg.{Lcg, started, increment_of}
+use Rattle.rand_pcg.specs.Pcg.{multiplier_64, pcg32}
+use Rattle.scan.specs.ScanRows.{ScanRows, VertexRow}
+
+-- the place so far along an axis; of the other two axes the earlier has u, and the later v
+abbrev pub on_axis : (axis : ℕ) → (along u v : ℤ) → Place
+on_axis axis along u v =
+    if axis == 0 then place along u v
+    else (if axis == 1 then place u along v
+    else place u v along)
+
+-- Faces 0 and 1 are before and behind the middle on the axis x, 2 and 3 on y, 4 and 5 on z.
+abbrev pub on_face : (face : ℕ) → (distance u v : ℤ) → Place
+on_face face distance u v = on_axis (face / 2) (if face % 2 == 0 then distance else neg_ℤ distance) u v
+
+-- the number from -1000 to 1000 that a word gives
+abbrev pub spread : ℕ → ℤ
+spread word = pos (word % 2001) -ℤ pos 1000
+
+-- the generator of words that a seed starts, on stream 1
+abbrev pub generator : ℕ → Lcg
+generator seed = started 64 multiplier_64 seed (increment_of 64 1)
+
+-- the row of this number: a point on the face whose turn it is, at two words, seen from before that face
+abbrev pub row_of : (number first second : ℕ) → VertexRow
+row_of number first second = record { point = on_face (number % 6) (pos 1000) (spread first) (spread second); seen_by = number % 6 }
+
+-- a row for each two words, from this number on
+abbrev pub rows_of_words : ℕ → List ℕ → List VertexRow
+rows_of_words number [] = []
+rows_of_words number (first ∷ []) = []
+rows_of_words number (first ∷ second ∷ words) = row_of number first second ∷ rows_of_words (number + 1) words
+
+-- a scanner before each face
+abbrev pub scanners : List Place
+scanners = before 0 ∷ before 1 ∷ before 2 ∷ before 3 ∷ before 4 ∷ before 5 ∷ []
+  where
+    before : ℕ → Place
+    before face = on_face face (pos 5000) (pos 0) (pos 0)
+
+-- the scan of so many rows, for which the generator gives two words each, in order
+abbrev pub generated : (count seed : ℕ) → ScanRows
+generated count seed = record { vertices = rows_of_words 0 (first_words pcg32 (count * 2) (generator seed)); scanners = scanners }

@@ -1,0 +1,17 @@
+//! A scan of any size from a number: points on the six faces of a cube, each face seen by a scanner before it.
+//!
+//! Such a scan needs no file, and has a known outcome for each size and seed. The random words are those of `Pcg32`
+//! (O'Neill, the PCG generators), so that any program can make the same scan. The crate stands on `scan` and on the kit's
+//! `rand_pcg`.
+#![tactic(auto)]
+
+mod cube;
+mod generate;
+#[cfg(test)]
+mod tests;
+
+pub use generate::gen_scan;
+use std::alloc::AllocError;
+
+/// Want of memory: the one answer that any input may get.
+pub type NoMemory = AllocError;

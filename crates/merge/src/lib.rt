@@ -1,0 +1,17 @@
+//! Points that stand in several rows, once each, and the place of each row's point among them.
+//!
+//! What the distinct points of rows are stands in `specs/Merging`, and in plain words in `specs/Laws`. `merging` finds them with one
+//! look-up a row. The crate stands on `geo_sign`, which holds points, and on the kit's `indexmap`, a set in order of insertion.
+#![tactic(auto)]
+
+mod laws;
+mod merging;
+#[cfg(test)]
+mod tests;
+
+pub use laws::{each_row_has_its_point, points_are_merged};
+pub use merging::{Merged, merge};
+use std::alloc::AllocError;
+
+/// Want of memory: the one answer that any input may get.
+pub type NoMemory = AllocError;

@@ -1,0 +1,43 @@
+-- The first of a list, by number and as it stands.
+use Rattle.std.proofs.Common.{ℕ, ◌≡◌, ◌<◌, refl, ap, sym, subst, ◌∙◌, arith, List, [], length, get_or}
+use Rattle.flow_check.specs.Firsts.{IsFirst, NoneBelow}
+use Rattle.visibility.proofs.Places.{at_place, place_has}
+use Rattle.recon_check.specs.Claims.{IsFirstOf, NoneOf}
+
+-- what holds by number where it holds of what stands there
+pub record Stands (rows : List (List ℕ)) (P : ℕ → Type 0) (Q : List ℕ → Type 0) : Type 0 where
+  pub to_rows : (k : ℕ) → k < length rows → P k → Q (get_or rows k [])
+  pub to_numbers : (k : ℕ) → k < length rows → Q (get_or rows k []) → P k
+
+pub first_over : (rows : List (List ℕ)) (n k : ℕ) (P : ℕ → Type 0) (Q : List ℕ → Type 0) → n ≡ length rows → Stands rows P Q → IsFirst n P k → IsFirstOf rows Q (get_or rows k [])
+first_over rows n k P Q e stands h =
+    let l : k < length rows = omega (arith, h.in_range) in
+    record {
+      place = k;
+      first = record {
+        in_range = l;
+        has = stands.to_rows k l h.has;
+        none_before = λ i m q. h.none_before i m (stands.to_numbers i (omega arith) q);
+      };
+      row_is = refl;
+    }
+
+pub none_over : (rows : List (List ℕ)) (n : ℕ) (P : ℕ → Type 0) (Q : List ℕ → Type 0) → n ≡ length rows → Stands rows P Q → NoneBelow n P → NoneOf rows Q
+none_over rows n P Q e stands none row there q =
+    none there.0 (omega (arith, there.1)) (stands.to_numbers there.0 there.1 (subst Q (sym (at_place rows row there)) q))
+
+-- a property has one first number
+pub one_first : (n j k : ℕ) (P : ℕ → Type 0) → IsFirst n P j → IsFirst n P k → j ≡ k
+one_first n j k P a b =
+    let not_less : ¬ (j < k) = λ l. b.none_before j l a.has in
+    let not_more : ¬ (k < j) = λ l. a.none_before k l b.has in
+    omega (arith, not_less, not_more)
+
+-- and one first row
+pub one_first_of : (rows : List (List ℕ)) (row other : List ℕ) (P : List ℕ → Type 0) → IsFirstOf rows P row → IsFirstOf rows P other → row ≡ other
+one_first_of rows row other P a b =
+    a.row_is ∙ ap (λ (k : ℕ). get_or rows k []) (one_first (length rows) a.place b.place (λ k. P (get_or rows k [])) a.first b.first) ∙ sym b.row_is
+
+-- none has what the first has
+pub not_first_of : (rows : List (List ℕ)) (row : List ℕ) (P : List ℕ → Type 0) → NoneOf rows P → IsFirstOf rows P row → ⊥
+not_first_of rows row P none h = none (get_or rows h.place []) (place_has rows h.place h.first.in_range) h.first.has

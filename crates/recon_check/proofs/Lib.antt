@@ -1,0 +1,11 @@
+pub mod Walks
+pub mod Firsts
+pub mod Bridge
+pub mod Lists
+pub mod Solutions
+pub mod Uniqueness
+pub mod Whole
+pub mod FirstCounts
+pub mod Stopped
+pub mod StrayReasons
+pub mod Surfaces

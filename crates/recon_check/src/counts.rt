@@ -1,0 +1,48 @@
+//! The numbers that a certificate states against those of a scan. It stands on `scan` and `cert_text`.
+
+ghost use Rattle.std.specs.Prelude.{◌≡◌, ℕ, List, IfSome, IfNone, None, Some, if◌then◌else◌, ◌==◌};
+ghost use Rattle.cert_text.specs.Certificates.{claim_of};
+ghost use Rattle.recon_build.specs.Scans.{points_of};
+ghost use Rattle.recon_build.specs.Solutions.{HasCounts};
+ghost use Rattle.scan.specs.Views.{rows_of};
+ghost use Rattle.recon_check.specs.Answers.{IsFault};
+
+use crate::{Reason, Which};
+use cert_text::Certificate;
+use flow_net::Settings;
+use geo_sign::Point;
+use scan::Scan;
+
+/// A number that is stated otherwise than it is here, if it is.
+fn other(which: Which, stated: u32, here: u32) -> Option<Reason>
+    ensures { result ≡ (if stated == here then None else Some (Reason.OtherCounts which stated here)) }
+{
+    if stated == here {
+        None
+    } else {
+        Some(Reason::OtherCounts {
+            which,
+            stated,
+            here,
+        })
+    }
+}
+
+/// The first number that a certificate states otherwise than the scan has it, if there is one. `points` are the scan's
+/// distinct points.
+pub fn other_count(
+    scan: &Scan,
+    points: &[Point],
+    settings: Settings,
+    cert: &Certificate,
+) -> Option<Reason>
+    requires { points.now ≡ points_of (rows_of scan.now) }
+    ensures same { IfNone result (HasCounts (claim_of cert.now) (rows_of scan.now) settings) }
+    ensures other { IfSome result (λ reason. (mesh : List ℕ) → IsFault (rows_of scan.now) settings mesh (claim_of cert.now) reason) }
+{
+    other(Which::Points, cert.points, points.len() as u32)
+        .or(other(Which::Scanners, cert.scanners, scan.scanners.len() as u32))
+        .or(other(Which::Sights, cert.sights, scan.seen_by.len() as u32))
+        .or(other(Which::Vote, cert.vote, settings.vote))
+        .or(other(Which::Smooth, cert.smooth, settings.smooth))
+}

@@ -1,0 +1,8 @@
+//! A law over the definitions, as the contract of a call that does nothing.
+
+ghost use Rattle.recon_check.specs.Laws.{OneAnswer};
+
+/// No mesh and certificate have two answers.
+pub fn answers_are_unique()
+    ensures { OneAnswer }
+{}

@@ -1,0 +1,32 @@
+//! Whether a mesh and a certificate are the best surface of a scan and the certificate that shows it.
+//!
+//! Nothing is known of either text. The scan's cells and its network are made anew, and the labels and the flow that the
+//! certificate states are compared with them: a valid flow whose value is the cost of admissible labels shows that no
+//! labels cost less, so a reader of the answer needs to trust nothing about who made the two texts.
+//!
+//! `answer` holds the answers, `counts` compares the numbers that a certificate states with the scan's, `rows` turns its rows into
+//! flags and amounts by number, `flows` checks the labels and the flow that they state, `verdicts` says a verdict by number with
+//! cells and facets, `texts` finds where two texts differ, `checking` puts them together, `stop` is why a check stops, and `laws`
+//! says what holds of all answers. The crate stands on `cert_text` (certificates), `merge` and `recon_build` (points, sights, and
+//! what a solution is), `plain_net` (the network and the mesh of labels) and `flow_check` (labels and a flow by number).
+#![tactic(auto)]
+
+mod answer;
+mod checking;
+mod counts;
+mod flows;
+mod laws;
+mod rows;
+mod stop;
+#[cfg(test)]
+mod tests;
+mod texts;
+mod verdicts;
+
+pub use answer::{Answer, Reason, Which};
+pub use checking::check_all;
+pub use laws::answers_are_unique;
+use std::alloc::AllocError;
+
+/// Want of memory: the one answer that any input may get.
+pub type NoMemory = AllocError;

@@ -1,0 +1,89 @@
+//! The rows of a certificate as flags and amounts by number. It stands on `cert_text` alone.
+//!
+//! The rows rise, and so do the cells and facets, so one walk along both finds the rows that are there, and the first that
+//! isn't.
+
+ghost use Rattle.std.specs.Prelude.{◌≡◌, IfOk, IfErr, All, AllPairs, Contains, OnOk, map};
+ghost use Rattle.line_text.specs.Rising.{IsBefore};
+ghost use Rattle.recon_build.specs.Solutions.{stated};
+ghost use Rattle.recon_check.specs.Claims.{is_among};
+ghost use Rattle.recon_check.specs.Stops.{StopsFor};
+ghost use Rattle.recon_check.specs.Strays.{IsStrayCell, IsStrayFacet, IsStraySink};
+
+use crate::Reason;
+use crate::stop::Stop;
+use cert_text::{FlowRow, SinkRow};
+use std::alloc::Global;
+
+/// Which of the cells have a row. Each row has to be one of the cells.
+pub fn inside_flags(alloc: Global, cells: &[[u32; 4]], rows: &[[u32; 4]]) -> Result<Vec<bool>, Stop>
+    requires cells { AllPairs IsBefore cells.now }
+    requires rows { AllPairs IsBefore rows.now }
+    ensures flags { IfOk result (λ flags. flags.items ≡ map (is_among rows.now) cells.now) }
+    ensures there { OnOk result (All (Contains cells.now) rows.now) }
+    ensures stray { IfErr result (StopsFor (IsStrayCell cells.now rows.now)) }
+{
+    let mut flags = Vec::with_capacity(alloc, cells.len())?;
+    let mut found = 0;
+    for cell in cells {
+        if found < rows.len() && rows[found] == *cell {
+            flags.push(true)?;
+            found += 1;
+        } else {
+            flags.push(false)?;
+        }
+    }
+    if found < rows.len() {
+        return Err(Stop::Fault(Reason::NoSuchCell { row: found as u64 }));
+    }
+    Ok(flags)
+}
+
+/// The amounts that rows state on facets, and 0 on a facet without a row. Each row has to be about one of the facets.
+pub fn flow_amounts(alloc: Global, facets: &[[u32; 3]], rows: &[FlowRow]) -> Result<Vec<u64>, Stop>
+    requires facets { AllPairs IsBefore facets.now }
+    requires rows { AllPairs IsBefore (map (λ row. row.facet) rows.now) }
+    ensures amounts { IfOk result (λ amounts. amounts.items ≡ map (stated (λ row. row.facet) (λ row. row.amount) rows.now) facets.now) }
+    ensures there { OnOk result (All (Contains facets.now) (map (λ row. row.facet) rows.now)) }
+    ensures stray { IfErr result (StopsFor (IsStrayFacet facets.now (map (λ row. row.facet) rows.now))) }
+{
+    let mut amounts = Vec::with_capacity(alloc, facets.len())?;
+    let mut found = 0;
+    for facet in facets {
+        if found < rows.len() && rows[found].facet == *facet {
+            amounts.push(rows[found].amount)?;
+            found += 1;
+        } else {
+            amounts.push(0)?;
+        }
+    }
+    if found < rows.len() {
+        return Err(Stop::Fault(Reason::NoSuchFacet { row: found as u64 }));
+    }
+    Ok(amounts)
+}
+
+/// The amounts that rows state at the sinks of cells, and 0 at a cell without a row. Each row has to be about one of the
+/// cells.
+pub fn sink_amounts(alloc: Global, cells: &[[u32; 4]], rows: &[SinkRow]) -> Result<Vec<u64>, Stop>
+    requires cells { AllPairs IsBefore cells.now }
+    requires rows { AllPairs IsBefore (map (λ row. row.cell) rows.now) }
+    ensures amounts { IfOk result (λ amounts. amounts.items ≡ map (stated (λ row. row.cell) (λ row. row.amount) rows.now) cells.now) }
+    ensures there { OnOk result (All (Contains cells.now) (map (λ row. row.cell) rows.now)) }
+    ensures stray { IfErr result (StopsFor (IsStraySink cells.now (map (λ row. row.cell) rows.now))) }
+{
+    let mut amounts = Vec::with_capacity(alloc, cells.len())?;
+    let mut found = 0;
+    for cell in cells {
+        if found < rows.len() && rows[found].cell == *cell {
+            amounts.push(rows[found].amount)?;
+            found += 1;
+        } else {
+            amounts.push(0)?;
+        }
+    }
+    if found < rows.len() {
+        return Err(Stop::Fault(Reason::NoSuchSink { row: found as u64 }));
+    }
+    Ok(amounts)
+}

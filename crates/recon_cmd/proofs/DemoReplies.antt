@@ -1,0 +1,115 @@
+-- The answer of `demo`, from what the calls below it answer.
+use Rattle.std.proofs.Common.{◌≡◌, ℕ, ◌≤◌, List, [], ◌∷◌, length, Option, Some, None, IfSome, Result, Ok, inr, refl, sym, ap, subst, ◌∙◌}
+use Rattle.cert_text.specs.Certificates.{claim_of, IsWellFormed}
+use Rattle.cert_text.specs.Texts.{cert_text}
+use Rattle.flow_net.specs.declared.votes.Settings.{Settings}
+use Rattle.gen_scan.specs.Generated.{generated}
+use Rattle.mesh_ply.specs.Meshes.{IsMesh}
+use Rattle.mesh_ply.specs.Texts.{mesh_text}
+use Rattle.recon_build.specs.Solutions.{IsSolution, surface_of}
+use Rattle.recon_build.specs.declared.solving.Solved.{Solved}
+use Rattle.scan.specs.PlainForm.{plain_text}
+use Rattle.scan.specs.ScanRows.{ScanRows, IsScan}
+use Rattle.scan.specs.Outcomes.{scan_of}
+use Rattle.scan.specs.ScanRefusals.{Fails}
+use Rattle.scan.specs.Views.{rows_of}
+use Rattle.scan.specs.declared.refusal.ScanRefusal.{ScanRefusal}
+use Rattle.scan.specs.declared.refusal.ScanRefusal.TheVariants as refusals
+use Rattle.scan.specs.declared.scan.Scan.{Scan}
+use Rattle.scan.proofs.PrintedScans.{printed_read}
+use Rattle.scan.proofs.RowLemmas.{kept_rows}
+use Rattle.host.specs.State.{State, Told}
+use Rattle.recon_cmd.specs.Answers.{Answer, AnswerOf, Demonstrates, default_options, file_limit, read_as}
+use Rattle.recon_cmd.specs.Lines.{build_line, demo_line}
+use Rattle.recon_cmd.specs.Outcome.{StatusFits}
+use Rattle.recon_cmd.specs.Replies.{answer_of}
+use Rattle.recon_cmd.specs.Steps.{IsAnswered, IsReplied}
+use Rattle.recon_cmd.specs.Words.{demo}
+use Rattle.recon_cmd.specs.declared.answer.Reply.{Reply}
+use Rattle.recon_cmd.specs.declared.status.Status.{Status}
+use Rattle.recon_cmd.specs.declared.status.Status.TheVariants.{Done}
+use Rattle.recon_cmd.proofs.PlainTextLengths.{plain_text_fits}
+
+-- the rows of a scan are those that a scan may have
+scan_is : (scan : Scan) → IsScan (rows_of scan)
+scan_is scan =
+    kept_rows scan.points.items scan.seen_by.items scan.scanners.items scan.one_each scan.points_are_data scan.scanners_are_data scan.scanners_are_there scan.points_fit scan.scanners_fit
+
+-- the plain text of a generated scan is within the limit of files
+pub generated_fits : (count seed : ℕ) (scan : Scan) → rows_of scan ≡ generated count seed → length (plain_text (generated count seed)) ≤ file_limit
+generated_fits count seed scan same = subst (λ (rows : ScanRows). length (plain_text rows) ≤ file_limit) same (plain_text_fits (rows_of scan) (scan_is scan))
+
+-- what is read is not refused
+not_refused : (rows : ScanRows) (read : Result ScanRows ScanRefusal) (why : ScanRefusal) → read ≡ Ok rows → (why ≡ refusals.NoMemory → ⊥) → Fails why read → ⊥
+not_refused rows read (refusals.Head why) is other fails = cc
+not_refused rows read (refusals.Missing need) is other fails = cc
+not_refused rows read (refusals.ListProperty need) is other fails = cc
+not_refused rows read (refusals.BinaryFloat need) is other fails = cc
+not_refused rows read (refusals.TooMany need count) is other fails = cc
+not_refused rows read refusals.TwoScanners is other fails = cc
+not_refused rows read (refusals.BadToken place) is other fails = cc
+not_refused rows read (refusals.LongNumber place) is other fails = cc
+not_refused rows read (refusals.OutOfRange place) is other fails = cc
+not_refused rows read (refusals.NoSuchScanner row index) is other fails = cc
+not_refused rows read (refusals.BadCount place) is other fails = cc
+not_refused rows read (refusals.Cut place) is other fails = cc
+not_refused rows read (refusals.Trailing place) is other fails = cc
+not_refused rows read refusals.NoMemory is other fails = other refl
+
+-- a printed scan is refused for want of memory alone
+pub printed_is_read : (scan : Scan) (text : List ℕ) (why : ScanRefusal) → text ≡ plain_text (rows_of scan) → (why ≡ refusals.NoMemory → ⊥) → Fails why (scan_of text 1 None) → ⊥
+printed_is_read scan text why is other fails =
+    not_refused (rows_of scan) (scan_of text 1 None) why
+    (ap (λ (t : List ℕ). scan_of t 1 None) is ∙ printed_read (rows_of scan) (scan_is scan)) other fails
+
+-- what `build` says of the generated scan
+pub demonstrated : (count seed : ℕ) (scan : ScanRows) (settings : Settings) (solved : Solved) (built line : List ℕ)
+    → length (plain_text (generated count seed)) ≤ file_limit → read_as default_options (plain_text (generated count seed)) ≡ Ok scan
+    → settings.vote ≡ 8 → settings.smooth ≡ 1
+    → IsSolution scan settings (surface_of solved.mesh) (claim_of solved.cert) → IsMesh solved.mesh.points.items solved.mesh.faces.items → IsWellFormed (claim_of solved.cert)
+    → built ≡ build_line (claim_of solved.cert).counts (length solved.cert.inside.items) (length solved.mesh.faces.items)
+    → line ≡ demo_line count seed built
+    → Demonstrates count seed (record { status = Done; reads = 0; writes = []; line = line })
+demonstrated count seed scan settings solved built line within read vote smooth solution valid well_formed said is =
+    let mesh = surface_of solved.mesh in
+    let claim = claim_of solved.cert in
+    record {
+      names = record { input = []; mesh = []; cert = [] };
+      built = record {
+        status = Done;
+        reads = 1;
+        writes = ([], mesh_text mesh.points mesh.faces) ∷ ([], cert_text claim) ∷ [];
+        line = build_line claim.counts (length claim.inside) (length mesh.faces);
+      };
+      builds = inr (record {
+        within = within;
+        scan = scan;
+        read = read;
+        answers = record {
+          settings = settings;
+          vote = vote;
+          smooth = smooth;
+          mesh = mesh;
+          claim = claim;
+          solution = solution;
+          valid = valid;
+          well_formed = well_formed;
+          is = refl;
+        };
+      });
+      done = refl;
+      is = ap (λ (text : List ℕ). record { status = Done; reads = 0; writes = []; line = text }) (is ∙ ap (demo_line count seed) said);
+    }
+
+-- a demonstration is done
+pub demo_replied : (count seed : ℕ) (reply : Reply) (before : State) → Demonstrates count seed (answer_of 0 reply) → IsReplied (demo count seed) reply before
+demo_replied count seed reply before shown =
+    record {
+      fits = subst (λ (s : Status). StatusFits s (Some (demo count seed))) (sym (ap (λ (a : Answer). a.status) shown.is)) tt;
+      answered = subst IsAnswered (sym (ap (λ (a : Answer). a.status) shown.is)) tt;
+      answers = by_cases before.told;
+    }
+  where
+    by_cases : (o : Option Told) → IfSome o (λ told. (reads : ℕ) × AnswerOf (Some (demo count seed)) told.files (answer_of reads reply))
+    by_cases None = tt
+    by_cases (Some told) = (0, shown)

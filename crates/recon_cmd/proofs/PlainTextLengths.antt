@@ -1,0 +1,93 @@
+-- How long the plain text of a scan is at most.
+use Rattle.std.proofs.Common.{ℕ, ◌+◌, ◌*◌, ◌≤◌, List, [], ◌∷◌, ◌++◌, length, ℤ, pos, negsuc, All, arith, decimal, unsigned_abs}
+use Rattle.std.specs.Fmt.{signed_decimal}
+use Rattle.std.specs.List.{flat_map}
+use Rattle.std.proofs.lemmas.Fmt.{length-decimal-le, length_signed_le}
+use Rattle.std.proofs.lemmas.List.{length-append}
+use Rattle.std.proofs.lemmas.List.Elements.{All-head, All-tail}
+use Rattle.geo_sign.specs.Place.{Place, IsWithin}
+use Rattle.scan.specs.ScanRows.{VertexRow, ScanRows, IsVertexRow, IsScan}
+use Rattle.scan.specs.PlainForm.{before_vertex_count, before_scanner_count, after_counts, header, coordinates, vertex_line, scanner_line, plain_text, line_feed, space}
+use Rattle.recon_cmd.specs.Answers.{file_limit}
+
+-- a coordinate has at most seven digits and a sign
+coordinate_fits : (z : ℤ) → unsigned_abs z ≤ 2097151 → length (signed_decimal z) ≤ 8
+coordinate_fits (pos n) within = length_signed_le 7 (pos n) (omega arith) (omega arith)
+coordinate_fits (negsuc n) within = length_signed_le 7 (negsuc n) (omega arith) (omega arith)
+
+-- and a number of a scanner or of rows at most five
+count_fits : (n : ℕ) → n ≤ 65536 → length (decimal n) ≤ 5
+count_fits n within = length-decimal-le 5 n (omega arith) (omega arith) (omega arith)
+
+coordinates_fit : (p : Place) → IsWithin 2097151 p → length (coordinates p) ≤ 26
+coordinates_fit p within =
+    omega (
+      arith,
+      length-append (signed_decimal p.x) (space ∷ (signed_decimal p.y ++ (space ∷ signed_decimal p.z))),
+      length-append (signed_decimal p.y) (space ∷ signed_decimal p.z),
+      coordinate_fits p.x within.x_within,
+      coordinate_fits p.y within.y_within,
+      coordinate_fits p.z within.z_within,
+    )
+
+vertex_line_fits : (scanners : ℕ) (row : VertexRow) → scanners ≤ 65536 → IsVertexRow scanners row → length (vertex_line row) ≤ 33
+vertex_line_fits scanners row few is =
+    omega (
+      arith,
+      length-append (coordinates row.point) (space ∷ (decimal row.seen_by ++ (line_feed ∷ []))),
+      length-append (decimal row.seen_by) (line_feed ∷ []),
+      coordinates_fit row.point is.data_point,
+      count_fits row.seen_by (omega (arith, is.scanner)),
+    )
+
+vertex_lines_fit : (scanners : ℕ) (rows : List VertexRow) → scanners ≤ 65536 → All (IsVertexRow scanners) rows → length (flat_map vertex_line rows) ≤ length rows * 33
+vertex_lines_fit scanners [] few all = omega arith
+vertex_lines_fit scanners (row ∷ rows) few all =
+    omega (
+      arith,
+      length-append (vertex_line row) (flat_map vertex_line rows),
+      vertex_line_fits scanners row few (All-head (IsVertexRow scanners) row rows all),
+      vertex_lines_fit scanners rows few (All-tail (IsVertexRow scanners) row rows all),
+    )
+
+scanner_lines_fit : (places : List Place) → All (IsWithin 2097151) places → length (flat_map scanner_line places) ≤ length places * 27
+scanner_lines_fit [] all = omega arith
+scanner_lines_fit (p ∷ places) all =
+    omega (
+      arith,
+      length-append (scanner_line p) (flat_map scanner_line places),
+      length-append (coordinates p) (line_feed ∷ []),
+      coordinates_fit p (All-head (IsWithin 2097151) p places all),
+      scanner_lines_fit places (All-tail (IsWithin 2097151) p places all),
+    )
+
+fixed_texts : length before_vertex_count + length before_scanner_count + length after_counts ≤ 250
+unfolding before_vertex_count before_scanner_count after_counts
+fixed_texts = omega arith
+
+header_fits : (vertices scanners : ℕ) → vertices ≤ 65536 → scanners ≤ 65536 → length (header vertices scanners) ≤ 270
+header_fits vertices scanners few few_scanners =
+    omega (
+      arith,
+      length-append before_vertex_count (decimal vertices ++ (line_feed ∷ (before_scanner_count ++ (decimal scanners ++ (line_feed ∷ after_counts))))),
+      length-append (decimal vertices) (line_feed ∷ (before_scanner_count ++ (decimal scanners ++ (line_feed ∷ after_counts)))),
+      length-append before_scanner_count (decimal scanners ++ (line_feed ∷ after_counts)),
+      length-append (decimal scanners) (line_feed ∷ after_counts),
+      count_fits vertices few,
+      count_fits scanners few_scanners,
+      fixed_texts,
+    )
+
+-- the plain text of a scan is within the limit of files
+pub plain_text_fits : (rows : ScanRows) → IsScan rows → length (plain_text rows) ≤ file_limit
+plain_text_fits rows is =
+    omega (
+      arith,
+      length-append (header (length rows.vertices) (length rows.scanners)) (flat_map vertex_line rows.vertices ++ flat_map scanner_line rows.scanners),
+      length-append (flat_map vertex_line rows.vertices) (flat_map scanner_line rows.scanners),
+      header_fits (length rows.vertices) (length rows.scanners) (omega (arith, is.vertex_count)) is.scanner_count,
+      vertex_lines_fit (length rows.scanners) rows.vertices is.scanner_count is.vertices,
+      scanner_lines_fit rows.scanners is.scanners,
+      is.vertex_count,
+      is.scanner_count,
+    )

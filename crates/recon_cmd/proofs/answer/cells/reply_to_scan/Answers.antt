@@ -1,0 +1,30 @@
+use Rattle.std.proofs.Common.{◌≡◌, sym, subst, ap, ◌∙◌, List, [], ◌∷◌, ◌++◌, length, arith}
+use Rattle.geo_sign.specs.Place.{Place}
+use Rattle.geo_tie.specs.Vertices.{vertices_of}
+use Rattle.geo_tie.specs.Cells.{IsCellList}
+use Rattle.scan.specs.Views.{rows_of}
+use Rattle.recon_build.specs.Scans.{points_of}
+use Rattle.recon_build.proofs.SightLists.{points_are, few_points}
+use Rattle.merge.specs.Merging.{distinct_points}
+use Rattle.recon_cmd.specs.Lines.{cells_line, cells_text}
+use Rattle.recon_cmd.specs.Replies.{texts_of}
+use Rattle.recon_cmd.specs.declared.answer.Text.{Text}
+use Rattle.recon_cmd.proofs.ScanReplies.{celled}
+use Rattle.recon_cmd.proofs.answer.cells.reply_to_scan.Goals as goal
+
+pub plain_cells-requires : goal.plain_cells-requires
+plain_cells-requires c =
+    let points : c.deref-2.result.now ≡ points_of (rows_of c.args.scan.now) =
+    c.deref-2.ensures.value ∙ (c.in_ok-merged.ensures.points ∙ (ap distinct_points c.deref.ensures.value ∙ sym (points_are c.args.scan.now))) in
+    record { few = omega (arith, ap length points, few_points c.args.scan.now) }
+
+pub returns : goal.returns
+returns c =
+    let points : c.in_ok-merged.merged.points.items ≡ points_of (rows_of c.args.scan.now) =
+    c.in_ok-merged.ensures.points ∙ (ap distinct_points c.deref.ensures.value ∙ sym (points_are c.args.scan.now)) in
+    let writes_is : texts_of c.push.new.self.items ≡ (c.args.output.now, c.in_ok-text.text.items) ∷ [] =
+    ap texts_of (c.in_ok-push.ensures.items ∙ ap (λ (texts : List Text). texts ++ (record { name = c.args.output; bytes = c.in_ok-text.text } ∷ [])) c.new-texts.ensures.items) in
+    let line_is : c.in_ok-line.line.items ≡ cells_line (length c.in_ok-merged.merged.points.items) (length c.in_ok-cells.cells.items) = cc (c.in_ok-line.ensures, c.len.ensures, c.len-2.ensures) in
+    celled c.args.output.now (rows_of c.args.scan.now) c.in_ok-merged.merged.points.items c.in_ok-cells.cells.items (texts_of c.push.new.self.items) c.in_ok-text.text.items c.in_ok-line.line.items
+    points (subst (λ (points : List Place). IsCellList (vertices_of points) c.in_ok-cells.cells.items) c.deref-2.ensures.value c.in_ok-cells.ensures)
+    writes_is (c.in_ok-text.ensures ∙ ap cells_text c.deref-3.ensures.value) line_is

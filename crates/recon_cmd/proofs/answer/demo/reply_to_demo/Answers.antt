@@ -1,0 +1,12 @@
+use Rattle.std.proofs.Common.{rules, refl, ap, ◌∙◌}
+use Rattle.scan.specs.Views.{rows_of}
+use Rattle.recon_cmd.specs.Lines.{demo_line}
+use Rattle.recon_cmd.proofs.DemoReplies.{demonstrated}
+use Rattle.recon_cmd.proofs.answer.demo.reply_to_demo.Goals as goal
+
+pub returns : goal.returns
+returns c =
+    rw (c.new.ensures.items) (demonstrated c.args.demo.count c.args.demo.seed (rows_of c.in_ok-scan.scan) _ c.in_ok-solved.solved c.in_ok-built.built.items c.in_ok-line.line.items
+    c.in_ok-scan.ensures.within c.in_ok-scan.ensures.read refl refl
+    c.in_ok-solved.ensures.solution c.in_ok-solved.ensures.valid c.in_ok-solved.ensures.well_formed
+    (search rules) (c.in_ok-line.ensures ∙ ap (demo_line c.args.demo.count c.args.demo.seed) c.deref.ensures.value))

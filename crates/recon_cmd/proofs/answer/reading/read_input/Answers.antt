@@ -1,0 +1,10 @@
+use Rattle.std.proofs.Common.{rules}
+use Rattle.recon_cmd.specs.OptionViews.{options_view}
+use Rattle.recon_cmd.specs.declared.answer.Line.TheVariants.{Fixed}
+use Rattle.recon_cmd.proofs.Readings.{read_long}
+use Rattle.recon_cmd.proofs.answer.reading.read_input.Goals as goal
+
+pub returns-in-Err-TooLong-clause-read : goal.returns-in-Err-TooLong-clause-read
+returns-in-Err-TooLong-clause-read g c =
+    read_long c.args.name.now (options_view c.args.options.now) (Fixed c.line_of_too_long_scan.result) (g.H.Host.state c.args.host.now).told
+    c.line_of_too_long_scan.ensures (c.in-Err-TooLong.ensures.longer (search rules))

@@ -1,0 +1,234 @@
+//! Runs of `check`: the verdict on a mesh and a certificate, one line for each reason, and what was built.
+
+use super::build::{FOUR_CERT, FOUR_MESH};
+use super::{FOUR, PIECE, Ran, ended, run_on, written};
+use crate::run;
+use gen_scan::gen_scan;
+use host::MemHost;
+use scan::push_scan;
+use std::alloc::Global;
+use std::test::Fail;
+
+const WORDS: [&str; 4] = ["check", "in", "mesh", "cert"];
+
+// A run over the files `in`, `mesh` and `cert`, of which the last two need not be there.
+fn check(
+    alloc: Global,
+    words: &[&str],
+    input: &[u8],
+    mesh: Option<&[u8]>,
+    cert: Option<&[u8]>,
+) -> Result<Ran, Fail> {
+    let mut owned = Vec::new(alloc);
+    for word in words {
+        owned.push(String::from_str(alloc, word)?)?;
+    }
+    let files = vec![in alloc;
+        (String::from_str(alloc, "in")?, Some(input.to_vec(alloc)?)),
+        (String::from_str(alloc, "mesh")?, copied(alloc, mesh)?),
+        (String::from_str(alloc, "cert")?, copied(alloc, cert)?),
+    ]?;
+    let mut host = MemHost::new(alloc, files, PIECE, 1_048_576, Vec::new(alloc))?;
+    let status = run(alloc, &owned, &mut host);
+    Ok(Ran {
+        status,
+        said: host.said().to_vec(alloc)?,
+        output: None,
+        mesh: written(alloc, &host, "mesh")?,
+        cert: written(alloc, &host, "cert")?,
+    })
+}
+
+// The bytes, if there are any.
+fn copied(alloc: Global, bytes: Option<&[u8]>) -> Result<Option<Vec<u8>>, Fail> {
+    match bytes {
+        Some(bytes) => Ok(Some(bytes.to_vec(alloc)?)),
+        None => Ok(None),
+    }
+}
+
+// A text, with another part in the place of the first one like this.
+fn with_part(alloc: Global, text: &str, old: &str, new: &str) -> Result<String, Fail> {
+    match text.split_once(old) {
+        Some((before, behind)) => Ok(format!(in alloc; "{before}{new}{behind}")?),
+        None => Err(Fail::new("the text has no such part")),
+    }
+}
+
+// The flow and the sink of the four points.
+const FLOW: &str = "flow 4\n8 9 10 1\n8 10 11 1\n8 11 9 1\n9 11 10 1\nsink 1\n8 9 10 11 4\n";
+
+#[test]
+fn a_certificate_is_right_or_has_a_first_fault(rt: HostRuntime) -> Result<(), Fail> {
+    let alloc = rt.alloc();
+    let light: [&str; 6] = ["check", "in", "mesh", "cert", "vote=1", "smooth=1"];
+    let smooth: [&str; 5] = ["check", "in", "mesh", "cert", "smooth=2"];
+    let cases: [(&[&str], &str, &str, u8, &str); 19] = [
+        (&WORDS, "", "", 0, "yes inside 1 faces 4 cost 4\n"),
+        (
+            &WORDS,
+            "8 9 10 1\n",
+            "8 9 10 01\n",
+            1,
+            "no 1 cert_line line 11\n",
+        ),
+        (
+            &WORDS,
+            "8 9 10 1\n8 10 11 1\n",
+            "8 10 11 1\n8 9 10 1\n",
+            1,
+            "no 2 cert_order line 12\n",
+        ),
+        (&WORDS, "end\n", "", 1, "no 3 cert_cut\n"),
+        (
+            &WORDS,
+            "points 4",
+            "points 3",
+            1,
+            "no 4 other_counts points stated 3 here 4\n",
+        ),
+        (
+            &WORDS,
+            "scanners 4\nsights 4",
+            "scanners 5\nsights 5",
+            1,
+            "no 4 other_counts scanners stated 5 here 4\n",
+        ),
+        (
+            &WORDS,
+            "sights 4",
+            "sights 5",
+            1,
+            "no 4 other_counts sights stated 5 here 4\n",
+        ),
+        (
+            &light,
+            "",
+            "",
+            1,
+            "no 4 other_counts vote stated 8 here 1\n",
+        ),
+        (
+            &smooth,
+            "",
+            "",
+            1,
+            "no 4 other_counts smooth stated 1 here 2\n",
+        ),
+        (
+            &WORDS,
+            "8 9 10 11\n",
+            "0 1 2 3\n",
+            1,
+            "no 5 no_such_cell row 0\n",
+        ),
+        (
+            &WORDS,
+            "8 9 10 1\n",
+            "0 1 2 1\n",
+            1,
+            "no 6 no_such_facet row 0\n",
+        ),
+        (
+            &WORDS,
+            "8 9 10 11 4",
+            "0 1 2 3 4",
+            1,
+            "no 7 no_such_sink row 0\n",
+        ),
+        (
+            &WORDS,
+            "8 9 10 1\n",
+            "8 9 10 2\n",
+            1,
+            "no 9 over_capacity 8 9 10 flow 2 cap 1\n",
+        ),
+        (
+            &WORDS,
+            "8 9 10 11 4",
+            "8 9 10 11 33",
+            1,
+            "no 10 over_sink 8 9 10 11 flow 33 cap 32\n",
+        ),
+        (
+            &WORDS,
+            "8 9 10 11 4",
+            "8 9 10 11 3",
+            1,
+            "no 11 unbalanced 8 9 10 11 in 4 out 3\n",
+        ),
+        (
+            &WORDS,
+            FLOW,
+            "flow 0\nsink 0\n",
+            1,
+            "no 12 not_equal value 0 cost 4\n",
+        ),
+        (&light, "vote 8", "vote 1", 1, "no 13 not_least 8 9 10 11\n"),
+        (
+            &WORDS,
+            "cost 4",
+            "cost 5",
+            1,
+            "no 14 wrong_cost stated 5 cost 4\n",
+        ),
+        (&WORDS, "end\n", "end\n\n", 1, "no 1 cert_line line 18\n"),
+    ];
+    for (words, old, new, status, said) in cases {
+        let cert = with_part(alloc, FOUR_CERT, old, new)?;
+        let ran = check(
+            alloc,
+            words,
+            FOUR.as_bytes(),
+            Some(FOUR_MESH.as_bytes()),
+            Some(cert.as_bytes()),
+        )?;
+        assert!(rt; ended(&ran, status, said), "{said:?}");
+    }
+    Ok(())
+}
+
+// One point, which has no cell without a corner of the box.
+const ONE_POINT: &str =
+    "ply\nformat ascii 1.0\nelement vertex 1\nproperty int x\nproperty int y\nproperty int z\nproperty int scanner\nelement scanner 1\nproperty int x\nproperty int y\nproperty int z\nend_header\n0 0 0 0\n100 0 0\n";
+
+const ONE_POINT_CERT: &str =
+    "recon certificate 1\npoints 1\nscanners 1\nsights 1\nvote 8\nsmooth 1\ncost 8\ninside 1\n0 1 2 8\nflow 0\nsink 0\nend\n";
+
+// Where the scan is refused, no other file is asked for.
+#[test]
+fn other_files_give_a_reason_or_are_not_there(rt: HostRuntime) -> Result<(), Fail> {
+    let alloc = rt.alloc();
+    let cut_mesh = &FOUR_MESH.as_bytes()[..233];
+    let mesh = Some(FOUR_MESH.as_bytes());
+    let cert = Some(FOUR_CERT.as_bytes());
+    let one_cert = Some(ONE_POINT_CERT.as_bytes());
+    let cases: [(&str, Option<&[u8]>, Option<&[u8]>, u8, &str); 5] = [
+        (FOUR, Some(cut_mesh), cert, 1, "no 15 mesh_differs at 233\n"),
+        (ONE_POINT, mesh, one_cert, 1, "no 8 fixed_inside 0 1 2 8\n"),
+        ("", None, None, 3, "refused 1 not_ply\n"),
+        (FOUR, None, cert, 4, ""),
+        (FOUR, mesh, None, 4, ""),
+    ];
+    for (input, mesh, cert, status, said) in cases {
+        let ran = check(alloc, &WORDS, input.as_bytes(), mesh, cert)?;
+        assert!(rt; ended(&ran, status, said), "{said:?}");
+    }
+    Ok(())
+}
+
+#[test]
+fn what_was_built_is_accepted(rt: HostRuntime) -> Result<(), Fail> {
+    let alloc = rt.alloc();
+    let scan = gen_scan(alloc, 56, 7)?;
+    let mut text = Vec::new(alloc);
+    push_scan(&mut text, &scan)?;
+    let built = run_on(alloc, &["build", "in", "mesh", "cert"], Some(&text))?;
+    let mesh = built.mesh.as_ref().map(|bytes| bytes.as_slice());
+    let cert = built.cert.as_ref().map(|bytes| bytes.as_slice());
+    let ran = check(alloc, &WORDS, &text, mesh, cert)?;
+    assert!(rt; built.status == 0 && ran.status == 0);
+    assert!(rt; ran.said.starts_with(b"yes inside "));
+    assert!(rt; built.said.ends_with(&ran.said[3..]));
+    Ok(())
+}

@@ -1,0 +1,34 @@
+//! Runs of `demo`: what is said of generated scans, with no call but `say`.
+
+use super::{ended, run_with, wrote_nothing};
+use host::HostCall;
+use std::test::Fail;
+
+#[test]
+fn a_generated_scan_is_built_and_no_file_is_touched(rt: HostRuntime) -> Result<(), Fail> {
+    let alloc = rt.alloc();
+    let cases: [(&[&str], &str); 4] = [
+        (
+            &["demo", "1", "7"],
+            "demo 1 7 points 1 scanners 6 sights 1 inside 0 faces 0 cost 8\n",
+        ),
+        (
+            &["demo", "0000000001", "00000000000000000007"],
+            "demo 1 7 points 1 scanners 6 sights 1 inside 0 faces 0 cost 8\n",
+        ),
+        (
+            &["demo", "1", "18446744073709551615"],
+            "demo 1 18446744073709551615 points 1 scanners 6 sights 1 inside 0 faces 0 cost 8\n",
+        ),
+        (
+            &["demo", "56", "7"],
+            "demo 56 7 points 56 scanners 6 sights 56 inside 61 faces 92 cost 196\n",
+        ),
+    ];
+    for (words, said) in cases {
+        let failing = vec![in alloc; (HostCall::Open, 1), (HostCall::Create, 1)]?;
+        let ran = run_with(alloc, words, None, 10, failing)?;
+        assert!(rt; ended(&ran, 0, said) && wrote_nothing(&ran), "{words:?}");
+    }
+    Ok(())
+}
