@@ -1,6 +1,13 @@
 //! What cells are voted on by: the settings and the sights. It stands on nothing else.
 
 ghost use Rattle.std.specs.Prelude.{◌≡◌, ◌≤◌, ◌↔◌, IsSome, IfSome};
+ghost use Rattle.flow_net.specs.declared.votes.TheConstants.{WEIGHT_LIMIT};
+
+/// The largest weight of a vote and of smoothing.
+pub const WEIGHT_LIMIT: u32 = 65_535;
+
+/// The most sights of a network.
+pub const SIGHT_LIMIT: usize = 1_048_576;
 
 /// The weights of votes and of smoothing.
 #[derive(Clone, Copy, Debug, PartialEq, Eq)]
@@ -10,18 +17,18 @@ pub struct Settings {
     /// What each facet has as capacity beside its votes, 0 to 65,535.
     pub smooth: u32,
     pub ghost vote_at_least: { 1 ≤ vote },
-    pub ghost vote_at_most: { vote ≤ 65535 },
-    pub ghost smooth_at_most: { smooth ≤ 65535 },
+    pub ghost vote_at_most: { vote ≤ WEIGHT_LIMIT },
+    pub ghost smooth_at_most: { smooth ≤ WEIGHT_LIMIT },
 }
 
 impl Settings {
     /// The settings of these weights, or None where a weight is out of its range.
     pub fn new(vote: u32, smooth: u32) -> Option<Settings>
-        ensures within { IsSome result ↔ ((1 ≤ vote) × (vote ≤ 65535) × (smooth ≤ 65535)) }
+        ensures within { IsSome result ↔ ((1 ≤ vote) × (vote ≤ WEIGHT_LIMIT) × (smooth ≤ WEIGHT_LIMIT)) }
         ensures vote { IfSome result (λ settings. settings.vote ≡ vote) }
         ensures smooth { IfSome result (λ settings. settings.smooth ≡ smooth) }
     {
-        if vote < 1 || vote > 65_535 || smooth > 65_535 {
+        if vote < 1 || vote > WEIGHT_LIMIT || smooth > WEIGHT_LIMIT {
             return None;
         }
         Some(Settings { vote, smooth })
@@ -33,6 +40,6 @@ impl Settings {
 pub struct Sight {
     /// The number of the vertex that was seen, from 8 on: the corners of the box round all vertices have 0 to 7.
     pub vertex: u32,
-    /// The place of the scanner in the list of scanners.
+    /// The index of the scanner in the list of scanners.
     pub scanner: u32,
 }

@@ -8,21 +8,21 @@
 --   rows_of_words number words    a row for each two words, from this number on
 --   generated count seed          the scan
 use Rattle.std.specs.Prelude.{ℕ, ◌+◌, ◌*◌, ◌/◌, ◌%◌, ◌==◌, List, [], ◌∷◌, ℤ, pos, neg_ℤ, ◌-ℤ◌, if◌then◌else◌}
-use Rattle.geo_sign.specs.Place.{Place, place}
+use Rattle.geo_sign.specs.Point.{Point, point}
 use Rattle.rand_core.specs.Steps.{first_words}
 use Rattle.rand_pcg.specs.Lcg.{Lcg, started, increment_of}
 use Rattle.rand_pcg.specs.Pcg.{multiplier_64, pcg32}
 use Rattle.scan.specs.ScanRows.{ScanRows, VertexRow}
 
 -- the place so far along an axis; of the other two axes the earlier has u, and the later v
-abbrev pub on_axis : (axis : ℕ) → (along u v : ℤ) → Place
+abbrev pub on_axis : (axis : ℕ) → (along u v : ℤ) → Point
 on_axis axis along u v =
-    if axis == 0 then place along u v
-    else (if axis == 1 then place u along v
-    else place u v along)
+    if axis == 0 then point along u v
+    else (if axis == 1 then point u along v
+    else point u v along)
 
 -- Faces 0 and 1 are before and behind the middle on the axis x, 2 and 3 on y, 4 and 5 on z.
-abbrev pub on_face : (face : ℕ) → (distance u v : ℤ) → Place
+abbrev pub on_face : (face : ℕ) → (distance u v : ℤ) → Point
 on_face face distance u v = on_axis (face / 2) (if face % 2 == 0 then distance else neg_ℤ distance) u v
 
 -- the number from -1000 to 1000 that a word gives
@@ -44,10 +44,10 @@ rows_of_words number (first ∷ []) = []
 rows_of_words number (first ∷ second ∷ words) = row_of number first second ∷ rows_of_words (number + 1) words
 
 -- a scanner before each face
-abbrev pub scanners : List Place
+abbrev pub scanners : List Point
 scanners = before 0 ∷ before 1 ∷ before 2 ∷ before 3 ∷ before 4 ∷ before 5 ∷ []
   where
-    before : ℕ → Place
+    before : ℕ → Point
     before face = on_face face (pos 5000) (pos 0) (pos 0)
 
 -- the scan of so many rows, for which the generator gives two words each, in order

@@ -1,8 +1,9 @@
 //! Places on and before the faces of a cube about the middle of the box. It stands on the points of `geo_sign`.
 
 ghost use Rattle.std.specs.Prelude.{◌≡◌, ◌<◌, ◌≤◌, IfOk, All, pos, unsigned_abs};
-ghost use Rattle.geo_sign.specs.Place.{IsWithin, place};
+ghost use Rattle.geo_sign.specs.Point.{IsWithin, point};
 ghost use Rattle.gen_scan.specs.Generated.{on_face, scanners as scanners_of_faces};
+ghost use Rattle.geo_sign.specs.declared.point.TheConstants.{DATA_LIMIT};
 
 use crate::NoMemory;
 use geo_sign::Point;
@@ -16,8 +17,8 @@ pub const FACES: u32 = 6;
 
 // The data point with these coordinates.
 fn data_point(x: i64, y: i64, z: i64) -> Point
-    requires { IsWithin 2097151 (place x y z) }
-    ensures { result ≡ place x y z }
+    requires { IsWithin DATA_LIMIT (point x y z) }
+    ensures { result ≡ point x y z }
 {
     match Point::data(x, y, z) {
         Some(point) => point,
@@ -32,7 +33,7 @@ pub fn point_on_face(face: u32, distance: i64, u: i64, v: i64) -> Point
     requires u { unsigned_abs u ≤ 1000 }
     requires v { unsigned_abs v ≤ 1000 }
     ensures value { result ≡ on_face face distance u v }
-    ensures data { IsWithin 2097151 result }
+    ensures data { IsWithin DATA_LIMIT result }
 {
     let along = if face % 2 == 0 { distance } else { -distance };
     match face / 2 {
@@ -45,7 +46,7 @@ pub fn point_on_face(face: u32, distance: i64, u: i64, v: i64) -> Point
 /// A scanner before each face, on the axis through its middle.
 pub fn scanners(alloc: Global) -> Result<Vec<Point>, NoMemory>
     ensures value { IfOk result (λ places. places.items ≡ scanners_of_faces) }
-    ensures data { IfOk result (λ places. All (IsWithin 2097151) places.items) }
+    ensures data { IfOk result (λ places. All (IsWithin DATA_LIMIT) places.items) }
 {
     let mut places = Vec::new(alloc);
     for face in 0..FACES {

@@ -1,12 +1,13 @@
 //! The scan that a number makes. It stands on the faces of `cube` and on the kit's `rand_pcg`.
 
 ghost use Rattle.std.specs.Prelude.{◌≡◌, ◌<◌, ◌≤◌, ◌*◌, ℕ, IfOk, All, length, unsigned_abs};
-ghost use Rattle.geo_sign.specs.Place.{IsWithin};
+ghost use Rattle.geo_sign.specs.Point.{IsWithin};
 ghost use Rattle.rand_core.specs.Steps.{first_words};
 ghost use Rattle.rand_pcg.specs.Pcg.{pcg32};
 ghost use Rattle.scan.specs.ScanRows.{point_limit, vertex_rows};
 ghost use Rattle.scan.specs.Views.{rows_of};
 ghost use Rattle.gen_scan.specs.Generated.{spread as spread_of, generator, rows_of_words, generated};
+ghost use Rattle.geo_sign.specs.declared.point.TheConstants.{DATA_LIMIT};
 
 use crate::NoMemory;
 use crate::cube::{FACES, point_on_face, scanners};
@@ -30,7 +31,7 @@ fn spread(word: u32) -> i64
 // The points of so many rows and the numbers of their scanners.
 fn vertices(alloc: Global, count: u32, seed: u64) -> Result<(Vec<Point>, Vec<u32>), NoMemory>
     ensures rows { IfOk result (λ made. vertex_rows made.0.items made.1.items ≡ rows_of_words 0 (first_words pcg32 (count * 2) (generator seed))) }
-    ensures data { IfOk result (λ made. All (IsWithin 2097151) made.0.items) }
+    ensures data { IfOk result (λ made. All (IsWithin DATA_LIMIT) made.0.items) }
     ensures there { IfOk result (λ made. All (λ k. k < 6) made.1.items) }
     ensures points { IfOk result (λ made. length made.0.items ≡ count) }
     ensures numbers { IfOk result (λ made. length made.1.items ≡ count) }

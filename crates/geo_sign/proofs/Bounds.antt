@@ -6,8 +6,9 @@ use Rattle.std.proofs.Common.{ℕ, ◌+◌, ◌*◌, ◌≤◌, ◌<◌, ◌^◌
 use Rattle.std.proofs.lemmas.Int.{ints, unsigned_abs-mul, fits_signed_from_abs, to_z-of_z}
 use mir.Syntax.{Width}
 use mir.Val.{hbits}
-use Rattle.geo_sign.specs.Place.{Place, place, IsWithin, step, cross, dot}
+use Rattle.geo_sign.specs.Point.{Point, point, IsWithin, step, cross, dot}
 use Rattle.geo_sign.specs.Orientation.{orientation}
+use Rattle.geo_sign.specs.declared.point.TheConstants.{BOX_LIMIT}
 
 pub abs_add : (a b : ℤ) (m n : ℕ) → unsigned_abs a ≤ m → unsigned_abs b ≤ n → unsigned_abs (a +ℤ b) ≤ m + n
 abs_add a b m n h k = omega (arith, ints)
@@ -52,21 +53,21 @@ pub held_product : (w : Width) (a b : ℤ) {m n : ℕ} → unsigned_abs a ≤ m 
     Held (m * n) (kept w a *ℤ kept w b) (a *ℤ b)
 held_product w a b {m} {n} h k i j = held_mul (held_kept w (held m a h) i) (held_kept w (held n b k) j)
 
-pub same_place : (a b c d e f : ℤ) → a ≡ d → b ≡ e → c ≡ f → place a b c ≡ place d e f
-same_place a b c d e f p q r = ap (λ u. place u b c) p ∙ ap (λ u. place d u c) q ∙ ap (λ u. place d e u) r
+pub same_place : (a b c d e f : ℤ) → a ≡ d → b ≡ e → c ≡ f → point a b c ≡ point d e f
+same_place a b c d e f p q r = ap (λ u. point u b c) p ∙ ap (λ u. point d u c) q ∙ ap (λ u. point d e u) r
 
-pub within_of : (m : ℕ) (p q : Place) → p ≡ q → IsWithin m q → IsWithin m p
-within_of m p q e h = subst (λ (r : Place). IsWithin m r) (sym e) h
+pub within_of : (m : ℕ) (p q : Point) → p ≡ q → IsWithin m q → IsWithin m p
+within_of m p q e h = subst (λ (r : Point). IsWithin m r) (sym e) h
 
 -- a minor of two vectors between points
 pub minor_within : (a b c d : ℤ) → unsigned_abs a ≤ 2 ^ 24 → unsigned_abs b ≤ 2 ^ 24 → unsigned_abs c ≤ 2 ^ 24 → unsigned_abs d ≤ 2 ^ 24 → unsigned_abs (a *ℤ d -ℤ b *ℤ c) ≤ 2 ^ 49
 minor_within a b c d h i j k = abs_sub (a *ℤ d) (b *ℤ c) (2 ^ 48) (2 ^ 48) (abs_mul a d (2 ^ 24) (2 ^ 24) h k) (abs_mul b c (2 ^ 24) (2 ^ 24) i j)
 
-pub minor_held : (u v : Place) (m : ℤ) → m ≡ (cross u v).z → IsWithin (2 ^ 24) u → IsWithin (2 ^ 24) v → Held (2 ^ 49) m ((cross u v).z)
+pub minor_held : (u v : Point) (m : ℤ) → m ≡ (cross u v).z → IsWithin (2 ^ 24) u → IsWithin (2 ^ 24) v → Held (2 ^ 49) m ((cross u v).z)
 minor_held u v m e h k = record { is = e; within = minor_within u.x u.y v.x v.y h.x_within h.y_within k.x_within k.y_within }
 
 -- a vector product of vectors between points, and its scalar product with one
-cross_within : (u v : Place) → IsWithin (2 ^ 24) u → IsWithin (2 ^ 24) v → IsWithin (2 ^ 49) (cross u v)
+cross_within : (u v : Point) → IsWithin (2 ^ 24) u → IsWithin (2 ^ 24) v → IsWithin (2 ^ 49) (cross u v)
 cross_within u v h k =
     record {
       x_within = minor_within u.y u.z v.y v.z h.y_within h.z_within k.y_within k.z_within;
@@ -74,22 +75,22 @@ cross_within u v h k =
       z_within = minor_within u.x u.y v.x v.y h.x_within h.y_within k.x_within k.y_within;
     }
 
-dot_within : (u v : Place) → IsWithin (2 ^ 49) u → IsWithin (2 ^ 24) v → unsigned_abs (dot u v) ≤ 3 * 2 ^ 73
+dot_within : (u v : Point) → IsWithin (2 ^ 49) u → IsWithin (2 ^ 24) v → unsigned_abs (dot u v) ≤ 3 * 2 ^ 73
 dot_within u v h k =
     abs_add (u.x *ℤ v.x +ℤ u.y *ℤ v.y) (u.z *ℤ v.z) (2 ^ 74) (2 ^ 73)
     (abs_add (u.x *ℤ v.x) (u.y *ℤ v.y) (2 ^ 73) (2 ^ 73) (abs_mul u.x v.x (2 ^ 49) (2 ^ 24) h.x_within k.x_within) (abs_mul u.y v.y (2 ^ 49) (2 ^ 24) h.y_within k.y_within))
     (abs_mul u.z v.z (2 ^ 49) (2 ^ 24) h.z_within k.z_within)
 
-step_within : (a b : Place) → IsWithin 8388608 a → IsWithin 8388608 b → IsWithin (2 ^ 24) (step a b)
+step_within : (a b : Point) → IsWithin BOX_LIMIT a → IsWithin BOX_LIMIT b → IsWithin (2 ^ 24) (step a b)
 step_within a b h k =
     record {
-      x_within = abs_sub b.x a.x 8388608 8388608 k.x_within h.x_within;
-      y_within = abs_sub b.y a.y 8388608 8388608 k.y_within h.y_within;
-      z_within = abs_sub b.z a.z 8388608 8388608 k.z_within h.z_within;
+      x_within = abs_sub b.x a.x BOX_LIMIT BOX_LIMIT k.x_within h.x_within;
+      y_within = abs_sub b.y a.y BOX_LIMIT BOX_LIMIT k.y_within h.y_within;
+      z_within = abs_sub b.z a.z BOX_LIMIT BOX_LIMIT k.z_within h.z_within;
     }
 
 -- the orientation of points of the box
-pub orientation_bound : (a b c d : Place) → IsWithin 8388608 a → IsWithin 8388608 b → IsWithin 8388608 c → IsWithin 8388608 d → unsigned_abs (orientation a b c d) < 2 ^ 75
+pub orientation_bound : (a b c d : Point) → IsWithin BOX_LIMIT a → IsWithin BOX_LIMIT b → IsWithin BOX_LIMIT c → IsWithin BOX_LIMIT d → unsigned_abs (orientation a b c d) < 2 ^ 75
 unfolding orientation
 orientation_bound a b c d h i j k =
     lt_of_le_of_lt (dot_within (cross (step a b) (step a c)) (step a d) (cross_within (step a b) (step a c) (step_within a b h i) (step_within a c h j)) (step_within a d h k)) (ltb→lt (3 * 2 ^ 73) (2 ^ 75) tt)

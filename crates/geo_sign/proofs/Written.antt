@@ -2,11 +2,11 @@
 -- without it, in exactly its shape, so that the value of the one computes to the other.
 --
 --   Symbols, symbols i      a place whose coordinates are polynomials: the variables i, i + 1, i + 2
---   RatioSymbols            such a place over a polynomial
+--   RationalSymbols            such a place over a polynomial
 --   coordinates a numbers   the list of numbers for variables that begins with the coordinates of a
 use Rattle.std.proofs.Common.{ℕ, ◌+◌, ℤ, List, ◌∷◌}
-use Rattle.polynomial.specs.Polynomial.{Polynomial, variable, sum, difference, product, normal}
-use Rattle.geo_sign.specs.Place.{Place}
+use Rattle.geo_sign.specs.Polynomial.{Polynomial, variable, sum, difference, product, normal}
+use Rattle.geo_sign.specs.Point.{Point}
 
 pub record Symbols : Type 0 where
   pub x : Polynomial
@@ -16,11 +16,11 @@ pub record Symbols : Type 0 where
 abbrev pub symbols : ℕ → Symbols
 symbols i = record { x = variable i; y = variable (i + 1); z = variable (i + 2) }
 
-pub record RatioSymbols : Type 0 where
+pub record RationalSymbols : Type 0 where
   pub at : Symbols
   pub over : Polynomial
 
-abbrev pub coordinates : Place → List ℤ → List ℤ
+abbrev pub coordinates : Point → List ℤ → List ℤ
 coordinates a numbers = a.x ∷ a.y ∷ a.z ∷ numbers
 
 abbrev pub step' : Symbols → Symbols → Symbols
@@ -47,6 +47,6 @@ abbrev pub power' : (a b c d p : Symbols) (ha hb hc hd hp : Polynomial) → Poly
 power' a b c d p ha hb hc hd hp =
     difference (product (orientation' a b c d) hp) (sum (sum (sum (product ha (orientation' p b c d)) (product hb (orientation' a p c d))) (product hc (orientation' a b p d))) (product hd (orientation' a b c p)))
 
-abbrev pub side' : (a b c : Symbols) → RatioSymbols → Polynomial
+abbrev pub side' : (a b c : Symbols) → RationalSymbols → Polynomial
 side' a b c q =
     normal (dot' (cross' (step' a b) (step' a c)) (record { x = difference q.at.x (product q.over a.x); y = difference q.at.y (product q.over a.y); z = difference q.at.z (product q.over a.z) }))

@@ -1,12 +1,12 @@
 -- How three and four places lie.
 use Rattle.std.specs.Prelude.{◌≡◌, ℤ}
-use Rattle.geo_sign.specs.Place.{Place, origin, step, cross, dot}
+use Rattle.geo_sign.specs.Point.{Point, origin, step, cross, dot}
 
 -- three places on one line
-abbrev pub IsOnLine : (a b c : Place) → Type 0
+abbrev pub IsOnLine : (a b c : Point) → Type 0
 IsOnLine a b c = cross (step a b) (step a c) ≡ origin
 
 -- Six times the volume of the tetrahedron a b c d, positive where d is on the side of a b c to which their normal
 -- (b - a) x (c - a) points. Four places with a positive orientation are written positively.
-unfoldable pub orientation : Place → Place → Place → Place → ℤ
+unfoldable pub orientation : Point → Point → Point → Point → ℤ
 orientation a b c d = dot (cross (step a b) (step a c)) (step a d)

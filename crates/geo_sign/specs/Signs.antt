@@ -14,3 +14,9 @@ abbrev pub first_sign : Sign → Sign → Sign
 first_sign Neg s = Neg
 first_sign Zero s = s
 first_sign Pos s = Pos
+
+-- the sign of the opposite number
+abbrev pub opposite_sign : Sign → Sign
+opposite_sign Neg = Pos
+opposite_sign Zero = Zero
+opposite_sign Pos = Neg

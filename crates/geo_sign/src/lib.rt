@@ -12,10 +12,16 @@
 //! | `orient` | six times the volume of a tetrahedron | 3 | 75 |
 //! | `in_sphere` | the power of a point at four others | 5 | 127 |
 //! | `side_of_scanner` | four signs of degree 3 and 2, the first that is not zero | 3 | 75 |
+//!
+//! `specs/` has what every crate above means by vertices, tetrahedra, cells and sights, and identities of polynomials, by which the
+//! proofs multiply out. `laws` says what these meanings do not depend on: how a tetrahedron or a facet is written, and vertices that
+//! are not in.
 #![tactic(auto)]
 
+mod laws;
 mod orientation;
 mod point;
+mod polynomial;
 mod scanner;
 mod sign;
 mod sphere;
@@ -23,8 +29,10 @@ mod sphere;
 mod tests;
 mod vector;
 
+pub use laws::{agreement_law, rising_list_law, rotated_facet_law, row_law, writing_law};
 pub use orientation::{orient, orient_value};
-pub use point::{Point, corner};
+pub use point::{BOX_LIMIT, DATA_LIMIT, Point, corner};
+pub use polynomial::identity_law;
 pub use scanner::side_of_scanner;
 pub use sign::Sign;
 pub use sphere::in_sphere;

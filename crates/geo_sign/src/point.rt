@@ -1,16 +1,20 @@
 //! Points of the box, in scaled whole units, the box's corners, and the vector between two points.
 
 ghost use Rattle.std.specs.Prelude.{◌≡◌, ◌<◌, ◌^◌, IfSome, IfNone};
-ghost use Rattle.geo_sign.specs.Place.{place, IsWithin, corner_place, step};
+ghost use Rattle.geo_sign.specs.Point.{point, IsWithin, corner_point, step};
+ghost use Rattle.geo_sign.specs.declared.point.TheConstants.{BOX_LIMIT, DATA_LIMIT};
 
 use crate::vector::Vector;
 use std::marker::Model;
 
 /// The greatest absolute value of a point's coordinate: 2^23 scaled units, where the walls of the box are.
-const BOX_LIMIT: i32 = 8_388_608;
+pub const BOX_LIMIT: u64 = 8_388_608;
 
 /// The greatest absolute value of a coordinate that a scan states: 2^21 - 1 scaled units.
-const DATA_LIMIT: u64 = 2_097_151;
+pub const DATA_LIMIT: u64 = 2_097_151;
+
+/// Where the walls of the box are, as a coordinate.
+const WALL: i32 = BOX_LIMIT as i32;
 
 /// A point of the box, in scaled whole units. Contracts see it as its place.
 #[derive(Clone, Copy, Debug, PartialEq, Eq, PartialOrd, Ord, Hash)]
@@ -21,13 +25,14 @@ pub struct Point {
 }
 
 impl Model for Point {
-    ghost use Rattle.geo_sign.specs.Place.{Place, place, IsWithin};
+    ghost use Rattle.geo_sign.specs.Point.{Point, point, IsWithin};
+    ghost use Rattle.geo_sign.specs.declared.point.TheConstants.{BOX_LIMIT};
 
-    ghost Value = { Place };
+    ghost Value = { Point };
 
-    ghost view = { λ p. place p.x p.y p.z };
+    ghost view = { λ p. point p.x p.y p.z };
 
-    ghost invariant = { λ p. IsWithin 8388608 (place p.x p.y p.z) };
+    ghost invariant = { λ p. IsWithin BOX_LIMIT (point p.x p.y p.z) };
 
     ghost inverse = { λ p. record { x = p.x; y = p.y; z = p.z } };
 }
@@ -35,8 +40,8 @@ impl Model for Point {
 impl Point {
     /// A data point: one that a scan may state. None exactly where a coordinate has an absolute value over 2,097,151.
     pub fn data(x: i64, y: i64, z: i64) -> Option<Point>
-        ensures some { IfSome result (λ p. (p ≡ place x y z) × IsWithin 2097151 p) }
-        ensures none { IfNone result (¬ IsWithin 2097151 (place x y z)) }
+        ensures some { IfSome result (λ p. (p ≡ point x y z) × IsWithin DATA_LIMIT p) }
+        ensures none { IfNone result (¬ IsWithin DATA_LIMIT (point x y z)) }
     {
         if x.unsigned_abs() <= DATA_LIMIT
             && y.unsigned_abs() <= DATA_LIMIT
@@ -54,12 +59,12 @@ impl Point {
 
     /// A point of the box. None exactly where a coordinate has an absolute value over 8,388,608.
     pub fn in_box(x: i64, y: i64, z: i64) -> Option<Point>
-        ensures some { IfSome result (λ p. (p ≡ place x y z) × IsWithin 8388608 p) }
-        ensures none { IfNone result (¬ IsWithin 8388608 (place x y z)) }
+        ensures some { IfSome result (λ p. (p ≡ point x y z) × IsWithin BOX_LIMIT p) }
+        ensures none { IfNone result (¬ IsWithin BOX_LIMIT (point x y z)) }
     {
-        if x.unsigned_abs() <= BOX_LIMIT as u64
-            && y.unsigned_abs() <= BOX_LIMIT as u64
-            && z.unsigned_abs() <= BOX_LIMIT as u64
+        if x.unsigned_abs() <= BOX_LIMIT
+            && y.unsigned_abs() <= BOX_LIMIT
+            && z.unsigned_abs() <= BOX_LIMIT
         {
             Some(Point {
                 x: x as i32,
@@ -96,7 +101,7 @@ impl Point {
     pub(crate) fn to(self, end: Point) -> Vector
         ensures value { result ≡ step self end }
         ensures bound { IsWithin (2 ^ 24) result }
-        ensures kept { IsWithin 8388608 self × IsWithin 8388608 end }
+        ensures kept { IsWithin BOX_LIMIT self × IsWithin BOX_LIMIT end }
     {
         Vector::new(
             i64::from(end.x - self.x),
@@ -110,11 +115,11 @@ impl Point {
 /// along the others.
 pub fn corner(k: u8) -> Point
     requires { k < 8 }
-    ensures { result ≡ corner_place k }
+    ensures { result ≡ corner_point k }
 {
     Point {
-        x: if k & 1 == 0 { -BOX_LIMIT } else { BOX_LIMIT },
-        y: if k & 2 == 0 { -BOX_LIMIT } else { BOX_LIMIT },
-        z: if k & 4 == 0 { -BOX_LIMIT } else { BOX_LIMIT },
+        x: if k & 1 == 0 { -WALL } else { WALL },
+        y: if k & 2 == 0 { -WALL } else { WALL },
+        z: if k & 4 == 0 { -WALL } else { WALL },
     }
 }

@@ -6,7 +6,7 @@
 
 ghost use Rattle.std.specs.Prelude.{◌≡◌, ◌<◌, ◌^◌, unsigned_abs, pos};
 ghost use Rattle.geo_sign.specs.Orientation.{IsOnLine};
-ghost use Rattle.geo_sign.specs.Ratio.{side, displaced};
+ghost use Rattle.geo_sign.specs.Rational.{side, displaced};
 ghost use Rattle.geo_sign.specs.Signs.{sign_of};
 
 use crate::{Point, Sign};

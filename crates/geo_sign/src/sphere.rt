@@ -6,9 +6,10 @@
 //! whole at most 36 * 2^121, below 2^127.
 
 ghost use Rattle.std.specs.Prelude.{◌≡◌, ◌≤◌, ◌*◌, ◌^◌, unsigned_abs, ◌*ℤ◌};
-ghost use Rattle.geo_sign.specs.Place.{IsWithin, cross, dot, square};
+ghost use Rattle.geo_sign.specs.Point.{IsWithin, cross, dot, square};
 ghost use Rattle.geo_sign.specs.Power.{plain_power};
 ghost use Rattle.geo_sign.specs.Signs.{sign_of};
+ghost use Rattle.geo_sign.specs.declared.point.TheConstants.{BOX_LIMIT};
 
 use crate::vector::Vector;
 use crate::{Point, Sign};
@@ -43,7 +44,7 @@ pub fn in_sphere(a: Point, b: Point, c: Point, d: Point, p: Point) -> Sign
     ensures value { result ≡ sign_of (plain_power a b c d p) }
 
     // The range that every point keeps: it bounds the orientations of these five.
-    ensures kept { IsWithin 8388608 a × IsWithin 8388608 b × IsWithin 8388608 c × IsWithin 8388608 d × IsWithin 8388608 p }
+    ensures kept { IsWithin BOX_LIMIT a × IsWithin BOX_LIMIT b × IsWithin BOX_LIMIT c × IsWithin BOX_LIMIT d × IsWithin BOX_LIMIT p }
 {
     let u = p.to(a);
     let v = p.to(b);

@@ -2,7 +2,7 @@
 //! product with a minor is widened: of two 64-bit numbers into 128, which is one instruction.
 
 ghost use Rattle.std.specs.Prelude.{◌≡◌, ◌≤◌, ◌*◌, ◌^◌, unsigned_abs, ◌-ℤ◌, ◌*ℤ◌};
-ghost use Rattle.geo_sign.specs.Place.{place, IsWithin, cross, dot, square};
+ghost use Rattle.geo_sign.specs.Point.{point, IsWithin, cross, dot, square};
 
 use std::marker::Model;
 
@@ -15,11 +15,11 @@ pub(crate) struct Vector {
 }
 
 impl Model for Vector {
-    ghost use Rattle.geo_sign.specs.Place.{Place, place};
+    ghost use Rattle.geo_sign.specs.Point.{Point, point};
 
-    ghost Value = { Place };
+    ghost Value = { Point };
 
-    ghost view = { λ p. place p.x p.y p.z };
+    ghost view = { λ p. point p.x p.y p.z };
 
     ghost inverse = { λ p. record { x = p.x; y = p.y; z = p.z } };
 }
@@ -46,7 +46,7 @@ fn widened_product(a: i64, b: i64) -> i128
 impl Vector {
     /// The vector with these coordinates.
     pub(crate) fn new(x: i64, y: i64, z: i64) -> Vector
-        ensures { result ≡ place x y z }
+        ensures { result ≡ point x y z }
     {
         Vector { x, y, z }
     }

@@ -1,5 +1,2 @@
-pub mod Sizes
-pub mod Ties
-pub mod Own
 pub mod Rows
 pub mod Forms

@@ -1,21 +1,20 @@
--- The cells before a row, and that a rising list is given by what it contains.
+-- The cells before a row.
 --
---   all_at places                  vertices at these places, numbered in order, all in
+--   all_at points                  vertices at these points, numbered in order, all in
 --   IsCellListBefore v key rows    the list of those cells that come before a row, which may be shorter than a cell
---   RisingLaw, CellListLaw         two rising lists with the same members are one list, and so are two lists of all cells
-use Rattle.std.specs.Prelude.{ℕ, ◌≡◌, ◌↔◌, true, List, length, get_or, AllPairs, Contains}
-use Rattle.geo_sign.specs.Place.{Place, origin}
-use Rattle.geo_tie.specs.Tie.{height}
-use Rattle.geo_tie.specs.Vertices.{Vertices}
-use Rattle.geo_tie.specs.Cells.{IsRisingCell, IsBefore, IsCellList}
+use Rattle.std.specs.Prelude.{ℕ, true, List, length, get_or, AllPairs, Contains}
+use Rattle.geo_sign.specs.Point.{Point, origin}
+use Rattle.geo_sign.specs.Tie.{height}
+use Rattle.geo_sign.specs.Vertices.{Vertices}
+use Rattle.geo_sign.specs.Cells.{IsRisingCell, IsBefore}
 
--- the vertices at these places, numbered in order, all of them in
-abbrev pub all_at : List Place → Vertices
-all_at places =
+-- the vertices at these points, numbered in order, all of them in
+abbrev pub all_at : List Point → Vertices
+all_at points =
     record {
-      at = λ u. get_or places u origin;
-      high = λ u. height (length places) u (get_or places u origin);
-      count = length places;
+      at = λ u. get_or points u origin;
+      high = λ u. height (length points) u (get_or points u origin);
+      count = length points;
       is_in = λ _. true;
     }
 
@@ -25,11 +24,3 @@ pub record IsCellListBefore (v : Vertices) (key : List ℕ) (rows : List (List �
   pub cells : (row : List ℕ) → Contains rows row → IsRisingCell v row
   pub before : (row : List ℕ) → Contains rows row → IsBefore row key
   pub all : (row : List ℕ) → IsRisingCell v row → IsBefore row key → Contains rows row
-
--- two rising lists with the same members are equal
-abbrev pub RisingLaw : Type 0
-RisingLaw = (xs ys : List (List ℕ)) → AllPairs IsBefore xs → AllPairs IsBefore ys → ((row : List ℕ) → Contains xs row ↔ Contains ys row) → xs ≡ ys
-
--- two lists of all cells of the same vertices are equal
-abbrev pub CellListLaw : Type 0
-CellListLaw = (v : Vertices) (rows others : List (List ℕ)) → IsCellList v rows → IsCellList v others → rows ≡ others

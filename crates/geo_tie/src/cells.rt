@@ -2,14 +2,18 @@
 //! the incremental tetrahedrization is compared with.
 
 ghost use Rattle.std.specs.Prelude.{◌≡◌, ◌≢◌, ◌<◌, ◌≤◌, ◌+◌, ◌<ℤ◌, ◌≤ℤ◌, ◌↔◌, ◌++◌, ◌∷◌, [], pos, ℕ, IsTrue, IfOk, length};
-ghost use Rattle.geo_tie.specs.Vertices.{vertices_of, orientation_of, power_of, corners};
-ghost use Rattle.geo_tie.specs.Cells.{FormCell, IsCellList};
+ghost use Rattle.geo_sign.specs.Vertices.{vertices_of, orientation_of, power_of, corners};
+ghost use Rattle.geo_sign.specs.Cells.{FormCell, IsCellList};
 ghost use Rattle.geo_tie.specs.Rising.{all_at, IsCellListBefore};
+ghost use Rattle.geo_tie.specs.declared.cells.TheConstants.{PLAIN_LIMIT};
 
 use crate::NoMemory;
 use crate::tie::is_in_conflict;
 use geo_sign::{Point, Sign, corner, orient};
 use std::alloc::Global;
+
+/// The most points of the plain program, which tries each four of them and the corners.
+pub const PLAIN_LIMIT: usize = 56;
 
 /// Vertex u with its number.
 fn numbered(vertices: &[Point], u: usize) -> (u32, Point)
@@ -127,7 +131,7 @@ fn push_cells_of_one(
 
 /// The box's corners, and these points after them.
 fn with_corners(alloc: Global, points: &[Point]) -> Result<Vec<Point>, NoMemory>
-    requires few { length points.now ≤ 56 }
+    requires few { length points.now ≤ PLAIN_LIMIT }
     ensures { IfOk result (λ vertices. vertices.items ≡ corners ++ points.now) }
 {
     let mut vertices = Vec::with_capacity(alloc, 8 + points.len())?;
@@ -148,7 +152,7 @@ fn with_corners(alloc: Global, points: &[Point]) -> Result<Vec<Point>, NoMemory>
 /// The cells of the box's corners and these points: the corners have the numbers 0 to 7, and the points follow. Each cell is
 /// listed once, by the rising numbers of its four vertices, and the list rises. The only error is want of memory.
 pub fn plain_cells(alloc: Global, points: &[Point]) -> Result<Vec<[u32; 4]>, NoMemory>
-    requires few { length points.now ≤ 56 }
+    requires few { length points.now ≤ PLAIN_LIMIT }
     ensures { IfOk result (λ cells. IsCellList (vertices_of points.now) cells.items) }
 {
     let vertices = with_corners(alloc, points)?;

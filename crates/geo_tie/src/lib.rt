@@ -5,13 +5,11 @@
 #![tactic(auto)]
 
 mod cells;
-mod laws;
 #[cfg(test)]
 mod tests;
 mod tie;
 
-pub use cells::plain_cells;
-pub use laws::rising_list_law;
+pub use cells::{PLAIN_LIMIT, plain_cells};
 use std::alloc::AllocError;
 pub use tie::conflict;
 

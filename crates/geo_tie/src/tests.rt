@@ -1,8 +1,8 @@
 //! Conflicts among the corners of the box, and the cells of no point and of one.
 
 ghost use Rattle.std.specs.Prelude.{◌≡◌, ◌<◌};
-ghost use Rattle.geo_sign.specs.Place.{corner_place};
-ghost use Rattle.geo_tie.specs.Conflict.{AreApart};
+ghost use Rattle.geo_sign.specs.Point.{corner_point};
+ghost use Rattle.geo_sign.specs.Conflict.{AreApart};
 
 use crate::{conflict, plain_cells};
 use geo_sign::{Point, Sign, corner, orient};
@@ -27,7 +27,7 @@ fn conflict_with(
 /// Corner k with its number.
 fn numbered(k: u8) -> (u32, Point)
     requires { k < 8 }
-    ensures { result ≡ (k, corner_place k) }
+    ensures { result ≡ (k, corner_point k) }
 {
     (u32::from(k), corner(k))
 }

@@ -7,17 +7,28 @@
 ghost use Rattle.std.specs.Prelude.{◌≡◌, ◌≢◌, ◌<ℤ◌, ◌↔◌, pos, ℕ, IsTrue, IsFalse};
 ghost use Rattle.geo_sign.specs.Orientation.{orientation};
 ghost use Rattle.geo_sign.specs.Signs.{sign_of};
-ghost use Rattle.geo_tie.specs.Tie.{tied_power};
-ghost use Rattle.geo_tie.specs.Conflict.{OfFour, AreApart, AreBelow};
-ghost use Rattle.geo_tie.specs.Terms.{leading_term, is_negative, term, deciding_term};
+ghost use Rattle.geo_sign.specs.Tie.{tied_power};
+ghost use Rattle.geo_sign.specs.Conflict.{OfFour, AreApart, AreBelow};
+ghost use Rattle.geo_sign.specs.Terms.{leading_term, is_below_zero, term, deciding_term};
 
 use geo_sign::{Point, Sign, in_sphere, orient};
+use std::marker::Model;
 
 /// A power of the base by its exponent, with the sign of its coefficient.
 #[derive(Clone, Copy)]
 struct Term {
     number: u32,
     sign: Sign,
+}
+
+impl Model for Term {
+    ghost use Rattle.geo_sign.specs.Terms.{Term};
+
+    ghost Value = { Term };
+
+    ghost view = { λ t. record { number = t.number; sign = t.sign } };
+
+    ghost inverse = { λ t. record { number = t.number; sign = t.sign } };
 }
 
 /// The leading one of a term that is not zero and the term with this number, whose coefficient is the orientation of a, b, c, d. It is
@@ -42,7 +53,7 @@ fn leading(leader: Term, number: u32, a: Point, b: Point, c: Point, d: Point) ->
 }
 
 fn is_below(sign: Sign) -> bool
-    ensures { result ≡ is_negative sign }
+    ensures { result ≡ is_below_zero sign }
 {
     match sign {
         Sign::Neg => true,

@@ -10,8 +10,8 @@ use Rattle.std.proofs.lemmas.List.Elements.{filter-append, filter_passes, All-fi
 use Rattle.std.proofs.lemmas.List.Kept.{AllPairs-cons, AllPairs-filter}
 use Rattle.std.proofs.lemmas.Map.Views.{any-filter_same, Contains-from_any, All-from_any}
 use Rattle.indexmap.specs.IndexSet.{insert_key}
-use Rattle.geo_sign.specs.Place.{Place, place}
-use Rattle.merge.specs.Merging.{is_same, distinct_points}
+use Rattle.geo_sign.specs.Point.{Point, point}
+use Rattle.merge.specs.Merging.{is_same_point, distinct_points}
 use Rattle.merge.specs.Laws.{MergedPointsAreFew}
 
 -- ---- places that are one
@@ -22,89 +22,89 @@ three true true false e = absurd (false≢true e)
 three true false c e = absurd (false≢true e)
 three false b c e = absurd (false≢true e)
 
-pub same_is : (a b : Place) → is_same a b ≡ true → a ≡ b
+pub same_is : (a b : Point) → is_same_point a b ≡ true → a ≡ b
 same_is a b e =
     let each = three (int_eq a.x b.x) (int_eq a.y b.y) (int_eq a.z b.z) e in
     let x : a.x ≡ b.x = (Decides-int_eq a.x b.x).0 each.0 in
     let y : a.y ≡ b.y = (Decides-int_eq a.y b.y).0 each.1 in
     let z : a.z ≡ b.z = (Decides-int_eq a.z b.z).0 each.2 in
-    ap (λ (x : ℤ). place x a.y a.z) x ∙ (ap (λ (y : ℤ). place b.x y a.z) y ∙ ap (λ (z : ℤ). place b.x b.y z) z)
+    ap (λ (x : ℤ). point x a.y a.z) x ∙ (ap (λ (y : ℤ). point b.x y a.z) y ∙ ap (λ (z : ℤ). point b.x b.y z) z)
 
-pub same_self : (a : Place) → is_same a a ≡ true
+pub same_self : (a : Point) → is_same_point a a ≡ true
 same_self a = rw ((Decides-int_eq a.x a.x).1 refl, (Decides-int_eq a.y a.y).1 refl, (Decides-int_eq a.z a.z).1 refl) refl
 
 -- places that differ are not one
-pub differ_is : (a b : Place) → is_same a b ≡ false → a ≢ b
-differ_is a b e h = false≢true (sym e ∙ subst (λ (p : Place). is_same a p ≡ true) h (same_self a))
+pub differ_is : (a b : Point) → is_same_point a b ≡ false → a ≢ b
+differ_is a b e h = false≢true (sym e ∙ subst (λ (p : Point). is_same_point a p ≡ true) h (same_self a))
 
-pub same_flips : (a b : Place) → is_same a b ≡ is_same b a
-same_flips a b = by (is_same a b) (is_same b a) refl refl
+pub same_flips : (a b : Point) → is_same_point a b ≡ is_same_point b a
+same_flips a b = by (is_same_point a b) (is_same_point b a) refl refl
   where
-    by : (s t : Bool) → is_same a b ≡ s → is_same b a ≡ t → s ≡ t
+    by : (s t : Bool) → is_same_point a b ≡ s → is_same_point b a ≡ t → s ≡ t
     by true true e f = refl
     by false false e f = refl
     by true false e f = absurd (differ_is b a f (sym (same_is a b e)))
     by false true e f = absurd (differ_is a b e (sym (same_is b a f)))
 
-pub same_equivalence : IsEquivalence is_same
+pub same_equivalence : IsEquivalence is_same_point
 same_equivalence =
     record {
       refl = same_self;
       symm = same_flips;
-      congr = λ a b c e. subst (λ (p : Place). is_same a c ≡ is_same p c) (same_is a b e) refl;
+      congr = λ a b c e. subst (λ (p : Point). is_same_point a c ≡ is_same_point p c) (same_is a b e) refl;
     }
 
 -- ---- what the distinct points have
 
 -- the test that leaves a point's other rows out
-abbrev pub is_other : Place → Place → Bool
-is_other p q = not (is_same p q)
+abbrev pub is_other : Point → Point → Bool
+is_other p q = not (is_same_point p q)
 
 not_false : (b : Bool) → not b ≡ true → b ≡ false
 not_false true e = absurd (false≢true e)
 not_false false e = refl
 
 -- a place other than a left out one is as much among the points as before
-any_other : (p q : Place) (points : List Place) → is_same q p ≡ false → list_any (is_same q) (filter (is_other p) points) ≡ list_any (is_same q) points
+any_other : (p q : Point) (points : List Point) → is_same_point q p ≡ false → list_any (is_same_point q) (filter (is_other p) points) ≡ list_any (is_same_point q) points
 any_other p q points differ =
-    any-filter_same (is_same q) (is_other p) true
-    (λ r e. subst (λ (z : Place). is_other p z ≡ true) (same_is q r e) (ap not (same_flips p q ∙ differ)))
+    any-filter_same (is_same_point q) (is_other p) true
+    (λ r e. subst (λ (z : Point). is_other p z ≡ true) (same_is q r e) (ap not (same_flips p q ∙ differ)))
     points
 
 -- a place is among the distinct points exactly where it is a row's
-pub any_distinct : (q : Place) (rows : List Place) → list_any (is_same q) (distinct_points rows) ≡ list_any (is_same q) rows
+pub any_distinct : (q : Point) (rows : List Point) → list_any (is_same_point q) (distinct_points rows) ≡ list_any (is_same_point q) rows
 any_distinct q [] = refl
-any_distinct q (p ∷ rest) = by (any_distinct q rest) (is_same q p) refl
+any_distinct q (p ∷ rest) = by (any_distinct q rest) (is_same_point q p) refl
   where
-    by : list_any (is_same q) (distinct_points rest) ≡ list_any (is_same q) rest
-        → (b : Bool) → is_same q p ≡ b → (b || list_any (is_same q) (filter (is_other p) (distinct_points rest))) ≡ (b || list_any (is_same q) rest)
+    by : list_any (is_same_point q) (distinct_points rest) ≡ list_any (is_same_point q) rest
+        → (b : Bool) → is_same_point q p ≡ b → (b || list_any (is_same_point q) (filter (is_other p) (distinct_points rest))) ≡ (b || list_any (is_same_point q) rest)
     by behind true e = refl
     by behind false e = any_other p q (distinct_points rest) e ∙ behind
 
-pub each_distinct : (rows : List Place) → All (Contains rows) (distinct_points rows)
+pub each_distinct : (rows : List Point) → All (Contains rows) (distinct_points rows)
 each_distinct rows = All-from_any same_equivalence (Contains rows) (distinct_points rows) (λ q h. Contains-from_any same_is q rows (sym (any_distinct q rows) ∙ h))
 
-pub each_row : (rows : List Place) → All (Contains (distinct_points rows)) rows
+pub each_row : (rows : List Point) → All (Contains (distinct_points rows)) rows
 each_row rows = All-from_any same_equivalence (Contains (distinct_points rows)) rows (λ q h. Contains-from_any same_is q (distinct_points rows) (any_distinct q rows ∙ h))
 
-pub keep : (Holds : Place → Type 0) (rows : List Place) → All Holds rows → All Holds (distinct_points rows)
+pub keep : (Holds : Point → Type 0) (rows : List Point) → All Holds rows → All Holds (distinct_points rows)
 keep Holds [] h = h
 keep Holds (p ∷ rest) h =
     All-cons Holds p (filter (is_other p) (distinct_points rest)) (All-head Holds p rest h)
     (All-filter (is_other p) Holds (distinct_points rest) (keep Holds rest (All-tail Holds p rest h)))
 
 -- the other points are none of p
-pub others : (p : Place) (points : List Place) → All (λ q. is_same p q ≡ false) (filter (is_other p) points)
-others p points = All-weaker (λ q. is_other p q ≡ true) (λ q. is_same p q ≡ false) (λ q e. not_false (is_same p q) e) (filter (is_other p) points) (filter_passes (is_other p) points)
+pub others : (p : Point) (points : List Point) → All (λ q. is_same_point p q ≡ false) (filter (is_other p) points)
+others p points = All-weaker (λ q. is_other p q ≡ true) (λ q. is_same_point p q ≡ false) (λ q e. not_false (is_same_point p q) e) (filter (is_other p) points) (filter_passes (is_other p) points)
 
-pub distinct : (rows : List Place) → AllPairs (λ p q. p ≢ q) (distinct_points rows)
+pub distinct : (rows : List Point) → AllPairs (λ p q. p ≢ q) (distinct_points rows)
 distinct [] = λ i j d l m. absurd (omega (arith, m))
 distinct (p ∷ rest) =
     AllPairs-cons (λ a b. a ≢ b) p (filter (is_other p) (distinct_points rest))
-    (All-weaker (λ q. is_same p q ≡ false) (λ q. p ≢ q) (differ_is p) (filter (is_other p) (distinct_points rest)) (others p (distinct_points rest)))
+    (All-weaker (λ q. is_same_point p q ≡ false) (λ q. p ≢ q) (differ_is p) (filter (is_other p) (distinct_points rest)) (others p (distinct_points rest)))
     (AllPairs-filter (λ a b. a ≢ b) (is_other p) (distinct_points rest) (distinct rest))
 
-few_kept : (test : Place → Bool) (points : List Place) → length (filter test points) ≤ length points
+few_kept : (test : Point → Bool) (points : List Point) → length (filter test points) ≤ length points
 few_kept test [] = omega arith
 few_kept test (p ∷ rest) = by (few_kept test rest) (test p)
   where
@@ -119,34 +119,34 @@ few (p ∷ rest) = omega (arith, few_kept (is_other p) (distinct_points rest), f
 -- ---- a row more
 
 -- the distinct points, with the new row's point behind them where it is none of them
-pub distinct_push : (rows : List Place) (p : Place) → distinct_points (rows ++ p ∷ []) ≡ insert_key is_same (distinct_points rows) p
+pub distinct_push : (rows : List Point) (p : Point) → distinct_points (rows ++ p ∷ []) ≡ insert_key is_same_point (distinct_points rows) p
 distinct_push [] p = refl
 distinct_push (first ∷ rest) p =
-    ap (λ (points : List Place). first ∷ filter (is_other first) points) (distinct_push rest p) ∙ at_head (is_same p first) refl
+    ap (λ (points : List Point). first ∷ filter (is_other first) points) (distinct_push rest p) ∙ at_head (is_same_point p first) refl
   where
-    points : List Place
+    points : List Point
     points = distinct_points rest
 
-    others_of : List Place → List Place
+    others_of : List Point → List Point
     others_of list = filter (is_other first) list
 
     -- with p left out
-    left_out : (b : Bool) → is_same first p ≡ true → first ∷ others_of (cond b points (points ++ p ∷ [])) ≡ first ∷ others_of points
+    left_out : (b : Bool) → is_same_point first p ≡ true → first ∷ others_of (cond b points (points ++ p ∷ [])) ≡ first ∷ others_of points
     left_out true same = refl
     left_out false same =
-        ap (λ (list : List Place). first ∷ list)
+        ap (λ (list : List Point). first ∷ list)
         (filter-append (is_other first) points (p ∷ []) ∙ ap (λ (b : Bool). others_of points ++ cond (not b) (p ∷ []) []) same ∙ append-nil (others_of points))
 
     -- with p kept
-    kept : (b : Bool) → is_same first p ≡ false → first ∷ others_of (cond b points (points ++ p ∷ [])) ≡ cond b (first ∷ others_of points) ((first ∷ others_of points) ++ p ∷ [])
+    kept : (b : Bool) → is_same_point first p ≡ false → first ∷ others_of (cond b points (points ++ p ∷ [])) ≡ cond b (first ∷ others_of points) ((first ∷ others_of points) ++ p ∷ [])
     kept true other = refl
     kept false other =
-        ap (λ (list : List Place). first ∷ list)
+        ap (λ (list : List Point). first ∷ list)
         (filter-append (is_other first) points (p ∷ []) ∙ ap (λ (b : Bool). others_of points ++ cond (not b) (p ∷ []) []) other)
 
-    at_head : (b : Bool) → is_same p first ≡ b
-        → first ∷ others_of (cond (list_any (is_same p) points) points (points ++ p ∷ [])) ≡ cond (b || list_any (is_same p) (others_of points)) (first ∷ others_of points) ((first ∷ others_of points) ++ p ∷ [])
-    at_head true e = left_out (list_any (is_same p) points) (same_flips first p ∙ e)
+    at_head : (b : Bool) → is_same_point p first ≡ b
+        → first ∷ others_of (cond (list_any (is_same_point p) points) points (points ++ p ∷ [])) ≡ cond (b || list_any (is_same_point p) (others_of points)) (first ∷ others_of points) ((first ∷ others_of points) ++ p ∷ [])
+    at_head true e = left_out (list_any (is_same_point p) points) (same_flips first p ∙ e)
     at_head false e =
-        kept (list_any (is_same p) points) (same_flips first p ∙ e)
+        kept (list_any (is_same_point p) points) (same_flips first p ∙ e)
         ∙ ap (λ (b : Bool). cond b (first ∷ others_of points) ((first ∷ others_of points) ++ p ∷ [])) (sym (any_other first p points e))

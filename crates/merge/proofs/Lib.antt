@@ -1,3 +1,3 @@
 pub mod Distinct
-pub mod Places
+pub mod Indices
 pub mod Orders

@@ -8,33 +8,33 @@
 --   MergedPointsAreFew      there are no more distinct points than rows
 --   MergedPointsAreWithin   no coordinate of a distinct point is over what none of a row's point is over
 use Rattle.std.specs.Prelude.{ℕ, ◌≡◌, ◌≢◌, ◌<◌, ◌≤◌, Some, List, length, slice_get, All, AllPairs, Contains}
-use Rattle.geo_sign.specs.Place.{Place, IsWithin}
-use Rattle.merge.specs.Merging.{distinct_points, place_among}
+use Rattle.geo_sign.specs.Point.{Point, IsWithin}
+use Rattle.merge.specs.Merging.{distinct_points, index_among}
 
 -- the points are distinct, each is a row's, each row's is among them, and their first rows rise
-pub record IsMergeOf (rows points : List Place) : Type 0 where
+pub record IsMergeOf (rows points : List Point) : Type 0 where
   pub distinct : AllPairs (λ p q. p ≢ q) points
   pub from_rows : All (Contains rows) points
   pub each_row : All (Contains points) rows
-  pub in_order : AllPairs (λ p q. place_among rows p < place_among rows q) points
+  pub in_order : AllPairs (λ p q. index_among rows p < index_among rows q) points
 
 abbrev pub PointsAreMerged : Type 0
-PointsAreMerged = (rows : List Place) → IsMergeOf rows (distinct_points rows)
+PointsAreMerged = (rows : List Point) → IsMergeOf rows (distinct_points rows)
 
 -- a list that is so is the list of the distinct points
 abbrev pub MergedPointsAreOne : Type 0
-MergedPointsAreOne = (rows points : List Place) → IsMergeOf rows points → points ≡ distinct_points rows
+MergedPointsAreOne = (rows points : List Point) → IsMergeOf rows points → points ≡ distinct_points rows
 
 -- the point is in the list, and stands at its place
-abbrev pub StandsAt : List Place → Place → Type 0
-StandsAt points p = (place_among points p < length points) × (slice_get points (place_among points p) ≡ Some p)
+abbrev pub StandsAt : List Point → Point → Type 0
+StandsAt points p = (index_among points p < length points) × (slice_get points (index_among points p) ≡ Some p)
 
-abbrev pub EachRowHasAPlace : Type 0
-EachRowHasAPlace = (rows : List Place) → All (StandsAt (distinct_points rows)) rows
+abbrev pub EachRowHasAnIndex : Type 0
+EachRowHasAnIndex = (rows : List Point) → All (StandsAt (distinct_points rows)) rows
 
 abbrev pub MergedPointsAreFew : Type 0
-MergedPointsAreFew = (rows : List Place) → length (distinct_points rows) ≤ length rows
+MergedPointsAreFew = (rows : List Point) → length (distinct_points rows) ≤ length rows
 
 -- so that distinct points of data points are data points
 abbrev pub MergedPointsAreWithin : Type 0
-MergedPointsAreWithin = (m : ℕ) (rows : List Place) → All (IsWithin m) rows → All (IsWithin m) (distinct_points rows)
+MergedPointsAreWithin = (m : ℕ) (rows : List Point) → All (IsWithin m) rows → All (IsWithin m) (distinct_points rows)

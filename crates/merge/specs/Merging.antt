@@ -1,22 +1,22 @@
 -- Points that stand in several rows, once each.
 --
---   is_same a b            the two places are one
+--   is_same_point a b            the two points are one
 --   distinct_points rows   the rows' points, once each, in the order of their first rows
---   place_among points p   the place of a point in a list: the first at which it stands
+--   index_among points p   the index of a point in a list: the first at which it stands
 use Rattle.std.specs.Prelude.{ℕ, ◌&&◌, not, Bool, List, [], ◌∷◌, filter}
 use Rattle.std.specs.List.{position_or_len}
 use Rattle.std.specs.Ordering.{int_eq}
-use Rattle.geo_sign.specs.Place.{Place}
+use Rattle.geo_sign.specs.Point.{Point}
 
--- the two places are one
-abbrev pub is_same : Place → Place → Bool
-is_same a b = int_eq a.x b.x && int_eq a.y b.y && int_eq a.z b.z
+-- the two points are one
+abbrev pub is_same_point : Point → Point → Bool
+is_same_point a b = int_eq a.x b.x && int_eq a.y b.y && int_eq a.z b.z
 
 -- the rows' points, once each: the first row's, and then the other ones of the rows behind it
-abbrev pub distinct_points : List Place → List Place
+abbrev pub distinct_points : List Point → List Point
 distinct_points [] = []
-distinct_points (p ∷ rest) = p ∷ filter (λ q. not (is_same p q)) (distinct_points rest)
+distinct_points (p ∷ rest) = p ∷ filter (λ q. not (is_same_point p q)) (distinct_points rest)
 
--- the first place at which a point stands in a list, and the list's length where it is not there
-abbrev pub place_among : List Place → Place → ℕ
-place_among points p = position_or_len (is_same p) points
+-- the first index at which a point stands in a list, and the list's length where it is not there
+abbrev pub index_among : List Point → Point → ℕ
+index_among points p = position_or_len (is_same_point p) points

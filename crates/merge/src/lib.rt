@@ -1,4 +1,4 @@
-//! Points that stand in several rows, once each, and the place of each row's point among them.
+//! Points that stand in several rows, once each, and the index of each row's point among them.
 //!
 //! What the distinct points of rows are stands in `specs/Merging`, and in plain words in `specs/Laws`. `merging` finds them with one
 //! look-up a row. The crate stands on `geo_sign`, which holds points, and on the kit's `indexmap`, a set in order of insertion.

@@ -15,6 +15,7 @@ use Rattle.num_text.specs.declared.refusal.NumRefusal.{NumRefusal}
 use Rattle.num_text.specs.WholeNumbers.{is_minus, behind_sign, are_digits, significant, signed, whole_of}
 use Rattle.num_text.specs.Decimals.{is_exponent_mark, is_point, DecimalParts, parts_of, scaled_parts, scaled_of}
 use Rattle.num_text.proofs.DigitLemmas.{digit_there, whole_is, significant_value}
+use Rattle.num_text.specs.declared.decimal.TheConstants.{SCALED_LIMIT}
 
 digit_is_one : (d : ℕ) → 48 ≤ d → d ≤ 57 → is_ascii_digit d ≡ true
 digit_is_one d low high = grind (arith, nat_tests)
@@ -117,14 +118,14 @@ parts_are token ds is_negative n s =
 one_unit : (n : ℕ) → (2 * (n * 1) * 1 + 1) / (2 * 1) ≡ n
 one_unit n = omega arith
 
-scaled_plain : (ds : List ℕ) (is_negative : Bool) (n : ℕ) → list_all is_ascii_digit ds ≡ true → 0 < length ds → length ds ≤ 18 → digits_value_after 10 0 ds ≡ n → n ≤ 2097151 → scaled_parts (plain_parts is_negative ds) 1 ≡ Ok (signed is_negative n)
+scaled_plain : (ds : List ℕ) (is_negative : Bool) (n : ℕ) → list_all is_ascii_digit ds ≡ true → 0 < length ds → length ds ≤ 18 → digits_value_after 10 0 ds ≡ n → n ≤ SCALED_LIMIT → scaled_parts (plain_parts is_negative ds) 1 ≡ Ok (signed is_negative n)
 scaled_plain ds is_negative n all some short value le =
     let digits : are_digits (ds ++ []) ≡ true = ap are_digits (append-nil ds) ∙ are_some ds some all in
     let long : ltb 30 (length (significant (ds ++ []))) ≡ false = ap (λ (x : List ℕ). ltb 30 (length (significant x))) (append-nil ds) ∙ le-ltb 30 (length (significant ds)) (omega (arith, significant_le ds)) in
     let number : digits_value_after 10 0 (ds ++ []) ≡ n = ap (digits_value_after 10 0) (append-nil ds) ∙ value in
-    rw (digits, long, number, one_unit n, le-ltb 2097151 n le) refl
+    rw (digits, long, number, one_unit n, le-ltb SCALED_LIMIT n le) refl
 
-pub scaled_of_signed : (token ds : List ℕ) (is_negative : Bool) (n : ℕ) → IsSigned token ds is_negative n → n ≤ 2097151 → scaled_of token 1 ≡ Ok (signed is_negative n)
+pub scaled_of_signed : (token ds : List ℕ) (is_negative : Bool) (n : ℕ) → IsSigned token ds is_negative n → n ≤ SCALED_LIMIT → scaled_of token 1 ≡ Ok (signed is_negative n)
 unfolding scaled_of
 scaled_of_signed token ds is_negative n s le = ap (λ (p : DecimalParts). scaled_parts p 1) (parts_are token ds is_negative n s) ∙ scaled_plain ds is_negative n s.digits s.some s.short s.value le
 
@@ -146,6 +147,6 @@ pub whole_of-signed_decimal : (z : ℤ) → unsigned_abs z < 10 ^ 18 → whole_o
 whole_of-signed_decimal (pos n) lt = whole_of_signed (decimal n) (decimal n) false n (printed_pos n lt)
 whole_of-signed_decimal (negsuc n) lt = whole_of_signed (45 ∷ decimal (suc n)) (decimal (suc n)) true (suc n) (printed_neg (suc n) lt)
 
-pub scaled_of-signed_decimal : (z : ℤ) → unsigned_abs z ≤ 2097151 → scaled_of (signed_decimal z) 1 ≡ Ok z
+pub scaled_of-signed_decimal : (z : ℤ) → unsigned_abs z ≤ SCALED_LIMIT → scaled_of (signed_decimal z) 1 ≡ Ok z
 scaled_of-signed_decimal (pos n) le = scaled_of_signed (decimal n) (decimal n) false n (printed_pos n (omega arith)) le
 scaled_of-signed_decimal (negsuc n) le = scaled_of_signed (45 ∷ decimal (suc n)) (decimal (suc n)) true (suc n) (printed_neg (suc n) (omega arith)) le

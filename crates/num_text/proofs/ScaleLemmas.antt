@@ -1,19 +1,17 @@
 -- The nearest number of units.
-use Rattle.std.proofs.Common.{◌≡◌, ℕ, ◌+◌, ◌-◌, ◌*◌, ◌/◌, ◌^◌, ◌<◌, ◌≤◌, Bool, true, false, not, cond, eqb, ltb, leb, ◌||◌, List, [], ◌∷◌, ◌++◌, length, refl, sym, ap, ◌∙◌, arith}
+use Rattle.std.proofs.Common.{◌≡◌, ℕ, ◌+◌, ◌-◌, ◌*◌, ◌/◌, ◌^◌, ◌<◌, ◌≤◌, Bool, true, false, not, cond, eqb, ltb, leb, ◌||◌, List, [], ◌∷◌, ◌++◌, length, refl, sym, ap, ◌∙◌, arith, inl, inr, None}
 use Rattle.std.specs.List.{list_all}
 use Rattle.std.specs.Char.{is_ascii_digit, digit_value}
 use Rattle.std.specs.Str.Parse.{digits_value_after}
-use Rattle.std.proofs.lemmas.Bool.{le-ltb, lt-ltb, ltb-false}
+use Rattle.std.proofs.lemmas.Bool.{le-ltb, lt-ltb, ltb-false, cases_lt, cond-true}
 use Rattle.std.proofs.lemmas.Nat.{pow-add}
-use Rattle.std.proofs.lemmas.Bool.{cases_lt, cond-true}
-use Rattle.std.proofs.Common.{inl, inr}
 use Rattle.std.proofs.lemmas.List.{length-append}
 use Rattle.std.proofs.lemmas.List.Folds.{list_all-append}
 use Rattle.std.proofs.Math.Nat.{mul-le-mul_left, mul-le-mul_right, mul_assoc, one-le-pow, pow-le-pow_right, mul-div-mul_right, div-eq_of_lt, le_trans}
 use Rattle.num_text.specs.WholeNumbers.{significant, are_digits}
 use Rattle.num_text.specs.Decimals.{nearest, within_limit, DecimalParts, is_decimal, is_long, exponent_of}
-use Rattle.std.proofs.Common.{None}
 use Rattle.num_text.proofs.DigitLemmas.{both_true, value_below, value_small, significant_value, significant_digits}
+use Rattle.num_text.specs.declared.decimal.TheConstants.{SCALED_LIMIT}
 
 pub either_false : (a b : Bool) → (a || b) ≡ false → (a ≡ false) × (b ≡ false)
 either_false true b e = cc
@@ -83,10 +81,10 @@ power_some k = one-le-pow k 10 (omega arith)
 pub few_none : (units k : ℕ) → units < 10 ^ 36 → 36 < k → (2 * units + 10 ^ k) / (2 * 10 ^ k) ≡ 0
 few_none units k small lt = let large : 10 ^ 37 ≤ 10 ^ k = power_fits 37 k (omega arith) in div-eq_of_lt (omega arith)
 
-pub many_out : (units k : ℕ) → 2097151 < units → 2097151 < units * 10 ^ k
+pub many_out : (units k : ℕ) → SCALED_LIMIT < units → SCALED_LIMIT < units * 10 ^ k
 many_out units k lt = let more : units * 1 ≤ units * 10 ^ k = mul-le-mul_left units (power_some k) in omega (arith, more)
 
-pub far_out : (units k : ℕ) → 0 < units → 7 < k → 2097151 < units * 10 ^ k
+pub far_out : (units k : ℕ) → 0 < units → 7 < k → SCALED_LIMIT < units * 10 ^ k
 far_out units k some lt =
     let large : 10 ^ 8 ≤ 10 ^ k = power_fits 8 k (omega arith) in
     let more : units * 10 ^ 8 ≤ units * 10 ^ k = mul-le-mul_left units large in
@@ -150,8 +148,8 @@ none_short xs ys e le = omega (arith, le, ap length (none_significant xs ys e))
 pub some_short : (xs ys : List ℕ) → 0 < length (significant xs) → length (significant (xs ++ ys)) ≤ 30 → length (significant xs) ≤ 30
 some_short xs ys lt le = omega (arith, le, ap length (some_significant xs ys lt), length-append (significant xs) ys)
 
-pub within_limit_none : (n : ℕ) → 2097151 < n → within_limit n ≡ None
-within_limit_none n lt = rw (lt-ltb 2097151 n lt) refl
+pub within_limit_none : (n : ℕ) → SCALED_LIMIT < n → within_limit n ≡ None
+within_limit_none n lt = rw (lt-ltb SCALED_LIMIT n lt) refl
 
 -- what an exponent is, if there is one
 pub exponent_digits : (p : DecimalParts) → is_decimal p ≡ true → p.has_exponent ≡ true → list_all is_ascii_digit p.exponent ≡ true

@@ -16,6 +16,7 @@ use Rattle.std.specs.Str.Parse.{digits_value}
 use Rattle.num_text.specs.declared.refusal.NumRefusal.{NumRefusal}
 use Rattle.num_text.specs.declared.refusal.NumRefusal.TheVariants.{NotANumber, LongNumber, OutOfRange}
 use Rattle.num_text.specs.WholeNumbers.{is_minus, behind_sign, are_digits, significant, signed}
+use Rattle.num_text.specs.declared.decimal.TheConstants.{SCALED_LIMIT}
 
 -- `e` or `E`
 abbrev pub is_exponent_mark : ℕ → Bool
@@ -79,11 +80,11 @@ nearest n m unit = (2 * n * unit + m) / (2 * m)
 
 -- a number of units under its sign, which halves moved away from zero, if it is within the limit
 abbrev pub in_range : Bool → ℕ → Result ℤ NumRefusal
-in_range is_negative n = if nat_lt 2097151 n then Err OutOfRange else Ok (signed is_negative n)
+in_range is_negative n = if nat_lt SCALED_LIMIT n then Err OutOfRange else Ok (signed is_negative n)
 
 -- a number of units, if it is within the limit
 abbrev pub within_limit : ℕ → Option ℕ
-within_limit n = if nat_lt 2097151 n then None else Some n
+within_limit n = if nat_lt SCALED_LIMIT n then None else Some n
 
 -- the number of units that a token with these parts is, or the first reason why it is none
 abbrev pub scaled_parts : DecimalParts → ℕ → Result ℤ NumRefusal

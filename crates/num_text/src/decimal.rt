@@ -13,11 +13,15 @@ ghost use Rattle.std.specs.Str.Parse.{digits_value};
 ghost use Rattle.num_text.specs.WholeNumbers.{are_digits, significant};
 ghost use Rattle.num_text.specs.Decimals.{is_exponent_mark, is_point, parts_of, is_decimal, is_long, exponent_of, numerator, denominator, nearest, within_limit, scaled_of};
 ghost use Rattle.num_text.specs.Views.{parts_view};
+ghost use Rattle.num_text.specs.declared.decimal.TheConstants.{SCALED_LIMIT, UNIT_LIMIT};
 
 use crate::digits::{
     all_digits, has_minus, some_digits, value_after, with_sign, without_sign, without_zeros,
 };
 use crate::refusal::NumRefusal;
+
+/// The largest unit at which [`scaled`] reads.
+pub const UNIT_LIMIT: u32 = 1_000_000;
 
 /// The largest absolute value that [`scaled`] answers, in units.
 pub const SCALED_LIMIT: u64 = 2_097_151;
@@ -50,36 +54,36 @@ fn is_point_byte(byte: u8) -> bool
     byte == b'.'
 }
 
-// The place of the first `e` or `E`, or the length where there is none.
-fn exponent_mark_place(text: &[u8]) -> usize
+// The position of the first `e` or `E`, or the length where there is none.
+fn exponent_mark_position(text: &[u8]) -> usize
     ensures { result ≡ position_or_len is_exponent_mark text.now }
 {
-    for (place, byte) in text.iter().enumerate() {
+    for (position, byte) in text.iter().enumerate() {
         if is_exponent_mark_byte(*byte) {
-            return place;
+            return position;
         }
     }
     text.len()
 }
 
-// The place of the first point, or the length where there is none.
-fn point_place(text: &[u8]) -> usize
+// The position of the first point, or the length where there is none.
+fn point_position(text: &[u8]) -> usize
     ensures { result ≡ position_or_len is_point text.now }
 {
-    for (place, byte) in text.iter().enumerate() {
+    for (position, byte) in text.iter().enumerate() {
         if is_point_byte(*byte) {
-            return place;
+            return position;
         }
     }
     text.len()
 }
 
-// What stands behind the byte at a place: nothing where the place is the length.
-fn behind(text: &[u8], place: usize) -> &[u8]
-    ensures { result.now ≡ drop (place + 1) text.now }
+// What stands behind the byte at a position: nothing where the position is the length.
+fn behind(text: &[u8], position: usize) -> &[u8]
+    ensures { result.now ≡ drop (position + 1) text.now }
 {
-    if place < text.len() {
-        &text[place + 1..]
+    if position < text.len() {
+        &text[position + 1..]
     } else {
         &text[text.len()..]
     }
@@ -89,10 +93,10 @@ fn split_parts<'a>(token: &'a [u8]) -> DecimalParts<'a>
     ensures { parts_view result ≡ parts_of token.now }
 {
     let body = without_sign(token);
-    let mark = exponent_mark_place(body);
+    let mark = exponent_mark_position(body);
     let mantissa = &body[..mark];
     let exponent = behind(body, mark);
-    let point = point_place(mantissa);
+    let point = point_position(mantissa);
     DecimalParts {
         is_negative: has_minus(token),
         whole: &mantissa[..point],
@@ -208,7 +212,7 @@ fn units_over(units: u128, exponent: u128) -> Option<u64>
 // The fraction `value · 10^up / 10^down` in units.
 fn nearest_units(value: u128, up: u128, down: u128, unit: u32) -> Option<u64>
     requires value { value < 10 ^ 30 }
-    requires unit { unit ≤ 1000000 }
+    requires unit { unit ≤ UNIT_LIMIT }
     ensures { result ≡ within_limit (nearest (value * 10 ^ up) (10 ^ down) unit) }
 {
     let units = value * u128::from(unit);
@@ -222,7 +226,7 @@ fn nearest_units(value: u128, up: u128, down: u128, unit: u32) -> Option<u64>
 fn units_of(parts: &DecimalParts<'_>, unit: u32) -> Option<u64>
     requires decimal { is_decimal (parts_view parts.now) ≡ true }
     requires short { is_long (parts_view parts.now) ≡ false }
-    requires unit { unit ≤ 1000000 }
+    requires unit { unit ≤ UNIT_LIMIT }
     ensures { result ≡ within_limit (nearest (numerator (parts_view parts.now)) (denominator (parts_view parts.now)) unit) }
 {
     let value = value_of_two(parts.whole, parts.fraction);
@@ -261,9 +265,9 @@ fn exponent_value(parts: &DecimalParts<'_>) -> u128
 #[tactic(auto, unfolding(crate::specs::Decimals::scaled_of))]
 pub fn scaled(token: &[u8], unit: u32) -> Result<i64, NumRefusal>
     requires at_least_one { 1 ≤ unit }
-    requires at_most_a_million { unit ≤ 1000000 }
+    requires at_most_a_million { unit ≤ UNIT_LIMIT }
     ensures exact { result ≡ scaled_of token.now unit }
-    ensures in_range { IfOk result (λ units. unsigned_abs units ≤ 2097151) }
+    ensures in_range { IfOk result (λ units. unsigned_abs units ≤ SCALED_LIMIT) }
 {
     let parts = split_parts(token);
     if !is_decimal_text(&parts) {

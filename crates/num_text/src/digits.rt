@@ -48,9 +48,9 @@ pub(crate) fn some_digits(text: &[u8]) -> bool
 pub(crate) fn without_zeros(digits: &[u8]) -> &[u8]
     ensures { result.now ≡ significant digits.now }
 {
-    for (place, byte) in digits.iter().enumerate() {
+    for (position, byte) in digits.iter().enumerate() {
         if *byte != b'0' {
-            return &digits[place..];
+            return &digits[position..];
         }
     }
     &digits[digits.len()..]

@@ -5,6 +5,7 @@ ghost use Rattle.std.specs.Prelude.{◌≡◌, ◌^◌, ◌≤◌, ◌<◌, Ok, 
 ghost use Rattle.std.specs.Fmt.{signed_decimal};
 ghost use Rattle.num_text.specs.WholeNumbers.{whole_of};
 ghost use Rattle.num_text.specs.Decimals.{scaled_of};
+ghost use Rattle.num_text.specs.declared.decimal.TheConstants.{SCALED_LIMIT};
 
 /// The text that [`push_whole`](crate::push_whole) prints is read as the number that was
 /// printed: by [`whole`](crate::whole) where it has at most 18 digits, and by
@@ -12,5 +13,5 @@ ghost use Rattle.num_text.specs.Decimals.{scaled_of};
 /// [`SCALED_LIMIT`](crate::SCALED_LIMIT).
 pub fn printed_numbers_are_read()
     ensures whole { (z : ℤ) → unsigned_abs z < 10 ^ 18 → whole_of (signed_decimal z) ≡ Ok z }
-    ensures scaled { (z : ℤ) → unsigned_abs z ≤ 2097151 → scaled_of (signed_decimal z) 1 ≡ Ok z }
+    ensures scaled { (z : ℤ) → unsigned_abs z ≤ SCALED_LIMIT → scaled_of (signed_decimal z) 1 ≡ Ok z }
 {}

@@ -18,7 +18,7 @@ mod refusal;
 mod tests;
 mod whole_number;
 
-pub use decimal::{SCALED_LIMIT, scaled};
+pub use decimal::{SCALED_LIMIT, UNIT_LIMIT, scaled};
 pub use laws::printed_numbers_are_read;
 pub use print::{NoMemory, push_whole};
 pub use refusal::NumRefusal;

@@ -2,13 +2,14 @@
 
 ghost use Rattle.std.specs.Prelude.{◌≡◌, ◌<◌, ◌≤◌, ◌++◌, IfOk, AllPairs, length};
 ghost use Rattle.flow_net.specs.Flows.{IsAdmissible};
-ghost use Rattle.geo_tie.specs.Vertices.{corners, vertices_of};
+ghost use Rattle.geo_sign.specs.Vertices.{corners, vertices_of};
 ghost use Rattle.line_text.specs.Rising.{IsBefore};
 ghost use Rattle.mesh_ply.specs.Meshes.{mesh_of, IsMesh};
 ghost use Rattle.visibility.specs.Cuts.{cut_facets};
 ghost use Rattle.visibility.specs.Laws.{test_of};
 ghost use Rattle.visibility.specs.Networks.{complex_of, IsNetworkAmong};
 ghost use Rattle.plain_net.specs.CutRows.{is_cut_arc, cut_rows};
+ghost use Rattle.geo_tie.specs.declared.cells.TheConstants.{PLAIN_LIMIT};
 
 use crate::NoMemory;
 use crate::vertices::flag;
@@ -18,10 +19,10 @@ use mesh_ply::{Mesh, mesh_of_facets};
 use std::alloc::Global;
 
 /// The corners of the box, and the points after them.
-fn places(alloc: Global, points: &[Point]) -> Result<Vec<Point>, NoMemory>
-    ensures { IfOk result (λ places. places.items ≡ corners ++ points.now) }
+fn indices(alloc: Global, points: &[Point]) -> Result<Vec<Point>, NoMemory>
+    ensures { IfOk result (λ indices. indices.items ≡ corners ++ points.now) }
 {
-    let mut places = Vec::from_slice(
+    let mut indices = Vec::from_slice(
         alloc,
         &[
             corner(0),
@@ -34,16 +35,16 @@ fn places(alloc: Global, points: &[Point]) -> Result<Vec<Point>, NoMemory>
             corner(7),
         ],
     )?;
-    places.extend_from_slice(points)?;
-    Ok(places)
+    indices.extend_from_slice(points)?;
+    Ok(indices)
 }
 
 /// Whether an arc leads from an outside node to an inside one.
-fn is_cut(arcs: &[Arc], inside: &[bool], place: usize) -> bool
-    requires { place < length arcs.now }
-    ensures { result ≡ is_cut_arc arcs.now inside.now place }
+fn is_cut(arcs: &[Arc], inside: &[bool], index: usize) -> bool
+    requires { index < length arcs.now }
+    ensures { result ≡ is_cut_arc arcs.now inside.now index }
 {
-    let arc = &arcs[place];
+    let arc = &arcs[index];
     !flag(inside, arc.from) && flag(inside, arc.to)
 }
 
@@ -58,8 +59,8 @@ fn cut(
     ensures { IfOk result (λ v. v.items ≡ cut_rows (length facets.now) arcs.now inside.now facets.now) }
 {
     let mut list = Vec::new(alloc);
-    for (place, numbers) in facets.iter().enumerate() {
-        if is_cut(arcs, inside, place) {
+    for (index, numbers) in facets.iter().enumerate() {
+        if is_cut(arcs, inside, index) {
             list.push(*numbers)?;
         }
     }
@@ -77,7 +78,7 @@ pub fn plain_mesh(
     voted: &Voted,
     labels: &Labels,
 ) -> Result<Mesh, NoMemory>
-    requires few { length points.now ≤ 56 }
+    requires few { length points.now ≤ PLAIN_LIMIT }
     requires network { IsNetworkAmong (vertices_of points.now) voted.now }
     requires labels { IsAdmissible voted.now.net labels.now }
     ensures points { IfOk result (λ mesh. mesh.points.items ≡ (mesh_of (corners ++ points.now) (cut_facets (vertices_of points.now) (complex_of voted.now) (test_of voted.now.cells labels.now.inside))).points) }
@@ -85,12 +86,12 @@ pub fn plain_mesh(
     ensures valid { IfOk result (λ mesh. IsMesh mesh.points.items mesh.faces.items) }
     ensures rising { IfOk result (λ mesh. AllPairs IsBefore mesh.faces.items) }
 {
-    let places = places(alloc, points)?;
+    let indices = indices(alloc, points)?;
     let cut = cut(
         alloc,
         voted.net.arcs.as_slice(),
         labels.inside.as_slice(),
         voted.facets.as_slice(),
     )?;
-    mesh_of_facets(alloc, &places, &cut)
+    mesh_of_facets(alloc, &indices, &cut)
 }

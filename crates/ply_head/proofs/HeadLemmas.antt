@@ -79,7 +79,7 @@ pub cut_line : (n : ℕ) (bytes : List ℕ) → length bytes < 1002 → All (λ 
 unfolding parts_of
 cut_line n bytes lt all = rw (slice_split_none is_line_feed bytes all, lt-ltb (length bytes) 1002 lt) refl
 
--- a line that is ended at place i
+-- a line that is ended at position i
 ended_at : (bytes : List ℕ) (i : ℕ) → i < length bytes → All (λ x. is_line_feed x ≡ false) (take i bytes) → is_line_feed (get_or bytes i 0) ≡ true → parts_of bytes ≡ take i bytes ∷ parts_of (drop (i + 1) bytes)
 unfolding parts_of
 ended_at bytes i lt all feed =

@@ -27,7 +27,7 @@ unfolding words_of
 words_last [] some all = absurd (omega arith)
 words_last (x ∷ w) some all = ap (filter has_bytes) (slice_split_none is_blank (x ∷ w) all)
 
--- a blank at place i is passed over
+-- a blank at position i is passed over
 pub blank_next : (line : List ℕ) (i : ℕ) → i < length line → is_blank (get_or line i 0) ≡ true → words_of (drop i line) ≡ words_of line → words_of (drop (i + 1) line) ≡ words_of line
 blank_next line i lt blank so_far = sym (words_blank _ _ blank) ∙ ap words_of (sym (drop_more line i 0 lt)) ∙ so_far
 
@@ -35,7 +35,7 @@ blank_next line i lt blank so_far = sym (words_blank _ _ blank) ∙ ap words_of 
 pub words_past : (line : List ℕ) (n : ℕ) → length line ≤ n → words_of (drop n line) ≡ []
 words_past line n le = ap words_of (drop_all n line le) ∙ words_nil
 
--- the word that ends at place i
+-- the word that ends at position i
 pub word_ends : (line : List ℕ) (i : ℕ) → i < length line → 0 < i → All (λ x. is_blank x ≡ false) (take i line) → is_blank (get_or line i 0) ≡ true → words_of line ≡ take i line ∷ words_of (drop (i + 1) line)
 word_ends line i lt some all blank =
     let parts : line ≡ take i line ++ get_or line i 0 ∷ drop (i + 1) line = sym (take-append-drop i line) ∙ ap (λ (r : List ℕ). take i line ++ r) (drop_more line i 0 lt) in

@@ -31,16 +31,16 @@ pub(crate) fn line_of(bytes: &[u8], number: u32) -> Result<(&[u8], &[u8]), HeadR
     ensures line { Gives (λ found. (found.0.now, parts_of found.1.now)) result (line_at number (parts_of bytes.now)) }
     ensures tail { IfOk result (λ found. IsEndOf found.1.now bytes.now) }
 {
-    for (place, byte) in bytes.iter().enumerate() {
-        if place == LOOK_AHEAD {
+    for (position, byte) in bytes.iter().enumerate() {
+        if position == LOOK_AHEAD {
             return Err(HeadRefusal::LongLine(number));
         }
         if *byte == b'\n' {
-            let line = without_end(&bytes[..place]);
+            let line = without_end(&bytes[..position]);
             if line.len() > LINE_LIMIT {
                 return Err(HeadRefusal::LongLine(number));
             }
-            return Ok((line, &bytes[place + 1..]));
+            return Ok((line, &bytes[position + 1..]));
         }
     }
     if bytes.len() < LOOK_AHEAD {

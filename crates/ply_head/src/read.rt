@@ -49,14 +49,14 @@ fn behind_first(bytes: &[u8]) -> Option<&[u8]>
     }
 }
 
-/// The header at the front of the bytes, and the place of the body's first byte, counted
+/// The header at the front of the bytes, and the position of the body's first byte, counted
 /// from 0.
 ///
 /// The first refusal is answered, line by line, as [`HeadRefusal`] orders them. The answer
 /// takes memory for the names and the elements alone.
 pub fn read_head(alloc: Global, bytes: &[u8]) -> Result<(Header, usize), HeadRefusal>
     ensures exact { Gives (λ found. (found.0, drop found.1 bytes.now)) result (header_of bytes.now) }
-    ensures place { IfOk result (λ found. found.1 ≤ length bytes.now) }
+    ensures position { IfOk result (λ found. found.1 ≤ length bytes.now) }
     ensures grammar { IfOk result (λ found. HasHeader bytes.now found.0 (drop found.1 bytes.now)) }
     ensures readable { IfOk result (λ found. IsReadable found.0) }
 {
@@ -65,6 +65,6 @@ pub fn read_head(alloc: Global, bytes: &[u8]) -> Result<(Header, usize), HeadRef
         None => return Err(HeadRefusal::NotPly),
     };
     let (head, body) = lines_from(alloc, rest)?;
-    let place = bytes.len() - body.len();
-    Ok((head, place))
+    let position = bytes.len() - body.len();
+    Ok((head, position))
 }

@@ -86,8 +86,8 @@ fn lines_and_headers_have_their_limits(rt: HostRuntime) -> Result<(), Fail> {
 
 #[test]
 fn a_header_is_printed_as_it_was_read(rt: HostRuntime) -> Result<(), Fail> {
-    let (head, place) = read_head(rt.alloc(), PLAIN).ok().ok_or("the plain header")?;
-    assert!(rt; place == PLAIN.len());
+    let (head, position) = read_head(rt.alloc(), PLAIN).ok().ok_or("the plain header")?;
+    assert!(rt; position == PLAIN.len());
     let mut text = Vec::from_slice(rt.alloc(), b"before ")?;
     push_head(rt.alloc(), &mut text, &head)?;
     assert!(rt; text.as_slice().starts_with(b"before ply\n"));
@@ -97,8 +97,8 @@ fn a_header_is_printed_as_it_was_read(rt: HostRuntime) -> Result<(), Fail> {
 
 #[test]
 fn other_spellings_are_printed_in_the_first(rt: HostRuntime) -> Result<(), Fail> {
-    let (head, place) = read_head(rt.alloc(), TOOL).ok().ok_or("a tool's header")?;
-    assert!(rt; place + 4 == TOOL.len());
+    let (head, position) = read_head(rt.alloc(), TOOL).ok().ok_or("a tool's header")?;
+    assert!(rt; position + 4 == TOOL.len());
     assert!(rt; head.kind == Kind::BinaryBig);
     let mut text = Vec::new(rt.alloc());
     push_head(rt.alloc(), &mut text, &head)?;

@@ -30,9 +30,9 @@ fn behind_blanks(line: &[u8]) -> &[u8]
     ensures words { words_of result.now ≡ words_of line.now }
     ensures begins { (0 < length result.now) → is_blank (slice_index result.now 0) ≡ false }
 {
-    for (place, byte) in line.iter().enumerate() {
+    for (position, byte) in line.iter().enumerate() {
         if !is_blank_byte(*byte) {
-            return &line[place..];
+            return &line[position..];
         }
     }
     &line[line.len()..]
@@ -48,9 +48,9 @@ pub(crate) fn next_word(line: &[u8]) -> Option<(&[u8], &[u8])>
     if rest.is_empty() {
         return None;
     }
-    for (place, byte) in rest.iter().enumerate() {
+    for (position, byte) in rest.iter().enumerate() {
         if is_blank_byte(*byte) {
-            return Some((&rest[..place], &rest[place + 1..]));
+            return Some((&rest[..position], &rest[position + 1..]));
         }
     }
     Some((rest, &rest[rest.len()..]))

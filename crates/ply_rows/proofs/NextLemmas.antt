@@ -8,9 +8,8 @@ use Rattle.ply_rows.specs.declared.refusal.RowRefusal.TheVariants.{NoMemory}
 use Rattle.ply_rows.specs.Rests.{Rest, fields_of}
 use Rattle.ply_rows.specs.Texts.{Fails}
 use Rattle.ply_rows.specs.Bodies.{BodyRows, row, refused, row_then, rows_from}
-use Rattle.ply_rows.specs.Readers.{Reader, NextRow}
+use Rattle.ply_rows.specs.Readers.{Reader, NextRow, AreFieldsOf, IsRowOf}
 use Rattle.ply_head.specs.declared.header.Header.{Header}
-use Rattle.ply_rows.specs.Readers.{AreFieldsOf, IsRowOf}
 use Rattle.std.proofs.lemmas.List.{get_or_default}
 use Rattle.ply_rows.proofs.RowLemmas.{FieldsRead}
 use Rattle.ply_rows.proofs.ElementLemmas.{row_at, next_is}

@@ -1,10 +1,9 @@
 -- The tokens of a text, one after another.
-use Rattle.std.proofs.Common.{◌≡◌, ℕ, ◌+◌, ◌-◌, ◌<◌, ◌≤◌, true, false, List, [], ◌∷◌, ◌++◌, length, get_or, take, drop, refl, sym, ap, ◌∙◌, arith, All}
+use Rattle.std.proofs.Common.{◌≡◌, ℕ, ◌+◌, ◌-◌, ◌<◌, ◌≤◌, true, false, List, [], ◌∷◌, ◌++◌, length, get_or, take, drop, refl, sym, ap, ◌∙◌, arith, All, inl, inr, subst}
 use Rattle.std.specs.Prelude.{filter}
 use Rattle.std.specs.List.{slice_split}
 use Rattle.std.proofs.lemmas.List.{drop_more, drop_all, take-append-drop, length-take, length-drop, drop-drop, get_or-take, get_or-drop, get_or_default, take_rest}
 use Rattle.std.proofs.lemmas.Bool.{cases_lt}
-use Rattle.std.proofs.Common.{inl, inr, subst}
 use Rattle.std.proofs.lemmas.List.Splits.{slice_split-cons_yes, slice_split_at, slice_split_none}
 use Rattle.ply_rows.specs.Tokens.{Token, is_white_space, has_bytes, placed, tokens_from, tokens_at}
 

@@ -1,5 +1,1 @@
-pub mod SightLists
-pub mod RowLists
-pub mod Certificates
 pub mod WellFormed
-pub mod Uniqueness

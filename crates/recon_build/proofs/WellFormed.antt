@@ -3,15 +3,17 @@ use Rattle.std.proofs.Common.{ℕ, zero, suc, ◌≡◌, ◌<◌, ◌≤◌, ◌
 use Rattle.std.proofs.lemmas.Bool.{eqb-false}
 use Rattle.std.proofs.lemmas.List.{get_or-map, length-map}
 use Rattle.std.proofs.lemmas.List.Kept.{AllPairs-filter}
-use Rattle.cert_text.specs.Certificates.{Claim, FitCounts, IsCellList, IsFlowList, IsSinkList, IsWellFormed}
-use Rattle.cert_text.specs.Rows.{IsCell, IsFacet, IsFlowRow, IsSinkRow}
+use Rattle.cert_text.specs.Certificates.{Claim, FitCounts, AreCellRows, IsFlowList, IsSinkList, IsWellFormed}
+use Rattle.cert_text.specs.Rows.{IsCellRow, IsFlowRow, IsSinkRow}
+use Rattle.line_text.specs.Facets.{IsFacetRow}
 use Rattle.cert_text.specs.declared.certificate.FlowRow.{FlowRow}
 use Rattle.cert_text.specs.declared.certificate.SinkRow.{SinkRow}
-use Rattle.geo_tie.specs.Vertices.{Vertices}
-use Rattle.geo_tie.specs.Cells.{IsBefore, IsRisingCell}
+use Rattle.geo_sign.specs.Vertices.{Vertices}
+use Rattle.geo_sign.specs.Cells.{IsBefore, IsRisingCell}
 use Rattle.line_text.specs.Rising.{IsBefore as IsRowBefore}
 use Rattle.visibility.specs.Scenes.{Scene}
-use Rattle.visibility.specs.Complexes.{Complex, facet_at}
+use Rattle.geo_sign.specs.Tetrahedron.{facet_at}
+use Rattle.visibility.specs.Complexes.{Complex}
 use Rattle.visibility.specs.Votes.{IsComplexOf}
 use Rattle.visibility.specs.Flows.{IsValidFlow}
 use Rattle.visibility.specs.Laws.{IsOrdered}
@@ -20,8 +22,9 @@ use Rattle.visibility.proofs.Ordered.{facets_are_ordered, form_below}
 use Rattle.flow_net.specs.declared.votes.Settings.{Settings}
 use Rattle.scan.specs.Views.{rows_of}
 use Rattle.scan.specs.declared.scan.Scan.{Scan}
-use Rattle.recon_build.proofs.SightLists.{few_points, row_count}
-use Rattle.recon_build.specs.Solutions.{HasCounts, IsCertificate, flow_on, sink_at, flow_row, sink_row, flow_rows, sink_rows}
+use Rattle.solution.proofs.SightLists.{few_points, row_count}
+use Rattle.solution.specs.Solutions.{HasCounts, IsCertificate, flow_on, sink_at, flow_row, sink_row, flow_rows, sink_rows}
+use Rattle.flow_net.specs.declared.votes.TheConstants.{SIGHT_LIMIT}
 
 -- the two orders of rows are one
 same_before : (xs ys : List ℕ) → IsBefore xs ys → IsRowBefore xs ys
@@ -51,11 +54,11 @@ kept test (row ∷ rows) k d within = by (test row) refl k within (λ j l. kept 
     by true e (suc k) l rest = later (get_or (filter test rows) k d) (rest k (omega (arith, l)))
     by false e k l rest = later (get_or (filter test rows) k d) (rest k l)
 
-facet_is : (n : ℕ) (f : List ℕ) → n ≤ 64 → IsOrdered n f → IsFacet f
-facet_is n f few o = subst IsFacet (sym o.three) (o.first_second, o.first_third, o.apart, omega (arith, o.second_below), omega (arith, o.third_below))
+facet_is : (n : ℕ) (f : List ℕ) → n ≤ 64 → IsOrdered n f → IsFacetRow f
+facet_is n f few o = subst IsFacetRow (sym o.three) (o.first_second, o.first_third, o.apart, omega (arith, o.second_below), omega (arith, o.third_below))
 
 -- a cell of few vertices
-cell_is : (v : Vertices) (row : List ℕ) → v.count ≤ 64 → IsRisingCell v row → IsCell row
+cell_is : (v : Vertices) (row : List ℕ) → v.count ≤ 64 → IsRisingCell v row → IsCellRow row
 cell_is v [] few h = elim h [ ]
 cell_is v (a ∷ []) few h = elim h [ ]
 cell_is v (a ∷ b ∷ []) few h = elim h [ ]
@@ -63,7 +66,7 @@ cell_is v (a ∷ b ∷ c ∷ []) few h = elim h [ ]
 cell_is v (a ∷ b ∷ c ∷ d ∷ e ∷ rest) few h = elim h [ ]
 cell_is v (a ∷ b ∷ c ∷ d ∷ []) few h = let below : d < v.count = form_below v a b c d h.3 in (h.0, h.1, h.2, omega arith)
 
-a_cell : (s : Scene) (complex : Complex) → IsComplexOf s complex → s.vertices.count ≤ 64 → (row : List ℕ) → Contains complex.cells row → IsCell row
+a_cell : (s : Scene) (complex : Complex) → IsComplexOf s complex → s.vertices.count ≤ 64 → (row : List ℕ) → Contains complex.cells row → IsCellRow row
 a_cell s complex is few row there = cell_is s.vertices row few (is.cells_are.cells row there)
 
 -- an amount that is not 0
@@ -75,7 +78,7 @@ some_amount zero e = by (eqb 0 0) refl e
     by false h e = absurd (eqb-false 0 0 h refl)
 some_amount (suc n) e = omega arith
 
-flow_list : (s : Scene) (complex : Complex) (claim : Claim) → IsComplexOf s complex → s.vertices.count ≤ 64 → length s.sights ≤ 1048576 → length (flow_rows complex.facets (flow_on claim)) < 2 ^ 64
+flow_list : (s : Scene) (complex : Complex) (claim : Claim) → IsComplexOf s complex → s.vertices.count ≤ 64 → length s.sights ≤ SIGHT_LIMIT → length (flow_rows complex.facets (flow_on claim)) < 2 ^ 64
     → IsValidFlow s complex (flow_on claim) (sink_at claim) → IsFlowList (flow_rows complex.facets (flow_on claim))
 flow_list s complex claim is few few_sights short valid =
     let test : List ℕ → Bool = λ key. not (eqb (flow_on claim key) 0) in
@@ -98,7 +101,7 @@ flow_list s complex claim is few few_sights short valid =
     keys_of [] = refl
     keys_of (key ∷ rest) = ap (λ (list : List (List ℕ)). key ∷ list) (keys_of rest)
 
-sink_list : (s : Scene) (complex : Complex) (claim : Claim) → IsComplexOf s complex → s.vertices.count ≤ 64 → length s.sights ≤ 1048576 → length (sink_rows complex.cells (sink_at claim)) < 2 ^ 64
+sink_list : (s : Scene) (complex : Complex) (claim : Claim) → IsComplexOf s complex → s.vertices.count ≤ 64 → length s.sights ≤ SIGHT_LIMIT → length (sink_rows complex.cells (sink_at claim)) < 2 ^ 64
     → IsValidFlow s complex (flow_on claim) (sink_at claim) → IsSinkList (sink_rows complex.cells (sink_at claim))
 sink_list s complex claim is few few_sights short valid =
     let test : List ℕ → Bool = λ key. not (eqb (sink_at claim key) 0) in
@@ -121,7 +124,7 @@ sink_list s complex claim is few few_sights short valid =
     keys_of [] = refl
     keys_of (key ∷ rest) = ap (λ (list : List (List ℕ)). key ∷ list) (keys_of rest)
 
-cell_list : (s : Scene) (complex : Complex) (inside : List ℕ → Bool) → IsComplexOf s complex → s.vertices.count ≤ 64 → length (filter inside complex.cells) < 2 ^ 64 → IsCellList (filter inside complex.cells)
+cell_list : (s : Scene) (complex : Complex) (inside : List ℕ → Bool) → IsComplexOf s complex → s.vertices.count ≤ 64 → length (filter inside complex.cells) < 2 ^ 64 → AreCellRows (filter inside complex.cells)
 cell_list s complex inside is few short =
     record {
       few = short;
@@ -136,7 +139,7 @@ pub record IsShort (claim : Claim) : Type 0 where
   pub sink : length claim.sink < 2 ^ 64
 
 -- a certificate of a complex of at most 64 vertices is well formed, where its counts and its lists fit
-pub well_formed : (s : Scene) (complex : Complex) (inside : List ℕ → Bool) (claim : Claim) → IsComplexOf s complex → s.vertices.count ≤ 64 → length s.sights ≤ 1048576 → FitCounts claim.counts → IsShort claim
+pub well_formed : (s : Scene) (complex : Complex) (inside : List ℕ → Bool) (claim : Claim) → IsComplexOf s complex → s.vertices.count ≤ 64 → length s.sights ≤ SIGHT_LIMIT → FitCounts claim.counts → IsShort claim
     → IsCertificate s complex inside claim → IsWellFormed claim
 well_formed s complex inside claim is few few_sights counts short certificate =
     let inside_is : claim.inside ≡ filter inside complex.cells = certificate.inside_is in
@@ -144,7 +147,7 @@ well_formed s complex inside claim is few few_sights counts short certificate =
     let sink_is : claim.sink ≡ sink_rows complex.cells (sink_at claim) = certificate.sink_is in
     record {
       counts = counts;
-      inside = subst IsCellList (sym inside_is) (cell_list s complex inside is few (subst (λ (rows : List (List ℕ)). length rows < 2 ^ 64) inside_is short.inside));
+      inside = subst AreCellRows (sym inside_is) (cell_list s complex inside is few (subst (λ (rows : List (List ℕ)). length rows < 2 ^ 64) inside_is short.inside));
       flow = subst IsFlowList (sym flow_is) (flow_list s complex claim is few few_sights (subst (λ (rows : List FlowRow). length rows < 2 ^ 64) flow_is short.flow) certificate.flow);
       sink = subst IsSinkList (sym sink_is) (sink_list s complex claim is few few_sights (subst (λ (rows : List SinkRow). length rows < 2 ^ 64) sink_is short.sink) certificate.flow);
     }

@@ -7,20 +7,20 @@ ghost use Rattle.mesh_ply.specs.Meshes.{IsMesh};
 ghost use Rattle.scan.specs.Views.{rows_of};
 ghost use Rattle.visibility.specs.Laws.{test_of};
 ghost use Rattle.visibility.specs.Networks.{complex_of, IsNetworkOf};
-ghost use Rattle.recon_build.specs.Scans.{points_of, scene_of_rows};
-ghost use Rattle.recon_build.specs.Solutions.{HasCounts, IsCertificate, IsSolution, surface_of};
+ghost use Rattle.solution.specs.Scans.{points_of, scene_of_rows};
+ghost use Rattle.solution.specs.Solutions.{HasCounts, IsCertificate, IsSolution, surface_of};
 
 use crate::NoMemory;
 use crate::rows::{flow_rows, inside_rows, sink_rows};
-use crate::sights::sights_of;
 use cert_text::Certificate;
-use flow_net::{Flow, Labels, Settings, Voted, cost};
+use flow_net::{Flow, Labels, Settings, Voted};
 use geo_sign::Point;
 use max_flow::{least_inside, solve};
 use merge::merge;
 use mesh_ply::Mesh;
 use plain_net::{plain_mesh, plain_net};
 use scan::Scan;
+use solution::{least_cost, sights_of};
 use std::alloc::Global;
 
 /// A surface, and the certificate that shows it best.
@@ -30,15 +30,6 @@ pub struct Solved {
     pub mesh: Mesh,
     /// The labels, and a flow whose value is their cost.
     pub cert: Certificate,
-}
-
-/// What the least-inside labels of a scan's network cost. It fits, since they cost no more than to have all cells outside.
-pub fn least_cost(scan: &Scan, settings: Settings, voted: &Voted, labels: &Labels) -> u64
-    requires network { IsNetworkOf (scene_of_rows (rows_of scan.now) settings) voted.now }
-    requires labels { IsLeastInside voted.now.net labels.now }
-    ensures { result ≡ cost_of voted.now.net labels.now }
-{
-    cost(&voted.net, labels) as u64
 }
 
 /// The certificate of labels and of a flow that is worth their cost. `points` are the scan's distinct points.

@@ -13,11 +13,12 @@ use Rattle.flow_net.specs.declared.Labels.{Labels}
 use Rattle.flow_net.specs.declared.Voted.{Voted}
 use Rattle.flow_net.specs.Nets.{arc_at, flag_at}
 use Rattle.flow_net.specs.Flows.{amount_in as amount_in_net}
-use Rattle.recon_build.specs.Solutions.{flow_on, sink_at}
-use Rattle.recon_build.proofs.Certificates.{flags_are, least_inside_is}
+use Rattle.solution.specs.Solutions.{flow_on, sink_at}
+use Rattle.solution.proofs.Certificates.{flags_are, least_inside_is}
 use Rattle.scan.specs.ScanRows.{ScanRows}
 use Rattle.visibility.specs.Scenes.{Scene}
-use Rattle.visibility.specs.Complexes.{Complex, facet_at}
+use Rattle.geo_sign.specs.Tetrahedron.{facet_at}
+use Rattle.visibility.specs.Complexes.{Complex}
 use Rattle.visibility.specs.Votes.{is_fixed, capacity}
 use Rattle.visibility.specs.Cuts.{IsAdmissible}
 use Rattle.visibility.specs.Laws.{labels_of, flow_of, test_of, AgreeAsLabels, AgreeAsFlows}

@@ -5,7 +5,7 @@ use Rattle.std.proofs.lemmas.Bool.{eqb-true, eqb-false}
 use Rattle.std.proofs.lemmas.List.Elements.{All-cons, All-nil}
 use Rattle.cert_text.specs.Certificates.{Claim}
 use Rattle.flow_net.specs.declared.votes.Settings.{Settings}
-use Rattle.recon_build.specs.Solutions.{HasCounts}
+use Rattle.solution.specs.Solutions.{HasCounts}
 use Rattle.scan.specs.ScanRows.{ScanRows}
 use Rattle.recon_check.specs.Answers.{stated_count, count_here, earlier, IsFault}
 use Rattle.recon_check.specs.declared.answer.Reason.{Reason}

@@ -1,7 +1,7 @@
 -- The first of a list, by number and as it stands.
 use Rattle.std.proofs.Common.{ℕ, ◌≡◌, ◌<◌, refl, ap, sym, subst, ◌∙◌, arith, List, [], length, get_or}
 use Rattle.flow_check.specs.Firsts.{IsFirst, NoneBelow}
-use Rattle.visibility.proofs.Places.{at_place, place_has}
+use Rattle.visibility.proofs.Indices.{at_index, index_has}
 use Rattle.recon_check.specs.Claims.{IsFirstOf, NoneOf}
 
 -- what holds by number where it holds of what stands there
@@ -24,7 +24,7 @@ first_over rows n k P Q e stands h =
 
 pub none_over : (rows : List (List ℕ)) (n : ℕ) (P : ℕ → Type 0) (Q : List ℕ → Type 0) → n ≡ length rows → Stands rows P Q → NoneBelow n P → NoneOf rows Q
 none_over rows n P Q e stands none row there q =
-    none there.0 (omega (arith, there.1)) (stands.to_numbers there.0 there.1 (subst Q (sym (at_place rows row there)) q))
+    none there.0 (omega (arith, there.1)) (stands.to_numbers there.0 there.1 (subst Q (sym (at_index rows row there)) q))
 
 -- a property has one first number
 pub one_first : (n j k : ℕ) (P : ℕ → Type 0) → IsFirst n P j → IsFirst n P k → j ≡ k
@@ -40,4 +40,4 @@ one_first_of rows row other P a b =
 
 -- none has what the first has
 pub not_first_of : (rows : List (List ℕ)) (row : List ℕ) (P : List ℕ → Type 0) → NoneOf rows P → IsFirstOf rows P row → ⊥
-not_first_of rows row P none h = none (get_or rows h.place []) (place_has rows h.place h.first.in_range) h.first.has
+not_first_of rows row P none h = none (get_or rows h.place []) (index_has rows h.place h.first.in_range) h.first.has

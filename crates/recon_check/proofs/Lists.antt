@@ -7,11 +7,11 @@ use Rattle.std.proofs.lemmas.List.Elements.{All-contains, All-contains_itself, A
 use Rattle.std.proofs.lemmas.List.Folds.{list_any-from_Any, Any-from_list_any}
 use Rattle.std.proofs.lemmas.List.Kept.{AllPairs-filter}
 use Rattle.std.proofs.lemmas.List.Sums.{sum_by-cons}
-use Rattle.geo_tie.specs.Cells.{IsBefore}
-use Rattle.geo_tie.proofs.Rows.{rising_law}
-use Rattle.recon_build.specs.Solutions.{stated, listed}
+use Rattle.geo_sign.specs.Cells.{IsBefore}
+use Rattle.geo_sign.proofs.Rising.{rising_law}
+use Rattle.solution.specs.Solutions.{stated, listed}
 use Rattle.visibility.specs.Flows.{is_equal}
-use Rattle.visibility.proofs.Places.{is_equal_itself, is_equal_means, not_before_itself}
+use Rattle.visibility.proofs.Indices.{is_equal_itself, is_equal_means, not_before_itself}
 use Rattle.recon_check.specs.Claims.{is_among}
 use Rattle.recon_check.proofs.Walks.{stated_says}
 

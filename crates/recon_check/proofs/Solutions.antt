@@ -7,18 +7,19 @@ use Rattle.cert_text.specs.Rows.{IsFlowRow, IsSinkRow}
 use Rattle.cert_text.specs.declared.certificate.FlowRow.{FlowRow}
 use Rattle.cert_text.specs.declared.certificate.SinkRow.{SinkRow}
 use Rattle.flow_net.specs.declared.votes.Settings.{Settings}
-use Rattle.geo_tie.specs.Vertices.{corners}
+use Rattle.geo_sign.specs.Vertices.{corners}
 use Rattle.mesh_ply.specs.Meshes.{Surface, mesh_of}
-use Rattle.recon_build.specs.Scans.{points_of, scene_of_rows}
-use Rattle.recon_build.specs.Solutions.{flow_on, sink_at, flow_row, sink_row, HasCounts, IsSolution}
-use Rattle.recon_build.proofs.Uniqueness.{same_bools, filter_same}
+use Rattle.solution.specs.Scans.{points_of, scene_of_rows}
+use Rattle.solution.specs.Solutions.{flow_on, sink_at, flow_row, sink_row, HasCounts, IsSolution}
+use Rattle.solution.proofs.Uniqueness.{same_bools, filter_same}
 use Rattle.scan.specs.ScanRows.{ScanRows}
 use Rattle.visibility.specs.Scenes.{Scene}
-use Rattle.visibility.specs.Complexes.{Complex, facet_at, turned, cell_of}
+use Rattle.geo_sign.specs.Tetrahedron.{facet_at, turned}
+use Rattle.visibility.specs.Complexes.{Complex, cell_of}
 use Rattle.visibility.specs.Votes.{capacity, sink, IsComplexOf}
 use Rattle.visibility.specs.Cuts.{is_cut, cut_facets, facet_cost, cell_cost, cost, IsLeastInside}
 use Rattle.visibility.proofs.Networks.{IsJoined, joined}
-use Rattle.visibility.proofs.Places.{place_has}
+use Rattle.visibility.proofs.Indices.{index_has}
 use Rattle.recon_check.specs.Answers.{best_surface}
 use Rattle.recon_check.specs.Claims.{is_inside}
 use Rattle.recon_check.specs.Faults.{IsBest}
@@ -32,8 +33,8 @@ Agree complex inside other = (row : List ℕ) → Contains complex.cells row →
 cut_at : (s : Scene) (complex : Complex) (inside other : List ℕ → Bool) → IsComplexOf s complex → Agree complex inside other → (f : List ℕ) → Contains complex.facets f → is_cut s.vertices complex.cells inside f ≡ is_cut s.vertices complex.cells other f
 cut_at s complex inside other is same f there =
     let j : IsJoined s complex.cells f = joined s complex.cells f (is.facets_are.only f there) in
-    let own : inside (cell_of s.vertices complex.cells (facet_at f)) ≡ other (cell_of s.vertices complex.cells (facet_at f)) = same (cell_of s.vertices complex.cells (facet_at f)) (place_has complex.cells _ j.own) in
-    let across : inside (cell_of s.vertices complex.cells (turned (facet_at f))) ≡ other (cell_of s.vertices complex.cells (turned (facet_at f))) = same (cell_of s.vertices complex.cells (turned (facet_at f))) (place_has complex.cells _ j.across) in
+    let own : inside (cell_of s.vertices complex.cells (facet_at f)) ≡ other (cell_of s.vertices complex.cells (facet_at f)) = same (cell_of s.vertices complex.cells (facet_at f)) (index_has complex.cells _ j.own) in
+    let across : inside (cell_of s.vertices complex.cells (turned (facet_at f))) ≡ other (cell_of s.vertices complex.cells (turned (facet_at f))) = same (cell_of s.vertices complex.cells (turned (facet_at f))) (index_has complex.cells _ j.across) in
     ap (λ (t : Bool). not t && inside (cell_of s.vertices complex.cells (turned (facet_at f)))) own
     ∙ ap (λ (t : Bool). not (other (cell_of s.vertices complex.cells (facet_at f))) && t) across
 

@@ -13,12 +13,13 @@ use Rattle.cert_text.proofs.OneRefusal.{refused_once, printed_not_refused}
 use Rattle.flow_check.specs.Firsts.{IsFirst}
 use Rattle.flow_net.specs.declared.votes.Settings.{Settings}
 use Rattle.mesh_ply.specs.Meshes.{Surface}
-use Rattle.recon_build.specs.Scans.{scene_of_rows}
-use Rattle.recon_build.specs.Solutions.{flow_on, sink_at, HasCounts}
-use Rattle.recon_build.proofs.Uniqueness.{solution_law}
+use Rattle.solution.specs.Scans.{scene_of_rows}
+use Rattle.solution.specs.Solutions.{flow_on, sink_at, HasCounts}
+use Rattle.solution.proofs.Uniqueness.{solution_law}
 use Rattle.scan.specs.ScanRows.{ScanRows}
 use Rattle.visibility.specs.Scenes.{Scene}
-use Rattle.visibility.specs.Complexes.{Complex, facet_at}
+use Rattle.geo_sign.specs.Tetrahedron.{facet_at}
+use Rattle.visibility.specs.Complexes.{Complex}
 use Rattle.visibility.specs.Votes.{is_fixed, capacity, sink}
 use Rattle.visibility.specs.Cuts.{cost, IsAdmissible, IsLeastInside}
 use Rattle.visibility.specs.Flows.{value, IsValidFlow}

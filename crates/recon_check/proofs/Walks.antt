@@ -2,12 +2,12 @@
 use Rattle.std.proofs.Common.{ℕ, suc, ◌≡◌, ◌≢◌, ◌+◌, ◌<◌, ◌≤◌, ◌⊎◌, inl, inr, ⊎_elim, refl, ap, sym, subst, ◌∙◌, arith, Bool, true, false, cond, ◌||◌, List, [], ◌∷◌, ◌++◌, length, map, get_or, take, AllPairs, All, Contains}
 use Rattle.std.proofs.lemmas.Bool.{cases_lt, false_from_ne_true}
 use Rattle.std.proofs.lemmas.List.{take_more, take-map, length-take-le, get_or-take, get_or-map, get_or_default, length-map, map-append}
-use Rattle.cert_text.proofs.RowLemmas.{before_trans}
+use Rattle.line_text.proofs.Rows.{before_trans}
 use Rattle.flow_check.specs.Firsts.{IsFirst}
 use Rattle.line_text.specs.Rising.{IsBefore}
-use Rattle.recon_build.specs.Solutions.{stated}
+use Rattle.solution.specs.Solutions.{stated}
 use Rattle.visibility.specs.Flows.{is_equal}
-use Rattle.visibility.proofs.Places.{is_equal_itself, is_equal_means, not_before_itself}
+use Rattle.visibility.proofs.Indices.{is_equal_itself, is_equal_means, not_before_itself}
 use Rattle.recon_check.specs.Claims.{is_among, IsStray}
 
 -- a list differs from one that it comes before

@@ -4,8 +4,8 @@ use Rattle.cert_text.specs.Certificates.{Claim, IsWellFormed}
 use Rattle.cert_text.specs.Texts.{cert_text}
 use Rattle.flow_net.specs.declared.votes.Settings.{Settings}
 use Rattle.mesh_ply.specs.Meshes.{Surface}
-use Rattle.recon_build.specs.Scans.{scene_of_rows}
-use Rattle.recon_build.specs.Solutions.{HasCounts, IsSolution}
+use Rattle.solution.specs.Scans.{scene_of_rows}
+use Rattle.solution.specs.Solutions.{HasCounts, IsSolution}
 use Rattle.scan.specs.ScanRows.{ScanRows}
 use Rattle.visibility.specs.Complexes.{Complex}
 use Rattle.visibility.specs.Votes.{IsComplexOf}

@@ -21,14 +21,15 @@ use Rattle.cert_text.specs.Texts.{cert_text}
 use Rattle.cert_text.specs.declared.refusal.CertRefusal.TheVariants as refusals
 use Rattle.flow_check.specs.Firsts.{IsFirst}
 use Rattle.flow_net.specs.declared.votes.Settings.{Settings}
-use Rattle.geo_tie.specs.Vertices.{corners, vertices_of}
+use Rattle.geo_sign.specs.Vertices.{corners, vertices_of}
 use Rattle.mesh_ply.specs.Meshes.{Surface, mesh_of}
 use Rattle.mesh_ply.specs.Texts.{mesh_text}
-use Rattle.recon_build.specs.Scans.{points_of, scene_of_rows}
-use Rattle.recon_build.specs.Solutions.{flow_on, sink_at, HasCounts, IsSolution}
+use Rattle.solution.specs.Scans.{points_of, scene_of_rows}
+use Rattle.solution.specs.Solutions.{flow_on, sink_at, HasCounts, IsSolution}
 use Rattle.scan.specs.ScanRows.{ScanRows}
 use Rattle.visibility.specs.Scenes.{Scene}
-use Rattle.visibility.specs.Complexes.{Complex, facet_at}
+use Rattle.geo_sign.specs.Tetrahedron.{facet_at}
+use Rattle.visibility.specs.Complexes.{Complex}
 use Rattle.visibility.specs.Votes.{capacity, IsComplexOf}
 use Rattle.visibility.specs.Cuts.{cost, cut_facets, IsAdmissible}
 use Rattle.visibility.specs.Flows.{value, IsValidFlow}

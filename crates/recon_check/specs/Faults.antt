@@ -14,9 +14,10 @@
 --   IsBest s complex claim                 and they are the least-inside ones
 use Rattle.std.specs.Prelude.{ℕ, ◌≡◌, ◌≢◌, ◌<◌, ◌+◌, Bool, true, false, List, if◌then◌else◌}
 use Rattle.cert_text.specs.Certificates.{Claim}
-use Rattle.recon_build.specs.Solutions.{flow_on, sink_at}
+use Rattle.solution.specs.Solutions.{flow_on, sink_at}
 use Rattle.visibility.specs.Scenes.{Scene}
-use Rattle.visibility.specs.Complexes.{Complex, facet_at}
+use Rattle.geo_sign.specs.Tetrahedron.{facet_at}
+use Rattle.visibility.specs.Complexes.{Complex}
 use Rattle.visibility.specs.Votes.{is_fixed, capacity, sink}
 use Rattle.visibility.specs.Cuts.{cost, IsAdmissible, IsLeastInside}
 use Rattle.visibility.specs.Flows.{amount_in, amount_out, value, IsValidFlow}

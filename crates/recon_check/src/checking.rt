@@ -4,8 +4,8 @@ ghost use Rattle.std.specs.Prelude.{◌≡◌, ◌↔◌, ℕ, List, IfOk, IfErr
 ghost use Rattle.cert_text.specs.Certificates.{claim_of, Claim, IsWellFormed};
 ghost use Rattle.cert_text.specs.Texts.{cert_text};
 ghost use Rattle.mesh_ply.specs.Meshes.{Surface};
-ghost use Rattle.recon_build.specs.Scans.{points_of, scene_of_rows};
-ghost use Rattle.recon_build.specs.Solutions.{HasCounts, IsSolution};
+ghost use Rattle.solution.specs.Scans.{points_of, scene_of_rows};
+ghost use Rattle.solution.specs.Solutions.{HasCounts, IsSolution};
 ghost use Rattle.scan.specs.ScanRows.{ScanRows};
 ghost use Rattle.scan.specs.Views.{rows_of};
 ghost use Rattle.visibility.specs.Networks.{IsNetworkOf};
@@ -23,8 +23,8 @@ use geo_sign::Point;
 use merge::merge;
 use mesh_ply::push_mesh;
 use plain_net::{plain_mesh, plain_net};
-use recon_build::{least_cost, sights_of};
 use scan::Scan;
+use solution::{least_cost, sights_of};
 use std::alloc::{AllocError, Global};
 
 /// The numbers of a surface that was shown best.

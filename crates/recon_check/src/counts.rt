@@ -2,8 +2,8 @@
 
 ghost use Rattle.std.specs.Prelude.{◌≡◌, ℕ, List, IfSome, IfNone, None, Some, if◌then◌else◌, ◌==◌};
 ghost use Rattle.cert_text.specs.Certificates.{claim_of};
-ghost use Rattle.recon_build.specs.Scans.{points_of};
-ghost use Rattle.recon_build.specs.Solutions.{HasCounts};
+ghost use Rattle.solution.specs.Scans.{points_of};
+ghost use Rattle.solution.specs.Solutions.{HasCounts};
 ghost use Rattle.scan.specs.Views.{rows_of};
 ghost use Rattle.recon_check.specs.Answers.{IsFault};
 

@@ -3,7 +3,7 @@
 
 ghost use Rattle.std.specs.Prelude.{◌≡◌, ℕ, List, IfOk, IfErr, OnOk};
 ghost use Rattle.cert_text.specs.Certificates.{claim_of, IsWellFormed};
-ghost use Rattle.recon_build.specs.Solutions.{flow_on, sink_at};
+ghost use Rattle.solution.specs.Solutions.{flow_on, sink_at};
 ghost use Rattle.scan.specs.ScanRows.{ScanRows};
 ghost use Rattle.visibility.specs.Laws.{labels_of, flow_of};
 ghost use Rattle.visibility.specs.Networks.{complex_of, IsNetworkOf};

@@ -7,7 +7,7 @@
 //! `answer` holds the answers, `counts` compares the numbers that a certificate states with the scan's, `rows` turns its rows into
 //! flags and amounts by number, `flows` checks the labels and the flow that they state, `verdicts` says a verdict by number with
 //! cells and facets, `texts` finds where two texts differ, `checking` puts them together, `stop` is why a check stops, and `laws`
-//! says what holds of all answers. The crate stands on `cert_text` (certificates), `merge` and `recon_build` (points, sights, and
+//! says what holds of all answers. The crate stands on `cert_text` (certificates), `merge` and `solution` (points, sights, and
 //! what a solution is), `plain_net` (the network and the mesh of labels) and `flow_check` (labels and a flow by number).
 #![tactic(auto)]
 

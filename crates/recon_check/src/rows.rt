@@ -5,7 +5,7 @@
 
 ghost use Rattle.std.specs.Prelude.{◌≡◌, IfOk, IfErr, All, AllPairs, Contains, OnOk, map};
 ghost use Rattle.line_text.specs.Rising.{IsBefore};
-ghost use Rattle.recon_build.specs.Solutions.{stated};
+ghost use Rattle.solution.specs.Solutions.{stated};
 ghost use Rattle.recon_check.specs.Claims.{is_among};
 ghost use Rattle.recon_check.specs.Stops.{StopsFor};
 ghost use Rattle.recon_check.specs.Strays.{IsStrayCell, IsStrayFacet, IsStraySink};

@@ -1,6 +1,6 @@
 -- The answer of `check`, reading after reading.
 use Rattle.std.proofs.Common.{◌≡◌, inl, inr, ℕ, ◌+◌, ◌≤◌, ◌<◌, List, [], length, Option, Some, None, IfSome, Result, Ok, Err, IfOk, refl, sym, ap, subst, ◌∙◌, arith, unwrap_or}
-use Rattle.host.specs.State.{State, Told, Files, bytes_of}
+use Rattle.host.specs.State.{State, Told, Files, file_bytes}
 use Rattle.host.specs.Whole.{OnlyReads, apart_from_left}
 use Rattle.scan.specs.ScanRows.{ScanRows}
 use Rattle.scan.specs.Views.{rows_of}
@@ -52,7 +52,7 @@ result_behind names options A B (Ok reply) before mid only each is = reply_behin
 
 -- the file is longer than the limit
 pub too_long : (names : SurfaceNames) (options : Options) (A : Answers) (name line : List ℕ) (reads : ℕ) (reply : Reply) (before : State)
-    → answer_of reads reply ≡ refusal reads line → IfSome before.told (λ told. file_limit < length (bytes_of told.files name))
+    → answer_of reads reply ≡ refusal reads line → IfSome before.told (λ told. file_limit < length (file_bytes told.files name))
     → ((files : Files) (bytes : List ℕ) → files name ≡ Some bytes → FileTooLong reads line bytes (answer_of reads reply) → A files (answer_of reads reply))
     → IsCheckReply names options A reply before
 too_long names options A name line reads reply before is longer each =
@@ -66,7 +66,7 @@ too_long names options A name line reads reply before is longer each =
     with_bytes files None has more = absurd (omega arith)
     with_bytes files (Some bytes) has more = each files bytes has (record { longer = more; is = is })
 
-    by_cases : (o : Option Told) → IfSome o (λ told. file_limit < length (bytes_of told.files name)) → IfSome o (λ told. (reads : ℕ) × A told.files (answer_of reads reply))
+    by_cases : (o : Option Told) → IfSome o (λ told. file_limit < length (file_bytes told.files name)) → IfSome o (λ told. (reads : ℕ) × A told.files (answer_of reads reply))
     by_cases None more = tt
     by_cases (Some told) more = (reads, with_bytes told.files (told.files name) refl more)
 

@@ -6,7 +6,7 @@ use Rattle.flow_net.specs.declared.votes.Settings.{Settings}
 use Rattle.gen_scan.specs.Generated.{generated}
 use Rattle.mesh_ply.specs.Meshes.{IsMesh}
 use Rattle.mesh_ply.specs.Texts.{mesh_text}
-use Rattle.recon_build.specs.Solutions.{IsSolution, surface_of}
+use Rattle.solution.specs.Solutions.{IsSolution, surface_of}
 use Rattle.recon_build.specs.declared.solving.Solved.{Solved}
 use Rattle.scan.specs.PlainForm.{plain_text}
 use Rattle.scan.specs.ScanRows.{ScanRows, IsScan}

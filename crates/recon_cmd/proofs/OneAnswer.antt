@@ -2,14 +2,14 @@
 use Rattle.std.proofs.Common.{◌≡◌, ◌⊎◌, inl, inr, ℕ, ◌≤◌, List, [], ◌∷◌, length, sym, ap, subst, ◌∙◌, arith}
 use native.Mathlib.Bridge.{le_prop}
 use Rattle.flow_net.specs.declared.votes.Settings.{Settings}
-use Rattle.geo_tie.specs.Vertices.{vertices_of}
-use Rattle.geo_tie.proofs.Rows.{cell_list_law}
+use Rattle.geo_sign.specs.Vertices.{vertices_of}
+use Rattle.geo_sign.proofs.Rising.{cell_list_law}
 use Rattle.host.specs.State.{Files}
 use Rattle.mesh_ply.specs.Meshes.{Surface}
-use Rattle.recon_build.specs.Laws.{IsSame}
-use Rattle.recon_build.specs.Scans.{points_of}
-use Rattle.recon_build.specs.Solutions.{IsSolution}
-use Rattle.recon_build.proofs.Uniqueness.{solution_law}
+use Rattle.solution.specs.Laws.{IsSame}
+use Rattle.solution.specs.Scans.{points_of}
+use Rattle.solution.specs.Solutions.{IsSolution}
+use Rattle.solution.proofs.Uniqueness.{solution_law}
 use Rattle.scan.specs.ScanRows.{ScanRows}
 use Rattle.recon_cmd.specs.Answers.{Answer, IsUnread, ScanAnswer, WritesCells, WritesSurface, refusal}
 use Rattle.recon_cmd.specs.Laws.{CellsAnswerIsOne, DifferInFlows, BuildAnswerIsOneButForFlows}
@@ -21,6 +21,7 @@ use Rattle.recon_cmd.specs.Words.{SurfaceNames}
 use Rattle.recon_cmd.specs.declared.status.Status.TheVariants.{Done}
 use Rattle.recon_cmd.proofs.Completeness.{not_unread, why_unread}
 use Rattle.recon_cmd.proofs.ScanReplies.{ToFiles}
+use Rattle.flow_net.specs.declared.votes.TheConstants.{WEIGHT_LIMIT}
 
 -- two refusals of one file
 unread_one : (options : Options) (bytes : List ℕ) (answer other : Answer) → IsUnread options bytes answer → IsUnread options bytes other → answer ≡ other
@@ -59,17 +60,17 @@ cells_one output scan answer other a b =
 -- settings are their weights
 pub same_settings : (a b : Settings) → a.vote ≡ b.vote → a.smooth ≡ b.smooth → a ≡ b
 same_settings a b vote smooth =
-    subst (λ (l : ℕ). (p : 1 ≤ b.vote) (q : b.vote ≤ 65535) (r : l ≤ 65535) → a ≡ settings b.vote l p q r) smooth
-    (subst (λ (v : ℕ). (p : 1 ≤ v) (q : v ≤ 65535) (r : a.smooth ≤ 65535) → a ≡ settings v a.smooth p q r) vote here) b.vote_at_least b.vote_at_most b.smooth_at_most
+    subst (λ (l : ℕ). (p : 1 ≤ b.vote) (q : b.vote ≤ WEIGHT_LIMIT) (r : l ≤ WEIGHT_LIMIT) → a ≡ settings b.vote l p q r) smooth
+    (subst (λ (v : ℕ). (p : 1 ≤ v) (q : v ≤ WEIGHT_LIMIT) (r : a.smooth ≤ WEIGHT_LIMIT) → a ≡ settings v a.smooth p q r) vote here) b.vote_at_least b.vote_at_most b.smooth_at_most
   where
-    settings : (v l : ℕ) → 1 ≤ v → v ≤ 65535 → l ≤ 65535 → Settings
+    settings : (v l : ℕ) → 1 ≤ v → v ≤ WEIGHT_LIMIT → l ≤ WEIGHT_LIMIT → Settings
     settings v l p q r = record { vote = v; smooth = l; vote_at_least = p; vote_at_most = q; smooth_at_most = r }
 
-    here : (p : 1 ≤ a.vote) (q : a.vote ≤ 65535) (r : a.smooth ≤ 65535) → a ≡ settings a.vote a.smooth p q r
+    here : (p : 1 ≤ a.vote) (q : a.vote ≤ WEIGHT_LIMIT) (r : a.smooth ≤ WEIGHT_LIMIT) → a ≡ settings a.vote a.smooth p q r
     here p q r =
         ap (λ (t : 1 ≤ a.vote). settings a.vote a.smooth t a.vote_at_most a.smooth_at_most) (le_prop a.vote_at_least p)
-        ∙ (ap (λ (t : a.vote ≤ 65535). settings a.vote a.smooth p t a.smooth_at_most) (le_prop a.vote_at_most q)
-        ∙ ap (λ (t : a.smooth ≤ 65535). settings a.vote a.smooth p q t) (le_prop a.smooth_at_most r))
+        ∙ (ap (λ (t : a.vote ≤ WEIGHT_LIMIT). settings a.vote a.smooth p t a.smooth_at_most) (le_prop a.vote_at_most q)
+        ∙ ap (λ (t : a.smooth ≤ WEIGHT_LIMIT). settings a.vote a.smooth p q t) (le_prop a.smooth_at_most r))
 
 surfaces_one : (names : SurfaceNames) (options : Options) (scan : ScanRows) (answer other : Answer) → WritesSurface names options scan answer → WritesSurface names options scan other → DifferInFlows names answer other
 surfaces_one names options scan answer other a b =

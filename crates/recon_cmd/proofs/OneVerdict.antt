@@ -5,9 +5,9 @@ use Rattle.flow_net.specs.declared.votes.Settings.{Settings}
 use Rattle.gen_scan.specs.Generated.{generated}
 use Rattle.host.specs.State.{Files}
 use Rattle.mesh_ply.specs.Meshes.{Surface}
-use Rattle.recon_build.specs.Laws.{IsSame}
-use Rattle.recon_build.specs.Solutions.{IsSolution}
-use Rattle.recon_build.proofs.Uniqueness.{solution_law}
+use Rattle.solution.specs.Laws.{IsSame}
+use Rattle.solution.specs.Solutions.{IsSolution}
+use Rattle.solution.proofs.Uniqueness.{solution_law}
 use Rattle.recon_check.specs.Answers.{IsAnswer}
 use Rattle.recon_check.specs.declared.answer.Answer.{Answer as Verdict}
 use Rattle.recon_check.proofs.Uniqueness.{one_answer}

@@ -8,9 +8,10 @@ use Rattle.std.proofs.lemmas.Bool.{and_parts, le-leb}
 use Rattle.std.proofs.lemmas.List.{at_drop_more, take_all}
 use Rattle.num_text.specs.WholeNumbers.{whole_of, behind_sign, is_minus}
 use Rattle.num_text.proofs.PrintedLemmas.{whole_of_signed}
-use Rattle.geo_sign.specs.Place.{Place, place, IsWithin}
+use Rattle.geo_sign.specs.Point.{Point, point, IsWithin}
 use Rattle.num_text.specs.Decimals.{scaled_of}
-use Rattle.recon_cmd.specs.Options.{number_of, is_comma, place_at}
+use Rattle.recon_cmd.specs.Options.{number_of, is_comma, point_in}
+use Rattle.geo_sign.specs.declared.point.TheConstants.{DATA_LIMIT}
 
 no_plus : (d : ℕ) → is_ascii_digit d ≡ true → eqb d 43 ≡ false
 no_plus d is = grind (arith, nat_tests)
@@ -42,14 +43,14 @@ pub ten_digits : (text : List ℕ) → list_all is_ascii_digit text ≡ true →
 ten_digits text digits some short = rw (le-leb 1 (length text) some, digits, le-leb (length text) 10 short) refl
 
 -- the result of a test that a place passes
-pub point_is : (result : Option Place) (p : Place) → IfSome result (λ (q : Place). (q ≡ p) × IsWithin 2097151 q) → IfNone result (¬ IsWithin 2097151 p) → IsWithin 2097151 p → result ≡ Some p
+pub point_is : (result : Option Point) (p : Point) → IfSome result (λ (q : Point). (q ≡ p) × IsWithin DATA_LIMIT q) → IfNone result (¬ IsWithin DATA_LIMIT p) → IsWithin DATA_LIMIT p → result ≡ Some p
 point_is None p some none within = absurd (none within)
 point_is (Some q) p some none within = ap Some some.0
 
 -- three decimals between two commas
 pub between_commas : (unit : ℕ) (text first rest second third : List ℕ) (x y z : ℤ) → (count_by is_comma text == 2) ≡ true
     → first ≡ before_first is_comma text → rest ≡ after_first is_comma text → second ≡ before_first is_comma rest → third ≡ after_first is_comma rest
-    → Ok x ≡ scaled_of first unit → Ok y ≡ scaled_of second unit → Ok z ≡ scaled_of third unit → place_at unit text ≡ Some (place x y z)
+    → Ok x ≡ scaled_of first unit → Ok y ≡ scaled_of second unit → Ok z ≡ scaled_of third unit → point_in unit text ≡ Some (point x y z)
 between_commas unit text first rest second third x y z commas first_is rest_is second_is third_is x_is y_is z_is =
     let x_there : scaled_of (before_first is_comma text) unit ≡ Ok x = ap (λ (part : List ℕ). scaled_of part unit) (sym first_is) ∙ sym x_is in
     let y_there : scaled_of (before_first is_comma (after_first is_comma text)) unit ≡ Ok y = ap (λ (part : List ℕ). scaled_of part unit) (sym (second_is ∙ ap (before_first is_comma) rest_is)) ∙ sym y_is in
@@ -57,20 +58,20 @@ between_commas unit text first rest second third x y z commas first_is rest_is s
     rw (commas, x_there, y_there, z_there) refl
 
 -- a word that passes a test, from a place on
-pub found_here : (p : List ℕ → Bool) {W : Type 0} (f : W → List ℕ) (words : List W) (place : ℕ) (word : W) → place < length words → word ≡ get_or words place word → p (f word) ≡ true
-    → find p (map f (drop place words)) ≡ find p (map f words) → find p (map f words) ≡ Some (f word)
-found_here p f words place word there is passes rest =
-    sym rest ∙ (at_drop_more (λ (ws : List _). find p (map f ws)) words place word there
-    ∙ (ap (λ w. cond (p (f w)) (Some (f w)) (find p (map f (drop (place + 1) words)))) (sym is)
-    ∙ ap (λ (b : Bool). cond b (Some (f word)) (find p (map f (drop (place + 1) words)))) passes))
+pub found_here : (p : List ℕ → Bool) {W : Type 0} (f : W → List ℕ) (words : List W) (point : ℕ) (word : W) → point < length words → word ≡ get_or words point word → p (f word) ≡ true
+    → find p (map f (drop point words)) ≡ find p (map f words) → find p (map f words) ≡ Some (f word)
+found_here p f words point word there is passes rest =
+    sym rest ∙ (at_drop_more (λ (ws : List _). find p (map f ws)) words point word there
+    ∙ (ap (λ w. cond (p (f w)) (Some (f w)) (find p (map f (drop (point + 1) words)))) (sym is)
+    ∙ ap (λ (b : Bool). cond b (Some (f word)) (find p (map f (drop (point + 1) words)))) passes))
 
 -- a word that does not
-pub found_later : (p : List ℕ → Bool) {W : Type 0} (f : W → List ℕ) (words : List W) (place : ℕ) (word : W) → place < length words → word ≡ get_or words place word → p (f word) ≡ false
-    → find p (map f (drop place words)) ≡ find p (map f words) → find p (map f (drop (place + 1) words)) ≡ find p (map f words)
-found_later p f words place word there is fails rest =
-    sym (at_drop_more (λ (ws : List _). find p (map f ws)) words place word there
-    ∙ (ap (λ w. cond (p (f w)) (Some (f w)) (find p (map f (drop (place + 1) words)))) (sym is)
-    ∙ ap (λ (b : Bool). cond b (Some (f word)) (find p (map f (drop (place + 1) words)))) fails)) ∙ rest
+pub found_later : (p : List ℕ → Bool) {W : Type 0} (f : W → List ℕ) (words : List W) (point : ℕ) (word : W) → point < length words → word ≡ get_or words point word → p (f word) ≡ false
+    → find p (map f (drop point words)) ≡ find p (map f words) → find p (map f (drop (point + 1) words)) ≡ find p (map f words)
+found_later p f words point word there is fails rest =
+    sym (at_drop_more (λ (ws : List _). find p (map f ws)) words point word there
+    ∙ (ap (λ w. cond (p (f w)) (Some (f w)) (find p (map f (drop (point + 1) words)))) (sym is)
+    ∙ ap (λ (b : Bool). cond b (Some (f word)) (find p (map f (drop (point + 1) words)))) fails)) ∙ rest
 
 -- what follows a front of a word, read as a slice
 pub rest_of : (bytes front word begin : List ℕ) → bytes ≡ word → front ≡ begin → take (length bytes - length front) (drop (length front) bytes) ≡ drop (length begin) word

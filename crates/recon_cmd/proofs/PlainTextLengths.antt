@@ -5,13 +5,14 @@ use Rattle.std.specs.List.{flat_map}
 use Rattle.std.proofs.lemmas.Fmt.{length-decimal-le, length_signed_le}
 use Rattle.std.proofs.lemmas.List.{length-append}
 use Rattle.std.proofs.lemmas.List.Elements.{All-head, All-tail}
-use Rattle.geo_sign.specs.Place.{Place, IsWithin}
+use Rattle.geo_sign.specs.Point.{Point, IsWithin}
 use Rattle.scan.specs.ScanRows.{VertexRow, ScanRows, IsVertexRow, IsScan}
 use Rattle.scan.specs.PlainForm.{before_vertex_count, before_scanner_count, after_counts, header, coordinates, vertex_line, scanner_line, plain_text, line_feed, space}
 use Rattle.recon_cmd.specs.Answers.{file_limit}
+use Rattle.geo_sign.specs.declared.point.TheConstants.{DATA_LIMIT}
 
 -- a coordinate has at most seven digits and a sign
-coordinate_fits : (z : ℤ) → unsigned_abs z ≤ 2097151 → length (signed_decimal z) ≤ 8
+coordinate_fits : (z : ℤ) → unsigned_abs z ≤ DATA_LIMIT → length (signed_decimal z) ≤ 8
 coordinate_fits (pos n) within = length_signed_le 7 (pos n) (omega arith) (omega arith)
 coordinate_fits (negsuc n) within = length_signed_le 7 (negsuc n) (omega arith) (omega arith)
 
@@ -19,7 +20,7 @@ coordinate_fits (negsuc n) within = length_signed_le 7 (negsuc n) (omega arith) 
 count_fits : (n : ℕ) → n ≤ 65536 → length (decimal n) ≤ 5
 count_fits n within = length-decimal-le 5 n (omega arith) (omega arith) (omega arith)
 
-coordinates_fit : (p : Place) → IsWithin 2097151 p → length (coordinates p) ≤ 26
+coordinates_fit : (p : Point) → IsWithin DATA_LIMIT p → length (coordinates p) ≤ 26
 coordinates_fit p within =
     omega (
       arith,
@@ -50,15 +51,15 @@ vertex_lines_fit scanners (row ∷ rows) few all =
       vertex_lines_fit scanners rows few (All-tail (IsVertexRow scanners) row rows all),
     )
 
-scanner_lines_fit : (places : List Place) → All (IsWithin 2097151) places → length (flat_map scanner_line places) ≤ length places * 27
+scanner_lines_fit : (places : List Point) → All (IsWithin DATA_LIMIT) places → length (flat_map scanner_line places) ≤ length places * 27
 scanner_lines_fit [] all = omega arith
 scanner_lines_fit (p ∷ places) all =
     omega (
       arith,
       length-append (scanner_line p) (flat_map scanner_line places),
       length-append (coordinates p) (line_feed ∷ []),
-      coordinates_fit p (All-head (IsWithin 2097151) p places all),
-      scanner_lines_fit places (All-tail (IsWithin 2097151) p places all),
+      coordinates_fit p (All-head (IsWithin DATA_LIMIT) p places all),
+      scanner_lines_fit places (All-tail (IsWithin DATA_LIMIT) p places all),
     )
 
 fixed_texts : length before_vertex_count + length before_scanner_count + length after_counts ≤ 250

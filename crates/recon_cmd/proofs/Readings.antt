@@ -1,6 +1,6 @@
 -- The reading of a scan, from what the calls below it answer.
 use Rattle.std.proofs.Common.{◌≡◌, inl, ℕ, ◌<◌, List, [], length, Option, Some, None, IfSome, refl, ap, arith, unwrap_or}
-use Rattle.host.specs.State.{Told, bytes_of}
+use Rattle.host.specs.State.{Told, file_bytes}
 use Rattle.recon_cmd.specs.Answers.{file_limit, refusal}
 use Rattle.recon_cmd.specs.Lines.{too_long_scan_line}
 use Rattle.recon_cmd.specs.Options.{Options}
@@ -16,7 +16,7 @@ read_bytes name bytes options reading None there understood = tt
 read_bytes name bytes options reading (Some told) there understood = (bytes, there, understood)
 
 -- the file is longer than the limit
-pub read_long : (name : List ℕ) (options : Options) (line : Line) (o : Option Told) → line_bytes line ≡ too_long_scan_line → IfSome o (λ told. file_limit < length (bytes_of told.files name)) → IfSome o (IsReading name options (readings.Refused line))
+pub read_long : (name : List ℕ) (options : Options) (line : Line) (o : Option Told) → line_bytes line ≡ too_long_scan_line → IfSome o (λ told. file_limit < length (file_bytes told.files name)) → IfSome o (IsReading name options (readings.Refused line))
 read_long name options line None is longer = tt
 read_long name options line (Some told) is longer = with_bytes (told.files name) refl longer
   where

@@ -2,12 +2,12 @@
 use Rattle.std.proofs.Common.{◌≡◌, inl, inr, ℕ, List, [], ◌∷◌, length, Option, Some, None, IfSome, Result, Ok, Err, IfOk, sym, ap, subst, ◌∙◌}
 use Rattle.cert_text.specs.Certificates.{claim_of, IsWellFormed}
 use Rattle.flow_net.specs.declared.votes.Settings.{Settings}
-use Rattle.geo_sign.specs.Place.{Place}
-use Rattle.geo_tie.specs.Vertices.{vertices_of}
-use Rattle.geo_tie.specs.Cells.{IsCellList}
+use Rattle.geo_sign.specs.Point.{Point}
+use Rattle.geo_sign.specs.Vertices.{vertices_of}
+use Rattle.geo_sign.specs.Cells.{IsCellList}
 use Rattle.mesh_ply.specs.Meshes.{IsMesh}
-use Rattle.recon_build.specs.Scans.{points_of}
-use Rattle.recon_build.specs.Solutions.{IsSolution, surface_of}
+use Rattle.solution.specs.Scans.{points_of}
+use Rattle.solution.specs.Solutions.{IsSolution, surface_of}
 use Rattle.recon_build.specs.declared.solving.Solved.{Solved}
 use Rattle.host.specs.State.{State, Told, Files}
 use Rattle.scan.specs.ScanRows.{ScanRows}
@@ -109,18 +109,18 @@ scan_reply asked input options Answers reads scan reply before answers read =
         (bytes, there, inr (record { within = understood.0; scan = rows_of scan; read = understood.1; answers = answers }))
 
 -- the cells of a scan are written, from the reply that writes them
-pub celled : (output : List ℕ) (scan : ScanRows) (points : List Place) (rows : List (List ℕ)) (writes : List Write) (text line : List ℕ)
+pub celled : (output : List ℕ) (scan : ScanRows) (points : List Point) (rows : List (List ℕ)) (writes : List Write) (text line : List ℕ)
     → points ≡ points_of scan → IsCellList (vertices_of points) rows
     → writes ≡ (output, text) ∷ [] → text ≡ cells_text rows → line ≡ cells_line (length points) (length rows)
     → WritesCells output scan (record { status = Done; reads = 1; writes = writes; line = line })
 celled output scan points rows writes text line points_is listed writes_is text_is line_is =
     record {
       rows = rows;
-      cells = subst (λ (places : List Place). IsCellList (vertices_of places) rows) points_is listed;
+      cells = subst (λ (places : List Point). IsCellList (vertices_of places) rows) points_is listed;
       is =
           ap (λ (w : List Write). record { status = Done; reads = 1; writes = w; line = line }) (writes_is ∙ ap (λ (t : List ℕ). (output, t) ∷ []) text_is)
           ∙ ap (λ (l : List ℕ). record { status = Done; reads = 1; writes = (output, cells_text rows) ∷ []; line = l })
-          (line_is ∙ ap (λ (places : List Place). cells_line (length places) (length rows)) points_is);
+          (line_is ∙ ap (λ (places : List Point). cells_line (length places) (length rows)) points_is);
     }
 
 -- the surface of a scan is written, from the reply that shows what was found

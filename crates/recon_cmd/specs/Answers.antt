@@ -22,8 +22,8 @@ use Rattle.std.specs.Prelude.{◌≡◌, ◌⊎◌, ℕ, ◌≤◌, ◌<◌, Lis
 use Rattle.cert_text.specs.Certificates.{Claim, IsWellFormed}
 use Rattle.cert_text.specs.Texts.{cert_text}
 use Rattle.flow_net.specs.declared.votes.Settings.{Settings}
-use Rattle.geo_tie.specs.Vertices.{vertices_of}
-use Rattle.geo_tie.specs.Cells.{IsCellList}
+use Rattle.geo_sign.specs.Vertices.{vertices_of}
+use Rattle.geo_sign.specs.Cells.{IsCellList}
 use Rattle.gen_scan.specs.Generated.{generated}
 use Rattle.host.specs.State.{Files}
 use Rattle.mesh_ply.specs.Meshes.{Surface, IsMesh}
@@ -32,8 +32,8 @@ use Rattle.scan.specs.Outcomes.{scan_of}
 use Rattle.scan.specs.PlainForm.{plain_text}
 use Rattle.scan.specs.ScanRows.{ScanRows}
 use Rattle.scan.specs.declared.refusal.ScanRefusal.{ScanRefusal}
-use Rattle.recon_build.specs.Scans.{points_of}
-use Rattle.recon_build.specs.Solutions.{IsSolution}
+use Rattle.solution.specs.Scans.{points_of}
+use Rattle.solution.specs.Solutions.{IsSolution}
 use Rattle.recon_check.specs.Answers.{IsAnswer}
 use Rattle.recon_check.specs.declared.answer.Answer.{Answer as Verdict}
 use Rattle.recon_cmd.specs.Lines.{bad_words_line, too_long_scan_line, too_long_mesh_line, too_long_cert_line, cells_line, cells_text, build_line, demo_line}

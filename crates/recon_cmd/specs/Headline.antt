@@ -9,7 +9,7 @@ use Rattle.flow_net.specs.declared.votes.Settings.{Settings}
 use Rattle.host.specs.State.{State, Told}
 use Rattle.mesh_ply.specs.Meshes.{Surface}
 use Rattle.mesh_ply.specs.Texts.{mesh_text}
-use Rattle.recon_build.specs.Solutions.{IsSolution}
+use Rattle.solution.specs.Solutions.{IsSolution}
 use Rattle.scan.specs.ScanRows.{ScanRows}
 use Rattle.recon_cmd.specs.Answers.{file_limit, read_as}
 use Rattle.recon_cmd.specs.Lines.{build_line}

@@ -9,7 +9,7 @@
 --   within least most number   a number, if it is within these limits
 --   number_in least most text  the number that 1 to 10 digits are, if it is within these limits
 --   is_comma                   the byte `,`
---   place_at unit text         the place that three decimals between two commas are, in units
+--   point_in unit text         the place that three decimals between two commas are, in units
 --   chosen understand ..       what an option's value is understood as, and what stands where there is none
 --   Options                    what a command is told beside its names
 --   unit_of, vote_of, smooth_of, fixed_of    the parts of it
@@ -18,12 +18,15 @@ use Rattle.std.specs.Prelude.{ℕ, ℤ, List, Bool, ◌==◌, ◌&&◌, nat_le, 
 use Rattle.std.specs.List.{list_all, list_any, before_first, after_first, starts_with}
 use Rattle.std.specs.Option.{option_map}
 use Rattle.std.specs.Str.Parse.{digits_value}
-use Rattle.geo_sign.specs.Place.{Place, place}
+use Rattle.geo_sign.specs.Point.{Point, point}
 use Rattle.num_text.specs.WholeNumbers.{are_digits}
 use Rattle.num_text.specs.Decimals.{scaled_of}
 use Rattle.num_text.specs.declared.refusal.NumRefusal.{NumRefusal}
 use Rattle.recon_cmd.specs.declared.options.keys.Key.{Key}
 use Rattle.recon_cmd.specs.declared.options.keys.Key.TheVariants.{Unit as unit_key, Vote as vote_key, Smooth as smooth_key, Scanner as scanner_key}
+use Rattle.flow_net.specs.declared.votes.TheConstants.{WEIGHT_LIMIT}
+use Rattle.num_text.specs.declared.decimal.TheConstants.{UNIT_LIMIT}
+use Rattle.recon_cmd.specs.declared.options.understood.TheConstants.{DEFAULT_SMOOTH, DEFAULT_UNIT, DEFAULT_VOTE}
 
 -- a value, and then another made of it, if there are both
 infixl 10 ◌>>=◌
@@ -67,16 +70,16 @@ number_in least most text = number_of 10 text >>= within least most
 abbrev pub is_comma : ℕ → Bool
 is_comma byte = byte == 44
 
--- the place of three coordinates, if there are three
-abbrev pub place_of : (x y z : Result ℤ NumRefusal) → Option Place
-place_of (Ok x) (Ok y) (Ok z) = Some (place x y z)
-place_of x y z = None
+-- the point of three coordinates, if there are three
+abbrev pub point_from : (x y z : Result ℤ NumRefusal) → Option Point
+point_from (Ok x) (Ok y) (Ok z) = Some (point x y z)
+point_from x y z = None
 
--- the place that three decimals between exactly two commas are, in units
-abbrev pub place_at : ℕ → List ℕ → Option Place
-place_at unit text =
+-- the point that three decimals between exactly two commas are, in units
+abbrev pub point_in : ℕ → List ℕ → Option Point
+point_in unit text =
     if count_by is_comma text == 2
-    then place_of (scaled_of (before_first is_comma text) unit)
+    then point_from (scaled_of (before_first is_comma text) unit)
     (scaled_of (before_first is_comma (after_first is_comma text)) unit)
     (scaled_of (after_first is_comma (after_first is_comma text)) unit)
     else None
@@ -94,20 +97,20 @@ pub record Options : Type 0 where
   pub vote : ℕ
   pub smooth : ℕ
   -- where all points were seen from, if the scan has no scanners of its own
-  pub fixed : Option Place
+  pub fixed : Option Point
 
 abbrev pub unit_of : List (List ℕ) → Option ℕ
-unit_of words = chosen (number_in 1 1000000) 1 (value_of unit_key words)
+unit_of words = chosen (number_in 1 UNIT_LIMIT) DEFAULT_UNIT (value_of unit_key words)
 
 abbrev pub vote_of : List (List ℕ) → Option ℕ
-vote_of words = chosen (number_in 1 65535) 8 (value_of vote_key words)
+vote_of words = chosen (number_in 1 WEIGHT_LIMIT) DEFAULT_VOTE (value_of vote_key words)
 
 abbrev pub smooth_of : List (List ℕ) → Option ℕ
-smooth_of words = chosen (number_in 0 65535) 1 (value_of smooth_key words)
+smooth_of words = chosen (number_in 0 WEIGHT_LIMIT) DEFAULT_SMOOTH (value_of smooth_key words)
 
 -- the fixed scanner, in the unit of the same words
-abbrev pub fixed_of : ℕ → List (List ℕ) → Option (Option Place)
-fixed_of unit words = chosen (λ text. option_map Some (place_at unit text)) None (value_of scanner_key words)
+abbrev pub fixed_of : ℕ → List (List ℕ) → Option (Option Point)
+fixed_of unit words = chosen (λ text. option_map Some (point_in unit text)) None (value_of scanner_key words)
 
 -- the options that the words are, if they are options with these keys
 abbrev pub options_of : List Key → List (List ℕ) → Option Options

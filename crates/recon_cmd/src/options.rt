@@ -1,7 +1,9 @@
 //! What a command is told beside its names. It stands on the settings of `flow_net` and on the points of `geo_sign`.
 ghost use Rattle.std.specs.Prelude.{◌≤◌};
 ghost use Rattle.std.specs.Option.{ForSome};
-ghost use Rattle.geo_sign.specs.Place.{IsWithin};
+ghost use Rattle.geo_sign.specs.Point.{IsWithin};
+ghost use Rattle.num_text.specs.declared.decimal.TheConstants.{UNIT_LIMIT};
+ghost use Rattle.geo_sign.specs.declared.point.TheConstants.{DATA_LIMIT};
 
 mod keys;
 mod seeds;
@@ -25,6 +27,6 @@ pub struct Options {
     /// Where all points were seen from, in scaled units, if the scan has no scanners of its own.
     pub fixed: Option<Point>,
     pub ghost unit_at_least: { 1 ≤ unit },
-    pub ghost unit_at_most: { unit ≤ 1000000 },
-    pub ghost fixed_is_data: { ForSome fixed (IsWithin 2097151) },
+    pub ghost unit_at_most: { unit ≤ UNIT_LIMIT },
+    pub ghost fixed_is_data: { ForSome fixed (IsWithin DATA_LIMIT) },
 }

@@ -1,8 +1,9 @@
 //! The type of scans, and what each of them keeps. It stands on the points of `geo_sign`.
 
 ghost use Rattle.std.specs.Prelude.{◌≡◌, ◌<◌, ◌≤◌, length, All};
-ghost use Rattle.geo_sign.specs.Place.{IsWithin};
+ghost use Rattle.geo_sign.specs.Point.{IsWithin};
 ghost use Rattle.scan.specs.ScanRows.{point_limit, scanner_limit};
+ghost use Rattle.geo_sign.specs.declared.point.TheConstants.{DATA_LIMIT};
 
 use geo_sign::Point;
 
@@ -25,8 +26,8 @@ pub struct Scan {
     pub scanners: Vec<Point>,
     /// For each point the number of its scanner, counted from 0.
     pub seen_by: Vec<u32>,
-    pub ghost points_are_data: { All (IsWithin 2097151) points.items },
-    pub ghost scanners_are_data: { All (IsWithin 2097151) scanners.items },
+    pub ghost points_are_data: { All (IsWithin DATA_LIMIT) points.items },
+    pub ghost scanners_are_data: { All (IsWithin DATA_LIMIT) scanners.items },
     pub ghost one_each: { length seen_by.items ≡ length points.items },
     pub ghost scanners_are_there: { All (λ k. k < length scanners.items) seen_by.items },
     pub ghost points_fit: { length points.items ≤ point_limit },

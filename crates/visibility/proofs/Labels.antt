@@ -10,12 +10,13 @@ use Rattle.flow_net.specs.Sums.{sum_below}
 use Rattle.flow_net.specs.Flows.{arc_cost, node_cost, cost_of, IsAdmissible as IsAdmissibleNet, IsLeastCost as IsLeastCostNet, IsLeastInside as IsLeastInsideNet}
 use Rattle.flow_net.proofs.SumLemmas.{sum_below-cong}
 use Rattle.visibility.specs.Scenes.{Scene}
-use Rattle.visibility.specs.Complexes.{facet_at, turned, cell_place, cell_of}
+use Rattle.geo_sign.specs.Tetrahedron.{facet_at, turned}
+use Rattle.visibility.specs.Complexes.{cell_index, cell_of}
 use Rattle.visibility.specs.Votes.{is_fixed, capacity}
 use Rattle.visibility.specs.Cuts.{facet_cost, cell_cost, cost, IsAdmissible, IsLeastCost, IsLeastInside}
 use Rattle.visibility.specs.Networks.{complex_of, arc_of, IsNetworkOf}
 use Rattle.visibility.specs.Laws.{labels_of, test_of, LabelsAgree}
-use Rattle.visibility.proofs.Places.{sum_by-below, at_place, place_has, map_of_places, le_along}
+use Rattle.visibility.proofs.Indices.{sum_by-below, at_index, index_has, map_of_indices, le_along}
 use Rattle.visibility.proofs.Networks.{cells_rise, node_count, arc_count, fixed_at, sink_at, arc_is, IsJoined, joined_at}
 
 flag_is : (inside : List ℕ → Bool) (cells : List (List ℕ)) (k : ℕ) → k < length cells → flag_at (map inside cells) k ≡ inside (get_or cells k [])
@@ -28,10 +29,10 @@ unfolding arc_of
 facet_costs s voted inside j n l =
     let f : List ℕ = get_or voted.facets j [] in
     let p : IsJoined s voted.cells f = joined_at s voted j n l in
-    let own : flag_at (map inside voted.cells) (cell_place s.vertices voted.cells (facet_at f)) ≡ inside (cell_of s.vertices voted.cells (facet_at f)) = flag_is inside voted.cells (cell_place s.vertices voted.cells (facet_at f)) p.own in
-    let across : flag_at (map inside voted.cells) (cell_place s.vertices voted.cells (turned (facet_at f))) ≡ inside (cell_of s.vertices voted.cells (turned (facet_at f))) = flag_is inside voted.cells (cell_place s.vertices voted.cells (turned (facet_at f))) p.across in
+    let own : flag_at (map inside voted.cells) (cell_index s.vertices voted.cells (facet_at f)) ≡ inside (cell_of s.vertices voted.cells (facet_at f)) = flag_is inside voted.cells (cell_index s.vertices voted.cells (facet_at f)) p.own in
+    let across : flag_at (map inside voted.cells) (cell_index s.vertices voted.cells (turned (facet_at f))) ≡ inside (cell_of s.vertices voted.cells (turned (facet_at f))) = flag_is inside voted.cells (cell_index s.vertices voted.cells (turned (facet_at f))) p.across in
     ap (λ (a : Arc). cond (not (flag_at (map inside voted.cells) a.from) && flag_at (map inside voted.cells) a.to) a.cap 0) (arc_is s voted j n l)
-    ∙ ap (λ (b : Bool). cond (not b && flag_at (map inside voted.cells) (cell_place s.vertices voted.cells (turned (facet_at f)))) (capacity s (facet_at f)) 0) own
+    ∙ ap (λ (b : Bool). cond (not b && flag_at (map inside voted.cells) (cell_index s.vertices voted.cells (turned (facet_at f)))) (capacity s (facet_at f)) 0) own
     ∙ ap (λ (b : Bool). cond (not (inside (cell_of s.vertices voted.cells (facet_at f))) && b) (capacity s (facet_at f)) 0) across
 
 cell_costs : (s : Scene) (voted : Voted) (inside : List ℕ → Bool) (k : ℕ) → IsNetworkOf s voted → k < length voted.cells
@@ -61,14 +62,14 @@ to_labels s voted inside n a =
       count = length-map voted.cells inside ∙ sym (node_count s voted n);
       none_fixed = λ k l h.
           let m : k < length voted.cells = omega (arith, l, node_count s voted n) in
-          flag_is inside voted.cells k m ∙ a.none_fixed (get_or voted.cells k []) (place_has voted.cells k m) (sym (fixed_at s voted k n m) ∙ h);
+          flag_is inside voted.cells k m ∙ a.none_fixed (get_or voted.cells k []) (index_has voted.cells k m) (sym (fixed_at s voted k n m) ∙ h);
     }
 
 to_test : (s : Scene) (voted : Voted) (inside : List ℕ → Bool) → IsNetworkOf s voted → IsAdmissibleNet voted.net (labels_of (complex_of voted) inside) → IsAdmissible s (complex_of voted) inside
 to_test s voted inside n a =
     record {
       none_fixed = λ row h f.
-          let here : get_or voted.cells h.0 [] ≡ row = at_place voted.cells row h in
+          let here : get_or voted.cells h.0 [] ≡ row = at_index voted.cells row h in
           ap inside (sym here) ∙ sym (flag_is inside voted.cells h.0 h.1)
           ∙ a.none_fixed h.0 (omega (arith, h.1, node_count s voted n)) (fixed_at s voted h.0 n h.1 ∙ ap (λ (d : List ℕ). is_fixed s.vertices s.scanners d) here ∙ f);
     }
@@ -76,7 +77,7 @@ to_test s voted inside n a =
 -- labels, one a node, are those of a test
 as_test : (s : Scene) (voted : Voted) (labels : Labels) → IsNetworkOf s voted → length labels.inside ≡ length voted.net.fixed → labels_of (complex_of voted) (test_of voted.cells labels.inside) ≡ labels
 as_test s voted labels n e =
-    ap (λ (flags : List Bool). let made : Labels = record { inside = flags } in made) (map_of_places voted.cells labels.inside false (cells_rise s voted n) (e ∙ node_count s voted n))
+    ap (λ (flags : List Bool). let made : Labels = record { inside = flags } in made) (map_of_indices voted.cells labels.inside false (cells_rise s voted n) (e ∙ node_count s voted n))
 
 least_to_test : (s : Scene) (voted : Voted) (inside : List ℕ → Bool) → IsNetworkOf s voted → IsLeastCostNet voted.net (labels_of (complex_of voted) inside) → IsLeastCost s (complex_of voted) inside
 least_to_test s voted inside n h =
@@ -101,7 +102,7 @@ inside_to_test s voted inside n h =
     record {
       least_cost = least_to_test s voted inside n h.least_cost;
       within = λ other o row has i.
-          let here : get_or voted.cells has.0 [] ≡ row = at_place voted.cells row has in
+          let here : get_or voted.cells has.0 [] ≡ row = at_index voted.cells row has in
           ap other (sym here) ∙ sym (flag_is other voted.cells has.0 has.1)
           ∙ h.within (labels_of (complex_of voted) other) (least_to_labels s voted other n o) has.0 (omega (arith, has.1, node_count s voted n)) (flag_is inside voted.cells has.0 has.1 ∙ ap inside here ∙ i);
     }
@@ -116,7 +117,7 @@ inside_to_labels s voted inside n h =
           let same : labels_of (complex_of voted) other_test ≡ other = as_test s voted other n o.admissible.count in
           let b : IsLeastCost s (complex_of voted) other_test = least_to_test s voted other_test n (subst (λ (t : Labels). IsLeastCostNet voted.net t) (sym same) o) in
           ap (λ (t : Labels). flag_at t.inside k) (sym same) ∙ flag_is other_test voted.cells k m
-          ∙ h.within other_test b (get_or voted.cells k []) (place_has voted.cells k m) (sym (flag_is inside voted.cells k m) ∙ i);
+          ∙ h.within other_test b (get_or voted.cells k []) (index_has voted.cells k m) (sym (flag_is inside voted.cells k m) ∙ i);
     }
 
 pub labels_agree : LabelsAgree

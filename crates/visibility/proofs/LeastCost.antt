@@ -1,21 +1,21 @@
 -- The least cost is small, since few cells have four of at most 64 vertices.
-use Rattle.std.proofs.Common.{ℕ, ◌+◌, ◌*◌, ◌<◌, ◌≤◌, ◌^◌, ◌≡◌, refl, ap, sym, subst, ◌∙◌, arith, Bool, false, inl, inr, ⊎_elim, List, [], ◌∷◌, length, get_or, map, All, AllPairs, Contains}
-use Rattle.std.specs.List.{sum_by}
+use Rattle.std.proofs.Common.{ℕ, ◌+◌, ◌*◌, ◌<◌, ◌≤◌, ◌≡◌, refl, sym, subst, arith, false, inl, inr, List, [], ◌∷◌, length, get_or, map, All}
 use Rattle.std.specs.List.Sorted.{IsStrictlyIncreasing}
 use Rattle.std.proofs.lemmas.List.{get_or-map, length-map}
 use Rattle.std.proofs.lemmas.List.Sums.{sum_by-le}
 use Rattle.std.proofs.lemmas.Map.Keys.{sorted_from_strictly_increasing}
 use Rattle.std.proofs.lemmas.Map.Views.{length-le_from_below}
-use Rattle.geo_tie.specs.Vertices.{Vertices}
-use Rattle.geo_tie.specs.Cells.{IsBefore, IsRisingCell, IsCellList, FormCell, IsCell}
+use Rattle.geo_sign.specs.Vertices.{Vertices}
+use Rattle.geo_sign.specs.Cells.{IsBefore, IsRisingCell, IsCellList}
 use Rattle.visibility.specs.Scenes.{Scene}
 use Rattle.visibility.specs.Complexes.{Complex}
-use Rattle.visibility.specs.Votes.{sights_before, sink, IsComplexOf}
-use Rattle.visibility.specs.Cuts.{cost, facet_cost, cell_cost, IsAdmissible, IsLeastCost}
+use Rattle.visibility.specs.Votes.{sights_before, sink}
+use Rattle.visibility.specs.Cuts.{cost, facet_cost, cell_cost, IsAdmissible}
 use Rattle.visibility.specs.Laws.{LeastCostFits}
-use Rattle.visibility.proofs.Places.{place_has}
+use Rattle.visibility.proofs.Indices.{index_has}
 use Rattle.visibility.proofs.Amounts.{few_votes, sights_before_le}
 use Rattle.visibility.proofs.Ordered.{form_below}
+use Rattle.flow_net.specs.declared.votes.TheConstants.{SIGHT_LIMIT}
 
 -- four rising numbers below n
 record IsFour (n : ℕ) (row : List ℕ) : Type 0 where
@@ -67,7 +67,7 @@ cell_count v cells few list = omega (arith, length-le_from_below 16777216 (map k
   where
     shape : (k : ℕ) → k < length cells → IsFour 64 (get_or cells k [])
     shape k l =
-        let s : IsFour v.count (get_or cells k []) = four v (get_or cells k []) (list.cells (get_or cells k []) (place_has cells k l)) in
+        let s : IsFour v.count (get_or cells k []) = four v (get_or cells k []) (list.cells (get_or cells k []) (index_has cells k l)) in
         record { a = s.a; b = s.b; c = s.c; d = s.d; is = s.is; a_b = s.a_b; b_c = s.b_c; c_d = s.c_d; below = omega (arith, s.below, few) }
 
     at : (k d : ℕ) → k < length cells → get_or (map key cells) k d ≡ key (get_or cells k [])
@@ -85,7 +85,7 @@ cell_count v cells few list = omega (arith, length-le_from_below 16777216 (map k
         omega (arith, at k d m, key_below (get_or cells k []) (shape k m))
 
 -- what it costs to have all cells outside
-all_outside : (s : Scene) (complex : Complex) → length s.sights ≤ 1048576 → cost s complex (λ _. false) ≤ length complex.cells * 68718428160
+all_outside : (s : Scene) (complex : Complex) → length s.sights ≤ SIGHT_LIMIT → cost s complex (λ _. false) ≤ length complex.cells * 68718428160
 unfolding sink
 all_outside s complex few =
     omega (arith, sum_by-le (facet_cost s complex.cells (λ _. false)) 0 complex.facets (λ k d l. omega arith), sum_by-le (cell_cost s (λ _. false)) 68718428160 complex.cells (λ k d l. votes (get_or complex.cells k d)))

@@ -1,4 +1,4 @@
-pub mod Places
+pub mod Indices
 pub mod Networks
 pub mod Labels
 pub mod Flows
@@ -7,3 +7,7 @@ pub mod Validity
 pub mod Cuts
 pub mod Ordered
 pub mod LeastCost
+pub mod Members
+pub mod Agreements
+pub mod AgreedAmounts
+pub mod SightCosts

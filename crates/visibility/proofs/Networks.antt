@@ -4,12 +4,13 @@ use Rattle.std.proofs.lemmas.List.{get_or-map, length-map}
 use Rattle.flow_net.specs.Nets.{arc_at, flag_at, no_arc}
 use Rattle.flow_net.specs.declared.Arc.{Arc}
 use Rattle.flow_net.specs.declared.Voted.{Voted}
-use Rattle.geo_tie.specs.Cells.{IsBefore}
+use Rattle.geo_sign.specs.Cells.{IsBefore}
 use Rattle.visibility.specs.Scenes.{Scene}
-use Rattle.visibility.specs.Complexes.{facet_at, turned, has_facet, cell_place}
+use Rattle.geo_sign.specs.Tetrahedron.{facet_at, turned}
+use Rattle.visibility.specs.Complexes.{has_facet, cell_index}
 use Rattle.visibility.specs.Votes.{is_fixed, sink, HasCapacity}
 use Rattle.visibility.specs.Networks.{complex_of, arc_of, IsNetworkOf}
-use Rattle.visibility.proofs.Places.{first_within, place_has}
+use Rattle.visibility.proofs.Indices.{first_within, index_has}
 
 pub cells_rise : (s : Scene) (voted : Voted) → IsNetworkOf s voted → AllPairs IsBefore voted.cells
 cells_rise s voted n = n.complex_is.cells_are.rising
@@ -31,8 +32,8 @@ arc_is s voted j n l = ap (λ (arcs : List Arc). arc_at arcs j) n.arcs_are ∙ g
 
 -- the two cells of a facet that has a capacity are in the list
 pub record IsJoined (s : Scene) (cells : List (List ℕ)) (f : List ℕ) : Type 0 where
-  pub own : cell_place s.vertices cells (facet_at f) < length cells
-  pub across : cell_place s.vertices cells (turned (facet_at f)) < length cells
+  pub own : cell_index s.vertices cells (facet_at f) < length cells
+  pub across : cell_index s.vertices cells (turned (facet_at f)) < length cells
 
 pub joined : (s : Scene) (cells : List (List ℕ)) (f : List ℕ) → HasCapacity s cells f → IsJoined s cells f
 joined s cells f h =
@@ -42,4 +43,4 @@ joined s cells f h =
     }
 
 pub joined_at : (s : Scene) (voted : Voted) (j : ℕ) → IsNetworkOf s voted → j < length voted.facets → IsJoined s voted.cells (get_or voted.facets j [])
-joined_at s voted j n l = joined s voted.cells (get_or voted.facets j []) (n.complex_is.facets_are.only (get_or voted.facets j []) (place_has voted.facets j l))
+joined_at s voted j n l = joined s voted.cells (get_or voted.facets j []) (n.complex_is.facets_are.only (get_or voted.facets j []) (index_has voted.facets j l))

@@ -1,11 +1,11 @@
 -- How facets that have a capacity are written, and that there is one list of them.
 use Rattle.std.proofs.Common.{ℕ, ◌<◌, ◌≡◌, ◌≢◌, ap, subst, ◌∙◌, arith, Bool, true, false, cond, inl, inr, ⊎_elim, List, [], ◌∷◌, Contains, pos, int_lt}
-use Rattle.geo_tie.specs.Tetrahedron.{Tetrahedron, tetrahedron}
-use Rattle.geo_tie.specs.Vertices.{Vertices, orientation_of}
-use Rattle.geo_tie.specs.Cells.{IsRisingCell, FormCell, IsCell}
-use Rattle.geo_tie.proofs.Rows.{rising_law, cell_list_law}
+use Rattle.geo_sign.specs.Tetrahedron.{Tetrahedron, tetrahedron, facet_at, numbers_of}
+use Rattle.geo_sign.specs.Vertices.{Vertices, orientation_of}
+use Rattle.geo_sign.specs.Cells.{IsRisingCell, FormCell, IsCell, written}
+use Rattle.geo_sign.proofs.Rising.{rising_law, cell_list_law}
 use Rattle.visibility.specs.Scenes.{Scene}
-use Rattle.visibility.specs.Complexes.{Complex, facet_at, numbers_of, written}
+use Rattle.visibility.specs.Complexes.{Complex}
 use Rattle.visibility.specs.Votes.{HasCapacity, IsFacetList}
 use Rattle.visibility.specs.Laws.{IsOrdered, FacetsAreOrdered, OneComplex}
 use Rattle.visibility.proofs.Validity.{OneOf, one_of}

@@ -8,9 +8,10 @@
 --   IsLeastInside s complex inside     of the least cost, and inside of all others of that cost
 use Rattle.std.specs.Prelude.{ℕ, ◌≡◌, ◌+◌, ◌≤◌, ◌&&◌, not, Bool, true, false, List, filter, Contains, if◌then◌else◌}
 use Rattle.std.specs.List.{sum_by}
-use Rattle.geo_tie.specs.Vertices.{Vertices}
+use Rattle.geo_sign.specs.Vertices.{Vertices}
 use Rattle.visibility.specs.Scenes.{Scene}
-use Rattle.visibility.specs.Complexes.{Complex, facet_at, turned, cell_of}
+use Rattle.geo_sign.specs.Tetrahedron.{facet_at, turned}
+use Rattle.visibility.specs.Complexes.{Complex, cell_of}
 use Rattle.visibility.specs.Votes.{is_fixed, capacity, sink}
 
 -- the facet's own cell is outside and the cell across is inside

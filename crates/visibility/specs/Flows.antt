@@ -6,9 +6,10 @@
 --   IsValidFlow                a flow keeps within capacities and sinks, and is balanced at free cells
 use Rattle.std.specs.Prelude.{ℕ, ◌≡◌, ◌+◌, ◌≤◌, ◌==◌, ◌&&◌, Bool, true, false, List, [], ◌∷◌, Contains, if◌then◌else◌}
 use Rattle.std.specs.List.{sum_by}
-use Rattle.geo_tie.specs.Vertices.{Vertices}
+use Rattle.geo_sign.specs.Vertices.{Vertices}
 use Rattle.visibility.specs.Scenes.{Scene}
-use Rattle.visibility.specs.Complexes.{Complex, facet_at, turned, cell_of}
+use Rattle.geo_sign.specs.Tetrahedron.{facet_at, turned}
+use Rattle.visibility.specs.Complexes.{Complex, cell_of}
 use Rattle.visibility.specs.Votes.{is_fixed, capacity, sink}
 
 -- two lists of numbers are equal

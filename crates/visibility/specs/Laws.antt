@@ -2,30 +2,35 @@
 --
 --   labels_of complex inside           labels by number that say what a test of cells says
 --   flow_of complex on_facet on_cell   a flow by number that has these amounts
---   test_of cells flags                the flag at a cell's place
---   amount_of rows amounts             the amount at a row's place
+--   test_of cells flags                the flag at a cell's index
+--   amount_of rows amounts             the amount at a row's index
 --   LabelsAgree, FlowsAgree            what holds by numbers holds over cells and facets, and back
 --   FlagsAreTests, AmountsAreTests     each list of flags or amounts is that of a test or an amount
 --   CapacitiesFit, SinksFit            no capacity and no sink is large
 --   LeastCostFits                      nor is the least cost of at most 64 vertices
+--   HasOneBehind s cells               each sight has at most one of these cells behind it
+--   LeastCostIsSmall                   then it is below 2^37, however many vertices there are
 --   IsOrdered n f                      three distinct numbers below n, the smallest first
 --   FacetsAreOrdered                   each facet that has a capacity is written so
 --   OneComplex                         a scene has no two lists of cells and of facets
-use Rattle.std.specs.Prelude.{ℕ, ◌≡◌, ◌≢◌, ◌<◌, ◌≤◌, ◌^◌, ◌↔◌, Bool, List, map, length, slice_index, AllPairs, Contains}
+use Rattle.std.specs.Prelude.{ℕ, ◌≡◌, ◌≢◌, ◌<◌, ◌≤◌, ◌^◌, ◌↔◌, Bool, List, map, length, slice_index, count_by, AllPairs, Contains}
 use Rattle.std.specs.List.{position_or_len}
 use Rattle.flow_net.specs.declared.Voted.{Voted}
 use Rattle.flow_net.specs.declared.Labels.{Labels}
 use Rattle.flow_net.specs.declared.Flow.{Flow}
 use Rattle.flow_net.specs.Nets.{flag_at}
 use Rattle.flow_net.specs.Flows.{cost_of, value_of, IsAdmissible as IsAdmissibleNet, IsLeastCost as IsLeastCostNet, IsLeastInside as IsLeastInsideNet, IsValidFlow as IsValidFlowNet}
-use Rattle.geo_tie.specs.Tetrahedron.{Facet}
-use Rattle.geo_tie.specs.Cells.{IsBefore}
-use Rattle.visibility.specs.Scenes.{Scene}
-use Rattle.visibility.specs.Complexes.{Complex, facet_at, numbers_of}
+use Rattle.geo_sign.specs.Tetrahedron.{DirectedFacet, facet_at, numbers_of}
+use Rattle.geo_sign.specs.Cells.{IsBefore, written}
+use Rattle.geo_sign.specs.Sights.{is_behind}
+use Rattle.flow_net.specs.declared.votes.Sight.{Sight}
+use Rattle.visibility.specs.Scenes.{Scene, scanner_point}
+use Rattle.visibility.specs.Complexes.{Complex}
 use Rattle.visibility.specs.Votes.{capacity, sink, IsComplexOf}
 use Rattle.visibility.specs.Cuts.{cost, IsAdmissible, IsLeastCost, IsLeastInside}
 use Rattle.visibility.specs.Flows.{is_equal, value, IsValidFlow}
 use Rattle.visibility.specs.Networks.{complex_of, IsNetworkOf}
+use Rattle.flow_net.specs.declared.votes.TheConstants.{SIGHT_LIMIT}
 
 -- a flag for each cell
 abbrev pub labels_of : Complex → (List ℕ → Bool) → Labels
@@ -35,17 +40,17 @@ labels_of complex inside = record { inside = map inside complex.cells }
 abbrev pub flow_of : Complex → (on_facet on_cell : List ℕ → ℕ) → Flow
 flow_of complex on_facet on_cell = record { on_arc = map on_facet complex.facets; on_sink = map on_cell complex.cells }
 
--- the place of a row in a list
-abbrev pub row_place : List (List ℕ) → List ℕ → ℕ
-row_place rows row = position_or_len (λ other. is_equal other row) rows
+-- the index of a row in a list
+abbrev pub row_index : List (List ℕ) → List ℕ → ℕ
+row_index rows row = position_or_len (λ other. is_equal other row) rows
 
--- the flag at the cell's place
+-- the flag at the cell's index
 abbrev pub test_of : List (List ℕ) → List Bool → List ℕ → Bool
-test_of cells flags row = flag_at flags (row_place cells row)
+test_of cells flags row = flag_at flags (row_index cells row)
 
--- the amount at the row's place
+-- the amount at the row's index
 abbrev pub amount_of : List (List ℕ) → List ℕ → List ℕ → ℕ
-amount_of rows amounts row = slice_index amounts (row_place rows row)
+amount_of rows amounts row = slice_index amounts (row_index rows row)
 
 -- what a test of cells says, and its labels by number: they cost the same, and are admissible, of the least cost and the
 -- least inside together
@@ -76,16 +81,28 @@ AmountsAreTests = (rows : List (List ℕ)) (amounts : List ℕ) → AllPairs IsB
 
 -- with at most 1,048,576 sights a capacity and a sink are below 2^37
 abbrev pub CapacitiesFit : Type 0
-CapacitiesFit = (s : Scene) (f : Facet) → length s.sights ≤ 1048576 → capacity s f < 2 ^ 37
+CapacitiesFit = (s : Scene) (f : DirectedFacet) → length s.sights ≤ SIGHT_LIMIT → capacity s f < 2 ^ 37
 
 abbrev pub SinksFit : Type 0
-SinksFit = (s : Scene) (row : List ℕ) → length s.sights ≤ 1048576 → sink s row < 2 ^ 37
+SinksFit = (s : Scene) (row : List ℕ) → length s.sights ≤ SIGHT_LIMIT → sink s row < 2 ^ 37
 
 -- with at most 64 vertices besides, the least cost is below 2^60
 abbrev pub LeastCostFits : Type 0
 LeastCostFits =
-    (s : Scene) (complex : Complex) (inside : List ℕ → Bool) → IsComplexOf s complex → s.vertices.count ≤ 64 → length s.sights ≤ 1048576 → IsLeastCost s complex inside →
+    (s : Scene) (complex : Complex) (inside : List ℕ → Bool) → IsComplexOf s complex → s.vertices.count ≤ 64 → length s.sights ≤ SIGHT_LIMIT → IsLeastCost s complex inside →
     cost s complex inside < 2 ^ 60
+
+-- each sight has at most one of these cells behind it
+abbrev pub HasOneBehind : Scene → List (List ℕ) → Type 0
+HasOneBehind s cells =
+    (sight : Sight) → Contains s.sights sight →
+    count_by (λ row. is_behind s.vertices sight.vertex (scanner_point s.scanners sight.scanner) (written s.vertices row)) cells ≤ 1
+
+-- then the least cost is below 2^37, however many vertices there are
+abbrev pub LeastCostIsSmall : Type 0
+LeastCostIsSmall =
+    (s : Scene) (complex : Complex) (inside : List ℕ → Bool) → HasOneBehind s complex.cells → length s.sights ≤ SIGHT_LIMIT → IsLeastCost s complex inside →
+    cost s complex inside < 2 ^ 37
 
 -- three distinct numbers below n, the smallest first
 pub record IsOrdered (n : ℕ) (f : List ℕ) : Type 0 where

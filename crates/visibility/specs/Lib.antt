@@ -5,3 +5,4 @@ pub mod Cuts
 pub mod Flows
 pub mod Networks
 pub mod Laws
+pub mod AgreementLaws

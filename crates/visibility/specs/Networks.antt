@@ -1,7 +1,7 @@
 -- The network of a scene by numbers: node k is the k-th cell, arc j is the j-th facet.
 --
 --   complex_of voted         the cells of the nodes and the facets of the arcs
---   facet_place facets f     the place of a facet in the list
+--   facet_index facets f     the index of a facet in the list
 --   pair_of s complex f      the number of the reverse arc
 --   arc_of s complex f       the arc of a facet
 --   IsNetworkOf s voted      the network of the scene
@@ -12,31 +12,31 @@ use Rattle.flow_net.specs.declared.Arc.{Arc}
 use Rattle.flow_net.specs.declared.Voted.{Voted}
 use Rattle.flow_net.specs.declared.votes.Settings.{Settings}
 use Rattle.flow_net.specs.declared.votes.Sight.{Sight}
-use Rattle.geo_sign.specs.Place.{Place}
-use Rattle.geo_tie.specs.Tetrahedron.{Facet}
-use Rattle.geo_tie.specs.Vertices.{Vertices}
+use Rattle.geo_sign.specs.Point.{Point}
+use Rattle.geo_sign.specs.Tetrahedron.{DirectedFacet, facet_at, turned, is_same_facet}
+use Rattle.geo_sign.specs.Vertices.{Vertices}
 use Rattle.visibility.specs.Scenes.{Scene}
-use Rattle.visibility.specs.Complexes.{Complex, facet_at, turned, is_same, cell_place, cell_of}
+use Rattle.visibility.specs.Complexes.{Complex, cell_index, cell_of}
 use Rattle.visibility.specs.Votes.{is_fixed, capacity, sink, IsComplexOf}
 
 -- the cells that the nodes stand for, and the facets that the arcs stand for
 abbrev pub complex_of : Voted → Complex
 complex_of voted = record { cells = voted.cells; facets = voted.facets }
 
--- the place of a facet in the list
-abbrev pub facet_place : List (List ℕ) → Facet → ℕ
-facet_place facets f = position_or_len (λ numbers. is_same (facet_at numbers) f) facets
+-- the index of a facet in the list
+abbrev pub facet_index : List (List ℕ) → DirectedFacet → ℕ
+facet_index facets f = position_or_len (λ numbers. is_same_facet (facet_at numbers) f) facets
 
 -- the number of the facet turned round, where the facet's own cell is free; else it has no capacity
-abbrev pub pair_of : Scene → Complex → Facet → Option ℕ
-pair_of s complex f = if is_fixed s.vertices s.scanners (cell_of s.vertices complex.cells f) then None else Some (facet_place complex.facets (turned f))
+abbrev pub pair_of : Scene → Complex → DirectedFacet → Option ℕ
+pair_of s complex f = if is_fixed s.vertices s.scanners (cell_of s.vertices complex.cells f) then None else Some (facet_index complex.facets (turned f))
 
 -- the arc of a facet: from its own cell to the cell across
 unfoldable pub arc_of : Scene → Complex → List ℕ → Arc
 arc_of s complex f =
     record {
-      from = cell_place s.vertices complex.cells (facet_at f);
-      to = cell_place s.vertices complex.cells (turned (facet_at f));
+      from = cell_index s.vertices complex.cells (facet_at f);
+      to = cell_index s.vertices complex.cells (turned (facet_at f));
       cap = capacity s (facet_at f);
       pair = pair_of s complex (facet_at f);
     }
@@ -50,7 +50,7 @@ pub record IsNetworkOf (s : Scene) (voted : Voted) : Type 0 where
 
 -- the network of these vertices and some scanners, sights and settings
 pub record IsNetworkAmong (v : Vertices) (voted : Voted) : Type 0 where
-  pub scanners : List Place
+  pub scanners : List Point
   pub sights : List Sight
   pub settings : Settings
   pub network : IsNetworkOf (record { vertices = v; scanners = scanners; sights = sights; settings = settings }) voted

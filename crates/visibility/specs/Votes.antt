@@ -11,38 +11,38 @@
 --   IsComplexOf s complex       all cells of the scene, and all facets that have a capacity
 use Rattle.std.specs.Prelude.{ℕ, ◌≡◌, ◌+◌, ◌*◌, ◌||◌, nat_lt, Bool, false, List, count_by, AllPairs, Contains}
 use Rattle.std.specs.List.{list_any}
-use Rattle.geo_sign.specs.Place.{Place}
-use Rattle.geo_sign.specs.Ratio.{displaced}
-use Rattle.geo_tie.specs.Tetrahedron.{Tetrahedron, Facet}
-use Rattle.geo_tie.specs.Vertices.{Vertices}
-use Rattle.geo_tie.specs.Cells.{IsBefore, IsCellList}
-use Rattle.geo_tie.specs.Sights.{is_crossed, is_behind, is_cell_of}
-use Rattle.visibility.specs.Scenes.{Scene, scanner_place}
-use Rattle.visibility.specs.Complexes.{Complex, facet_at, numbers_of, turned, written, HasFacet, cell_of}
+use Rattle.geo_sign.specs.Point.{Point}
+use Rattle.geo_sign.specs.Rational.{displaced}
+use Rattle.geo_sign.specs.Tetrahedron.{Tetrahedron, DirectedFacet, facet_at, numbers_of, turned}
+use Rattle.geo_sign.specs.Vertices.{Vertices}
+use Rattle.geo_sign.specs.Cells.{IsBefore, IsCellList, written}
+use Rattle.geo_sign.specs.Sights.{is_crossed, is_behind, is_cell_of}
+use Rattle.visibility.specs.Scenes.{Scene, scanner_point}
+use Rattle.visibility.specs.Complexes.{Complex, HasFacet, cell_of}
 
 -- one of the four vertices is a corner of the box
 abbrev pub has_corner : Tetrahedron → Bool
 has_corner t = nat_lt t.a 8 || nat_lt t.b 8 || nat_lt t.c 8 || nat_lt t.d 8
 
 -- a scanner lies in the cell, whether it sees a vertex or none
-abbrev pub has_scanner : Vertices → List Place → Tetrahedron → Bool
+abbrev pub has_scanner : Vertices → List Point → Tetrahedron → Bool
 has_scanner v scanners t = list_any (λ q. is_cell_of v (displaced q) t) scanners
 
 -- the cell is fixed: it stays outside. Other cells are free.
-unfoldable pub is_fixed : Vertices → List Place → List ℕ → Bool
+unfoldable pub is_fixed : Vertices → List Point → List ℕ → Bool
 is_fixed v scanners row = has_corner (written v row) || has_scanner v scanners (written v row)
 
 -- how many of the sights cross the directed facet, each as often as it occurs
-unfoldable pub crossings : Scene → Facet → ℕ
-crossings s f = count_by (λ sight. is_crossed s.vertices sight.vertex (scanner_place s.scanners sight.scanner) f) s.sights
+unfoldable pub crossings : Scene → DirectedFacet → ℕ
+crossings s f = count_by (λ sight. is_crossed s.vertices sight.vertex (scanner_point s.scanners sight.scanner) f) s.sights
 
 -- the capacity of a directed facet: a vote for each crossing, and the smoothing
-abbrev pub capacity : Scene → Facet → ℕ
+abbrev pub capacity : Scene → DirectedFacet → ℕ
 capacity s f = s.settings.vote * crossings s f + s.settings.smooth
 
 -- how many of the sights the cell is behind, each as often as it occurs
 unfoldable pub sights_before : Scene → List ℕ → ℕ
-sights_before s row = count_by (λ sight. is_behind s.vertices sight.vertex (scanner_place s.scanners sight.scanner) (written s.vertices row)) s.sights
+sights_before s row = count_by (λ sight. is_behind s.vertices sight.vertex (scanner_point s.scanners sight.scanner) (written s.vertices row)) s.sights
 
 -- the sink of a cell: a vote for each of these sights
 unfoldable pub sink : Scene → List ℕ → ℕ

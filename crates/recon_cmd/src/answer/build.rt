@@ -4,7 +4,7 @@ ghost use Rattle.std.specs.Prelude.{◌≡◌, false, Some, IfOk};
 ghost use Rattle.cert_text.specs.Certificates.{claim_of, IsWellFormed};
 ghost use Rattle.mesh_ply.specs.Meshes.{IsMesh};
 ghost use Rattle.scan.specs.Views.{rows_of};
-ghost use Rattle.recon_build.specs.Solutions.{surface_of};
+ghost use Rattle.solution.specs.Solutions.{surface_of};
 ghost use Rattle.recon_cmd.specs.Answers.{WritesSurface};
 ghost use Rattle.recon_cmd.specs.OptionViews.{options_view};
 ghost use Rattle.recon_cmd.specs.Replies.{answer_of, Shows};

@@ -3,8 +3,10 @@ ghost use Rattle.std.specs.Prelude.{◌≡◌, ◌≤◌, IfSome};
 ghost use Rattle.std.specs.List.{list_all, before_first, after_first, position_or_len};
 ghost use Rattle.std.specs.Option.{option_map};
 ghost use Rattle.std.specs.Char.{is_ascii_digit};
-ghost use Rattle.geo_sign.specs.Place.{IsWithin};
-ghost use Rattle.recon_cmd.specs.Options.{number_in as the_number_in, number_of as the_number_of, is_comma, place_at, chosen};
+ghost use Rattle.geo_sign.specs.Point.{IsWithin};
+ghost use Rattle.recon_cmd.specs.Options.{number_in as the_number_in, number_of as the_number_of, is_comma, point_in, chosen};
+ghost use Rattle.num_text.specs.declared.decimal.TheConstants.{UNIT_LIMIT};
+ghost use Rattle.geo_sign.specs.declared.point.TheConstants.{DATA_LIMIT};
 
 use geo_sign::Point;
 use num_text::{scaled, whole};
@@ -57,9 +59,9 @@ pub fn are_all_digits(text: &[u8]) -> bool
 /// The point that three decimals between exactly two commas are, in units.
 pub fn point_at(unit: u32, text: &[u8]) -> Option<Point>
     requires at_least_one { 1 ≤ unit }
-    requires at_most_a_million { unit ≤ 1000000 }
-    ensures is { result ≡ place_at unit text.now }
-    ensures data { IfSome result (IsWithin 2097151) }
+    requires at_most_a_million { unit ≤ UNIT_LIMIT }
+    ensures is { result ≡ point_in unit text.now }
+    ensures data { IfSome result (IsWithin DATA_LIMIT) }
 {
     if text.iter().filter(|byte| **byte == b',').count() != 2 {
         return None;
@@ -77,21 +79,21 @@ fn around_comma(text: &[u8]) -> (&[u8], &[u8])
     ensures before { result.0.now ≡ before_first is_comma text.now }
     ensures behind { result.1.now ≡ after_first is_comma text.now }
 {
-    let place = comma_place(text);
-    if place < text.len() {
-        (&text[..place], &text[place + 1..])
+    let position = comma_position(text);
+    if position < text.len() {
+        (&text[..position], &text[position + 1..])
     } else {
         (text, &[])
     }
 }
 
-// The place of the first comma, or the length where there is none.
-fn comma_place(text: &[u8]) -> usize
+// The position of the first comma, or the length where there is none.
+fn comma_position(text: &[u8]) -> usize
     ensures { result ≡ position_or_len is_comma text.now }
 {
-    for (place, byte) in text.iter().enumerate() {
+    for (position, byte) in text.iter().enumerate() {
         if *byte == b',' {
-            return place;
+            return position;
         }
     }
     text.len()

@@ -1,6 +1,6 @@
 use Rattle.std.proofs.Common.{rules, ◌≡◌, ℕ, ◌+◌, ◌-◌, ◌*◌, ◌<◌, ap, sym, ◌∙◌, ◌++◌, ◌∷◌, [], ◌%◌, All, pos, subst}
 use Rattle.std.proofs.lemmas.List.Elements.{All-push}
-use Rattle.geo_sign.specs.Place.{Place, IsWithin}
+use Rattle.geo_sign.specs.Point.{Point, IsWithin}
 use Rattle.rand_core.specs.Steps.{first_words}
 use Rattle.rand_pcg.specs.Lcg.{Lcg}
 use Rattle.rand_pcg.specs.Pcg.{pcg32}
@@ -9,6 +9,7 @@ use Rattle.scan.proofs.RowLemmas.{vertex_rows_push}
 use Rattle.gen_scan.specs.Generated.{on_face, spread, row_of, rows_of_words}
 use Rattle.gen_scan.proofs.Words.{one_more_row, all_rows}
 use Rattle.gen_scan.proofs.generate.vertices.Goals as goal
+use Rattle.geo_sign.specs.declared.point.TheConstants.{DATA_LIMIT}
 
 pub loop-row-preserved : goal.loop-row-preserved
 loop-row-preserved c =
@@ -30,12 +31,12 @@ loop-row-preserved c =
     ap (λ points. vertex_rows points c.push-in-loop-row.new.self.items) points_more
     ∙ ap (λ numbers. vertex_rows (c.loop-row.points.items ++ c.point_on_face.result ∷ []) numbers) numbers_more
     ∙ vertex_rows_push c.loop-row.points.items c.loop-row.seen_by.items c.point_on_face.result face (c.loop-row.invariant.number_count ∙ sym c.loop-row.invariant.point_count)
-    ∙ ap (λ (p : Place). vertex_rows c.loop-row.points.items c.loop-row.seen_by.items ++ (record { point = p; seen_by = face }) ∷ []) point_is in
+    ∙ ap (λ (p : Point). vertex_rows c.loop-row.points.items c.loop-row.seen_by.items ++ (record { point = p; seen_by = face }) ∷ []) point_is in
     record {
       rows = ap (λ made. made ++ rows_of_words (c.loop-row.row + 1) (first_words pcg32 ((c.args.count - (c.loop-row.row + 1)) * 2) c.next_word-in-loop-row.new.self)) rows
           ∙ ap (λ h. (vertex_rows c.loop-row.points.items c.loop-row.seen_by.items ++ row_of c.loop-row.row (pcg32 g).0 (pcg32 (pcg32 g).1).0 ∷ []) ++ rows_of_words (c.loop-row.row + 1) (first_words pcg32 ((c.args.count - (c.loop-row.row + 1)) * 2) h)) behind
           ∙ one_more_row _ _ c.loop-row.row c.args.count g c.loop-row-test.true c.loop-row.invariant.rows;
-      data_points = subst (All (IsWithin 2097151)) (sym points_more) (All-push (IsWithin 2097151) _ _ c.loop-row.invariant.data_points c.point_on_face.ensures.data);
+      data_points = subst (All (IsWithin DATA_LIMIT)) (sym points_more) (All-push (IsWithin DATA_LIMIT) _ _ c.loop-row.invariant.data_points c.point_on_face.ensures.data);
       there = subst (All (λ k. k < 6)) (sym numbers_more) (All-push (λ k. k < 6) _ _ c.loop-row.invariant.there (search rules));
       point_count = search rules;
       number_count = search rules;

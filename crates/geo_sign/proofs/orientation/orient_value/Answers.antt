@@ -1,6 +1,6 @@
 use Rattle.std.proofs.Common.{arith, ap₂, ◌∙◌, ◌^◌, ◌<◌, ℤ, subst, unsigned_abs}
 use mir.Syntax.{w128}
-use Rattle.geo_sign.specs.Place.{cross, dot}
+use Rattle.geo_sign.specs.Point.{cross, dot}
 use Rattle.geo_sign.specs.Orientation.{orientation}
 use Rattle.geo_sign.proofs.Bounds.{held, held_kept}
 use Rattle.geo_sign.proofs.orientation.orient_value.Goals as goal

@@ -1,6 +1,6 @@
 use Rattle.std.proofs.Common.{ap, ap₂, ◌≡◌, ◌≤◌, ◌^◌, ◌∙◌, ℤ, unsigned_abs}
 use mir.Syntax.{w64, w128}
-use Rattle.geo_sign.specs.Place.{cross, dot}
+use Rattle.geo_sign.specs.Point.{cross, dot}
 use Rattle.geo_sign.specs.Signs.{sign_of, first_sign}
 use Rattle.geo_sign.proofs.Bounds.{Held, kept, held, held_kept}
 use Rattle.geo_sign.proofs.Digits.{scanner_signs, side_bound, side_on_line}

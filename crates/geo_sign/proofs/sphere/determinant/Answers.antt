@@ -1,15 +1,15 @@
 use Rattle.std.proofs.Common.{ap₂, ◌≡◌, ◌≤◌, ◌^◌, ◌∙◌, lit≤, ℤ, pos, ◌-ℤ◌, unsigned_abs}
 use mir.Syntax.{w64, w128}
-use Rattle.geo_sign.specs.Place.{Place, IsWithin, cross, dot}
+use Rattle.geo_sign.specs.Point.{Point, IsWithin, cross, dot}
 use Rattle.geo_sign.proofs.Bounds.{Held, kept, held, held_kept, held_sub, fits_held, within_held, within_of, same_place, minor_held}
 use Rattle.geo_sign.proofs.Identities.{expansion}
 use Rattle.geo_sign.proofs.sphere.determinant.Goals as goal
 
 -- a minor, and a minor with the other sign, as the code computes them
-minor_kept : (u v : Place) (m : ℤ) → m ≡ (cross u v).z → IsWithin (2 ^ 24) u → IsWithin (2 ^ 24) v → Held (2 ^ 49) (kept w64 m) ((cross u v).z)
+minor_kept : (u v : Point) (m : ℤ) → m ≡ (cross u v).z → IsWithin (2 ^ 24) u → IsWithin (2 ^ 24) v → Held (2 ^ 49) (kept w64 m) ((cross u v).z)
 minor_kept u v m e h k = held_kept w64 (minor_held u v m e h k) tt
 
-negated : (u v : Place) (m : ℤ) → m ≡ (cross u v).z → IsWithin (2 ^ 24) u → IsWithin (2 ^ 24) v → Held (2 ^ 49) (pos 0 -ℤ kept w64 m) (pos 0 -ℤ (cross u v).z)
+negated : (u v : Point) (m : ℤ) → m ≡ (cross u v).z → IsWithin (2 ^ 24) u → IsWithin (2 ^ 24) v → Held (2 ^ 49) (pos 0 -ℤ kept w64 m) (pos 0 -ℤ (cross u v).z)
 negated u v m e h k = held_sub (held 0 (pos 0) (lit≤ tt)) (minor_kept u v m e h k)
 
 -- a coordinate that was read

@@ -1,6 +1,6 @@
 use Rattle.std.proofs.Common.{◌≡◌, ap, ap₂, ◌^◌, ◌*◌, ℤ, ◌*ℤ◌, ◌-ℤ◌, ◌+ℤ◌, ◌∙◌, ◌≤◌, unsigned_abs}
 use mir.Syntax.{w128}
-use Rattle.geo_sign.specs.Place.{Place, dot, cross, square}
+use Rattle.geo_sign.specs.Point.{Point, dot, cross, square}
 use Rattle.geo_sign.specs.Signs.{sign_of}
 use Rattle.geo_sign.proofs.Bounds.{Held, kept, held, held_kept, held_add, held_sub, fits_held}
 use Rattle.geo_sign.proofs.Identities.{power_by_differences}
@@ -29,11 +29,11 @@ overflow_sub-lifted-2 c =
     (four c.lifted.result c.lifted-2.result c.lifted-3.result c.lifted-4.result c.lifted.ensures.bound c.lifted-2.ensures.bound c.lifted-3.ensures.bound c.lifted-4.ensures.bound) tt
 
 -- the sum over the vectors that were computed, and over the differences
-same_sum : (u v w t u' v' w' t' : Place) → u ≡ u' → v ≡ v' → w ≡ w' → t ≡ t' →
+same_sum : (u v w t u' v' w' t' : Point) → u ≡ u' → v ≡ v' → w ≡ w' → t ≡ t' →
     square t *ℤ dot (cross u v) w -ℤ square w *ℤ dot (cross u v) t +ℤ square v *ℤ dot (cross u w) t -ℤ square u *ℤ dot (cross v w) t
     ≡ square t' *ℤ dot (cross u' v') w' -ℤ square w' *ℤ dot (cross u' v') t' +ℤ square v' *ℤ dot (cross u' w') t' -ℤ square u' *ℤ dot (cross v' w') t'
 same_sum u v w t u' v' w' t' p q r s =
-    let f = λ (u v w t : Place). square t *ℤ dot (cross u v) w -ℤ square w *ℤ dot (cross u v) t +ℤ square v *ℤ dot (cross u w) t -ℤ square u *ℤ dot (cross v w) t in
+    let f = λ (u v w t : Point). square t *ℤ dot (cross u v) w -ℤ square w *ℤ dot (cross u v) t +ℤ square v *ℤ dot (cross u w) t -ℤ square u *ℤ dot (cross v w) t in
     ap (λ x. f x v w t) p ∙ ap (λ x. f u' x w t) q ∙ ap (λ x. f u' v' x t) r ∙ ap (λ x. f u' v' w' x) s
 
 -- a lifted determinant

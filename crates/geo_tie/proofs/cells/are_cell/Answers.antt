@@ -2,7 +2,9 @@ use Rattle.std.proofs.Common.{arith}
 use Rattle.std.proofs.lemmas.Int.{ints}
 use Rattle.geo_sign.specs.declared.sign.Sign.TheVariants.{Neg, Zero, Pos}
 use Rattle.geo_tie.specs.Rising.{all_at}
-use Rattle.geo_tie.proofs.Forms.{read_sign, positive_of, negative_of, zero_of, last_exchanged, form_above, form_below, form_flat}
+use Rattle.geo_sign.proofs.Own.{last_exchanged}
+use Rattle.geo_sign.proofs.SignTests.{positive_of, negative_of, zero_of}
+use Rattle.geo_tie.proofs.Forms.{read_sign, form_above, form_below, form_flat}
 use Rattle.geo_tie.proofs.cells.are_cell.Goals as goal
 
 pub is_clear-requires-in-Neg-clause-positive : goal.is_clear-requires-in-Neg-clause-positive

@@ -1,5 +1,5 @@
 use Rattle.std.proofs.Common.{ℕ, ◌<◌, ◌≤ℤ◌, pos}
-use Rattle.geo_tie.specs.Vertices.{power_of}
+use Rattle.geo_sign.specs.Vertices.{power_of}
 use Rattle.geo_tie.specs.Rising.{all_at}
 use Rattle.geo_tie.proofs.cells.is_clear.Given as goal
 

@@ -1,6 +1,6 @@
 use Rattle.std.proofs.Common.{refl}
 use Rattle.geo_tie.specs.Rising.{all_at}
-use Rattle.geo_tie.proofs.Forms.{own_first, own_second, own_third, own_fourth}
+use Rattle.geo_sign.proofs.Own.{own_first, own_second, own_third, own_fourth}
 use Rattle.geo_tie.proofs.cells.is_outside.Goals as goal
 use Rattle.geo_tie.proofs.cells.is_outside.Goals.{then-u-a-via-then-u-a, then-u-a-via-else-u-a+then-u-b, then-u-a-via-else-u-a+else-u-b+then-u-c, then-u-a-via-else-u-a+else-u-b+else-u-c+then-u-d}
 

@@ -1,6 +1,6 @@
 use Rattle.std.proofs.Common.{arith, ◌≡◌, ap, sym, subst, ◌∙◌, length, ℕ, List, [], ◌∷◌}
-use Rattle.geo_tie.specs.Vertices.{Vertices, vertices_of}
-use Rattle.geo_tie.specs.Cells.{IsCellList}
+use Rattle.geo_sign.specs.Vertices.{Vertices, vertices_of}
+use Rattle.geo_sign.specs.Cells.{IsCellList}
 use Rattle.geo_tie.specs.Rising.{all_at, IsCellListBefore}
 use Rattle.geo_tie.proofs.Forms.{all_with_corners}
 use Rattle.geo_tie.proofs.Rows.{none_before, all_before}

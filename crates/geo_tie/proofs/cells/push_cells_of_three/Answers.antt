@@ -1,5 +1,5 @@
 use Rattle.std.proofs.Common.{arith, ◌≡◌, ◌+◌, sym, ap, subst, ◌∙◌, true≢false, refl, length, ℕ, List, [], ◌∷◌}
-use Rattle.geo_tie.specs.Cells.{IsRisingCell}
+use Rattle.geo_sign.specs.Cells.{IsRisingCell}
 use Rattle.geo_tie.specs.Rising.{all_at, IsCellListBefore}
 use Rattle.geo_tie.proofs.Rows.{moved, enter_three, leave_three, pushed, passed}
 use Rattle.geo_tie.proofs.cells.push_cells_of_three.Goals.{then-are_cell+in_ok-push, else-are_cell}

@@ -1,4 +1,4 @@
-use Rattle.geo_tie.proofs.Forms.{positive_of}
+use Rattle.geo_sign.proofs.SignTests.{positive_of}
 use Rattle.geo_tie.proofs.tests.conflict_with.Goals as goal
 
 pub conflict-requires-clause-positive : goal.conflict-requires-clause-positive

@@ -3,78 +3,78 @@ use Rattle.std.specs.List.{list_any, position_or_len}
 use Rattle.std.proofs.lemmas.Bool.{false≢true}
 use Rattle.std.proofs.lemmas.List.{take_more, length-take-le}
 use Rattle.indexmap.specs.IndexSet.{insert_key}
-use Rattle.geo_sign.specs.Place.{Place}
+use Rattle.geo_sign.specs.Point.{Point}
 use Rattle.geo_sign.specs.contracts.point.PointPartialEq.TheImpl.{ghosts}
-use Rattle.merge.specs.Merging.{is_same, distinct_points, place_among}
+use Rattle.merge.specs.Merging.{is_same_point, distinct_points, index_among}
 use Rattle.merge.proofs.Distinct.{same_is, differ_is, distinct_push, few}
-use Rattle.merge.proofs.Places.{places_push}
+use Rattle.merge.proofs.Indices.{indices_push}
 use Rattle.merge.proofs.merging.merge.Goals as goal
 
 -- ---- what the set compares points by
 
-same_point : (a b : Place) → ghosts.eq a b ≡ true → a ≡ b
+same_point : (a b : Point) → ghosts.eq a b ≡ true → a ≡ b
 same_point a b h = search rules
 
-equals_itself : (a : Place) → ghosts.eq a a ≡ true
+equals_itself : (a : Point) → ghosts.eq a a ≡ true
 equals_itself a = search rules
 
-equals_is : (a b : Place) → ghosts.eq a b ≡ is_same a b
-equals_is a b = by (ghosts.eq a b) (is_same a b) refl refl
+equals_is : (a b : Point) → ghosts.eq a b ≡ is_same_point a b
+equals_is a b = by (ghosts.eq a b) (is_same_point a b) refl refl
   where
-    by : (s t : Bool) → ghosts.eq a b ≡ s → is_same a b ≡ t → s ≡ t
+    by : (s t : Bool) → ghosts.eq a b ≡ s → is_same_point a b ≡ t → s ≡ t
     by true true e f = refl
     by false false e f = refl
     by true false e f = absurd (differ_is a b f (same_point a b e))
-    by false true e f = absurd (false≢true (sym e ∙ subst (λ (p : Place). ghosts.eq a p ≡ true) (same_is a b f) (equals_itself a)))
+    by false true e f = absurd (false≢true (sym e ∙ subst (λ (p : Point). ghosts.eq a p ≡ true) (same_is a b f) (equals_itself a)))
 
-any_is : (p : Place) (points : List Place) → list_any (ghosts.eq p) points ≡ list_any (is_same p) points
+any_is : (p : Point) (points : List Point) → list_any (ghosts.eq p) points ≡ list_any (is_same_point p) points
 any_is p [] = refl
-any_is p (first ∷ rest) = ap (λ (b : Bool). b || list_any (ghosts.eq p) rest) (equals_is p first) ∙ ap (λ (b : Bool). is_same p first || b) (any_is p rest)
+any_is p (first ∷ rest) = ap (λ (b : Bool). b || list_any (ghosts.eq p) rest) (equals_is p first) ∙ ap (λ (b : Bool). is_same_point p first || b) (any_is p rest)
 
-place_is : (p : Place) (points : List Place) → position_or_len (ghosts.eq p) points ≡ place_among points p
-place_is p [] = refl
-place_is p (first ∷ rest) = ap (λ (b : Bool). cond (not b) (1 + position_or_len (ghosts.eq p) rest) 0) (equals_is p first) ∙ ap (λ (n : ℕ). cond (not (is_same p first)) (1 + n) 0) (place_is p rest)
+index_is : (p : Point) (points : List Point) → position_or_len (ghosts.eq p) points ≡ index_among points p
+index_is p [] = refl
+index_is p (first ∷ rest) = ap (λ (b : Bool). cond (not b) (1 + position_or_len (ghosts.eq p) rest) 0) (equals_is p first) ∙ ap (λ (n : ℕ). cond (not (is_same_point p first)) (1 + n) 0) (index_is p rest)
 
 -- ---- a row more
 
 -- the points that were seen, with the next row's point
-points_more : (rows seen : List Place) (i : ℕ) (p : Place) → i < length rows → p ≡ get_or rows i p → seen ≡ distinct_points (take i rows)
+points_more : (rows seen : List Point) (i : ℕ) (p : Point) → i < length rows → p ≡ get_or rows i p → seen ≡ distinct_points (take i rows)
     → insert_key ghosts.eq seen p ≡ distinct_points (take (i + 1) rows)
 points_more rows seen i p within is kept =
     ap (λ (b : Bool). cond b seen (seen ++ p ∷ [])) (any_is p seen)
-    ∙ ap (λ (points : List Place). insert_key is_same points p) kept
+    ∙ ap (λ (points : List Point). insert_key is_same_point points p) kept
     ∙ sym (distinct_push (take i rows) p)
-    ∙ ap distinct_points (sym (take_more rows i p within ∙ ap (λ (q : Place). take i rows ++ q ∷ []) (sym is)))
+    ∙ ap distinct_points (sym (take_more rows i p within ∙ ap (λ (q : Point). take i rows ++ q ∷ []) (sym is)))
 
--- the rows' places, with the next row's
-places_more : (rows seen : List Place) (of_row : List ℕ) (i : ℕ) (p : Place) → i < length rows → p ≡ get_or rows i p → seen ≡ distinct_points (take i rows)
-    → of_row ≡ map (place_among (distinct_points (take i rows))) (take i rows)
-    → of_row ++ position_or_len (ghosts.eq p) seen ∷ [] ≡ map (place_among (distinct_points (take (i + 1) rows))) (take (i + 1) rows)
-places_more rows seen of_row i p within is kept places =
-    ap (λ (n : ℕ). of_row ++ n ∷ []) (place_is p seen)
-    ∙ ap (λ (list : List ℕ). list ++ place_among seen p ∷ []) places
-    ∙ ap (λ (points : List Place). map (place_among (distinct_points (take i rows))) (take i rows) ++ place_among points p ∷ []) kept
-    ∙ sym (places_push (take i rows) p)
-    ∙ ap (λ (list : List Place). map (place_among (distinct_points list)) list) (sym (take_more rows i p within ∙ ap (λ (q : Place). take i rows ++ q ∷ []) (sym is)))
+-- the rows' indices, with the next row's
+indices_more : (rows seen : List Point) (of_row : List ℕ) (i : ℕ) (p : Point) → i < length rows → p ≡ get_or rows i p → seen ≡ distinct_points (take i rows)
+    → of_row ≡ map (index_among (distinct_points (take i rows))) (take i rows)
+    → of_row ++ position_or_len (ghosts.eq p) seen ∷ [] ≡ map (index_among (distinct_points (take (i + 1) rows))) (take (i + 1) rows)
+indices_more rows seen of_row i p within is kept indices =
+    ap (λ (n : ℕ). of_row ++ n ∷ []) (index_is p seen)
+    ∙ ap (λ (list : List ℕ). list ++ index_among seen p ∷ []) indices
+    ∙ ap (λ (points : List Point). map (index_among (distinct_points (take i rows))) (take i rows) ++ index_among points p ∷ []) kept
+    ∙ sym (indices_push (take i rows) p)
+    ∙ ap (λ (list : List Point). map (index_among (distinct_points list)) list) (sym (take_more rows i p within ∙ ap (λ (q : Point). take i rows ++ q ∷ []) (sym is)))
 
 pub loop-point-preserved : goal.loop-point-preserved
 loop-point-preserved c =
     record {
-      points = c.in_ok-place.ensures.keys
+      points = c.in_ok-index.ensures.keys
           ∙ points_more c.args.points.now c.loop-point.seen.keys c.loop-point.point-index c.point-item.result c.loop-point-test.true c.point-item.is c.loop-point.invariant.points;
       of_row = c.in_ok-push.ensures.items
-          ∙ ap (λ (place : ℕ). c.loop-point.of_row.items ++ place ∷ []) c.in_ok-place.ensures.index
-          ∙ places_more c.args.points.now c.loop-point.seen.keys c.loop-point.of_row.items c.loop-point.point-index c.point-item.result c.loop-point-test.true c.point-item.is
+          ∙ ap (λ (index : ℕ). c.loop-point.of_row.items ++ index ∷ []) c.in_ok-index.ensures.index
+          ∙ indices_more c.args.points.now c.loop-point.seen.keys c.loop-point.of_row.items c.loop-point.point-index c.point-item.result c.loop-point-test.true c.point-item.is
           c.loop-point.invariant.points c.loop-point.invariant.of_row;
     }
 
-pub overflow_cast-place : goal.overflow_cast-place
-overflow_cast-place c =
+pub overflow_cast-index : goal.overflow_cast-index
+overflow_cast-index c =
     let more = points_more c.args.points.now c.loop-point.seen.keys c.loop-point.point-index c.point-item.result c.loop-point-test.true c.point-item.is c.loop-point.invariant.points in
     omega (
       arith,
-      c.in_ok-place.ensures.within,
-      ap length (c.in_ok-place.ensures.keys ∙ more),
+      c.in_ok-index.ensures.within,
+      ap length (c.in_ok-index.ensures.keys ∙ more),
       few (take (c.loop-point.point-index + 1) c.args.points.now),
       length-take-le (c.loop-point.point-index + 1) c.args.points.now,
       c.requires,

@@ -1,8 +1,7 @@
-use Rattle.std.proofs.Common.{unsigned_abs, ◌≡◌, ℕ, length, arith, sym, ap, ◌∙◌, List}
+use Rattle.std.proofs.Common.{unsigned_abs, ◌≡◌, ℕ, length, arith, sym, ap, ◌∙◌, List, Bool}
 use Rattle.std.specs.Str.Parse.{digits_value_after}
 use Rattle.num_text.specs.WholeNumbers.{significant, are_digits, signed}
 use Rattle.std.specs.Int.{w64}
-use Rattle.std.proofs.Common.{Bool}
 use Rattle.std.proofs.lemmas.Int.{to_z-of_z}
 use Rattle.num_text.proofs.DigitLemmas.{done, signed_size, taken_digits, value_small, room_for, whole_is}
 use Rattle.num_text.proofs.whole_number.whole.Goals as goal

@@ -4,10 +4,10 @@ use Rattle.ply_head.proofs.GrammarFound.{header_found}
 use Rattle.ply_head.proofs.ReadableLemmas.{readable_has}
 use Rattle.ply_head.proofs.read.read_head.Goals as goal
 
-pub overflow_sub-place : goal.overflow_sub-place
-overflow_sub-place c = tail_fits _ _ (tail_of_tail _ _ _ c.in_ok-head.ensures.tail c.in-Some.ensures.tail)
+pub overflow_sub-position : goal.overflow_sub-position
+overflow_sub-position c = tail_fits _ _ (tail_of_tail _ _ _ c.in_ok-head.ensures.tail c.in-Some.ensures.tail)
 
--- the header and the body that the place cuts off
+-- the header and the body that the position cuts off
 read : goal.returns-clause-exact
 read c =
     c.in-Some.ensures.some ∙ c.in_ok-head.ensures.head ∙ ap (whole_and c.in_ok-head.head) (sym (tail_is _ _ (tail_of_tail _ _ _ c.in_ok-head.ensures.tail c.in-Some.ensures.tail)))

@@ -7,10 +7,10 @@ use Rattle.scan.specs.Views.{rows_of}
 use Rattle.visibility.specs.Laws.{test_of}
 use Rattle.visibility.specs.Networks.{complex_of}
 use Rattle.visibility.specs.Scenes.{Scene}
-use Rattle.recon_build.specs.Scans.{scene_of_rows}
-use Rattle.recon_build.specs.Solutions.{flow_rows, sink_rows}
-use Rattle.recon_build.proofs.Certificates.{flags_are, on_arcs_are, at_nodes_are, certificate_is}
-use Rattle.recon_build.proofs.SightLists.{few_points, row_count, few_vertices, few_sights}
+use Rattle.solution.specs.Scans.{scene_of_rows}
+use Rattle.solution.specs.Solutions.{flow_rows, sink_rows}
+use Rattle.solution.proofs.Certificates.{flags_are, on_arcs_are, at_nodes_are, certificate_is}
+use Rattle.solution.proofs.SightLists.{few_points, row_count, few_vertices, few_sights}
 use Rattle.recon_build.proofs.WellFormed.{well_formed, fit_counts}
 use Rattle.recon_build.proofs.solving.certificate.Goals as goal
 

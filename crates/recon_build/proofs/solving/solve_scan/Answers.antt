@@ -1,7 +1,7 @@
 use Rattle.std.proofs.Common.{ℕ, ◌≡◌, ◌≤◌, ◌++◌, ap, sym, ◌∙◌, arith, Bool, List, map, length}
-use Rattle.geo_sign.specs.Place.{Place}
-use Rattle.geo_tie.specs.Vertices.{corners, vertices_of}
-use Rattle.merge.specs.Merging.{distinct_points, place_among}
+use Rattle.geo_sign.specs.Point.{Point}
+use Rattle.geo_sign.specs.Vertices.{corners, vertices_of}
+use Rattle.merge.specs.Merging.{distinct_points, index_among}
 use Rattle.mesh_ply.specs.Meshes.{mesh_of}
 use Rattle.mesh_ply.specs.declared.mesh.Mesh.{Mesh}
 use Rattle.scan.specs.ScanRows.{VertexRow}
@@ -11,33 +11,33 @@ use Rattle.visibility.specs.Complexes.{Complex}
 use Rattle.visibility.specs.Cuts.{cut_facets}
 use Rattle.visibility.specs.Laws.{test_of}
 use Rattle.visibility.specs.Networks.{complex_of, IsNetworkOf}
-use Rattle.recon_build.specs.Scans.{scene_of_rows, points_of}
-use Rattle.recon_build.specs.Solutions.{surface_of}
-use Rattle.recon_build.proofs.Certificates.{least_inside_is}
-use Rattle.recon_build.proofs.SightLists.{points_are, places_are, few_points, few_sights, network_of_rows}
+use Rattle.solution.specs.Scans.{scene_of_rows, points_of}
+use Rattle.solution.specs.Solutions.{surface_of}
+use Rattle.solution.proofs.Certificates.{least_inside_is}
+use Rattle.solution.proofs.SightLists.{points_are, indices_are, few_points, few_sights, network_of_rows}
 use Rattle.recon_build.proofs.solving.solve_scan.Goals as goal
 
 -- what merging found are the scan's distinct points
-points_same : (scan : Scan) (given found merged : List Place) → given ≡ found → found ≡ distinct_points merged → merged ≡ scan.points.items → given ≡ points_of (rows_of scan)
+points_same : (scan : Scan) (given found merged : List Point) → given ≡ found → found ≡ distinct_points merged → merged ≡ scan.points.items → given ≡ points_of (rows_of scan)
 points_same scan given found merged a b e = a ∙ b ∙ ap distinct_points e ∙ sym (points_are scan)
 
--- and their places are those of its rows
-places_same : (scan : Scan) (given found : List ℕ) (merged : List Place) → given ≡ found → found ≡ map (place_among (distinct_points merged)) merged → merged ≡ scan.points.items
-    → given ≡ map (λ (row : VertexRow). place_among (points_of (rows_of scan)) row.point) (rows_of scan).vertices
-places_same scan given found merged a b e =
+-- and their indices are those of its rows
+indices_same : (scan : Scan) (given found : List ℕ) (merged : List Point) → given ≡ found → found ≡ map (index_among (distinct_points merged)) merged → merged ≡ scan.points.items
+    → given ≡ map (λ (row : VertexRow). index_among (points_of (rows_of scan)) row.point) (rows_of scan).vertices
+indices_same scan given found merged a b e =
     a ∙ b
-    ∙ ap (λ (points : List Place). map (place_among (distinct_points points)) points) e
-    ∙ ap (λ (points : List Place). map (place_among points) scan.points.items) (sym (points_are scan))
-    ∙ sym (places_are scan (points_of (rows_of scan)))
+    ∙ ap (λ (points : List Point). map (index_among (distinct_points points)) points) e
+    ∙ ap (λ (points : List Point). map (index_among points) scan.points.items) (sym (points_are scan))
+    ∙ sym (indices_are scan (points_of (rows_of scan)))
 
-few_same : (scan : Scan) (points : List Place) → points ≡ points_of (rows_of scan) → length points ≤ 56
+few_same : (scan : Scan) (points : List Point) → points ≡ points_of (rows_of scan) → length points ≤ 56
 few_same scan points same = omega (arith, ap length same, few_points scan)
 
 pub merge-requires : goal.merge-requires
 merge-requires c = omega (arith, ap length c.deref.ensures.value, c.args.scan.now.points_fit)
 
 pub sights_of-requires : goal.sights_of-requires
-sights_of-requires c = places_same c.args.scan.now c.deref-2.result.now c.in_ok-merged.merged.of_row.items c.deref.result.now c.deref-2.ensures.value c.in_ok-merged.ensures.of_row c.deref.ensures.value
+sights_of-requires c = indices_same c.args.scan.now c.deref-2.result.now c.in_ok-merged.merged.of_row.items c.deref.result.now c.deref-2.ensures.value c.in_ok-merged.ensures.of_row c.deref.ensures.value
 
 pub plain_net-requires-clause-few : goal.plain_net-requires-clause-few
 plain_net-requires-clause-few c =
@@ -65,14 +65,14 @@ certificate-requires-clause-network c =
     (points_same c.args.scan.now c.as_slice-points.result.now c.in_ok-merged.merged.points.items c.deref.result.now c.as_slice-points.ensures.value c.in_ok-merged.ensures.points c.deref.ensures.value)
     c.deref-4.ensures.value (c.deref-3.ensures.value ∙ c.in_ok-sights.ensures) c.in_ok-voted.ensures
 
-mesh_is : (scan : Scan) (points : List Place) (mesh : Mesh) (complex : Complex) (inside : List ℕ → Bool) → points ≡ points_of (rows_of scan)
+mesh_is : (scan : Scan) (points : List Point) (mesh : Mesh) (complex : Complex) (inside : List ℕ → Bool) → points ≡ points_of (rows_of scan)
     → mesh.points.items ≡ (mesh_of (corners ++ points) (cut_facets (vertices_of points) complex inside)).points
     → mesh.faces.items ≡ (mesh_of (corners ++ points) (cut_facets (vertices_of points) complex inside)).faces
     → surface_of mesh ≡ mesh_of (corners ++ points_of (rows_of scan)) (cut_facets (vertices_of (points_of (rows_of scan))) complex inside)
 mesh_is scan points mesh complex inside same points_are faces_are =
-    ap (λ (list : List Place). record { points = list; faces = mesh.faces.items }) points_are
+    ap (λ (list : List Point). record { points = list; faces = mesh.faces.items }) points_are
     ∙ ap (λ (faces : List (List ℕ)). record { points = (mesh_of (corners ++ points) (cut_facets (vertices_of points) complex inside)).points; faces = faces }) faces_are
-    ∙ ap (λ (list : List Place). mesh_of (corners ++ list) (cut_facets (vertices_of list) complex inside)) same
+    ∙ ap (λ (list : List Point). mesh_of (corners ++ list) (cut_facets (vertices_of list) complex inside)) same
 
 pub returns-clause-solution : goal.returns-clause-solution
 returns-clause-solution c =

@@ -1,8 +1,8 @@
 use Rattle.std.proofs.Common.{ℕ, ◌≡◌, ap, sym, ◌∙◌, arith, List, map, length}
-use Rattle.geo_sign.specs.Place.{Place}
-use Rattle.merge.specs.Merging.{distinct_points, place_among}
-use Rattle.recon_build.specs.Scans.{points_of}
-use Rattle.recon_build.proofs.SightLists.{points_are, places_are, few_sights, network_of_rows}
+use Rattle.geo_sign.specs.Point.{Point}
+use Rattle.merge.specs.Merging.{distinct_points, index_among}
+use Rattle.solution.specs.Scans.{points_of}
+use Rattle.solution.proofs.SightLists.{points_are, indices_are, few_sights, network_of_rows}
 use Rattle.scan.specs.ScanRows.{VertexRow}
 use Rattle.scan.specs.Views.{rows_of}
 use Rattle.scan.specs.declared.scan.Scan.{Scan}
@@ -18,11 +18,11 @@ returns-in-Some-clause-fault c = c.in-Some.ensures.other c.args.mesh.now
 pub sights_of-requires : goal.sights_of-requires
 sights_of-requires c = places c.args.scan.now c.deref-3.result.now c.in_ok-merged.merged.of_row.items c.deref.result.now c.deref-3.ensures.value c.in_ok-merged.ensures.of_row c.deref.ensures.value
   where
-    places : (scan : Scan) (given found : List ℕ) (merged : List Place) → given ≡ found → found ≡ map (place_among (distinct_points merged)) merged → merged ≡ scan.points.items
-        → given ≡ map (λ (row : VertexRow). place_among (points_of (rows_of scan)) row.point) (rows_of scan).vertices
+    places : (scan : Scan) (given found : List ℕ) (merged : List Point) → given ≡ found → found ≡ map (index_among (distinct_points merged)) merged → merged ≡ scan.points.items
+        → given ≡ map (λ (row : VertexRow). index_among (points_of (rows_of scan)) row.point) (rows_of scan).vertices
     places scan given found merged a b e =
-        a ∙ b ∙ ap (λ (list : List Place). map (place_among (distinct_points list)) list) e
-        ∙ ap (λ (list : List Place). map (place_among list) scan.points.items) (sym (points_are scan)) ∙ sym (places_are scan (points_of (rows_of scan)))
+        a ∙ b ∙ ap (λ (list : List Point). map (index_among (distinct_points list)) list) e
+        ∙ ap (λ (list : List Point). map (index_among list) scan.points.items) (sym (points_are scan)) ∙ sym (indices_are scan (points_of (rows_of scan)))
 
 pub plain_net-requires-clause-few : goal.plain_net-requires-clause-few
 plain_net-requires-clause-few c =

@@ -3,13 +3,13 @@ use Rattle.cert_text.specs.Certificates.{Claim, claim_of}
 use Rattle.flow_net.specs.declared.Labels.{Labels}
 use Rattle.flow_net.specs.declared.votes.Settings.{Settings}
 use Rattle.flow_net.specs.declared.Voted.{Voted}
-use Rattle.geo_sign.specs.Place.{Place}
-use Rattle.geo_tie.specs.Vertices.{corners, vertices_of}
+use Rattle.geo_sign.specs.Point.{Point}
+use Rattle.geo_sign.specs.Vertices.{corners, vertices_of}
 use Rattle.mesh_ply.specs.Meshes.{Surface, mesh_of}
 use Rattle.mesh_ply.specs.Texts.{mesh_text}
 use Rattle.mesh_ply.specs.declared.mesh.Mesh.{Mesh}
-use Rattle.recon_build.specs.Scans.{points_of, scene_of_rows, sights_of}
-use Rattle.recon_build.specs.Solutions.{surface_of}
+use Rattle.solution.specs.Scans.{points_of, scene_of_rows, sights_of}
+use Rattle.solution.specs.Solutions.{surface_of}
 use Rattle.scan.specs.ScanRows.{ScanRows}
 use Rattle.scan.specs.Views.{rows_of}
 use Rattle.visibility.specs.Complexes.{Complex}
@@ -63,9 +63,9 @@ plain_mesh-requires-clause-few c = few_given c.args.scan.now c.args.points.now c
 pub plain_mesh-requires-clause-network : goal.plain_mesh-requires-clause-network
 plain_mesh-requires-clause-network c = among (rows_of c.args.scan.now) c.args.settings c.args.points.now c.args.voted.now c.requires.points c.requires.network
   where
-    among : (rows : ScanRows) (settings : Settings) (points : List Place) (voted : Voted) → points ≡ points_of rows → IsNetworkOf (scene_of_rows rows settings) voted → IsNetworkAmong (vertices_of points) voted
+    among : (rows : ScanRows) (settings : Settings) (points : List Point) (voted : Voted) → points ≡ points_of rows → IsNetworkOf (scene_of_rows rows settings) voted → IsNetworkAmong (vertices_of points) voted
     among rows settings points voted same network =
-        subst (λ (list : List Place). IsNetworkAmong (vertices_of list) voted) (sym same) (record { scanners = rows.scanners; sights = sights_of rows; settings = settings; network = network })
+        subst (λ (list : List Point). IsNetworkAmong (vertices_of list) voted) (sym same) (record { scanners = rows.scanners; sights = sights_of rows; settings = settings; network = network })
 
 pub plain_mesh-requires-clause-labels : goal.plain_mesh-requires-clause-labels
 plain_mesh-requires-clause-labels c =
@@ -73,7 +73,7 @@ plain_mesh-requires-clause-labels c =
     (least_is s c.args.voted.now (claim_of c.args.cert.now) c.in_ok-labels.labels c.requires.network c.in_ok-labels.ensures.labels (c.in_ok-labels.ensures.best s c.requires.network)).least_cost.admissible
 
 -- what was printed is the text of the best surface
-text_is : (rows : ScanRows) (settings : Settings) (voted : Voted) (claim : Claim) (points : List Place) (labels : Labels) (mesh : Mesh) (given text start : List ℕ) → IsNetworkOf (scene_of_rows rows settings) voted → points ≡ points_of rows → labels ≡ labels_by voted claim
+text_is : (rows : ScanRows) (settings : Settings) (voted : Voted) (claim : Claim) (points : List Point) (labels : Labels) (mesh : Mesh) (given text start : List ℕ) → IsNetworkOf (scene_of_rows rows settings) voted → points ≡ points_of rows → labels ≡ labels_by voted claim
     → mesh.points.items ≡ (mesh_of (corners ++ points) (cut_facets (vertices_of points) (complex_of voted) (test_of voted.cells labels.inside))).points
     → mesh.faces.items ≡ (mesh_of (corners ++ points) (cut_facets (vertices_of points) (complex_of voted) (test_of voted.cells labels.inside))).faces
     → given ≡ text → text ≡ start ++ mesh_text mesh.points.items mesh.faces.items → start ≡ [] → given ≡ surface_text (best_surface rows (complex_of voted) (is_inside claim))

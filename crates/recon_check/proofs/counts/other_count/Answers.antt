@@ -1,8 +1,8 @@
 use Rattle.std.proofs.Common.{ℕ, ◌≡◌, ap, ◌∙◌, arith, length, cond, eqb, Option, Some, None, MatchOption}
 use Rattle.std.specs.Option.{option_or}
 use Rattle.cert_text.specs.Certificates.{Claim, claim_of}
-use Rattle.recon_build.specs.Solutions.{HasCounts}
-use Rattle.recon_build.proofs.SightLists.{few_points, row_count}
+use Rattle.solution.specs.Solutions.{HasCounts}
+use Rattle.solution.proofs.SightLists.{few_points, row_count}
 use Rattle.scan.specs.ScanRows.{ScanRows}
 use Rattle.scan.specs.Views.{rows_of}
 use Rattle.recon_check.specs.declared.answer.Reason.{Reason}

@@ -2,7 +2,7 @@ use Rattle.std.proofs.Common.{ℕ, ◌≡◌, ap, ◌∙◌, List, map}
 use Rattle.cert_text.specs.Certificates.{Claim, claim_of}
 use Rattle.cert_text.specs.declared.certificate.FlowRow.{FlowRow}
 use Rattle.cert_text.specs.declared.certificate.SinkRow.{SinkRow}
-use Rattle.recon_build.specs.Solutions.{stated}
+use Rattle.solution.specs.Solutions.{stated}
 use Rattle.visibility.specs.Complexes.{Complex}
 use Rattle.visibility.specs.Networks.{complex_of}
 use Rattle.recon_check.specs.Answers.{IsReason}

@@ -2,7 +2,7 @@ use Rattle.std.proofs.Common.{ℕ, [], List, get_or, arith}
 use Rattle.std.specs.Cmp.Lexicographic.{same_text, other_text}
 use Rattle.std.proofs.lemmas.List.{get_or_default}
 use Rattle.cert_text.specs.declared.certificate.FlowRow.{FlowRow}
-use Rattle.recon_build.specs.Solutions.{stated}
+use Rattle.solution.specs.Solutions.{stated}
 use Rattle.recon_check.proofs.Walks.{stated_says, walk_found, walk_other, walked_there, walked_stray}
 use Rattle.recon_check.proofs.rows.flow_amounts.Goals as goal
 use Rattle.recon_check.proofs.rows.flow_amounts.Goals.{then-found-rows+then-eq+in_ok-push, else-found-rows+in_ok-push-2, else-found-rows-via-then-found-rows+else-eq, else-found-rows-via-else-found-rows}

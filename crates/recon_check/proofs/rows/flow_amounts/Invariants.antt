@@ -1,5 +1,5 @@
 use Rattle.cert_text.specs.declared.certificate.FlowRow.{FlowRow}
-use Rattle.recon_build.specs.Solutions.{stated}
+use Rattle.solution.specs.Solutions.{stated}
 use Rattle.recon_check.proofs.Walks.{IsWalked}
 use Rattle.recon_check.proofs.rows.flow_amounts.Given as goal
 

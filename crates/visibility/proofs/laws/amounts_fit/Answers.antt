@@ -1,5 +1,6 @@
 use Rattle.visibility.proofs.Amounts.{capacity_fits, sink_fits}
 use Rattle.visibility.proofs.LeastCost.{least_cost_fits}
+use Rattle.visibility.proofs.SightCosts.{least_cost_is_small}
 use Rattle.visibility.proofs.laws.amounts_fit.Goals as goal
 
 pub returns-clause-capacities : goal.returns-clause-capacities
@@ -10,3 +11,6 @@ returns-clause-sinks c = sink_fits
 
 pub returns-clause-least_cost : goal.returns-clause-least_cost
 returns-clause-least_cost c = least_cost_fits
+
+pub returns-clause-small : goal.returns-clause-small
+returns-clause-small c = least_cost_is_small

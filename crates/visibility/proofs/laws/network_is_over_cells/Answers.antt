@@ -1,5 +1,5 @@
 use Rattle.std.proofs.Common.{false}
-use Rattle.visibility.proofs.Places.{map_of_places}
+use Rattle.visibility.proofs.Indices.{map_of_indices}
 use Rattle.visibility.proofs.Labels.{labels_agree}
 use Rattle.visibility.proofs.Flows.{flows_agree}
 use Rattle.visibility.proofs.laws.network_is_over_cells.Goals as goal
@@ -11,7 +11,7 @@ pub returns-clause-flows : goal.returns-clause-flows
 returns-clause-flows c = flows_agree
 
 pub returns-clause-tests : goal.returns-clause-tests
-returns-clause-tests c rows flags r e = map_of_places rows flags false r e
+returns-clause-tests c rows flags r e = map_of_indices rows flags false r e
 
 pub returns-clause-amounts : goal.returns-clause-amounts
-returns-clause-amounts c rows amounts r e = map_of_places rows amounts 0 r e
+returns-clause-amounts c rows amounts r e = map_of_indices rows amounts 0 r e

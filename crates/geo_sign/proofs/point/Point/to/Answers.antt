@@ -1,6 +1,6 @@
 use Rattle.std.proofs.Common.{arith, ap₂, ◌∙◌}
 use Rattle.std.proofs.lemmas.Int.{ints}
-use Rattle.geo_sign.specs.Place.{step}
+use Rattle.geo_sign.specs.Point.{step}
 use Rattle.geo_sign.proofs.Bounds.{same_place, within_of}
 use Rattle.geo_sign.proofs.point.Point.to.Goals as goal
 

@@ -1,12 +1,10 @@
-use Rattle.std.proofs.Common.{◌∙◌, sym, ap, refl, arith, length}
+use Rattle.std.proofs.Common.{◌∙◌, sym, ap, refl, arith, length, Option, subst}
 use Rattle.ply_rows.specs.Rests.{rest_at}
 use Rattle.ply_rows.specs.Readers.{Reader, IsRowOf}
-use Rattle.ply_rows.proofs.ElementLemmas.{all_passed}
+use Rattle.ply_rows.proofs.ElementLemmas.{all_passed, row_at}
 use Rattle.ply_rows.proofs.NextLemmas.{IsNext, is_next, row_read, refused_row, row_refused, row_fits}
 use Rattle.ply_rows.proofs.FitLemmas.{row_ends_inside, ends_alike}
-use Rattle.ply_rows.proofs.ElementLemmas.{row_at}
 use Rattle.ply_rows.specs.declared.place.RowAt.{RowAt}
-use Rattle.std.proofs.Common.{Option, subst}
 use Rattle.ply_rows.proofs.rows.Rows.next_row.Goals as goal
 use Rattle.ply_rows.proofs.rows.Rows.next_row.Goals.{in-Ok, in-Err}
 

@@ -1,10 +1,10 @@
 use Rattle.std.proofs.Common.{◌≡◌, sym, subst, ap, ◌∙◌, List, [], ◌∷◌, ◌++◌, length, arith}
-use Rattle.geo_sign.specs.Place.{Place}
-use Rattle.geo_tie.specs.Vertices.{vertices_of}
-use Rattle.geo_tie.specs.Cells.{IsCellList}
+use Rattle.geo_sign.specs.Point.{Point}
+use Rattle.geo_sign.specs.Vertices.{vertices_of}
+use Rattle.geo_sign.specs.Cells.{IsCellList}
 use Rattle.scan.specs.Views.{rows_of}
-use Rattle.recon_build.specs.Scans.{points_of}
-use Rattle.recon_build.proofs.SightLists.{points_are, few_points}
+use Rattle.solution.specs.Scans.{points_of}
+use Rattle.solution.proofs.SightLists.{points_are, few_points}
 use Rattle.merge.specs.Merging.{distinct_points}
 use Rattle.recon_cmd.specs.Lines.{cells_line, cells_text}
 use Rattle.recon_cmd.specs.Replies.{texts_of}
@@ -26,5 +26,5 @@ returns c =
     ap texts_of (c.in_ok-push.ensures.items ∙ ap (λ (texts : List Text). texts ++ (record { name = c.args.output; bytes = c.in_ok-text.text } ∷ [])) c.new-texts.ensures.items) in
     let line_is : c.in_ok-line.line.items ≡ cells_line (length c.in_ok-merged.merged.points.items) (length c.in_ok-cells.cells.items) = cc (c.in_ok-line.ensures, c.len.ensures, c.len-2.ensures) in
     celled c.args.output.now (rows_of c.args.scan.now) c.in_ok-merged.merged.points.items c.in_ok-cells.cells.items (texts_of c.push.new.self.items) c.in_ok-text.text.items c.in_ok-line.line.items
-    points (subst (λ (points : List Place). IsCellList (vertices_of points) c.in_ok-cells.cells.items) c.deref-2.ensures.value c.in_ok-cells.ensures)
+    points (subst (λ (points : List Point). IsCellList (vertices_of points) c.in_ok-cells.cells.items) c.deref-2.ensures.value c.in_ok-cells.ensures)
     writes_is (c.in_ok-text.ensures ∙ ap cells_text c.deref-3.ensures.value) line_is

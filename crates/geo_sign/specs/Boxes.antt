@@ -1,0 +1,62 @@
+-- Vertices of the box, of which some are in, and one vertex more.
+--
+--   inserted_vertices points flags   the box's corners and these points; those with a flag are in
+--   IsTied v                         all have the heights of the tie rule
+--   IsBoxed v                        the box's corners and data points, with the heights of the tie rule
+--   with_vertex v p                  the same vertices, and p is in too
+--   IsNew v p                        p is a data point that is not in yet
+--   IsInConflict v p t               p is in conflict with t
+--   IsClearOf v p t                  it is not
+--   Agree v w                        the same vertices are in, at the same places and heights
+use Rattle.std.specs.Prelude.{ℕ, ◌<◌, ◌≤◌, ◌≡◌, ◌↔◌, ◌+◌, ◌==◌, ◌||◌, Bool, false, pos, ◌<ℤ◌, ◌≤ℤ◌, List, length, get_or}
+use Rattle.geo_sign.specs.declared.point.TheConstants.{DATA_LIMIT}
+use Rattle.geo_sign.specs.Point.{Point, IsWithin, corner_point}
+use Rattle.geo_sign.specs.Tetrahedron.{Tetrahedron}
+use Rattle.geo_sign.specs.Tie.{height}
+use Rattle.geo_sign.specs.Vertices.{Vertices, Has, point_of, power_of}
+
+-- the box's corners and these points, with the heights of all of them; those with a flag are in
+abbrev pub inserted_vertices : List Point → List Bool → Vertices
+inserted_vertices points flags =
+    record {
+      at = point_of points;
+      high = λ u. height (8 + length points) u (point_of points u);
+      count = 8 + length points;
+      is_in = λ u. get_or flags u false;
+    }
+
+-- each height is that of the tie rule
+abbrev pub IsTied : Vertices → Type 0
+IsTied v = (u : ℕ) → v.high u ≡ height v.count u (v.at u)
+
+-- The corners are vertices 0 to 7 and are in, the other vertices are data points, no two are at one point, and all have
+-- the heights of the tie rule. Which of the data points are in is left open.
+pub record IsBoxed (v : Vertices) : Type 0 where
+  pub corner_in : (k : ℕ) → k < 8 → Has v k
+  pub corner_at : (k : ℕ) → k < 8 → v.at k ≡ corner_point k
+  pub data_at : (u : ℕ) → 8 ≤ u → u < v.count → IsWithin DATA_LIMIT (v.at u)
+  pub apart : (u w : ℕ) → u < v.count → w < v.count → v.at u ≡ v.at w → u ≡ w
+  pub tied : IsTied v
+
+-- the number of vertices is that of all, so no height changes
+abbrev pub with_vertex : Vertices → ℕ → Vertices
+with_vertex v p = record { at = v.at; high = v.high; count = v.count; is_in = λ u. (u == p) || v.is_in u }
+
+-- a data point that is not in yet
+pub record IsNew (v : Vertices) (p : ℕ) : Type 0 where
+  pub above : 8 ≤ p
+  pub below : p < v.count
+  pub out : v.is_in p ≡ false
+
+-- p is in conflict with a positively written cell where its power is negative
+abbrev pub IsInConflict : Vertices → (p : ℕ) → Tetrahedron → Type 0
+IsInConflict v p t = power_of v t.a t.b t.c t.d p <ℤ pos 0
+
+abbrev pub IsClearOf : Vertices → (p : ℕ) → Tetrahedron → Type 0
+IsClearOf v p t = pos 0 ≤ℤ power_of v t.a t.b t.c t.d p
+
+-- The same vertices are in, at the same points and with the same heights. What the others are is left open.
+pub record Agree (v w : Vertices) : Type 0 where
+  pub in_is : (u : ℕ) → Has v u ↔ Has w u
+  pub at_is : (u : ℕ) → Has v u → v.at u ≡ w.at u
+  pub high_is : (u : ℕ) → Has v u → v.high u ≡ w.high u

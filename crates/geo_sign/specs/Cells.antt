@@ -1,0 +1,49 @@
+-- The cells: Delaunay tetrahedra by the empty-sphere definition under the tie rule.
+--
+--   IsCell vertices a b c d        four vertices written positively with which none that is in is in conflict
+--   FormCell vertices a b c d      the four are a cell, in this order or with the last two exchanged
+--   IsCellList vertices rows       the list of all cells, numbers rising in each, the cells rising
+--   written vertices row           a cell's four rising numbers in an order in which it is positive
+use Rattle.std.specs.Prelude.{ℕ, ◌<◌, ◌≡◌, ◌⊎◌, pos, ◌<ℤ◌, ◌≤ℤ◌, int_lt, List, [], ◌∷◌, slice_index, AllPairs, Contains, if◌then◌else◌}
+use Rattle.geo_sign.specs.Tetrahedron.{Tetrahedron, tetrahedron}
+use Rattle.geo_sign.specs.Vertices.{Vertices, Has, orientation_of, power_of}
+
+-- Four vertices that are in, written positively, such that no vertex that is in has a negative power at them. Their own
+-- powers are zero.
+pub record IsCell (v : Vertices) (a b c d : ℕ) : Type 0 where
+  pub has_a : Has v a
+  pub has_b : Has v b
+  pub has_c : Has v c
+  pub has_d : Has v d
+  pub positive : pos 0 <ℤ orientation_of v a b c d
+  pub clear : (u : ℕ) → Has v u → pos 0 ≤ℤ power_of v a b c d u
+
+-- the four vertices, in one of their two orders, are a cell
+abbrev pub FormCell : Vertices → (a b c d : ℕ) → Type 0
+FormCell v a b c d = IsCell v a b c d ⊎ IsCell v a b d c
+
+-- a cell's four numbers, rising
+abbrev pub IsRisingCell : Vertices → List ℕ → Type 0
+IsRisingCell v (a ∷ b ∷ c ∷ d ∷ []) = (a < b) × (b < c) × (c < d) × FormCell v a b c d
+IsRisingCell v _ = ⊥
+
+-- the first list comes before the second where they differ first
+abbrev pub IsBefore : List ℕ → List ℕ → Type 0
+IsBefore (a ∷ xs) (b ∷ ys) = (a < b) ⊎ ((a ≡ b) × IsBefore xs ys)
+IsBefore _ _ = ⊥
+
+-- the list of all cells: each once, its numbers rising, in rising order
+pub record IsCellList (v : Vertices) (rows : List (List ℕ)) : Type 0 where
+  pub rising : AllPairs IsBefore rows
+  pub cells : (row : List ℕ) → Contains rows row → IsRisingCell v row
+  pub all : (row : List ℕ) → IsRisingCell v row → Contains rows row
+
+-- A cell's numbers in an order in which it is positive: as they rise, or with the last two exchanged. Its four directed
+-- facets then have their smallest number first.
+unfoldable pub written : Vertices → List ℕ → Tetrahedron
+written v row =
+    let a = slice_index row 0 in
+    let b = slice_index row 1 in
+    let c = slice_index row 2 in
+    let d = slice_index row 3 in
+    if int_lt (pos 0) (orientation_of v a b c d) then tetrahedron a b c d else tetrahedron a b d c

@@ -1,0 +1,16 @@
+-- The written tie rule: each vertex is lifted by its number too, so that no five vertices lie on one sphere.
+--
+--   height n i p                the height of vertex i at p among fewer than n vertices
+--   tied_power n a b c d p      the power of five numbered places at these heights
+use Rattle.std.specs.Prelude.{ℕ, ◌^◌, ℤ, pos, ◌+ℤ◌, ◌*ℤ◌}
+use Rattle.geo_sign.specs.Point.{Point, square}
+use Rattle.geo_sign.specs.Power.{power}
+
+-- the square of the vertex's distance from the origin in units that no sum of tie terms of fewer than n vertices reaches,
+-- and the vertex's own tie term, far above those of all smaller numbers
+abbrev pub height : (n i : ℕ) → Point → ℤ
+height n i p = square p *ℤ pos ((2 ^ 80) ^ n) +ℤ pos ((2 ^ 80) ^ i)
+
+-- the power of p at the cell a b c d, each a number and its place; p is in conflict with the cell where it is negative
+abbrev pub tied_power : ℕ → (a b c d p : ℕ × Point) → ℤ
+tied_power n a b c d p = power a.1 b.1 c.1 d.1 p.1 (height n a.0 a.1) (height n b.0 b.1) (height n c.0 c.1) (height n d.0 d.1) (height n p.0 p.1)

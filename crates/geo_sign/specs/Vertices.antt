@@ -1,0 +1,64 @@
+-- Vertices by number, and the walls of the box.
+--
+--   Vertices                    where each vertex is, its height, how many there are, which of them are in
+--   Has vertices u              u is one of them and is in
+--   orientation_of, power_of    orientation and power of vertices by their numbers
+--   AreOnWall at f              three corners that agree in one coordinate
+--   IsWall vertices f           a facet on a wall of the box
+--   vertices_of points          the box's corners and these points, all in, with the heights of the tie rule
+use Rattle.std.specs.Prelude.{ℕ, ◌<◌, ◌≡◌, ◌⊎◌, ◌+◌, Bool, true, ℤ, List, [], ◌∷◌, ◌++◌, length, get_or}
+use Rattle.geo_sign.specs.Point.{Point, origin, corner_point}
+use Rattle.geo_sign.specs.Orientation.{orientation}
+use Rattle.geo_sign.specs.Power.{power}
+use Rattle.geo_sign.specs.Tetrahedron.{DirectedFacet}
+use Rattle.geo_sign.specs.Tie.{height}
+
+-- the vertices by number: where each is, its height, how many there are, and which of them are in the tetrahedrization
+pub record Vertices : Type 0 where
+  pub at : ℕ → Point
+  pub high : ℕ → ℤ
+  pub count : ℕ
+  pub is_in : ℕ → Bool
+
+abbrev pub Has : Vertices → ℕ → Type 0
+Has vertices u = (u < vertices.count) × (vertices.is_in u ≡ true)
+
+abbrev pub orientation_of : Vertices → (a b c d : ℕ) → ℤ
+orientation_of v a b c d = orientation (v.at a) (v.at b) (v.at c) (v.at d)
+
+abbrev pub power_of : Vertices → (a b c d p : ℕ) → ℤ
+power_of v a b c d p = power (v.at a) (v.at b) (v.at c) (v.at d) (v.at p) (v.high a) (v.high b) (v.high c) (v.high d) (v.high p)
+
+-- three points agree in one coordinate
+abbrev pub HaveCoordinate : (p q r : Point) → Type 0
+HaveCoordinate p q r = ((p.x ≡ q.x) × (p.x ≡ r.x)) ⊎ (((p.y ≡ q.y) × (p.y ≡ r.y)) ⊎ ((p.z ≡ q.z) × (p.z ≡ r.z)))
+
+-- three corners of the box that agree in one coordinate
+pub record AreOnWall (at : ℕ → Point) (f : DirectedFacet) : Type 0 where
+  pub first : f.a < 8
+  pub second : f.b < 8
+  pub third : f.c < 8
+  pub agree : HaveCoordinate (at f.a) (at f.b) (at f.c)
+
+-- It looks at nothing but where the vertices are, so it is the same with a vertex more.
+abbrev pub IsWall : Vertices → DirectedFacet → Type 0
+IsWall v f = AreOnWall v.at f
+
+-- the corners of the box in order of their numbers
+abbrev pub corners : List Point
+corners =
+    corner_point 0 ∷ corner_point 1 ∷ corner_point 2 ∷ corner_point 3 ∷ corner_point 4 ∷ corner_point 5 ∷ corner_point 6 ∷ corner_point 7 ∷ []
+
+-- where vertex u is: the corners have the numbers 0 to 7, and the points follow
+abbrev pub point_of : List Point → ℕ → Point
+point_of points u = get_or (corners ++ points) u origin
+
+-- the box's corners and these points, all of them in
+abbrev pub vertices_of : List Point → Vertices
+vertices_of points =
+    record {
+      at = point_of points;
+      high = λ u. height (8 + length points) u (point_of points u);
+      count = 8 + length points;
+      is_in = λ _. true;
+    }

@@ -1,0 +1,30 @@
+-- The twelve ways to write a tetrahedron positively: the even rearrangements of its four vertices.
+--
+--   spin t, swap t       two steps that together reach all twelve
+--   moved steps t        steps one after another
+--   IsRewritten t r      r is t written anew
+--   IsVertexOf t u       u is one of the vertices of t
+use Rattle.std.specs.Prelude.{ℕ, ◌≡◌, ◌⊎◌, Bool, true, false, List, [], ◌∷◌}
+use Rattle.geo_sign.specs.Tetrahedron.{Tetrahedron, tetrahedron}
+
+-- the first three vertices moved round
+abbrev pub spin : Tetrahedron → Tetrahedron
+spin t = tetrahedron t.b t.c t.a t.d
+
+-- the first two vertices exchanged, and the last two
+abbrev pub swap : Tetrahedron → Tetrahedron
+swap t = tetrahedron t.b t.a t.d t.c
+
+-- steps one after another, the last of the list first; true is a spin
+abbrev pub moved : List Bool → Tetrahedron → Tetrahedron
+moved [] t = t
+moved (true ∷ steps) t = spin (moved steps t)
+moved (false ∷ steps) t = swap (moved steps t)
+
+-- some steps lead from t to r
+abbrev pub IsRewritten : Tetrahedron → Tetrahedron → Type 0
+IsRewritten t r = (steps : List Bool) × (moved steps t ≡ r)
+
+-- u is one of the four vertices
+abbrev pub IsVertexOf : Tetrahedron → ℕ → Type 0
+IsVertexOf t u = (u ≡ t.a) ⊎ ((u ≡ t.b) ⊎ ((u ≡ t.c) ⊎ (u ≡ t.d)))

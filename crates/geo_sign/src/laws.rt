@@ -1,0 +1,52 @@
+//! Laws over the definitions, as the contracts of calls that do nothing.
+
+ghost use Rattle.geo_sign.specs.RisingLaws.{RisingLaw, CellListLaw};
+ghost use Rattle.geo_sign.specs.WritingLaws.{RewritingsAreAlike, IsRewrittenLaw};
+ghost use Rattle.geo_sign.specs.FacetLaws.{SidesAreRotated, SidesAreTurned, CrossingsAreRotated, IsRotatedLaw, FacetsAreRotated, AmongMeans};
+ghost use Rattle.geo_sign.specs.RowLaws.{RowsExist, RowsAreWritten, RowsAreKept, RowsTell, CellsAreRows, WrittenFacets, FacetsAreAmong};
+ghost use Rattle.geo_sign.specs.AgreementLaws.{AgreeLaw, SignsAgree, CellsAgree, SightsAgree, AllInAgree};
+
+/// What a rising list contains determines it. So the cells of given vertices have one list.
+pub fn rising_list_law()
+    ensures rising { RisingLaw }
+    ensures cells { CellListLaw }
+{}
+
+/// A tetrahedron written anew, in another even order of its four vertices, is the same to every definition: its orientation, its
+/// powers, whether it is a cell, its vertices, the tests of sights, and the places in it. To be written anew is an equivalence.
+pub fn writing_law()
+    ensures alike { RewritingsAreAlike }
+    ensures equivalence { IsRewrittenLaw }
+{}
+
+/// A directed facet may be written from any of its vertices on: sides and crossings stay. In the other direction each side is the
+/// opposite number. The facets of a tetrahedron written anew are its facets, rotated.
+pub fn rotated_facet_law()
+    ensures sides { SidesAreRotated }
+    ensures turned { SidesAreTurned }
+    ensures crossings { CrossingsAreRotated }
+    ensures rotations { IsRotatedLaw }
+    ensures facets { FacetsAreRotated }
+    ensures among { AmongMeans }
+{}
+
+/// Each positively written tetrahedron has one row, its four numbers as they rise. The row determines it up to its writing, cells
+/// in any writing are rising cells by their rows, and a facet from its smallest number on is a facet of what is written of the row.
+pub fn row_law()
+    ensures exist { RowsExist }
+    ensures written { RowsAreWritten }
+    ensures kept { RowsAreKept }
+    ensures tell { RowsTell }
+    ensures cells { CellsAreRows }
+    ensures least_first { WrittenFacets }
+    ensures among { FacetsAreAmong }
+{}
+
+/// What the definitions say of vertices that are in depends on these alone.
+pub fn agreement_law()
+    ensures equivalence { AgreeLaw }
+    ensures signs { SignsAgree }
+    ensures cells { CellsAgree }
+    ensures sights { SightsAgree }
+    ensures all_in { AllInAgree }
+{}

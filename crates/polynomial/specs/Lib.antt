@@ -1,3 +1,0 @@
-pub mod Polynomial
-pub mod NormalForm
-pub mod Laws

@@ -1,0 +1,5 @@
+pub mod SightLists
+pub mod RowLists
+pub mod Certificates
+pub mod Uniqueness
+pub mod LeastCosts

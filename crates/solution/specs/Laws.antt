@@ -1,0 +1,33 @@
+-- What holds of all solutions.
+--
+--   IsSame          two solutions have one mesh, and certificates that differ in their flows alone
+--   LeastCostLaw    the least cost of a scan's surface is below 2^37, however many points it has
+--   SolutionLaw     two solutions of one scan at the same settings are the same but for the flow
+use Rattle.std.specs.Prelude.{ℕ, ◌≡◌, ◌<◌, ◌^◌, Bool, List}
+use Rattle.cert_text.specs.Certificates.{Claim}
+use Rattle.flow_net.specs.declared.votes.Settings.{Settings}
+use Rattle.mesh_ply.specs.Meshes.{Surface}
+use Rattle.scan.specs.ScanRows.{ScanRows, IsScan}
+use Rattle.solution.specs.Scans.{scene_of_rows}
+use Rattle.solution.specs.Solutions.{IsSolution}
+use Rattle.visibility.specs.Complexes.{Complex}
+use Rattle.visibility.specs.Cuts.{cost, IsLeastCost}
+use Rattle.visibility.specs.Votes.{IsComplexOf}
+
+-- one mesh, the same counts, weights and cost, and the same inside cells
+pub record IsSame (mesh : Surface) (claim : Claim) (other_mesh : Surface) (other : Claim) : Type 0 where
+  pub mesh_is : mesh ≡ other_mesh
+  pub counts_are : claim.counts ≡ other.counts
+  pub inside_is : claim.inside ≡ other.inside
+
+-- two solutions of one scan at the same settings are the same but for the flow
+abbrev pub SolutionLaw : Type 0
+SolutionLaw =
+    (rows : ScanRows) (settings : Settings) (mesh other_mesh : Surface) (claim other : Claim) → IsSolution rows settings mesh claim
+    → IsSolution rows settings other_mesh other → IsSame mesh claim other_mesh other
+
+-- since each sight has exactly one cell behind it
+abbrev pub LeastCostLaw : Type 0
+LeastCostLaw =
+    (rows : ScanRows) (settings : Settings) (complex : Complex) (inside : List ℕ → Bool) → IsScan rows → IsComplexOf (scene_of_rows rows settings) complex
+    → IsLeastCost (scene_of_rows rows settings) complex inside → cost (scene_of_rows rows settings) complex inside < 2 ^ 37

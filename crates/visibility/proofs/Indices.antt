@@ -1,0 +1,94 @@
+-- Places in lists of rows, and sums over lists as sums over indices.
+use Rattle.std.proofs.Common.{ℕ, zero, suc, ◌+◌, ◌<◌, ◌≤◌, ◌≡◌, refl, ap, sym, subst, ◌∙◌, arith, Bool, true, false, ⊎_elim, List, [], ◌∷◌, length, get_or, map, take, eqb, AllPairs, Contains}
+use Rattle.std.specs.List.{Any, position_or_len, sum_by}
+use Rattle.std.proofs.Math.Nat.{lt_of_not-le}
+use Rattle.std.proofs.Math.Seq.{take-length}
+use Rattle.std.proofs.lemmas.Bool.{and_parts, and_from, eqb-true, eq-eqb, false_from_ne_true}
+use Rattle.std.proofs.lemmas.List.{get_or-map, get_or_default, length-map, same_lists}
+use Rattle.std.proofs.lemmas.List.Sums.{position_or_len_is, fails_before_first, sum_by_more}
+use Rattle.flow_net.specs.Sums.{sum_below}
+use Rattle.geo_sign.specs.Cells.{IsBefore}
+use Rattle.visibility.specs.Flows.{is_equal}
+use Rattle.visibility.specs.Laws.{row_index}
+
+-- no row is before itself
+pub not_before_itself : (xs : List ℕ) → IsBefore xs xs → ⊥
+not_before_itself [] h = h
+not_before_itself (x ∷ xs) h = ⊎_elim (λ (l : x < x). absurd (omega arith)) (λ (p : (x ≡ x) × IsBefore xs xs). not_before_itself xs p.1) h
+
+-- the test of equal rows
+pub is_equal_itself : (xs : List ℕ) → is_equal xs xs ≡ true
+is_equal_itself [] = refl
+is_equal_itself (x ∷ xs) = and_from (eqb x x) (is_equal xs xs) (eq-eqb x x refl) (is_equal_itself xs)
+
+pub is_equal_means : (xs ys : List ℕ) → is_equal xs ys ≡ true → xs ≡ ys
+is_equal_means [] [] h = refl
+is_equal_means [] (y ∷ ys) h = absurd (cc)
+is_equal_means (x ∷ xs) [] h = absurd (cc)
+is_equal_means (x ∷ xs) (y ∷ ys) h =
+    let p = and_parts (eqb x y) (is_equal xs ys) h in
+    ap (λ (n : ℕ). n ∷ xs) (eqb-true x y p.0) ∙ ap (λ (t : List ℕ). y ∷ t) (is_equal_means xs ys p.1)
+
+-- rising rows are distinct
+pub same_index : (rows : List (List ℕ)) (i j : ℕ) → AllPairs IsBefore rows → i < length rows → j < length rows → get_or rows i [] ≡ get_or rows j [] → i ≡ j
+same_index rows i j r li lj e =
+    let first : ¬ (i < j) = λ l. not_before_itself (get_or rows j []) (subst (λ (u : List ℕ). IsBefore u (get_or rows j [])) e (r i j [] l lj)) in
+    let second : ¬ (j < i) = λ l. not_before_itself (get_or rows i []) (subst (λ (u : List ℕ). IsBefore u (get_or rows i [])) (sym e) (r j i [] l li)) in
+    omega (arith, first, second)
+
+same_bools : (a b : Bool) → (a ≡ true → b ≡ true) → (b ≡ true → a ≡ true) → a ≡ b
+same_bools true b f g = sym (f refl)
+same_bools false true f g = g refl
+same_bools false false f g = refl
+
+-- indices in rising rows are equal where the rows are
+pub index_test : (rows : List (List ℕ)) (i j : ℕ) → AllPairs IsBefore rows → i < length rows → j < length rows → eqb i j ≡ is_equal (get_or rows i []) (get_or rows j [])
+index_test rows i j r li lj =
+    same_bools (eqb i j) (is_equal (get_or rows i []) (get_or rows j []))
+    (λ h. subst (λ (k : ℕ). is_equal (get_or rows i []) (get_or rows k []) ≡ true) (eqb-true i j h) (is_equal_itself (get_or rows i [])))
+    (λ h. eq-eqb i j (same_index rows i j r li lj (is_equal_means (get_or rows i []) (get_or rows j []) h)))
+
+-- the first index where a test holds is within the list, where it holds somewhere
+pub first_within : {X : Type 0} (p : X → Bool) (xs : List X) → Any (λ x. p x ≡ true) xs → position_or_len p xs < length xs
+first_within p xs h =
+    lt_of_not-le (λ (l : length xs ≤ position_or_len p xs).
+    let fails : p (get_or xs h.0 h.1) ≡ false = fails_before_first p xs h.0 h.1 (omega (arith, h.2)) in
+    let holds : p h.1 ≡ true = h.4 in
+    let here : get_or xs h.0 h.1 ≡ h.1 = h.3 in
+    cc (fails, holds, here))
+
+-- the index of a row in rising rows
+pub row_index_at : (rows : List (List ℕ)) (k : ℕ) → AllPairs IsBefore rows → k < length rows → row_index rows (get_or rows k []) ≡ k
+row_index_at rows k r l =
+    position_or_len_is (λ other. is_equal other (get_or rows k [])) rows k [] (omega arith)
+    (λ i m. false_from_ne_true (is_equal (get_or rows i []) (get_or rows k [])) (λ h. not_before_itself (get_or rows k []) (subst (λ (u : List ℕ). IsBefore u (get_or rows k [])) (is_equal_means (get_or rows i []) (get_or rows k []) h) (r i k [] m l))))
+    (λ m. is_equal_itself (get_or rows k []))
+
+-- what stands at the indices of rising rows, as a function of the rows
+pub map_of_indices : {X : Type 0} (rows : List (List ℕ)) (xs : List X) (d : X) → AllPairs IsBefore rows → length xs ≡ length rows → map (λ row. get_or xs (row_index rows row) d) rows ≡ xs
+map_of_indices {X} rows xs d r e =
+    let f : List ℕ → X = λ row. get_or xs (row_index rows row) d in
+    same_lists (map f rows) xs (length-map rows f ∙ sym e)
+    (λ k c l. let m : k < length rows = omega (arith, l, length-map rows f) in
+    get_or-map f rows k [] c m ∙ ap (λ (n : ℕ). get_or xs n d) (row_index_at rows k r m) ∙ get_or_default xs k d c (omega arith))
+
+taken : {X : Type 0} (f : X → ℕ) (xs : List X) (d : X) (n : ℕ) → n ≤ length xs → sum_by f (take n xs) ≡ sum_below n (λ j. f (get_or xs j d))
+taken f xs d zero l = refl
+taken f xs d (suc n) l =
+    let e : n + 1 ≡ suc n = omega arith in
+    ap (λ (i : ℕ). sum_by f (take i xs)) (sym e) ∙ sum_by_more f xs n d (omega arith) ∙ ap (λ (i : ℕ). i + f (get_or xs n d)) (taken f xs d n (omega arith))
+
+-- a sum over a list is a sum over its indices
+pub sum_by-below : {X : Type 0} (f : X → ℕ) (xs : List X) (d : X) → sum_by f xs ≡ sum_below (length xs) (λ j. f (get_or xs j d))
+sum_by-below f xs d = ap (sum_by f) (sym (take-length xs)) ∙ taken f xs d (length xs) (omega arith)
+
+-- an element of a list is at an index
+pub at_index : (rows : List (List ℕ)) (row : List ℕ) (h : Contains rows row) → get_or rows h.0 [] ≡ row
+at_index rows row h = get_or_default rows h.0 [] row h.1 ∙ h.2
+
+-- and what is at an index is an element
+pub index_has : (rows : List (List ℕ)) (k : ℕ) → k < length rows → Contains rows (get_or rows k [])
+index_has rows k l = (k, l, get_or_default rows k (get_or rows k []) [] l)
+
+pub le_along : (a b c d : ℕ) → a ≡ b → c ≡ d → a ≤ c → b ≤ d
+le_along a b c d e f l = omega arith
