@@ -1,33 +1,24 @@
 -- The text of a certificate says which certificate it is.
-use Rattle.std.proofs.Common.{ℕ, ◌≡◌, ◌<◌, ◌^◌, refl, ap, sym, ◌∙◌, arith, List, [], ◌∷◌, ◌++◌, length, decimal, append_assoc}
+use Rattle.std.proofs.Common.{ℕ, ◌≡◌, ◌<◌, ◌^◌, refl, ap, sym, ◌∙◌, arith, List, [], ◌∷◌, ◌++◌, length, append_assoc}
 use Rattle.std.specs.List.{flat_map, All}
 use Rattle.line_text.specs.Numbers.{ended, counted}
-use Rattle.line_text.proofs.Codes.{IsCode, behind_same, number_first, code_list}
+use Rattle.line_text.specs.Facets.{facet_fields}
+use Rattle.line_text.proofs.Codes.{IsCode, behind_same, ended_code, counted_code, code_list}
+use Rattle.line_text.proofs.FacetForms.{facet_code}
 use Rattle.cert_text.specs.declared.certificate.FlowRow.{FlowRow}
 use Rattle.cert_text.specs.declared.certificate.SinkRow.{SinkRow}
-use Rattle.cert_text.specs.Rows.{IsCell, IsFacet, IsFlowRow, IsSinkRow}
+use Rattle.cert_text.specs.Rows.{IsCellRow, IsFlowRow, IsSinkRow}
 use Rattle.cert_text.specs.Certificates.{Counts, Claim, FitCounts, IsWellFormed}
-use Rattle.cert_text.specs.Texts.{title, points_word, scanners_word, sights_word, vote_word, smooth_word, cost_word, inside_word, flow_word, sink_word, end_line, cell_fields, facet_fields, cell_line, flow_line, sink_line, head_text, cert_text}
+use Rattle.cert_text.specs.Texts.{title, points_word, scanners_word, sights_word, vote_word, smooth_word, cost_word, inside_word, flow_word, sink_word, end_line, cell_fields, cell_line, flow_line, sink_line, head_text, cert_text}
 
--- ---- numbers
-pub ended_parts : (n end : ℕ) (r : List ℕ) → ended n end ++ r ≡ decimal n ++ (end ∷ r)
-ended_parts n end r = simp append_assoc
-
-pub ended_code : (m n end : ℕ) (r s : List ℕ) → end < 48 → m < 2 ^ 64 → n < 2 ^ 64 → ended m end ++ r ≡ ended n end ++ s → (m ≡ n) × (r ≡ s)
-ended_code m n end r s low a b e = number_first end m n r s low a b (sym (ended_parts m end r) ∙ e ∙ ended_parts n end s)
-
-pub counted_code : (word : List ℕ) (m n : ℕ) (r s : List ℕ) → m < 2 ^ 64 → n < 2 ^ 64 → counted word m ++ r ≡ counted word n ++ s → (m ≡ n) × (r ≡ s)
-counted_code word m n r s a b e =
-    ended_code m n 10 r s (omega arith) a b (behind_same word _ _ (sym (append_assoc word (ended m 10) r) ∙ e ∙ append_assoc word (ended n 10) s))
-
--- ---- cells and facets
+-- ---- cells
 abbrev pub four : (a b c d : ℕ) → List ℕ
 four a b c d = a ∷ b ∷ c ∷ d ∷ []
 
 four_parts : (a b c d end : ℕ) (r : List ℕ) → cell_fields (four a b c d) end ++ r ≡ ended a 32 ++ (ended b 32 ++ (ended c 32 ++ (ended d end ++ r)))
 four_parts a b c d end r = simp append_assoc
 
-four_code : (a b c d x y z w end : ℕ) (r s : List ℕ) → end < 48 → IsCell (four a b c d) → IsCell (four x y z w) → cell_fields (four a b c d) end ++ r ≡ cell_fields (four x y z w) end ++ s → (four a b c d ≡ four x y z w) × (r ≡ s)
+four_code : (a b c d x y z w end : ℕ) (r s : List ℕ) → end < 48 → IsCellRow (four a b c d) → IsCellRow (four x y z w) → cell_fields (four a b c d) end ++ r ≡ cell_fields (four x y z w) end ++ s → (four a b c d ≡ four x y z w) × (r ≡ s)
 four_code a b c d x y z w end r s low k l e =
     let p = ended_code a x 32 _ _ (omega arith) (omega (arith, k.0, k.1, k.2, k.3)) (omega (arith, l.0, l.1, l.2, l.3)) (sym (four_parts a b c d end r) ∙ e ∙ four_parts x y z w end s) in
     let q = ended_code b y 32 _ _ (omega arith) (omega (arith, k.1, k.2, k.3)) (omega (arith, l.1, l.2, l.3)) p.1 in
@@ -41,9 +32,9 @@ pub record Four (f : List ℕ) : Type 0 where
   pub c : ℕ
   pub d : ℕ
   pub is : f ≡ four a b c d
-  pub cell : IsCell (four a b c d)
+  pub cell : IsCellRow (four a b c d)
 
-pub four_of : (f : List ℕ) → IsCell f → Four f
+pub four_of : (f : List ℕ) → IsCellRow f → Four f
 four_of [] h = absurd h
 four_of (a ∷ []) h = absurd h
 four_of (a ∷ b ∷ []) h = absurd h
@@ -51,45 +42,11 @@ four_of (a ∷ b ∷ c ∷ []) h = absurd h
 four_of (a ∷ b ∷ c ∷ d ∷ []) h = record { a = a; b = b; c = c; d = d; is = refl; cell = h }
 four_of (a ∷ b ∷ c ∷ d ∷ e ∷ t) h = absurd h
 
-pub cell_code : (end : ℕ) → end < 48 → IsCode IsCell (λ c. cell_fields c end)
+pub cell_code : (end : ℕ) → end < 48 → IsCode IsCellRow (λ c. cell_fields c end)
 cell_code end low f g r s k l e =
     let p = four_of f k in
     let q = four_of g l in
     let m = four_code p.a p.b p.c p.d q.a q.b q.c q.d end r s low p.cell q.cell (ap (λ (t : List ℕ). cell_fields t end ++ r) (sym p.is) ∙ e ∙ ap (λ (t : List ℕ). cell_fields t end ++ s) q.is) in
-    (p.is ∙ m.0 ∙ sym q.is, m.1)
-
-abbrev pub three : (a b c : ℕ) → List ℕ
-three a b c = a ∷ b ∷ c ∷ []
-
-three_parts : (a b c : ℕ) (r : List ℕ) → facet_fields (three a b c) ++ r ≡ ended a 32 ++ (ended b 32 ++ (ended c 32 ++ r))
-three_parts a b c r = simp append_assoc
-
-three_code : (a b c x y z : ℕ) (r s : List ℕ) → IsFacet (three a b c) → IsFacet (three x y z) → facet_fields (three a b c) ++ r ≡ facet_fields (three x y z) ++ s → (three a b c ≡ three x y z) × (r ≡ s)
-three_code a b c x y z r s k l e =
-    let p = ended_code a x 32 _ _ (omega arith) (omega (arith, k.0, k.3)) (omega (arith, l.0, l.3)) (sym (three_parts a b c r) ∙ e ∙ three_parts x y z s) in
-    let q = ended_code b y 32 _ _ (omega arith) (omega (arith, k.3)) (omega (arith, l.3)) p.1 in
-    let t = ended_code c z 32 r s (omega arith) (omega (arith, k.4)) (omega (arith, l.4)) q.1 in
-    (ap (λ (n : ℕ). three n b c) p.0 ∙ (ap (λ (n : ℕ). three x n c) q.0 ∙ ap (λ (n : ℕ). three x y n) t.0), t.1)
-
-pub record Three (f : List ℕ) : Type 0 where
-  pub a : ℕ
-  pub b : ℕ
-  pub c : ℕ
-  pub is : f ≡ three a b c
-  pub facet : IsFacet (three a b c)
-
-pub three_of : (f : List ℕ) → IsFacet f → Three f
-three_of [] h = absurd h
-three_of (a ∷ []) h = absurd h
-three_of (a ∷ b ∷ []) h = absurd h
-three_of (a ∷ b ∷ c ∷ []) h = record { a = a; b = b; c = c; is = refl; facet = h }
-three_of (a ∷ b ∷ c ∷ d ∷ t) h = absurd h
-
-pub facet_code : IsCode IsFacet facet_fields
-facet_code f g r s k l e =
-    let p = three_of f k in
-    let q = three_of g l in
-    let m = three_code p.a p.b p.c q.a q.b q.c r s p.facet q.facet (ap (λ (t : List ℕ). facet_fields t ++ r) (sym p.is) ∙ e ∙ ap (λ (t : List ℕ). facet_fields t ++ s) q.is) in
     (p.is ∙ m.0 ∙ sym q.is, m.1)
 
 -- ---- rows
@@ -102,7 +59,7 @@ sink_row c n = record { cell = c; amount = n }
 pub flow_code : IsCode IsFlowRow flow_line
 unfolding flow_row
 flow_code v w r s a b e =
-    let f = facet_code v.facet w.facet _ _ a.facet b.facet (sym (append_assoc (facet_fields v.facet) (ended v.amount 10) r) ∙ e ∙ append_assoc (facet_fields w.facet) (ended w.amount 10) s) in
+    let f = facet_code 32 (omega arith) v.facet w.facet _ _ a.facet b.facet (sym (append_assoc (facet_fields v.facet 32) (ended v.amount 10) r) ∙ e ∙ append_assoc (facet_fields w.facet 32) (ended w.amount 10) s) in
     let n = ended_code v.amount w.amount 10 r s (omega arith) a.fits b.fits f.1 in
     (ap (λ (x : List ℕ). flow_row x v.amount) f.0 ∙ ap (flow_row w.facet) n.0, n.1)
 
@@ -158,7 +115,7 @@ pub cert_code : IsCode IsWellFormed cert_text
 unfolding claim
 cert_code v w r s a b e =
     let h = head_code v.counts w.counts _ _ a.counts b.counts (sym (cert_parts v r) ∙ e ∙ cert_parts w s) in
-    let i = list_code IsCell cell_line inside_word (cell_code 10 (omega arith)) v.inside w.inside _ _ a.inside.few b.inside.few a.inside.each b.inside.each h.1 in
+    let i = list_code IsCellRow cell_line inside_word (cell_code 10 (omega arith)) v.inside w.inside _ _ a.inside.few b.inside.few a.inside.each b.inside.each h.1 in
     let f = list_code IsFlowRow flow_line flow_word flow_code v.flow w.flow _ _ a.flow.few b.flow.few a.flow.each b.flow.each i.1 in
     let k = list_code IsSinkRow sink_line sink_word sink_code v.sink w.sink _ _ a.sink.few b.sink.few a.sink.each b.sink.each f.1 in (
       ap (λ (x : Counts). claim x v.inside v.flow v.sink) h.0

@@ -1,6 +1,5 @@
 pub mod CertCodes
 pub mod FieldForms
-pub mod RowLemmas
 pub mod OneRefusal
 pub mod HeadLemmas
 pub mod WholeLemmas

@@ -1,46 +1,42 @@
 -- The parts of a whole text, one after another.
-use Rattle.std.proofs.Common.{ℕ, ◌≡◌, ◌+◌, inl, inr, ap, sym, subst, ◌∙◌, List, [], ◌++◌, length}
+use Rattle.std.proofs.Common.{ℕ, ◌≡◌, ◌+◌, inr, ap, sym, subst, ◌∙◌, List, [], ◌++◌, length}
 use Rattle.std.specs.List.{AllPairs}
 use Rattle.std.proofs.lemmas.List.{map-id, append-nil}
 use Rattle.line_text.specs.Rising.{IsBefore}
+use Rattle.line_text.specs.declared.refusal.LineRefusal.{LineRefusal}
+use Rattle.line_text.specs.declared.refusal.LineRefusal.TheVariants.{BadLine}
+use Rattle.line_text.specs.Refusals.{line_after, list_text, IsList, IsBehindEnd}
+use Rattle.line_text.proofs.Parts.{list_good, word_good}
 use Rattle.cert_text.specs.declared.certificate.FlowRow.{FlowRow}
 use Rattle.cert_text.specs.declared.certificate.SinkRow.{SinkRow}
-use Rattle.cert_text.specs.declared.refusal.CertRefusal.{CertRefusal}
-use Rattle.cert_text.specs.declared.refusal.CertRefusal.TheVariants.{BadLine}
-use Rattle.cert_text.specs.Rows.{IsCell, IsFlowRow, IsSinkRow}
+use Rattle.cert_text.specs.Rows.{IsCellRow, IsFlowRow, IsSinkRow, cell_order, flow_order, sink_order}
 use Rattle.cert_text.specs.Certificates.{Counts, Claim, FitCounts, IsWellFormed}
 use Rattle.cert_text.specs.Texts.{inside_word, flow_word, sink_word, end_line, cell_line, flow_line, sink_line, head_text, cert_text}
-use Rattle.cert_text.specs.Refusals.{line_after, list_text, IsList, RefusedWord, RefusedEnd, AtSink, AtFlow, AtInside, IsRefused}
+use Rattle.cert_text.specs.Refusals.{AtEnd, AtSink, AtFlow, AtInside, AtCertificate}
 use Rattle.cert_text.proofs.CertCodes.{cert_parts}
 
 -- a refusal further on is one of the whole
-pub at_inside : (text t1 : List ℕ) (c : Counts) (r : CertRefusal) → FitCounts c × (text ≡ head_text c ++ t1) → AtInside 8 t1 r → IsRefused text r
+pub at_inside : (text t1 : List ℕ) (c : Counts) (r : LineRefusal) → FitCounts c × (text ≡ head_text c ++ t1) → AtInside 8 t1 r → AtCertificate text r
 at_inside text t1 c r h k = inr (record { value = c; rest = t1; form = h.0; front = h.1; next = k })
 
-pub at_flow : (t1 t2 : List ℕ) (n m : ℕ) (cells : List (List ℕ)) (r : CertRefusal) → IsList IsCell (λ c. c) cells × (t1 ≡ list_text cell_line inside_word cells ++ t2) × (m ≡ line_after n (1 + length cells)) → AtFlow m t2 r → AtInside n t1 r
-at_flow t1 t2 n m cells r h k = inr (record { value = cells; rest = t2; form = h.0; front = h.1; next = subst (λ (i : ℕ). AtFlow i t2 r) h.2 k })
+pub at_flow : (t1 t2 : List ℕ) (n m : ℕ) (cells : List (List ℕ)) (r : LineRefusal) → IsList IsCellRow cell_order cells × (t1 ≡ list_text cell_line inside_word cells ++ t2) × (m ≡ line_after n (1 + length cells)) → AtFlow m t2 r → AtInside n t1 r
+at_flow t1 t2 n m cells r h k = list_good IsCellRow cell_line cell_order inside_word n m t1 t2 cells r (λ i t. AtFlow i t r) h.0 h.1 h.2 k
 
-pub at_sink : (t1 t2 : List ℕ) (n m : ℕ) (rows : List FlowRow) (r : CertRefusal) → IsList IsFlowRow (λ f. f.facet) rows × (t1 ≡ list_text flow_line flow_word rows ++ t2) × (m ≡ line_after n (1 + length rows)) → AtSink m t2 r → AtFlow n t1 r
-at_sink t1 t2 n m rows r h k = inr (record { value = rows; rest = t2; form = h.0; front = h.1; next = subst (λ (i : ℕ). AtSink i t2 r) h.2 k })
+pub at_sink : (t1 t2 : List ℕ) (n m : ℕ) (rows : List FlowRow) (r : LineRefusal) → IsList IsFlowRow flow_order rows × (t1 ≡ list_text flow_line flow_word rows ++ t2) × (m ≡ line_after n (1 + length rows)) → AtSink m t2 r → AtFlow n t1 r
+at_sink t1 t2 n m rows r h k = list_good IsFlowRow flow_line flow_order flow_word n m t1 t2 rows r (λ i t. AtSink i t r) h.0 h.1 h.2 k
 
-pub at_end : (t1 t2 : List ℕ) (n m : ℕ) (rows : List SinkRow) (r : CertRefusal) → IsList IsSinkRow (λ s. s.cell) rows × (t1 ≡ list_text sink_line sink_word rows ++ t2) × (m ≡ line_after n (1 + length rows)) → RefusedEnd m t2 r → AtSink n t1 r
-at_end t1 t2 n m rows r h k = inr (record { value = rows; rest = t2; form = h.0; front = h.1; next = subst (λ (i : ℕ). RefusedEnd i t2 r) h.2 k })
+pub at_end : (t1 t2 : List ℕ) (n m : ℕ) (rows : List SinkRow) (r : LineRefusal) → IsList IsSinkRow sink_order rows × (t1 ≡ list_text sink_line sink_word rows ++ t2) × (m ≡ line_after n (1 + length rows)) → AtEnd m t2 r → AtSink n t1 r
+at_end t1 t2 n m rows r h k = list_good IsSinkRow sink_line sink_order sink_word n m t1 t2 rows r (λ i t. AtEnd i t r) h.0 h.1 h.2 k
 
--- the last line, as the code has it
-pub end_at : (word text : List ℕ) (n : ℕ) (r : CertRefusal) → word ≡ end_line → RefusedWord word n text r → RefusedEnd n text r
-end_at word text n r e h = inl (subst (λ (w : List ℕ). RefusedWord w n text r) e h)
-
-pub end_front : (word text rest : List ℕ) → word ≡ end_line → text ≡ word ++ rest → text ≡ end_line ++ rest
-end_front word text rest e f = f ∙ ap (λ (w : List ℕ). w ++ rest) e
-
-pub behind_end : (word text rest : List ℕ) (n m : ℕ) → word ≡ end_line → text ≡ word ++ rest → ¬ (rest ≡ []) → m ≡ line_after n 1 → RefusedEnd n text (BadLine m)
-behind_end word text rest n m e f some is = inr (rest, end_front word text rest e f, some, ap BadLine is)
+-- something behind the last line, as the code has it
+pub behind_end : (shown text rest : List ℕ) (n m : ℕ) → shown ≡ end_line → text ≡ shown ++ rest → ¬ (rest ≡ []) → m ≡ line_after n 1 → AtEnd n text (BadLine m)
+behind_end shown text rest n m e f some is = word_good shown end_line n text rest (BadLine m) (λ t. IsBehindEnd (line_after n 1) t (BadLine m)) e f (some, ap BadLine is)
 
 -- the whole text
 pub whole : (c : Claim) (t0 t1 t2 t3 t4 t5 : List ℕ) → FitCounts c.counts × (t0 ≡ head_text c.counts ++ t1)
-    → IsList IsCell (λ x. x) c.inside → t1 ≡ list_text cell_line inside_word c.inside ++ t2
-    → IsList IsFlowRow (λ f. f.facet) c.flow → t2 ≡ list_text flow_line flow_word c.flow ++ t3
-    → IsList IsSinkRow (λ s. s.cell) c.sink → t3 ≡ list_text sink_line sink_word c.sink ++ t4
+    → IsList IsCellRow cell_order c.inside → t1 ≡ list_text cell_line inside_word c.inside ++ t2
+    → IsList IsFlowRow flow_order c.flow → t2 ≡ list_text flow_line flow_word c.flow ++ t3
+    → IsList IsSinkRow sink_order c.sink → t3 ≡ list_text sink_line sink_word c.sink ++ t4
     → t4 ≡ end_line ++ t5 → t5 ≡ [] → IsWellFormed c × (t0 ≡ cert_text c)
 whole c t0 t1 t2 t3 t4 t5 h i e1 f e2 s e3 e4 e5 = (
   record {

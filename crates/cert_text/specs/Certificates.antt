@@ -1,14 +1,14 @@
 -- What a certificate states, and when it is well formed.
 --
---   Claim               the numbers and the rows of a certificate
---   claim_of c          those that a certificate states
---   IsWellFormed c      the rows are of their forms and rise
+--   Claim           the numbers and the rows of a certificate
+--   claim_of c      those that a certificate states
+--   IsWellFormed c  the rows are of their forms and rise
 use Rattle.std.specs.Prelude.{ℕ, ◌<◌, ◌^◌, List, All, AllPairs, length, map}
 use Rattle.line_text.specs.Rising.{IsBefore}
 use Rattle.cert_text.specs.declared.certificate.Certificate.{Certificate}
 use Rattle.cert_text.specs.declared.certificate.FlowRow.{FlowRow}
 use Rattle.cert_text.specs.declared.certificate.SinkRow.{SinkRow}
-use Rattle.cert_text.specs.Rows.{IsCell, IsFlowRow, IsSinkRow}
+use Rattle.cert_text.specs.Rows.{IsCellRow, IsFlowRow, IsSinkRow}
 
 -- the numbers that head a certificate
 pub record Counts : Type 0 where
@@ -46,9 +46,9 @@ pub record FitCounts (c : Counts) : Type 0 where
   pub cost : c.cost < 2 ^ 64
 
 -- cells in strictly rising order
-pub record IsCellList (cells : List (List ℕ)) : Type 0 where
+pub record AreCellRows (cells : List (List ℕ)) : Type 0 where
   pub few : length cells < 2 ^ 64
-  pub each : All IsCell cells
+  pub each : All IsCellRow cells
   pub rising : AllPairs IsBefore cells
 
 -- amounts on facets, in strictly rising order of the facets
@@ -66,6 +66,6 @@ pub record IsSinkList (rows : List SinkRow) : Type 0 where
 -- the numbers fit, the rows are of their forms, and the three lists rise strictly
 pub record IsWellFormed (c : Claim) : Type 0 where
   pub counts : FitCounts c.counts
-  pub inside : IsCellList c.inside
+  pub inside : AreCellRows c.inside
   pub flow : IsFlowList c.flow
   pub sink : IsSinkList c.sink

@@ -1,31 +1,43 @@
 -- The rows of a certificate.
 --
---   IsCell c          four vertex numbers that rise
---   IsFacet f         three distinct vertex numbers, the smallest first
---   IsFlowRow r       a facet, and an amount of at least 1
---   IsSinkRow r       a cell, and an amount of at least 1
-use Rattle.std.specs.Prelude.{ℕ, ◌≡◌, ◌<◌, ◌≤◌, ◌^◌, List, [], ◌∷◌}
+--   IsCellRow c                         four vertex numbers that rise
+--   IsAmount n                          an amount of at least 1
+--   IsFlowRow r                         a facet, and an amount of at least 1
+--   IsSinkRow r                         a cell, and an amount of at least 1
+--   cell_order, flow_order, sink_order  by what the rows of the three lists rise
+use Rattle.std.specs.Prelude.{ℕ, ◌-◌, ◌<◌, ◌≤◌, ◌^◌, Option, Some, List, [], ◌∷◌}
+use Rattle.line_text.specs.Numbers.{IsBetween}
+use Rattle.line_text.specs.Facets.{IsFacetRow}
 use Rattle.cert_text.specs.declared.certificate.FlowRow.{FlowRow}
 use Rattle.cert_text.specs.declared.certificate.SinkRow.{SinkRow}
 
 -- four vertex numbers that rise
-abbrev pub IsCell : List ℕ → Type 0
-IsCell (a ∷ b ∷ c ∷ d ∷ []) = (a < b) × (b < c) × (c < d) × (d < 2 ^ 32)
-IsCell _ = ⊥
+abbrev pub IsCellRow : List ℕ → Type 0
+IsCellRow (a ∷ b ∷ c ∷ d ∷ []) = (a < b) × (b < c) × (c < d) × (d < 2 ^ 32)
+IsCellRow _ = ⊥
 
--- three distinct vertex numbers, the smallest first
-abbrev pub IsFacet : List ℕ → Type 0
-IsFacet (a ∷ b ∷ c ∷ []) = (a < b) × (a < c) × (¬ (b ≡ c)) × (b < 2 ^ 32) × (c < 2 ^ 32)
-IsFacet _ = ⊥
+-- an amount of at least 1
+abbrev pub IsAmount : ℕ → Type 0
+IsAmount = IsBetween 1 (2 ^ 64 - 1)
 
 -- a facet, and an amount of at least 1
 pub record IsFlowRow (r : FlowRow) : Type 0 where
-  pub facet : IsFacet r.facet
+  pub facet : IsFacetRow r.facet
   pub some : 1 ≤ r.amount
   pub fits : r.amount < 2 ^ 64
 
 -- a cell, and an amount of at least 1
 pub record IsSinkRow (r : SinkRow) : Type 0 where
-  pub cell : IsCell r.cell
+  pub cell : IsCellRow r.cell
   pub some : 1 ≤ r.amount
   pub fits : r.amount < 2 ^ 64
+
+-- cells rise as they are, rows of the flow by their facets, rows of sinks by their cells
+abbrev pub cell_order : Option (List ℕ → List ℕ)
+cell_order = Some (λ c. c)
+
+abbrev pub flow_order : Option (FlowRow → List ℕ)
+flow_order = Some (λ r. r.facet)
+
+abbrev pub sink_order : Option (SinkRow → List ℕ)
+sink_order = Some (λ r. r.cell)

@@ -1,14 +1,14 @@
 -- The text of a certificate, version 1.
 --
---   title, points_word, .., end_line    the fixed words of its lines
---   cell_fields c end                   a cell's numbers, and the byte behind the last
---   facet_fields f                      a facet's numbers, each with a space behind it
---   cell_line, flow_line, sink_line     the lines of the rows
---   head_text c                         the lines before the lists
---   cert_text c                         the text
+--   title, points_word, .., end_line  the fixed words of its lines
+--   cell_fields c end                 a cell's numbers, and the byte behind the last
+--   cell_line, flow_line, sink_line   the lines of the rows
+--   head_text c                       the lines before the lists
+--   cert_text c                       the text
 use Rattle.std.specs.Prelude.{ℕ, List, [], ◌∷◌, ◌++◌, length, codes}
 use Rattle.std.specs.List.{flat_map}
 use Rattle.line_text.specs.Numbers.{space, line_feed, ended, counted}
+use Rattle.line_text.specs.Facets.{facet_fields}
 use Rattle.cert_text.specs.declared.certificate.FlowRow.{FlowRow}
 use Rattle.cert_text.specs.declared.certificate.SinkRow.{SinkRow}
 use Rattle.cert_text.specs.Certificates.{Counts, Claim}
@@ -51,18 +51,13 @@ abbrev pub cell_fields : List ℕ → ℕ → List ℕ
 cell_fields (a ∷ b ∷ c ∷ d ∷ []) end = ended a space ++ (ended b space ++ (ended c space ++ ended d end))
 cell_fields _ end = []
 
--- a b c, and a space behind each
-abbrev pub facet_fields : List ℕ → List ℕ
-facet_fields (a ∷ b ∷ c ∷ []) = ended a space ++ (ended b space ++ ended c space)
-facet_fields _ = []
-
 -- a b c d
 abbrev pub cell_line : List ℕ → List ℕ
 cell_line cell = cell_fields cell line_feed
 
 -- a b c amount
 abbrev pub flow_line : FlowRow → List ℕ
-flow_line r = facet_fields r.facet ++ ended r.amount line_feed
+flow_line r = facet_fields r.facet space ++ ended r.amount line_feed
 
 -- a b c d amount
 abbrev pub sink_line : SinkRow → List ℕ

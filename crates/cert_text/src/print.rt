@@ -2,9 +2,10 @@
 
 ghost use Rattle.std.specs.Prelude.{◌≡◌, ◌++◌, [], ◌∷◌, OnOk, OnErr, length, take};
 ghost use Rattle.std.specs.List.{flat_map};
-ghost use Rattle.line_text.specs.Numbers.{counted};
+ghost use Rattle.line_text.specs.Numbers.{space, counted};
+ghost use Rattle.line_text.specs.Facets.{facet_fields};
 ghost use Rattle.cert_text.specs.Certificates.{claim_of, IsWellFormed};
-ghost use Rattle.cert_text.specs.Texts.{inside_word, flow_word, sink_word, end_line, cell_fields, facet_fields, cell_line, flow_line, sink_line, head_text, cert_text};
+ghost use Rattle.cert_text.specs.Texts.{inside_word, flow_word, sink_word, end_line, cell_fields, cell_line, flow_line, sink_line, head_text, cert_text};
 
 use crate::words::{
     cost, end_mark, first_line, flow, inside, points, scanners, sights, sink, smooth, vote,
@@ -34,7 +35,7 @@ fn push_cell(out: &mut Vec<u8>, cell: [u32; 4], end: u8) -> Result<(), NoMemory>
 
 // Three numbers, and a space behind each.
 fn push_three(out: &mut Vec<u8>, a: u32, b: u32, c: u32) -> Result<(), NoMemory>
-    ensures ok { OnOk result (out.new.items ≡ out.old.items ++ facet_fields (a ∷ b ∷ c ∷ [])) }
+    ensures ok { OnOk result (out.new.items ≡ out.old.items ++ facet_fields (a ∷ b ∷ c ∷ []) space) }
     ensures kept { OnErr result (take (length out.old.items) out.new.items ≡ out.old.items) }
 {
     push_number(out, u64::from(a), b' ')?;
@@ -44,7 +45,7 @@ fn push_three(out: &mut Vec<u8>, a: u32, b: u32, c: u32) -> Result<(), NoMemory>
 }
 
 fn push_facet(out: &mut Vec<u8>, facet: [u32; 3]) -> Result<(), NoMemory>
-    ensures ok { OnOk result (out.new.items ≡ out.old.items ++ facet_fields facet) }
+    ensures ok { OnOk result (out.new.items ≡ out.old.items ++ facet_fields facet space) }
     ensures kept { OnErr result (take (length out.old.items) out.new.items ≡ out.old.items) }
 {
     let [a, b, c] = facet;

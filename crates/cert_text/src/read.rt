@@ -5,22 +5,23 @@
 ghost use Rattle.std.specs.Prelude.{◌≡◌, ◌≤◌, ◌<◌, ◌^◌, ◌+◌, ◌++◌, IfOk, IfErr, IsErr, MatchResult, List, length};
 ghost use Rattle.std.specs.Bool.{OnTrue, OnFalse};
 ghost use Rattle.std.specs.List.{flat_map};
-ghost use Rattle.line_text.specs.Numbers.{counted};
+ghost use Rattle.line_text.specs.Numbers.{counted, IsBetween};
+ghost use Rattle.line_text.specs.Refusals.{line_after, WithMemory, RefusedNumber, AreRows, RisesAbove, IsRefusedRow, RefusedList, list_text, IsList};
 ghost use Rattle.line_text.specs.Rising.{IsBefore};
-ghost use Rattle.cert_text.specs.Rows.{IsCell, IsFlowRow, IsSinkRow};
+ghost use Rattle.cert_text.specs.Rows.{IsCellRow, IsFlowRow, IsSinkRow, cell_order, flow_order, sink_order};
 ghost use Rattle.cert_text.specs.Certificates.{Claim, claim_of, FitCounts, IsWellFormed};
 ghost use Rattle.cert_text.specs.Texts.{inside_word, flow_word, sink_word, cell_line, flow_line, sink_line, head_text, cert_text};
-ghost use Rattle.cert_text.specs.Refusals.{line_after, OrNoMemory, RefusedWord, RefusedNumber, AreRows, RisesAbove, IsRefusedRow, RefusedList, list_text, IsList, RefusedHead, IsRefused};
+ghost use Rattle.cert_text.specs.Refusals.{OrNoMemory, RefusedHead, AtCertificate, IsRefused};
 ghost use Rattle.cert_text.specs.declared.refusal.CertRefusal.{CertRefusal};
 ghost use Rattle.cert_text.specs.Headings.{counts_of};
 
 use crate::fields::{cell_line_first, flow_line_first, sink_line_first};
-use crate::refusal::refusal_of;
+use crate::refusal::refusal_of_cert;
 use crate::words::{
     cost, end_mark, first_line, flow, inside, points, scanners, sights, sink, smooth, vote,
 };
 use crate::{CertRefusal, Certificate, FlowRow, SinkRow};
-use line_text::{behind, counted_first};
+use line_text::{LineRefusal, number_line, refusal_of, word_line};
 use std::alloc::Global;
 
 // The numbers before the lists.
@@ -34,44 +35,17 @@ struct Heading {
     cost: u64,
 }
 
-// A line of a fixed text.
-fn word_line<'a>(text: &'a [u8], word: &[u8], line: u64) -> Result<&'a [u8], CertRefusal>
-    ensures ok { IfOk result (λ rest. text.now ≡ word.now ++ rest.now) }
-    ensures refused { IfErr result (RefusedWord word.now line text.now) }
-{
-    match behind(text, word) {
-        Some(rest) => Ok(rest),
-        None => Err(refusal_of(text, line)),
-    }
-}
-
-// A line of a word and a number.
-fn number_line<'a>(
-    text: &'a [u8],
-    word: &[u8],
-    limit: u64,
-    line: u64,
-) -> Result<(u64, &'a [u8]), CertRefusal>
-    ensures ok { IfOk result (λ read. (read.0 ≤ limit) × (text.now ≡ counted word.now read.0 ++ read.1.now)) }
-    ensures refused { IfErr result (RefusedNumber word.now limit line text.now) }
-{
-    match counted_first(text, word, limit) {
-        Some(read) => Ok(read),
-        None => Err(refusal_of(text, line)),
-    }
-}
-
 // A line of a word and a number of 32 bits.
-fn small_line<'a>(text: &'a [u8], word: &[u8], line: u64) -> Result<(u32, &'a [u8]), CertRefusal>
-    ensures ok { IfOk result (λ read. (read.0 ≤ 4294967295) × (text.now ≡ counted word.now read.0 ++ read.1.now)) }
-    ensures refused { IfErr result (RefusedNumber word.now 4294967295 line text.now) }
+fn small_line<'a>(text: &'a [u8], word: &[u8], line: u64) -> Result<(u32, &'a [u8]), LineRefusal>
+    ensures ok { IfOk result (λ read. IsBetween 0 4294967295 read.0 × (text.now ≡ counted word.now read.0 ++ read.1.now)) }
+    ensures refused { IfErr result (RefusedNumber word.now 0 4294967295 line text.now) }
 {
-    let (n, rest) = number_line(text, word, 4_294_967_295, line)?;
+    let (n, rest) = number_line(text, word, 0, 4_294_967_295, line)?;
     Ok((n as u32, rest))
 }
 
 // The seven lines before the lists.
-fn read_heading(text: &[u8]) -> Result<(Heading, &[u8]), CertRefusal>
+fn read_heading(text: &[u8]) -> Result<(Heading, &[u8]), LineRefusal>
     ensures ok { IfOk result (λ read. FitCounts (counts_of read.0) × (text.now ≡ head_text (counts_of read.0) ++ read.1.now)) }
     ensures refused { IfErr result (RefusedHead text.now) }
 {
@@ -81,7 +55,7 @@ fn read_heading(text: &[u8]) -> Result<(Heading, &[u8]), CertRefusal>
     let (sights, rest) = small_line(rest, sights(), 4)?;
     let (vote, rest) = small_line(rest, vote(), 5)?;
     let (smooth, rest) = small_line(rest, smooth(), 6)?;
-    let (cost, rest) = number_line(rest, cost(), u64::MAX, 7)?;
+    let (cost, rest) = number_line(rest, cost(), 0, u64::MAX, 7)?;
     let heading = Heading {
         points,
         scanners,
@@ -94,7 +68,7 @@ fn read_heading(text: &[u8]) -> Result<(Heading, &[u8]), CertRefusal>
 }
 
 // Whether a row comes before another one, compared number by number.
-#[tactic(auto, using(crate::proofs::RowLemmas::before_nil))]
+#[tactic(auto, using(line_text::proofs::Rows::before_nil))]
 fn is_before(before: &[u32], row: &[u32]) -> bool
     ensures yes { OnTrue result (IsBefore before.now row.now) }
     ensures no { OnFalse result (¬ IsBefore before.now row.now) }
@@ -110,8 +84,8 @@ fn is_before(before: &[u32], row: &[u32]) -> bool
 
 // Whether the row rises above the last of these.
 fn cell_rises(rows: &[[u32; 4]], row: [u32; 4]) -> bool
-    ensures yes { OnTrue result (RisesAbove (λ c. c) rows.now row) }
-    ensures no { OnFalse result (¬ RisesAbove (λ c. c) rows.now row) }
+    ensures yes { OnTrue result (RisesAbove cell_order rows.now row) }
+    ensures no { OnFalse result (¬ RisesAbove cell_order rows.now row) }
 {
     match rows.last() {
         Some(before) => is_before(before, &row),
@@ -121,8 +95,8 @@ fn cell_rises(rows: &[[u32; 4]], row: [u32; 4]) -> bool
 
 // Whether the row rises above the last of these.
 fn flow_rises(rows: &[FlowRow], row: FlowRow) -> bool
-    ensures yes { OnTrue result (RisesAbove (λ f. f.facet) rows.now row) }
-    ensures no { OnFalse result (¬ RisesAbove (λ f. f.facet) rows.now row) }
+    ensures yes { OnTrue result (RisesAbove flow_order rows.now row) }
+    ensures no { OnFalse result (¬ RisesAbove flow_order rows.now row) }
 {
     match rows.last() {
         Some(before) => is_before(&before.facet, &row.facet),
@@ -132,8 +106,8 @@ fn flow_rises(rows: &[FlowRow], row: FlowRow) -> bool
 
 // Whether the row rises above the last of these.
 fn sink_rises(rows: &[SinkRow], row: SinkRow) -> bool
-    ensures yes { OnTrue result (RisesAbove (λ s. s.cell) rows.now row) }
-    ensures no { OnFalse result (¬ RisesAbove (λ s. s.cell) rows.now row) }
+    ensures yes { OnTrue result (RisesAbove sink_order rows.now row) }
+    ensures no { OnFalse result (¬ RisesAbove sink_order rows.now row) }
 {
     match rows.last() {
         Some(before) => is_before(&before.cell, &row.cell),
@@ -147,9 +121,9 @@ fn read_cells(
     text: &[u8],
     count: u64,
     line: u64,
-) -> Result<(Vec<[u32; 4]>, &[u8]), CertRefusal>
-    ensures ok { IfOk result (λ read. (length read.0.items ≡ count) × AreRows IsCell (λ c. c) read.0.items × (text.now ≡ flat_map cell_line read.0.items ++ read.1.now)) }
-    ensures refused { IfErr result (λ r. OrNoMemory r (IsRefusedRow IsCell cell_line (λ c. c) count line text.now r)) }
+) -> Result<(Vec<[u32; 4]>, &[u8]), LineRefusal>
+    ensures ok { IfOk result (λ read. (length read.0.items ≡ count) × AreRows IsCellRow cell_order read.0.items × (text.now ≡ flat_map cell_line read.0.items ++ read.1.now)) }
+    ensures refused { IfErr result (λ r. WithMemory r (IsRefusedRow IsCellRow cell_line cell_order count line text.now r)) }
 {
     let mut rows: Vec<[u32; 4]> = Vec::new(alloc);
     let mut rest = text;
@@ -160,10 +134,10 @@ fn read_cells(
             None => return Err(refusal_of(rest, at)),
         };
         if !cell_rises(&rows, row) {
-            return Err(CertRefusal::Order(at));
+            return Err(LineRefusal::Order(at));
         }
         if rows.push(row).is_err() {
-            return Err(CertRefusal::NoMemory);
+            return Err(LineRefusal::NoMemory);
         }
         rest = next;
         at = at.saturating_add(1);
@@ -177,9 +151,9 @@ fn read_flow_rows(
     text: &[u8],
     count: u64,
     line: u64,
-) -> Result<(Vec<FlowRow>, &[u8]), CertRefusal>
-    ensures ok { IfOk result (λ read. (length read.0.items ≡ count) × AreRows IsFlowRow (λ f. f.facet) read.0.items × (text.now ≡ flat_map flow_line read.0.items ++ read.1.now)) }
-    ensures refused { IfErr result (λ r. OrNoMemory r (IsRefusedRow IsFlowRow flow_line (λ f. f.facet) count line text.now r)) }
+) -> Result<(Vec<FlowRow>, &[u8]), LineRefusal>
+    ensures ok { IfOk result (λ read. (length read.0.items ≡ count) × AreRows IsFlowRow flow_order read.0.items × (text.now ≡ flat_map flow_line read.0.items ++ read.1.now)) }
+    ensures refused { IfErr result (λ r. WithMemory r (IsRefusedRow IsFlowRow flow_line flow_order count line text.now r)) }
 {
     let mut rows: Vec<FlowRow> = Vec::new(alloc);
     let mut rest = text;
@@ -190,10 +164,10 @@ fn read_flow_rows(
             None => return Err(refusal_of(rest, at)),
         };
         if !flow_rises(&rows, row) {
-            return Err(CertRefusal::Order(at));
+            return Err(LineRefusal::Order(at));
         }
         if rows.push(row).is_err() {
-            return Err(CertRefusal::NoMemory);
+            return Err(LineRefusal::NoMemory);
         }
         rest = next;
         at = at.saturating_add(1);
@@ -207,9 +181,9 @@ fn read_sink_rows(
     text: &[u8],
     count: u64,
     line: u64,
-) -> Result<(Vec<SinkRow>, &[u8]), CertRefusal>
-    ensures ok { IfOk result (λ read. (length read.0.items ≡ count) × AreRows IsSinkRow (λ s. s.cell) read.0.items × (text.now ≡ flat_map sink_line read.0.items ++ read.1.now)) }
-    ensures refused { IfErr result (λ r. OrNoMemory r (IsRefusedRow IsSinkRow sink_line (λ s. s.cell) count line text.now r)) }
+) -> Result<(Vec<SinkRow>, &[u8]), LineRefusal>
+    ensures ok { IfOk result (λ read. (length read.0.items ≡ count) × AreRows IsSinkRow sink_order read.0.items × (text.now ≡ flat_map sink_line read.0.items ++ read.1.now)) }
+    ensures refused { IfErr result (λ r. WithMemory r (IsRefusedRow IsSinkRow sink_line sink_order count line text.now r)) }
 {
     let mut rows: Vec<SinkRow> = Vec::new(alloc);
     let mut rest = text;
@@ -220,10 +194,10 @@ fn read_sink_rows(
             None => return Err(refusal_of(rest, at)),
         };
         if !sink_rises(&rows, row) {
-            return Err(CertRefusal::Order(at));
+            return Err(LineRefusal::Order(at));
         }
         if rows.push(row).is_err() {
-            return Err(CertRefusal::NoMemory);
+            return Err(LineRefusal::NoMemory);
         }
         rest = next;
         at = at.saturating_add(1);
@@ -236,11 +210,11 @@ fn read_inside(
     alloc: Global,
     text: &[u8],
     line: u64,
-) -> Result<(Vec<[u32; 4]>, &[u8], u64), CertRefusal>
-    ensures ok { IfOk result (λ read. IsList IsCell (λ c. c) read.0.items × (text.now ≡ list_text cell_line inside_word read.0.items ++ read.1.now) × (read.2 ≡ line_after line (1 + length read.0.items))) }
-    ensures refused { IfErr result (λ r. OrNoMemory r (RefusedList IsCell cell_line (λ c. c) inside_word line text.now r)) }
+) -> Result<(Vec<[u32; 4]>, &[u8], u64), LineRefusal>
+    ensures ok { IfOk result (λ read. IsList IsCellRow cell_order read.0.items × (text.now ≡ list_text cell_line inside_word read.0.items ++ read.1.now) × (read.2 ≡ line_after line (1 + length read.0.items))) }
+    ensures refused { IfErr result (λ r. WithMemory r (RefusedList IsCellRow cell_line cell_order inside_word line text.now r)) }
 {
-    let (count, rest) = number_line(text, inside(), u64::MAX, line)?;
+    let (count, rest) = number_line(text, inside(), 0, u64::MAX, line)?;
     let first = line.saturating_add(1);
     let (rows, rest) = read_cells(alloc, rest, count, first)?;
     Ok((rows, rest, first.saturating_add(count)))
@@ -251,11 +225,11 @@ fn read_flow(
     alloc: Global,
     text: &[u8],
     line: u64,
-) -> Result<(Vec<FlowRow>, &[u8], u64), CertRefusal>
-    ensures ok { IfOk result (λ read. IsList IsFlowRow (λ f. f.facet) read.0.items × (text.now ≡ list_text flow_line flow_word read.0.items ++ read.1.now) × (read.2 ≡ line_after line (1 + length read.0.items))) }
-    ensures refused { IfErr result (λ r. OrNoMemory r (RefusedList IsFlowRow flow_line (λ f. f.facet) flow_word line text.now r)) }
+) -> Result<(Vec<FlowRow>, &[u8], u64), LineRefusal>
+    ensures ok { IfOk result (λ read. IsList IsFlowRow flow_order read.0.items × (text.now ≡ list_text flow_line flow_word read.0.items ++ read.1.now) × (read.2 ≡ line_after line (1 + length read.0.items))) }
+    ensures refused { IfErr result (λ r. WithMemory r (RefusedList IsFlowRow flow_line flow_order flow_word line text.now r)) }
 {
-    let (count, rest) = number_line(text, flow(), u64::MAX, line)?;
+    let (count, rest) = number_line(text, flow(), 0, u64::MAX, line)?;
     let first = line.saturating_add(1);
     let (rows, rest) = read_flow_rows(alloc, rest, count, first)?;
     Ok((rows, rest, first.saturating_add(count)))
@@ -266,20 +240,20 @@ fn read_sink(
     alloc: Global,
     text: &[u8],
     line: u64,
-) -> Result<(Vec<SinkRow>, &[u8], u64), CertRefusal>
-    ensures ok { IfOk result (λ read. IsList IsSinkRow (λ s. s.cell) read.0.items × (text.now ≡ list_text sink_line sink_word read.0.items ++ read.1.now) × (read.2 ≡ line_after line (1 + length read.0.items))) }
-    ensures refused { IfErr result (λ r. OrNoMemory r (RefusedList IsSinkRow sink_line (λ s. s.cell) sink_word line text.now r)) }
+) -> Result<(Vec<SinkRow>, &[u8], u64), LineRefusal>
+    ensures ok { IfOk result (λ read. IsList IsSinkRow sink_order read.0.items × (text.now ≡ list_text sink_line sink_word read.0.items ++ read.1.now) × (read.2 ≡ line_after line (1 + length read.0.items))) }
+    ensures refused { IfErr result (λ r. WithMemory r (RefusedList IsSinkRow sink_line sink_order sink_word line text.now r)) }
 {
-    let (count, rest) = number_line(text, sink(), u64::MAX, line)?;
+    let (count, rest) = number_line(text, sink(), 0, u64::MAX, line)?;
     let first = line.saturating_add(1);
     let (rows, rest) = read_sink_rows(alloc, rest, count, first)?;
     Ok((rows, rest, first.saturating_add(count)))
 }
 
 // The certificate, or the first refusal.
-fn read_lines(alloc: Global, bytes: &[u8]) -> Result<Certificate, CertRefusal>
+fn read_lines(alloc: Global, bytes: &[u8]) -> Result<Certificate, LineRefusal>
     ensures ok { IfOk result (λ cert. IsWellFormed (claim_of cert) × (bytes.now ≡ cert_text (claim_of cert))) }
-    ensures refused { IfErr result (λ r. OrNoMemory r (IsRefused bytes.now r)) }
+    ensures refused { IfErr result (λ r. WithMemory r (AtCertificate bytes.now r)) }
 {
     let (heading, rest) = read_heading(bytes)?;
     let (inside, rest, line) = read_inside(alloc, rest, 8)?;
@@ -287,7 +261,7 @@ fn read_lines(alloc: Global, bytes: &[u8]) -> Result<Certificate, CertRefusal>
     let (sink, rest, line) = read_sink(alloc, rest, line)?;
     let rest = word_line(rest, end_mark(), line)?;
     if !rest.is_empty() {
-        return Err(CertRefusal::BadLine(line.saturating_add(1)));
+        return Err(LineRefusal::BadLine(line.saturating_add(1)));
     }
     Ok(Certificate {
         points: heading.points,
@@ -300,6 +274,17 @@ fn read_lines(alloc: Global, bytes: &[u8]) -> Result<Certificate, CertRefusal>
         flow,
         sink,
     })
+}
+
+// The certificate, or the first refusal as one of a certificate.
+fn read_or_refuse(alloc: Global, bytes: &[u8]) -> Result<Certificate, CertRefusal>
+    ensures ok { IfOk result (λ cert. IsWellFormed (claim_of cert) × (bytes.now ≡ cert_text (claim_of cert))) }
+    ensures refused { IfErr result (λ r. OrNoMemory r (IsRefused bytes.now r)) }
+{
+    match read_lines(alloc, bytes) {
+        Ok(cert) => Ok(cert),
+        Err(refusal) => Err(refusal_of_cert(refusal)),
+    }
 }
 
 /// The certificate whose text the bytes are.
@@ -316,5 +301,5 @@ pub fn read_cert(alloc: Global, bytes: &[u8]) -> Result<Certificate, CertRefusal
     ensures refused { IfErr result (λ r. OrNoMemory r (IsRefused bytes.now r)) }
     ensures first { (r : CertRefusal) → IsRefused bytes.now r → IfErr result (λ s. OrNoMemory s (s ≡ r)) × IsErr result }
 {
-    read_lines(alloc, bytes)
+    read_or_refuse(alloc, bytes)
 }

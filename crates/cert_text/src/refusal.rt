@@ -1,7 +1,9 @@
-//! Why a text is no certificate, and what that looks like at one line.
+//! Why a text is no certificate.
 
-ghost use Rattle.cert_text.specs.Refusals.{IsCutOrBad};
+ghost use Rattle.std.specs.Prelude.{◌≡◌};
+ghost use Rattle.cert_text.specs.Refusals.{cert_refusal};
 
+use line_text::LineRefusal;
 use thiserror::Error;
 
 /// Why bytes are not the text of a certificate. Lines are counted from 1.
@@ -21,13 +23,14 @@ pub enum CertRefusal {
     NoMemory,
 }
 
-// How a line that isn't of its form is refused, where the text begins with it.
-pub fn refusal_of(text: &[u8], line: u64) -> CertRefusal
-    ensures { IsCutOrBad line text.now result }
+// The refusal of a line as one of a certificate.
+pub fn refusal_of_cert(refusal: LineRefusal) -> CertRefusal
+    ensures { result ≡ cert_refusal refusal }
 {
-    if text.contains(&b'\n') {
-        CertRefusal::BadLine(line)
-    } else {
-        CertRefusal::CertCut
+    match refusal {
+        LineRefusal::BadLine(line) => CertRefusal::BadLine(line),
+        LineRefusal::Order(line) => CertRefusal::Order(line),
+        LineRefusal::Cut => CertRefusal::CertCut,
+        LineRefusal::NoMemory => CertRefusal::NoMemory,
     }
 }

@@ -4,8 +4,8 @@ use mathlib.Core.Path.{fun_ext}
 use Rattle.std.specs.Str.{bytes_eq}
 use Rattle.std.specs.Option.{option_map}
 use Rattle.std.proofs.lemmas.Slice.Eq.{bytes_eq-Decides}
-use Rattle.host.specs.State.{Files, bytes_of, with_file, with_more}
-use Rattle.host.specs.Files.{content, files_of, names_of_files, name_at, exists_at, bytes_at, room_at, AreApart}
+use Rattle.host.specs.State.{Files, file_bytes, with_file, with_more}
+use Rattle.host.specs.Files.{content, files_of, names_of_files, name_at, exists_at, bytes_at, room_at, FilesApart}
 use Rattle.host.specs.Activity.{target_of}
 use Rattle.host.specs.declared.files.MemFile.{MemFile}
 use Rattle.host.specs.declared.memory.Activity.{Activity}
@@ -76,7 +76,7 @@ lacks_name [] name none (k, lt, e) = absurd (omega arith)
 lacks_name (file ∷ files) name none (zero, lt, e) = none zero (omega arith) e
 lacks_name (file ∷ files) name none (suc k, lt, e) = lacks_name files name (λ i h. none (suc i) (omega arith)) (k, omega arith, e)
 
-apart_rest : (file : MemFile) (files : List MemFile) → AreApart (file ∷ files) → AreApart files
+apart_rest : (file : MemFile) (files : List MemFile) → FilesApart (file ∷ files) → FilesApart files
 apart_rest file files apart i j lt within = apart (suc i) (suc j) (omega arith) (omega arith)
 
 same_name : (q name : List ℕ) → bytes_eq q name ≡ true → q ≡ name
@@ -104,7 +104,7 @@ more_at true q name more files new is e = e ∙ ap (λ (n : List ℕ). option_ma
 more_at false q name more files new is e = refl
 
 -- the files after one of them was replaced by another of its name
-pub files_of-set : (files : List MemFile) (i : ℕ) (file : MemFile) → AreApart files → i < length files → string_bytes file.name ≡ name_at files i
+pub files_of-set : (files : List MemFile) (i : ℕ) (file : MemFile) → FilesApart files → i < length files → string_bytes file.name ≡ name_at files i
     → (q : List ℕ) → files_of (set files i file) q ≡ cond (bytes_eq q (name_at files i)) (content file) (files_of files q)
 files_of-set [] i file apart h e q = absurd (omega arith)
 files_of-set (other ∷ files) zero file apart h e q = rw e (put_first (bytes_eq q (string_bytes other.name)) (content file) (content other) (files_of files q))
@@ -115,7 +115,7 @@ files_of-set (other ∷ files) (suc i) file apart h e q =
     (λ here there. apart zero (suc i) (omega arith) h (sym (same_name _ _ here) ∙ same_name _ _ there)))
 
 -- the bytes under the name at a place
-pub files_of-at : (files : List MemFile) (i : ℕ) (d : MemFile) → AreApart files → i < length files → files_of files (name_at files i) ≡ content (get_or files i d)
+pub files_of-at : (files : List MemFile) (i : ℕ) (d : MemFile) → FilesApart files → i < length files → files_of files (name_at files i) ≡ content (get_or files i d)
 files_of-at [] i d apart h = absurd (omega arith)
 files_of-at (file ∷ files) zero d apart h = rw (bytes_eq-same (string_bytes file.name)) refl
 files_of-at (file ∷ files) (suc i) d apart h =
@@ -123,24 +123,24 @@ files_of-at (file ∷ files) (suc i) d apart h =
     (files_of-at files i d (apart_rest file files apart) (omega arith))
 
 -- the file at a place was made empty
-pub empties : (files : List MemFile) (i : ℕ) (file : MemFile) → AreApart files → i < length files → string_bytes file.name ≡ name_at files i → content file ≡ Some []
+pub empties : (files : List MemFile) (i : ℕ) (file : MemFile) → FilesApart files → i < length files → string_bytes file.name ≡ name_at files i → content file ≡ Some []
     → files_of (set files i file) ≡ with_file (name_at files i) [] (files_of files)
 empties files i file apart h e is = fun_ext (λ q. files_of-set files i file apart h e q ∙ ap (λ (o : Option (List ℕ)). cond (bytes_eq q (name_at files i)) o (files_of files q)) is)
 
 -- bytes were added to the file at a place
-pub adds : (files : List MemFile) (i : ℕ) (d file : MemFile) (more : List ℕ) → AreApart files → i < length files → string_bytes file.name ≡ name_at files i
+pub adds : (files : List MemFile) (i : ℕ) (d file : MemFile) (more : List ℕ) → FilesApart files → i < length files → string_bytes file.name ≡ name_at files i
     → content file ≡ option_map (λ bytes. bytes ++ more) (content (get_or files i d))
     → files_of (set files i file) ≡ with_more (name_at files i) more (files_of files)
 adds files i d file more apart h e is = fun_ext (λ q. files_of-set files i file apart h e q ∙ more_at (bytes_eq q (name_at files i)) q (name_at files i) more (files_of files) (content file) refl
     (is ∙ ap (λ (o : Option (List ℕ)). option_map (λ bytes. bytes ++ more) o) (sym (files_of-at files i d apart h))))
 
 -- the bytes under the name of a file that is there
-pub bytes_of-name_at : (files : List MemFile) (i : ℕ) (d : MemFile) → AreApart files → i < length files → (get_or files i d).exists ≡ true → bytes_of (files_of files) (name_at files i) ≡ (get_or files i d).store.bytes.items
-bytes_of-name_at files i d apart h is = ap (λ (o : Option (List ℕ)). unwrap_or o []) (files_of-at files i d apart h ∙ ap (λ (b : Bool). cond b (Some (get_or files i d).store.bytes.items) None) is)
+pub file_bytes-name_at : (files : List MemFile) (i : ℕ) (d : MemFile) → FilesApart files → i < length files → (get_or files i d).exists ≡ true → file_bytes (files_of files) (name_at files i) ≡ (get_or files i d).store.bytes.items
+file_bytes-name_at files i d apart h is = ap (λ (o : Option (List ℕ)). unwrap_or o []) (files_of-at files i d apart h ∙ ap (λ (b : Bool). cond b (Some (get_or files i d).store.bytes.items) None) is)
 
 -- no room is left in the file that is being written
 pub no_room_left : (files : List MemFile) (activity : Activity) (at room : ℕ) → activity ≡ Writing at → room_at files at ≡ room
-    → room_at files at - length (bytes_of (files_of files) (name_at files at)) ≡ 0 → room - length (bytes_of (files_of files) (target_of files activity)) ≡ 0
+    → room_at files at - length (file_bytes (files_of files) (name_at files at)) ≡ 0 → room - length (file_bytes (files_of files) (target_of files activity)) ≡ 0
 no_room_left files activity at room is same full =
     let target : target_of files activity ≡ name_at files at = ap (target_of files) is in
     rw (target, sym same) full
@@ -151,7 +151,7 @@ content_more true old new more e = ap Some e
 content_more false old new more e = refl
 
 -- what is known of the file at a place
-pub ruleset at_place = (exists_lt, name_at-get, bytes_at-get, room_at-get, exists_at-get, exists_at-set, bytes_of-name_at)
+pub ruleset at_place = (exists_lt, name_at-get, bytes_at-get, room_at-get, exists_at-get, exists_at-set, file_bytes-name_at)
 
 -- a test by bytes says that two names differ
 pub names_differ : (xs ys zs : List ℕ) (r : Bool) → r ≡ bytes_eq xs ys → r ≡ false → zs ≡ xs → zs ≡ ys → ⊥
@@ -164,11 +164,11 @@ files_of-none (file ∷ files) q none =
     (files_of-none files q (λ i lt e. none (suc i) (omega arith) e))
 
 -- the bytes under a name whose file has this place
-pub files_of_place : (files : List MemFile) (i : ℕ) (d : MemFile) (q : List ℕ) → AreApart files → i < length files → name_at files i ≡ q → (get_or files i d).exists ≡ true → files_of files q ≡ Some (bytes_at files i)
+pub files_of_place : (files : List MemFile) (i : ℕ) (d : MemFile) (q : List ℕ) → FilesApart files → i < length files → name_at files i ≡ q → (get_or files i d).exists ≡ true → files_of files q ≡ Some (bytes_at files i)
 files_of_place files i d q apart h e is = ap (files_of files) (sym e) ∙ files_of-at files i d apart h ∙ ap (λ (b : Bool). cond b (Some (get_or files i d).store.bytes.items) None) is ∙ ap Some (sym (bytes_at-get files i d h))
 
 -- there is no file under a name whose file has this place
-pub files_of_absent : (files : List MemFile) (i : ℕ) (d : MemFile) (q : List ℕ) → AreApart files → i < length files → name_at files i ≡ q → (get_or files i d).exists ≡ false → files_of files q ≡ None
+pub files_of_absent : (files : List MemFile) (i : ℕ) (d : MemFile) (q : List ℕ) → FilesApart files → i < length files → name_at files i ≡ q → (get_or files i d).exists ≡ false → files_of files q ≡ None
 files_of_absent files i d q apart h e is = ap (files_of files) (sym e) ∙ files_of-at files i d apart h ∙ ap (λ (b : Bool). cond b (Some (get_or files i d).store.bytes.items) None) is
 
 pub ruleset found_file = (files_of-none, files_of_place, files_of_absent, exists_at-get)

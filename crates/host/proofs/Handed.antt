@@ -1,7 +1,7 @@
 -- The files that a host in memory is made with.
 use Rattle.std.proofs.Common.{◌≡◌, ℕ, zero, suc, ◌<◌, List, [], ◌∷◌, ◌++◌, length, refl, sym, ◌∙◌, arith}
 use mathlib.Core.Path.{fun_ext}
-use Rattle.host.specs.Files.{files_of, names_of_files, name_at, room_at, AreApart}
+use Rattle.host.specs.Files.{files_of, names_of_files, name_at, room_at, FilesApart}
 use Rattle.host.specs.Handed.{Handed, files_handed, names_handed, handed_name, NamesApart, IsKept}
 use Rattle.host.specs.declared.files.MemFile.{MemFile}
 
@@ -51,7 +51,7 @@ kept_count room (first ∷ files) [] kept = absurd kept
 kept_count room (first ∷ files) (taken ∷ all) kept = let rest = kept_count room files all kept.1 in omega arith
 
 -- where the names handed in differ, theirs do
-pub kept_apart : (room : ℕ) (files : List MemFile) (all : List Handed) → AreKept room files all → NamesApart all → AreApart files
+pub kept_apart : (room : ℕ) (files : List MemFile) (all : List Handed) → AreKept room files all → NamesApart all → FilesApart files
 kept_apart room files all kept apart i j lt within same = apart i j lt (rw (sym (kept_count room files all kept)) within) (sym (kept_name room files all kept i) ∙ same ∙ kept_name room files all kept j)
 
 -- each has the room

@@ -1,8 +1,8 @@
 -- Counts that stop at the last value of a `u64`, and the place of each call's count.
 --
---     next count             one more, or the last value
---     Rose before after      the count rose by one or more, or stands at its last value
---     place_of call          the place of a call's count among the six
+--     next count         one more, or the last value
+--     Rose before after  the count rose by one or more, or stands at its last value
+--     call_index call    the place of a call's count among the six
 use Rattle.std.specs.Prelude.{ℕ, ◌+◌, ◌-◌, ◌^◌, ◌≤◌, min}
 use Rattle.host.specs.declared.plan.HostCall.{HostCall}
 use Rattle.host.specs.declared.plan.HostCall.TheVariants.{Open, Read, Create, Append, Finish, Say}
@@ -16,10 +16,10 @@ abbrev pub Rose : ℕ → ℕ → Type 0
 Rose before after = (before ≤ after) × (next before ≤ after)
 
 -- the place of a call's count, in the order in which the calls are declared
-abbrev pub place_of : HostCall → ℕ
-place_of Open = 0
-place_of Read = 1
-place_of Create = 2
-place_of Append = 3
-place_of Finish = 4
-place_of Say = 5
+abbrev pub call_index : HostCall → ℕ
+call_index Open = 0
+call_index Read = 1
+call_index Create = 2
+call_index Append = 3
+call_index Finish = 4
+call_index Say = 5

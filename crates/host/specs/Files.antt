@@ -1,11 +1,11 @@
 -- What the files of a host in memory are seen as.
 --
---     content file                        the bytes of a file, if it is there
---     files_of files                      the files by name
---     names_of_files files                the names, in their order, of files that are there and that are not yet
---     name_at, exists_at, bytes_at, room_at    the file at a place: its name, whether it is there, its bytes, its room
---     AreApart files                      no two files have one name
---     KeepsPlaces old new                 each place keeps its name and its room
+--     content file                           the bytes of a file, if it is there
+--     files_of files                         the files by name
+--     names_of_files files                   the names, in their order, of files that are there and that are not yet
+--     name_at, exists_at, bytes_at, room_at  the file at a place: its name, whether it is there, its bytes, its room
+--     FilesApart files                       no two files have one name
+--     KeepsPlaces old new                    each place keeps its name and its room
 use Rattle.std.specs.Prelude.{◌≡◌, ◌≢◌, ℕ, suc, zero, ◌<◌, List, [], ◌∷◌, length, map, Bool, false, if◌then◌else◌, Option, Some, None, string_bytes}
 use Rattle.std.specs.Str.{bytes_eq}
 use Rattle.host.specs.State.{Files}
@@ -49,8 +49,8 @@ room_at (file ∷ files) zero = file.store.room
 room_at (file ∷ files) (suc place) = room_at files place
 
 -- no two files have one name
-abbrev pub AreApart : List MemFile → Type 0
-AreApart files = (i j : ℕ) → i < j → j < length files → name_at files i ≢ name_at files j
+abbrev pub FilesApart : List MemFile → Type 0
+FilesApart files = (i j : ℕ) → i < j → j < length files → name_at files i ≢ name_at files j
 
 -- each place keeps its name and its room
 pub record KeepsPlaces (old new : List MemFile) : Type 0 where

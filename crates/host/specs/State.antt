@@ -1,16 +1,16 @@
 -- What a host is seen as, and what its six calls do to it.
 --
---     Files, Told, State           the bytes of files by name; what a host may tell; a host as contracts see it
---     after_change change told     what is told after a change of what was told, if anything is told
---     IsCoherent state             no bytes are left of a file that is not read, and no name is written to where none is
---     FailedFrom would after       as it would be, and the count of faults rose
---     bytes_of files name          the bytes of a file, none where there is no such file
---     HasFile name state           where the host tells its files, there is one of this name
---     with_file, with_more         the files with one replaced or made, or with more bytes at its end
+--     Files, Told, State        the bytes of files by name; what a host may tell; a host as contracts see it
+--     after_change change told  what is told after a change of what was told, if anything is told
+--     IsCoherent state          no bytes are left of a file that is not read, and no name is written to where none is
+--     FailedFrom would after    as it would be, and the count of faults rose
+--     file_bytes files name     the bytes of a file, none where there is no such file
+--     HasFile name state        where the host tells its files, there is one of this name
+--     with_file, with_more      the files with one replaced or made, or with more bytes at its end
 --     opens_file, opens_none, takes, creates, stops_reading, appends, finishes, says
 --                                  the state after a call, each named for what it does
---     IsNext count buffer left     what a read puts into the buffer
---     IsFront count bytes          how many of the bytes a call may take
+--     IsNext count buffer left  what a read puts into the buffer
+--     IsFront count bytes       how many of the bytes a call may take
 use Rattle.std.specs.Prelude.{◌≡◌, ℕ, ◌≤◌, ◌<◌, ◌↔◌, List, [], ◌++◌, length, take, drop, Bool, true, false, if◌then◌else◌, Option, Some, None, IsSome, IfSome, unwrap_or}
 use Rattle.host.specs.Counts.{next, Rose}
 use Rattle.std.specs.Option.{option_map}
@@ -62,8 +62,8 @@ pub record FailedFrom (would after : State) : Type 0 where
   pub else_same : after ≡ record would { faults = after.faults }
 
 -- the bytes of a file, none where there is no such file
-abbrev pub bytes_of : Files → List ℕ → List ℕ
-bytes_of files name = unwrap_or (files name) []
+abbrev pub file_bytes : Files → List ℕ → List ℕ
+file_bytes files name = unwrap_or (files name) []
 
 -- where the host tells, there is a file of this name
 abbrev pub HasFile : List ℕ → State → Type 0
@@ -79,7 +79,7 @@ with_more name more files asked = if bytes_eq asked name then option_map (λ byt
 
 -- the named file is read from its first byte on
 abbrev pub opens_file : List ℕ → State → State
-opens_file name state = record state { opens = next state.opens; reading = true; told = after_change (λ told. record told { left = bytes_of told.files name }) state.told }
+opens_file name state = record state { opens = next state.opens; reading = true; told = after_change (λ told. record told { left = file_bytes told.files name }) state.told }
 
 -- a file was asked for, and none is read
 abbrev pub opens_none : State → State

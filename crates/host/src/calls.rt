@@ -4,7 +4,7 @@
 //! stands at its end. Each stands on the contracts of `Host` alone.
 ghost use Rattle.host.specs.declared.calls.ReadRefusal.TheVariants as refusals;
 ghost use Rattle.std.specs.Prelude.{Some, Err, ◌≡◌, ◌≤◌, ◌<◌, ◌+◌, length, false, IsTrue, IfOk, OnOk, OnErr, IfSome};
-ghost use Rattle.host.specs.State.{bytes_of, takes, opens_file, appends, says};
+ghost use Rattle.host.specs.State.{file_bytes, takes, opens_file, appends, says};
 ghost use Rattle.host.specs.Whole.{SaysFront, AppendsFront, writes, WritesFront, reads_whole, TakesFront, ReadFails, OnlyReads, HasCause};
 
 use crate::host::{Failed, Host};
@@ -108,7 +108,7 @@ pub fn read_all<H: Host>(
 
     // One byte more than the limit was taken, so the file is longer.
     ensures too_long { result ≡ Err ReadRefusal.TooLong → H.state host.new ≡ takes (limit + 1) (opens_file name.now (H.state host.old)) }
-    ensures longer { result ≡ Err ReadRefusal.TooLong → IfSome (H.state host.old).told (λ told. limit < length (bytes_of told.files name.now)) }
+    ensures longer { result ≡ Err ReadRefusal.TooLong → IfSome (H.state host.old).told (λ told. limit < length (file_bytes told.files name.now)) }
 
     ensures failed { result ≡ Err ReadRefusal.Failed → ReadFails limit name.now (H.state host.old) (H.state host.new) }
     ensures no_memory { result ≡ Err ReadRefusal.NoMemory → TakesFront limit name.now (H.state host.old) (H.state host.new) }

@@ -8,12 +8,14 @@
 mod calls;
 mod files;
 mod host;
+mod laws;
 mod memory;
 mod plan;
 mod store;
 
 pub use calls::{ReadRefusal, append_all, read_all, say_all, write_file};
 pub use host::{Failed, Host};
+pub use laws::pieces_come_in_turn;
 pub use memory::MemHost;
 pub use plan::HostCall;
 use std::alloc::AllocError;

@@ -2,11 +2,11 @@
 //!
 //! It keeps a list of named files with memory for their bytes (`files`, `store`), the plan of its failures (`plan`),
 //! and which file is open. All its memory is taken when it is made.
-ghost use Rattle.std.specs.Prelude.{◌≡◌, Some, IfSome, min, IsTrue, ◌≤◌, ◌<◌, ◌↔◌, ◌⊎◌, ℕ, true, false, None, IsErr, IfOk, OnOk, OnErr, Contains, length, take};
+ghost use Rattle.std.specs.Prelude.{◌≡◌, Some, IfSome, min, IsTrue, ◌+◌, ◌%◌, ◌≤◌, ◌<◌, ◌↔◌, ◌⊎◌, ℕ, true, false, None, IsErr, IfOk, OnOk, OnErr, All, Contains, length, take};
 ghost use Rattle.std.specs.Option.{option_map};
 ghost use Rattle.host.specs.State.{HasFile, IsFront, IsNext, FailedFrom, opens_file, opens_none, takes, creates, stops_reading, appends, finishes, says};
 ghost use Rattle.host.specs.Counts.{next, Rose};
-ghost use Rattle.host.specs.Files.{room_at, exists_at, bytes_at, AreApart};
+ghost use Rattle.host.specs.Files.{room_at, exists_at, bytes_at, FilesApart};
 ghost use Rattle.host.specs.declared.memory.Activity.TheVariants.{Reading, Writing};
 
 use crate::NoMemory;
@@ -26,22 +26,34 @@ pub enum Activity {
     Writing(usize),
 }
 
+// Whose turn it is after that one, among so many.
+fn turn_after(turn: usize, count: usize) -> usize
+    requires { turn < count }
+    ensures next { result ≡ (turn + 1) % count }
+    ensures below { result < count }
+{
+    if turn + 1 < count { turn + 1 } else { 0 }
+}
+
 /// A host in memory.
 ///
 /// A call fails exactly where it is listed, where it opens a name without a file, where it creates a name that the host
 /// was not made with, and where it is to append or say some bytes and no room is left. Each of these raises the count
 /// of faults by one. A successful read moves the least of a piece, the buffer's length and the bytes left; a successful
-/// append or say the least of a piece, the bytes handed in and the room left. No host call takes memory.
+/// append or say the least of a piece, the bytes handed in and the room left. The pieces come in turn: the k-th of these
+/// successful calls, counted from 0, has the one at k modulo their number. No host call takes memory.
 #[derive(Drop)]
 pub struct MemHost {
     files: Vec<MemFile>,
     said: Store,
-    piece: usize,
+    pieces: Vec<usize>,
+    turn: usize,
     plan: Plan,
     activity: Activity,
     opens: u64,
-    ghost some_piece: { 0 < piece },
-    ghost apart: { AreApart files.items },
+    ghost some: { All (λ piece. 0 < piece) pieces.items },
+    ghost in_turn: { turn < length pieces.items },
+    ghost apart: { FilesApart files.items },
     ghost rooms: { (place : ℕ) → place < length files.items → room_at files.items place ≡ said.room },
     ghost reads: { (at start : ℕ) → activity ≡ Reading at start → exists_at files.items at ≡ true },
     ghost within: { (at start : ℕ) → activity ≡ Reading at start → start ≤ length (bytes_at files.items at) },
@@ -49,7 +61,7 @@ pub struct MemHost {
 }
 
 impl Host for MemHost {
-    ghost use Rattle.host.specs.Memory.{told_of, state_of, names_of, piece_of, room_in_file, room_in_said, IsListed, CountsCall};
+    ghost use Rattle.host.specs.Memory.{told_of, state_of, names_of, turn_of, next_turn, piece_of, room_in_file, room_in_said, IsListed, CountsCall};
     ghost use Rattle.host.specs.declared.plan.HostCall.TheVariants.{Open, Read, Create, Append, Finish, Say};
     ghost use Rattle.host.specs.Activity.{coherent};
 
@@ -67,6 +79,7 @@ impl Host for MemHost {
         ensures fails { IsErr result ↔ (IsListed self.old Open ⊎ ((told_of self.old).files name.now ≡ None)) }
         ensures one_fault { OnErr result ((state_of self.new).faults ≡ next (state_of self.old).faults) }
         ensures counted { CountsCall self.old self.new Open }
+        ensures same_turn { turn_of self.new ≡ turn_of self.old }
     {
         self.opens = self.opens.saturating_add(1);
         self.activity = Activity::Idle;
@@ -94,6 +107,8 @@ impl Host for MemHost {
         ensures fails { IsErr result ↔ IsListed self.old Read }
         ensures one_fault { OnErr result ((state_of self.new).faults ≡ next (state_of self.old).faults) }
         ensures counted { CountsCall self.old self.new Read }
+        ensures turned { OnOk result (turn_of self.new ≡ next_turn self.old) }
+        ensures same_turn { OnErr result (turn_of self.new ≡ turn_of self.old) }
     {
         if self.plan.is_to_fail(HostCall::Read) {
             return self.fail();
@@ -101,8 +116,9 @@ impl Host for MemHost {
         let Activity::Reading(at, start) = self.activity else {
             unreachable!()
         };
-        let count = read_file(&self.files, at, start, self.piece, buffer);
+        let count = read_file(&self.files, at, start, self.pieces[self.turn], buffer);
         self.activity = Activity::Reading(at, start + count);
+        self.turn = turn_after(self.turn, self.pieces.len());
         Ok(count)
     }
 
@@ -115,6 +131,7 @@ impl Host for MemHost {
         ensures fails { IsErr result ↔ (IsListed self.old Create ⊎ (¬ Contains (names_of self.old) name.now)) }
         ensures one_fault { OnErr result ((state_of self.new).faults ≡ next (state_of self.old).faults) }
         ensures counted { CountsCall self.old self.new Create }
+        ensures same_turn { turn_of self.new ≡ turn_of self.old }
     {
         self.activity = Activity::Idle;
         if self.plan.is_to_fail(HostCall::Create) {
@@ -142,6 +159,8 @@ impl Host for MemHost {
         ensures fails { IsErr result ↔ (IsListed self.old Append ⊎ ((0 < length bytes.now) × (room_in_file self.old ≡ 0))) }
         ensures one_fault { OnErr result ((state_of self.new).faults ≡ next (state_of self.old).faults) }
         ensures counted { CountsCall self.old self.new Append }
+        ensures turned { OnOk result (turn_of self.new ≡ next_turn self.old) }
+        ensures same_turn { OnErr result (turn_of self.new ≡ turn_of self.old) }
     {
         if self.plan.is_to_fail(HostCall::Append) {
             return self.fail();
@@ -152,7 +171,9 @@ impl Host for MemHost {
         if !bytes.is_empty() && is_full(&self.files, at) {
             return self.fail();
         }
-        Ok(add_to_file(&mut self.files, at, bytes, self.piece))
+        let count = add_to_file(&mut self.files, at, bytes, self.pieces[self.turn]);
+        self.turn = turn_after(self.turn, self.pieces.len());
+        Ok(count)
     }
 
     fn finish(&mut self) -> Result<(), Failed>
@@ -164,6 +185,7 @@ impl Host for MemHost {
         ensures fails { IsErr result ↔ IsListed self.old Finish }
         ensures one_fault { OnErr result ((state_of self.new).faults ≡ next (state_of self.old).faults) }
         ensures counted { CountsCall self.old self.new Finish }
+        ensures same_turn { turn_of self.new ≡ turn_of self.old }
     {
         self.activity = Activity::Idle;
         if self.plan.is_to_fail(HostCall::Finish) {
@@ -182,22 +204,25 @@ impl Host for MemHost {
         ensures fails { IsErr result ↔ (IsListed self.old Say ⊎ ((0 < length bytes.now) × (room_in_said self.old ≡ 0))) }
         ensures one_fault { OnErr result ((state_of self.new).faults ≡ next (state_of self.old).faults) }
         ensures counted { CountsCall self.old self.new Say }
+        ensures turned { OnOk result (turn_of self.new ≡ next_turn self.old) }
+        ensures same_turn { OnErr result (turn_of self.new ≡ turn_of self.old) }
     {
         if self.plan.is_to_fail(HostCall::Say) {
             return self.fail();
         }
-        let count = self.said.add(bytes, self.piece);
+        let count = self.said.add(bytes, self.pieces[self.turn]);
         if count == 0 && !bytes.is_empty() {
             return self.fail();
         }
+        self.turn = turn_after(self.turn, self.pieces.len());
         Ok(count)
     }
 }
 
 impl MemHost {
-    ghost use Rattle.std.specs.Prelude.{[]};
+    ghost use Rattle.std.specs.Prelude.{[], ◌∷◌};
     ghost use Rattle.host.specs.Handed.{files_handed, names_handed, NamesApart};
-    ghost use Rattle.host.specs.Memory.{state_of, told_of, names_of, piece_of, room_of, failing_of, calls_of, AreNumbers};
+    ghost use Rattle.host.specs.Memory.{state_of, told_of, names_of, pieces_of, turn_of, piece_of, byte_room, failing_of, calls_of, AreNumbers};
     ghost use Rattle.host.specs.declared.plan.HostCall.{HostCall};
 
     /// A host with these files, where `None` stands for a name that has no file yet.
@@ -224,14 +249,49 @@ impl MemHost {
         }) }
         ensures names { IfOk result (λ host. names_of host ≡ names_handed files.items) }
         ensures piece { IfOk result (λ host. piece_of host ≡ piece) }
-        ensures room { IfOk result (λ host. room_of host ≡ room) }
+        ensures alone { IfOk result (λ host. pieces_of host ≡ piece ∷ []) }
+        ensures room { IfOk result (λ host. byte_room host ≡ room) }
+        ensures failing { IfOk result (λ host. failing_of host ≡ failing.items) }
+        ensures calls { IfOk result (λ host. (call : HostCall) → calls_of host call ≡ 0) }
+    {
+        let mut pieces = Vec::new(alloc);
+        pieces.push(piece)?;
+        MemHost::with_pieces(alloc, files, pieces, room, failing)
+    }
+
+    /// A host as [`MemHost::new`] makes it, but that its pieces come in turn: of the successful reads, appends and
+    /// says, all counted together from 0, the k-th moves at most `pieces[k]` bytes, where k is taken modulo the number
+    /// of pieces. A call that fails takes no turn.
+    pub fn with_pieces(
+        alloc: Global,
+        files: Vec<(String, Option<Vec<u8>>)>,
+        pieces: Vec<usize>,
+        room: usize,
+        failing: Vec<(HostCall, u64)>,
+    ) -> Result<MemHost, NoMemory>
+        requires names { NamesApart files.items }
+        requires one_piece { 0 < length pieces.items }
+        requires pieces { All (λ piece. 0 < piece) pieces.items }
+        requires numbers { AreNumbers failing.items }
+        ensures state { IfOk result (λ host. state_of host ≡ record {
+          told = Some (record { files = files_handed files.items; left = []; target = []; said = [] });
+          faults = 0;
+          opens = 0;
+          reading = false;
+          writing = false;
+        }) }
+        ensures names { IfOk result (λ host. names_of host ≡ names_handed files.items) }
+        ensures pieces { IfOk result (λ host. pieces_of host ≡ pieces.items) }
+        ensures first { IfOk result (λ host. turn_of host ≡ 0) }
+        ensures room { IfOk result (λ host. byte_room host ≡ room) }
         ensures failing { IfOk result (λ host. failing_of host ≡ failing.items) }
         ensures calls { IfOk result (λ host. (call : HostCall) → calls_of host call ≡ 0) }
     {
         Ok(MemHost {
             files: kept_files(alloc, files, room)?,
             said: Store::new(Vec::new(alloc), room)?,
-            piece,
+            pieces,
+            turn: 0,
             plan: Plan {
                 failing,
                 counts: [0; 6],

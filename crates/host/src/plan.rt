@@ -1,6 +1,6 @@
 //! Which calls of a host in memory are to fail, and how many there were of each.
 ghost use Rattle.std.specs.Prelude.{◌≡◌, ◌↔◌, ◌<◌, IsTrue, Contains, slice_index, slice_set};
-ghost use Rattle.host.specs.Counts.{next, place_of};
+ghost use Rattle.host.specs.Counts.{next, call_index};
 
 /// The calls of a host, as `MemHost::new` is told which of them fail.
 #[derive(Clone, Copy, Debug, PartialEq, Eq)]
@@ -21,7 +21,7 @@ pub enum HostCall {
 
 // The place of a call's count.
 fn place_of_call(call: HostCall) -> usize
-    ensures place { result ≡ place_of call }
+    ensures place { result ≡ call_index call }
     ensures below { result < 6 }
 {
     match call {
@@ -46,8 +46,8 @@ pub struct Plan {
 impl Plan {
     /// Counts a call, and answers whether it is to fail.
     pub fn is_to_fail(&mut self, call: HostCall) -> bool
-        ensures listed { IsTrue result ↔ Contains self.old.failing.items (call, next (slice_index self.old.counts (place_of call))) }
-        ensures counted { self.new ≡ record self.old { counts = slice_set self.old.counts (place_of call) (next (slice_index self.old.counts (place_of call))) } }
+        ensures listed { IsTrue result ↔ Contains self.old.failing.items (call, next (slice_index self.old.counts (call_index call))) }
+        ensures counted { self.new ≡ record self.old { counts = slice_set self.old.counts (call_index call) (next (slice_index self.old.counts (call_index call))) } }
     {
         let place = place_of_call(call);
         let number = self.counts[place].saturating_add(1);

@@ -1,8 +1,10 @@
 //! What a reader would try by hand: limits, rooms, pieces, missing files and listed failures.
-ghost use Rattle.std.specs.Prelude.{◌≡◌, ◌<◌, false, IfOk};
+ghost use Rattle.std.specs.Prelude.{◌≡◌, ◌<◌, false, IsTrue, IfOk};
 ghost use Rattle.host.specs.Memory.{state_of};
 
-use crate::{Failed, HostCall, MemHost, NoMemory, ReadRefusal, read_all, say_all, write_file};
+use crate::{
+    Failed, Host, HostCall, MemHost, NoMemory, ReadRefusal, read_all, say_all, write_file,
+};
 use std::alloc::Global;
 use std::test::Fail;
 
@@ -103,5 +105,47 @@ fn each_listed_call_fails_once(rt: HostRuntime) -> Result<(), Fail> {
         );
         assert_eq!(rt; host.fault_count(), 1, "{call:?}");
     }
+    Ok(())
+}
+
+// How many of the bytes are added, if any can be.
+fn appended(host: &mut MemHost, bytes: &[u8]) -> Option<usize>
+    requires { IsTrue (state_of host.old).writing }
+    ensures { IsTrue (state_of host.new).writing }
+{
+    match host.append(bytes) {
+        Ok(count) => Some(count),
+        Err(Failed) => None,
+    }
+}
+
+#[test]
+fn pieces_come_in_turn_over_all_moves(rt: HostRuntime) -> Result<(), Fail> {
+    let alloc = rt.alloc();
+    // The second append fails, and takes no turn.
+    let files = vec![in alloc;
+        (
+            String::from_str(alloc, "in")?,
+            Some(b"12345".to_vec(alloc)?)
+        ),
+        (String::from_str(alloc, "out")?, None),
+    ]?;
+    let pieces = vec![in alloc; 1, 3, 2]?;
+    let failing = vec![in alloc; (HostCall::Append, 2)]?;
+    let mut host = MemHost::with_pieces(alloc, files, pieces, 9, failing)?;
+    assert_eq!(rt; host.say(b"abcd")?, 1);
+    host.open("in")?;
+    assert_eq!(rt; host.read(&mut [0; 4])?, 3);
+    assert_eq!(rt; host.say(b"efgh")?, 2);
+    host.create("out")?;
+    assert_eq!(rt; appended(&mut host, b"1234"), Some(1));
+    assert_eq!(rt; appended(&mut host, b"2345"), None);
+    assert_eq!(rt; appended(&mut host, b"2345"), Some(3));
+    host.finish()?;
+    assert_eq!(rt; host.say(b"")?, 0);
+    assert_eq!(rt; host.say(b"ij")?, 1);
+    assert_eq!(rt; host.said(), b"aefi".as_slice());
+    assert_eq!(rt; host.file("out").ok_or("no file")?, b"1234".as_slice());
+    assert_eq!(rt; host.fault_count(), 1);
     Ok(())
 }

@@ -3,7 +3,7 @@ use Rattle.std.proofs.Common.{ℕ, zero, suc, ◌≡◌, ◌<◌, ◌^◌, refl,
 use Rattle.std.specs.Fmt.{signed_decimal}
 use Rattle.std.specs.List.{flat_map, All}
 use Rattle.std.specs.Int.Signed.{mag}
-use Rattle.line_text.specs.Numbers.{Lacks, BeginsWithNone}
+use Rattle.line_text.specs.Numbers.{ended, counted, Lacks, BeginsWithNone, IsBetween}
 use Rattle.std.proofs.lemmas.Fmt.{decimal_is_IsNumeral, decimal_injective, signed_decimal_injective}
 use Rattle.std.proofs.lemmas.List.Elements.{All-head, All-tail}
 use Rattle.std.proofs.lemmas.Str.Parse.{digit_at}
@@ -34,7 +34,7 @@ decimal_lacks n stop fits low k lt e =
     let digit = digit_at (decimal n) k ((decimal_is_IsNumeral n fits).0).1 lt in
     omega (arith, digit.0, digit.1)
 
-signed_lacks : (z : ℤ) (stop : ℕ) → mag z < 2 ^ 63 → stop < 45 → Lacks stop (signed_decimal z)
+pub signed_lacks : (z : ℤ) (stop : ℕ) → mag z < 2 ^ 63 → stop < 45 → Lacks stop (signed_decimal z)
 signed_lacks (pos n) stop small low k lt e = decimal_lacks n stop (omega arith) (omega arith) k lt e
 signed_lacks (negsuc n) stop small low zero lt e = omega arith
 signed_lacks (negsuc n) stop small low (suc k) lt e = decimal_lacks (suc n) stop (omega arith) (omega arith) k (omega arith) e
@@ -50,6 +50,16 @@ signed_first stop y z r s low a b e =
     let same = one_split stop (signed_decimal y) (signed_decimal z) r s (signed_lacks y stop a low) (signed_lacks z stop b low) e in
     (signed_decimal_injective y z a b same.0, same.1)
 
+pub ended_is : (n end : ℕ) (rest : List ℕ) → ended n end ++ rest ≡ decimal n ++ (end ∷ rest)
+ended_is n end rest = append_assoc (decimal n) (end ∷ []) rest
+
+pub ended_code : (m n end : ℕ) (r s : List ℕ) → end < 48 → m < 2 ^ 64 → n < 2 ^ 64 → ended m end ++ r ≡ ended n end ++ s → (m ≡ n) × (r ≡ s)
+ended_code m n end r s low a b e = number_first end m n r s low a b (sym (ended_is m end r) ∙ e ∙ ended_is n end s)
+
+pub counted_code : (word : List ℕ) (m n : ℕ) (r s : List ℕ) → m < 2 ^ 64 → n < 2 ^ 64 → counted word m ++ r ≡ counted word n ++ s → (m ≡ n) × (r ≡ s)
+counted_code word m n r s a b e =
+    ended_code m n 10 r s (omega arith) a b (behind_same word _ _ (sym (append_assoc word (ended m 10) r) ∙ e ∙ append_assoc word (ended n 10) s))
+
 -- two values with these texts in front are one value, and what is behind is the same
 abbrev pub IsCode : {A : Type 0} → (A → Type 0) → (A → List ℕ) → Type 0
 IsCode {A} P text = (v w : A) (r s : List ℕ) → P v → P w → text v ++ r ≡ text w ++ s → (v ≡ w) × (r ≡ s)
@@ -63,6 +73,19 @@ code_list {A} P line code (x ∷ xs) (y ∷ ys) r s l a b e =
     let first = code x y (flat_map line xs ++ r) (flat_map line ys ++ s) (All-head P x xs a) (All-head P y ys b) (sym (append_assoc (line x) (flat_map line xs) r) ∙ e ∙ append_assoc (line y) (flat_map line ys) s) in
     let rest = code_list P line code xs ys r s (omega arith) (All-tail P x xs a) (All-tail P y ys b) first.1 in
     (ap (λ (z : A). z ∷ xs) first.0 ∙ ap (λ (zs : List A). y ∷ zs) rest.0, rest.1)
+
+-- fewer values
+pub code_fewer : {A : Type 0} (P Q : A → Type 0) (text : A → List ℕ) → ((a : A) → P a → Q a) → IsCode Q text → IsCode P text
+code_fewer P Q text are code = λ v w r s a b e. code v w r s (are v a) (are w b) e
+
+pub none_fewer : {A : Type 0} (P Q : A → Type 0) (text_of : A → List ℕ) (text : List ℕ) → ((a : A) → P a → Q a) → BeginsWithNone Q text_of text → BeginsWithNone P text_of text
+none_fewer P Q text_of text are none = λ a rest h e. none a rest (are a h) e
+
+pub between_code : (end least greatest : ℕ) → end < 48 → greatest < 2 ^ 64 → IsCode (IsBetween least greatest) (λ n. ended n end)
+between_code end least greatest low fits = λ m n r s a b e. ended_code m n end r s low (omega (arith, a.1)) (omega (arith, b.1)) e
+
+pub counted_between_code : (word : List ℕ) (least greatest : ℕ) → greatest < 2 ^ 64 → IsCode (IsBetween least greatest) (counted word)
+counted_between_code word least greatest fits = λ m n r s a b e. counted_code word m n r s (omega (arith, a.1)) (omega (arith, b.1)) e
 
 -- ---- two forms, one behind the other
 abbrev pub Both : {A B : Type 0} → (A → Type 0) → (B → Type 0) → A × B → Type 0

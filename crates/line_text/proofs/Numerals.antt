@@ -1,12 +1,12 @@
 -- A token is the text of a number where it is plain and consists of digits.
-use Rattle.std.proofs.Common.{ℕ, zero, suc, ◌≡◌, ◌<◌, ◌≤◌, ◌^◌, refl, ap, sym, subst, ◌∙◌, append_assoc, arith, List, ◌∷◌, ◌++◌, length, get_or, decimal, Result, Ok, Err}
+use Rattle.std.proofs.Common.{ℕ, zero, suc, ◌≡◌, ◌<◌, ◌≤◌, ◌^◌, refl, ap, sym, subst, ◌∙◌, arith, List, ◌∷◌, ◌++◌, length, get_or, decimal, Result, Ok, Err}
 use Rattle.std.specs.Str.{IsUtf8}
 use Rattle.std.specs.Str.Parse.{AllDigits, IsNumeral, digits_value, without_leading_plus, ParsesUnsigned}
 use Rattle.std.proofs.lemmas.Str.{IsUtf8-from_ascii}
 use Rattle.std.proofs.lemmas.Str.Parse.{IsNumeralModel, numerals_by_value, tells_digits, digit_at, parse_plain}
 use Rattle.std.proofs.lemmas.Fmt.{decimal_is_IsNumeral, decimal_nonempty, decimal_digit, first_decimal, parse-decimal, decimal-digits_value, IsAscii-decimal, decimal_injective}
-use Rattle.line_text.specs.Numbers.{ended, BeginsWithNone, Lacks, IsPlain}
-use Rattle.line_text.proofs.Codes.{one_split, decimal_lacks}
+use Rattle.line_text.specs.Numbers.{ended, BeginsWithNone, Lacks, IsPlain, IsBetween}
+use Rattle.line_text.proofs.Codes.{one_split, decimal_lacks, number_first, ended_is}
 
 numerals : IsNumeralModel (AllDigits 10) (digits_value 10)
 numerals = numerals_by_value (AllDigits 10) tells_digits
@@ -50,9 +50,6 @@ not_parsed token text n lt same h e =
     cc
 
 -- ---- numbers at the front of a text
-ended_is : (n end : ℕ) (rest : List ℕ) → ended n end ++ rest ≡ decimal n ++ (end ∷ rest)
-ended_is n end rest = simp append_assoc
-
 -- the token before the end is the number's text
 same_token : (text token behind : List ℕ) (n end : ℕ) (rest : List ℕ) → end < 48 → n < 2 ^ 64 → text ≡ token ++ (end ∷ behind) → Lacks end token → text ≡ ended n end ++ rest → token ≡ decimal n
 same_token text token behind n end rest low lt e lacks f =
@@ -65,3 +62,9 @@ pub over_limit : (text token behind : List ℕ) (end limit m : ℕ) → end < 48
 over_limit text token behind end limit m low less fits e lacks is = λ n rest le f.
     let same : n ≡ m = decimal_injective n m (omega arith) fits (sym (same_token text token behind n end rest low (omega arith) e lacks f) ∙ is) in
     omega arith
+
+-- ---- numbers from a least to a greatest
+pub under_least : (text rest : List ℕ) (end least greatest m : ℕ) → end < 48 → m < 2 ^ 64 → greatest < 2 ^ 64 → m < least → text ≡ ended m end ++ rest → BeginsWithNone (IsBetween least greatest) (λ n. ended n end) text
+under_least text rest end least greatest m low fits top less is = λ n behind h f.
+    let same = number_first end m n rest behind low fits (omega (arith, h.1)) (sym (ended_is m end rest) ∙ (sym is ∙ (f ∙ ended_is n end behind))) in
+    omega (arith, same.0, h.0)

@@ -1,2 +1,4 @@
 pub mod Numbers
 pub mod Rising
+pub mod Refusals
+pub mod Facets

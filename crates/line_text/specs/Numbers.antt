@@ -6,7 +6,11 @@
 --   IsPlain token       no sign and no leading zero
 --   BeginsWithNone      no text of a form stands at the front of this one
 --   counted text n      a text, and the number that ends its last line
-use Rattle.std.specs.Prelude.{ℕ, ◌≡◌, ◌≢◌, ◌<◌, List, [], ◌∷◌, ◌++◌, length, slice_index, decimal}
+--   signed_ended z end  the decimal text of a signed number and the byte that ends it
+--   IsBetween           a number from the least to the greatest
+--   IsSignedBetween     the same of a signed number
+use Rattle.std.specs.Prelude.{ℕ, ◌≡◌, ◌≢◌, ◌<◌, ◌≤◌, ℤ, ◌≤ℤ◌, List, [], ◌∷◌, ◌++◌, length, slice_index, decimal}
+use Rattle.std.specs.Fmt.{signed_decimal}
 
 abbrev pub space : ℕ
 space = 32
@@ -21,6 +25,17 @@ ended n end = decimal n ++ (end ∷ [])
 -- a text, and the number that ends its last line
 abbrev pub counted : List ℕ → ℕ → List ℕ
 counted text n = text ++ ended n line_feed
+
+-- the decimal text of a signed number and the byte that ends it
+abbrev pub signed_ended : ℤ → ℕ → List ℕ
+signed_ended z end = signed_decimal z ++ (end ∷ [])
+
+-- a number from the least to the greatest, both included
+abbrev pub IsBetween : ℕ → ℕ → ℕ → Type 0
+IsBetween least greatest n = (least ≤ n) × (n ≤ greatest)
+
+abbrev pub IsSignedBetween : ℤ → ℤ → ℤ → Type 0
+IsSignedBetween least greatest z = (least ≤ℤ z) × (z ≤ℤ greatest)
 
 -- no byte of the text is this one
 abbrev pub Lacks : ℕ → List ℕ → Type 0

@@ -1,9 +1,11 @@
 //! Numbers at the front of a text, read. Exactly the text that is printed is read: digits
 //! without a leading zero and without a sign.
 
-ghost use Rattle.std.specs.Prelude.{◌≡◌, ◌<◌, ◌≤◌, ◌^◌, ◌++◌, ◌∷◌, ℕ, List, IfSome, IfNone, length, slice_index, decimal};
+ghost use Rattle.std.specs.Prelude.{◌≡◌, ◌<◌, ◌≤◌, ◌^◌, ◌++◌, ◌∷◌, ◌≤ℤ◌, ℕ, ℤ, List, IfSome, IfNone, length, slice_index, decimal};
 ghost use Rattle.std.specs.Bool.{OnTrue, OnFalse};
-ghost use Rattle.line_text.specs.Numbers.{ended, counted, BeginsWithNone, Lacks, IsPlain};
+ghost use Rattle.std.specs.Fmt.{signed_decimal};
+ghost use Rattle.std.specs.Int.Signed.{mag};
+ghost use Rattle.line_text.specs.Numbers.{ended, counted, signed_ended, BeginsWithNone, Lacks, IsPlain, IsBetween, IsSignedBetween};
 
 // The place of the first such byte, or the length where there is none.
 fn place_of(text: &[u8], byte: u8) -> usize
@@ -84,6 +86,77 @@ pub fn counted_first<'a>(text: &'a [u8], word: &[u8], limit: u64) -> Option<(u64
 {
     let rest = behind(text, word)?;
     number_first(rest, b'\n', limit)
+}
+
+/// The number from `least` to `greatest` at the front of a text, with the byte that ends it,
+/// and what stands behind that byte. None where no such number stands there.
+pub fn number_within(text: &[u8], end: u8, least: u64, greatest: u64) -> Option<(u64, &[u8])>
+    requires { end < 48 }
+    ensures some { IfSome result (λ read. IsBetween least greatest read.0 × (text.now ≡ ended read.0 end ++ read.1.now)) }
+    ensures none { IfNone result (BeginsWithNone (IsBetween least greatest) (λ n. ended n end) text.now) }
+{
+    let (n, rest) = number_first(text, end, greatest)?;
+    if n >= least { Some((n, rest)) } else { None }
+}
+
+/// The number from `least` to `greatest` that a line with this word states, and what stands
+/// behind the line. None where no such line stands at the front of the text.
+pub fn counted_within<'a>(
+    text: &'a [u8],
+    word: &[u8],
+    least: u64,
+    greatest: u64,
+) -> Option<(u64, &'a [u8])>
+    ensures some { IfSome result (λ read. IsBetween least greatest read.0 × (text.now ≡ counted word.now read.0 ++ read.1.now)) }
+    ensures none { IfNone result (BeginsWithNone (IsBetween least greatest) (counted word.now) text.now) }
+{
+    let rest = behind(text, word)?;
+    number_within(rest, b'\n', least, greatest)
+}
+
+// The number below zero of 64 bits whose digits these are.
+fn below_zero(digits: &[u8]) -> Option<i64>
+    ensures some { IfSome result (λ z. (mag z < 2 ^ 63) × (45 ∷ digits.now ≡ signed_decimal z)) }
+    ensures none { IfNone result ((z : ℤ) → mag z < 2 ^ 63 → ¬ (45 ∷ digits.now ≡ signed_decimal z)) }
+{
+    let n = number_of(digits)?;
+    if n >= 1 && n <= 1 << 63 {
+        Some(-1 - (n - 1) as i64)
+    } else {
+        None
+    }
+}
+
+// The signed number of 64 bits whose decimal text the token is, or None where it is the
+// text of none: no plus sign, no leading zero, no sign at zero.
+fn signed_of(token: &[u8]) -> Option<i64>
+    ensures some { IfSome result (λ z. (mag z < 2 ^ 63) × (token.now ≡ signed_decimal z)) }
+    ensures none { IfNone result ((z : ℤ) → mag z < 2 ^ 63 → ¬ (token.now ≡ signed_decimal z)) }
+{
+    match behind(token, b"-") {
+        Some(digits) => below_zero(digits),
+        None => {
+            let n = number_of(token)?;
+            if n < 1 << 63 { Some(n as i64) } else { None }
+        }
+    }
+}
+
+/// The signed number from `least` to `greatest` at the front of a text, with the byte that
+/// ends it, and what stands behind that byte. None where no such number stands there: a
+/// number has no plus sign and no leading zeros, and zero has no sign.
+pub fn signed_first(text: &[u8], end: u8, least: i64, greatest: i64) -> Option<(i64, &[u8])>
+    requires { end < 45 }
+    ensures some { IfSome result (λ read. IsSignedBetween least greatest read.0 × (text.now ≡ signed_ended read.0 end ++ read.1.now)) }
+    ensures none { IfNone result (BeginsWithNone (IsSignedBetween least greatest) (λ z. signed_ended z end) text.now) }
+{
+    let (token, rest) = cut_at(text, end)?;
+    let z = signed_of(token)?;
+    if least <= z && z <= greatest {
+        Some((z, rest))
+    } else {
+        None
+    }
 }
 
 /// What stands behind these bytes at the front of a text, or None where the text does not

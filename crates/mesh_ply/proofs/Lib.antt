@@ -1,3 +1,5 @@
 pub mod Vertices
 pub mod Renumbered
 pub mod MeshCodes
+pub mod MeshForms
+pub mod MeshRefused

@@ -4,7 +4,7 @@ use Rattle.std.proofs.lemmas.Bool.{cases_lt}
 use Rattle.std.proofs.lemmas.List.{get_or-map, length-map, ext_get_or, get_or_append_left, get_or-append_right}
 use Rattle.std.proofs.lemmas.List.Elements.{filter-append}
 use Rattle.std.proofs.lemmas.List.Sums.{length-filter, count_by-le-length}
-use Rattle.mesh_ply.specs.Meshes.{below, is_used, used, number_of, marked, number_among, IsFacet}
+use Rattle.mesh_ply.specs.Meshes.{below, is_used, used, new_number, marked, number_among, IsFace}
 use Rattle.std.specs.List.{All}
 
 pub length_below : (n : ℕ) → length (below n) ≡ n
@@ -48,7 +48,7 @@ marked_used facets marks n m e le =
     ap (λ (t : List Bool). get_or t v false) e ∙ (get_or-map (is_used facets) (below n) v 0 false inside ∙ ap (is_used facets) (get_or-below n v 0 (omega arith))))
 
 -- the number in the table is the vertex's new number
-pub number_in_table : (facets : List (List ℕ)) (marks : List Bool) (numbers : List ℕ) (n v : ℕ) → marks ≡ map (is_used facets) (below n) → numbers ≡ map (number_among marks) (below n) → v < n → get_or numbers v 0 ≡ number_of facets v
+pub number_in_table : (facets : List (List ℕ)) (marks : List Bool) (numbers : List ℕ) (n v : ℕ) → marks ≡ map (is_used facets) (below n) → numbers ≡ map (number_among marks) (below n) → v < n → get_or numbers v 0 ≡ new_number facets v
 number_in_table facets marks numbers n v e f l =
     let inside : v < length (below n) = omega (arith, length_below n) in
     ap (λ (t : List ℕ). get_or t v 0) f
@@ -56,7 +56,7 @@ number_in_table facets marks numbers n v e f l =
     ∙ (ap (number_among marks) (get_or-below n v 0 l) ∙ ap length (marked_used facets marks n v e (omega arith))))
 
 -- two numberings that agree below n renumber the facets among n vertices alike
-facet_same : (n : ℕ) (f g : ℕ → ℕ) (facet : List ℕ) → IsFacet n facet → ((v : ℕ) → v < n → f v ≡ g v) → map f facet ≡ map g facet
+facet_same : (n : ℕ) (f g : ℕ → ℕ) (facet : List ℕ) → IsFace n facet → ((v : ℕ) → v < n → f v ≡ g v) → map f facet ≡ map g facet
 facet_same n f g [] o h = refl
 facet_same n f g (a ∷ []) o h = absurd o
 facet_same n f g (a ∷ b ∷ []) o h = absurd o
@@ -67,7 +67,7 @@ facet_same n f g (a ∷ b ∷ c ∷ []) o h =
     cc
 facet_same n f g (a ∷ b ∷ c ∷ d ∷ t) o h = absurd o
 
-pub facets_same : (n : ℕ) (f g : ℕ → ℕ) (facets : List (List ℕ)) → All (IsFacet n) facets → ((v : ℕ) → v < n → f v ≡ g v) → map (map f) facets ≡ map (map g) facets
+pub facets_same : (n : ℕ) (f g : ℕ → ℕ) (facets : List (List ℕ)) → All (IsFace n) facets → ((v : ℕ) → v < n → f v ≡ g v) → map (map f) facets ≡ map (map g) facets
 facets_same n f g [] o h = refl
 facets_same n f g (facet ∷ facets) o h =
     let first : map f facet ≡ map g facet = facet_same n f g facet (o 0 [] (omega arith)) h in

@@ -1,44 +1,83 @@
 -- The text of a mesh: PLY 1.0 in its `ascii` form, with whole coordinates.
 --
---   vertex_head, face_head, head_end    the fixed parts of the header
---   point_line p                        the line of a point
---   face_line f                         the line of a face
---   mesh_text points faces              the text of a mesh
---   IsPrinted points faces              a mesh that has a text: valid, its points in the box
-use Rattle.std.specs.Prelude.{ℕ, List, [], ◌∷◌, ◌++◌, All, length, codes}
-use Rattle.std.specs.Fmt.{signed_decimal}
+--   ply_line, .., header_end          the fixed lines of the header, and the words of its two counts
+--   vertex_head, face_head, head_end  the header round its two counts
+--   IsCoordinate z                    a coordinate of the box
+--   point_line p                      the line of a point
+--   face_line f                       the line of a face
+--   text_behind_count                 the text behind the number of points
+--   mesh_text points faces            the text of a mesh
+--   IsPrinted points faces            a mesh that has a text: valid, its points in the box
+use Rattle.std.specs.Prelude.{ℕ, ◌≤◌, ℤ, unsigned_abs, List, [], ◌∷◌, ◌++◌, All, length, codes}
 use Rattle.std.specs.List.{flat_map}
-use Rattle.geo_sign.specs.Place.{Place, IsWithin}
-use Rattle.line_text.specs.Numbers.{space, line_feed, ended, counted}
+use Rattle.geo_sign.specs.Point.{Point, IsWithin}
+use Rattle.line_text.specs.Numbers.{space, line_feed, counted, signed_ended}
+use Rattle.line_text.specs.Facets.{facet_fields}
 use Rattle.mesh_ply.specs.Meshes.{IsMesh}
+use Rattle.geo_sign.specs.declared.point.TheConstants.{BOX_LIMIT}
+
+unfoldable pub ply_line : List ℕ
+ply_line = codes "ply\n"
+
+unfoldable pub format_line : List ℕ
+format_line = codes "format ascii 1.0\n"
+
+unfoldable pub vertex_word : List ℕ
+vertex_word = codes "element vertex "
+
+unfoldable pub x_line : List ℕ
+x_line = codes "property int x\n"
+
+unfoldable pub y_line : List ℕ
+y_line = codes "property int y\n"
+
+unfoldable pub z_line : List ℕ
+z_line = codes "property int z\n"
+
+unfoldable pub face_word : List ℕ
+face_word = codes "element face "
+
+unfoldable pub list_line : List ℕ
+list_line = codes "property list uchar int vertex_indices\n"
+
+unfoldable pub header_end : List ℕ
+header_end = codes "end_header\n"
 
 -- up to the number of vertices
-unfoldable pub vertex_head : List ℕ
-vertex_head = codes "ply\nformat ascii 1.0\nelement vertex "
+abbrev pub vertex_head : List ℕ
+vertex_head = ply_line ++ (format_line ++ vertex_word)
 
--- up to the number of faces
-unfoldable pub face_head : List ℕ
-face_head = codes "property int x\nproperty int y\nproperty int z\nelement face "
+-- from there up to the number of faces
+abbrev pub face_head : List ℕ
+face_head = x_line ++ (y_line ++ (z_line ++ face_word))
 
--- up to the first point
-unfoldable pub head_end : List ℕ
-head_end = codes "property list uchar int vertex_indices\nend_header\n"
+-- from there up to the first point
+abbrev pub head_end : List ℕ
+head_end = list_line ++ header_end
+
+-- a coordinate of the box
+abbrev pub IsCoordinate : ℤ → Type 0
+IsCoordinate z = unsigned_abs z ≤ BOX_LIMIT
 
 -- x y z
-abbrev pub point_line : Place → List ℕ
-point_line p = (signed_decimal p.x ++ (space ∷ [])) ++ ((signed_decimal p.y ++ (space ∷ [])) ++ (signed_decimal p.z ++ (line_feed ∷ [])))
+abbrev pub point_line : Point → List ℕ
+point_line p = signed_ended p.x space ++ (signed_ended p.y space ++ signed_ended p.z line_feed)
 
 -- 3 a b c
 abbrev pub face_line : List ℕ → List ℕ
-face_line (a ∷ b ∷ c ∷ []) = (51 ∷ space ∷ []) ++ (ended a space ++ (ended b space ++ ended c line_feed))
-face_line _ = []
+face_line f = (51 ∷ space ∷ []) ++ facet_fields f line_feed
+
+-- the text behind the number of points
+abbrev pub text_behind_count : List Point → List (List ℕ) → List ℕ
+text_behind_count points faces =
+    x_line ++ (y_line ++ (z_line ++ (counted face_word (length faces) ++ (list_line ++ (header_end ++ (flat_map point_line points ++ flat_map face_line faces))))))
 
 -- the header, a line for each point, a line for each face
-abbrev pub mesh_text : List Place → List (List ℕ) → List ℕ
+abbrev pub mesh_text : List Point → List (List ℕ) → List ℕ
 mesh_text points faces =
     counted vertex_head (length points) ++ (counted face_head (length faces) ++ (head_end ++ (flat_map point_line points ++ flat_map face_line faces)))
 
 -- a valid mesh whose points are points of the box
-pub record IsPrinted (points : List Place) (faces : List (List ℕ)) : Type 0 where
+pub record IsPrinted (points : List Point) (faces : List (List ℕ)) : Type 0 where
   pub valid : IsMesh points faces
-  pub boxed : All (IsWithin 8388608) points
+  pub boxed : All (IsWithin BOX_LIMIT) points

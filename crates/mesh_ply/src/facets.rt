@@ -6,7 +6,7 @@
 
 ghost use Rattle.std.specs.Prelude.{◌≡◌, ◌<◌, ◌^◌, ◌||◌, ℕ, false, IfOk, All, AllPairs, length, map, slice_index, slice_index_or};
 ghost use Rattle.line_text.specs.Rising.{IsBefore};
-ghost use Rattle.mesh_ply.specs.Meshes.{below, has_vertex, is_used, marked, number_among, place_of, mesh_of, IsFacet, IsFacetList, IsMesh};
+ghost use Rattle.mesh_ply.specs.Meshes.{below, is_vertex_of, is_used, marked, number_among, point_at, mesh_of, IsFace, IsFaceList, IsMesh};
 
 use crate::{Mesh, NoMemory};
 use geo_sign::Point;
@@ -14,8 +14,8 @@ use std::alloc::{AllocError, Global};
 
 // Marks the three vertices of a facet.
 fn mark_facet(marks: &mut [bool], facet: [u32; 3])
-    requires { IsFacet (length marks.old) facet }
-    ensures { (v : ℕ) → v < length marks.old → slice_index_or marks.new v false ≡ (slice_index_or marks.old v false || has_vertex v facet) }
+    requires { IsFace (length marks.old) facet }
+    ensures { (v : ℕ) → v < length marks.old → slice_index_or marks.new v false ≡ (slice_index_or marks.old v false || is_vertex_of v facet) }
 {
     let [a, b, c] = facet;
     marks[a as usize] = true;
@@ -25,7 +25,7 @@ fn mark_facet(marks: &mut [bool], facet: [u32; 3])
 
 // One mark for each of `count` vertices: whether some facet has it.
 fn vertex_marks(alloc: Global, count: usize, facets: &[[u32; 3]]) -> Result<Vec<bool>, NoMemory>
-    requires { All (IsFacet count) facets.now }
+    requires { All (IsFace count) facets.now }
     ensures { IfOk result (λ marks. marks.items ≡ map (is_used facets.now) (below count)) }
 {
     let mut marks = vec![in alloc; false; count]?;
@@ -45,7 +45,7 @@ struct Numbering {
 fn numbering_of(alloc: Global, places: &[Point], marks: &[bool]) -> Result<Numbering, NoMemory>
     requires few { length places.now < 2 ^ 32 }
     requires marks { length marks.now ≡ length places.now }
-    ensures points { IfOk result (λ n. n.points.items ≡ map (place_of places.now) (marked marks.now (length places.now))) }
+    ensures points { IfOk result (λ n. n.points.items ≡ map (point_at places.now) (marked marks.now (length places.now))) }
     ensures numbers { IfOk result (λ n. n.numbers.items ≡ map (number_among marks.now) (below (length places.now))) }
 {
     let mut points = Vec::new(alloc);
@@ -61,7 +61,7 @@ fn numbering_of(alloc: Global, places: &[Point], marks: &[bool]) -> Result<Numbe
 
 // A facet with its vertices' new numbers.
 fn face_of(numbers: &[u32], facet: [u32; 3]) -> [u32; 3]
-    requires { IsFacet (length numbers.now) facet }
+    requires { IsFace (length numbers.now) facet }
     ensures { result ≡ map (slice_index numbers.now) facet }
 {
     let [a, b, c] = facet;
@@ -73,7 +73,7 @@ fn face_of(numbers: &[u32], facet: [u32; 3]) -> [u32; 3]
 }
 
 fn faces_of(alloc: Global, numbers: &[u32], facets: &[[u32; 3]]) -> Result<Vec<[u32; 3]>, NoMemory>
-    requires { All (IsFacet (length numbers.now)) facets.now }
+    requires { All (IsFace (length numbers.now)) facets.now }
     ensures { IfOk result (λ faces. faces.items ≡ map (map (slice_index numbers.now)) facets.now) }
 {
     let mut faces = Vec::new(alloc);
@@ -97,7 +97,7 @@ pub fn mesh_of_facets(
     facets: &[[u32; 3]],
 ) -> Result<Mesh, NoMemory>
     requires few { length places.now < 2 ^ 32 }
-    requires facets { IsFacetList (length places.now) facets.now }
+    requires facets { IsFaceList (length places.now) facets.now }
     ensures points { IfOk result (λ mesh. mesh.points.items ≡ (mesh_of places.now facets.now).points) }
     ensures faces { IfOk result (λ mesh. mesh.faces.items ≡ (mesh_of places.now facets.now).faces) }
     ensures valid { IfOk result (λ mesh. IsMesh mesh.points.items mesh.faces.items) }

@@ -1,59 +1,24 @@
-//! The text of a mesh: PLY 1.0 in its `ascii` form. It stands on `num_text` and `line_text`.
+//! The text of a mesh: PLY 1.0 in its `ascii` form. It stands on `line_text`.
 
 ghost use Rattle.std.specs.Prelude.{◌≡◌, ◌++◌, [], ◌∷◌, OnOk, OnErr, length, take};
-ghost use Rattle.std.specs.Fmt.{signed_decimal};
 ghost use Rattle.std.specs.List.{flat_map};
-ghost use Rattle.geo_sign.specs.Place.{place};
+ghost use Rattle.geo_sign.specs.Point.{point};
 ghost use Rattle.mesh_ply.specs.Meshes.{IsMesh};
-ghost use Rattle.mesh_ply.specs.Texts.{vertex_head, face_head, head_end, point_line, face_line, mesh_text};
+ghost use Rattle.mesh_ply.specs.Texts.{point_line, face_line, mesh_text};
 
+use crate::words::{header_rest, header_to_faces, header_to_vertices};
 use crate::{Mesh, NoMemory};
 use geo_sign::Point;
-use line_text::{push_counted, push_number};
-use num_text::push_whole;
-
-// The header up to the number of vertices.
-#[tactic(auto, unfolding(crate::specs::Texts::vertex_head))]
-fn header_to_vertices() -> &'static [u8]
-    ensures { result.now ≡ vertex_head }
-{
-    b"ply\nformat ascii 1.0\nelement vertex "
-}
-
-// From there up to the number of faces.
-#[tactic(auto, unfolding(crate::specs::Texts::face_head))]
-fn header_to_faces() -> &'static [u8]
-    ensures { result.now ≡ face_head }
-{
-    b"property int x\nproperty int y\nproperty int z\nelement face "
-}
-
-// The rest of the header.
-#[tactic(auto, unfolding(crate::specs::Texts::head_end))]
-fn header_rest() -> &'static [u8]
-    ensures { result.now ≡ head_end }
-{
-    b"property list uchar int vertex_indices\nend_header\n"
-}
-
-// A coordinate and the byte that ends it.
-fn push_coordinate(out: &mut Vec<u8>, n: i32, end: u8) -> Result<(), NoMemory>
-    ensures ok { OnOk result (out.new.items ≡ out.old.items ++ (signed_decimal n ++ (end ∷ []))) }
-    ensures kept { OnErr result (take (length out.old.items) out.new.items ≡ out.old.items) }
-{
-    push_whole(out, i128::from(n))?;
-    out.push(end)?;
-    Ok(())
-}
+use line_text::{push_counted, push_number, push_signed};
 
 // Three coordinates in a line.
-fn push_coordinates(out: &mut Vec<u8>, x: i32, y: i32, z: i32) -> Result<(), NoMemory>
-    ensures ok { OnOk result (out.new.items ≡ out.old.items ++ point_line (place x y z)) }
+fn push_coordinates(out: &mut Vec<u8>, x: i64, y: i64, z: i64) -> Result<(), NoMemory>
+    ensures ok { OnOk result (out.new.items ≡ out.old.items ++ point_line (point x y z)) }
     ensures kept { OnErr result (take (length out.old.items) out.new.items ≡ out.old.items) }
 {
-    push_coordinate(out, x, b' ')?;
-    push_coordinate(out, y, b' ')?;
-    push_coordinate(out, z, b'\n')?;
+    push_signed(out, x, b' ')?;
+    push_signed(out, y, b' ')?;
+    push_signed(out, z, b'\n')?;
     Ok(())
 }
 
@@ -61,7 +26,12 @@ fn push_point(out: &mut Vec<u8>, point: Point) -> Result<(), NoMemory>
     ensures ok { OnOk result (out.new.items ≡ out.old.items ++ point_line point) }
     ensures kept { OnErr result (take (length out.old.items) out.new.items ≡ out.old.items) }
 {
-    push_coordinates(out, point.x(), point.y(), point.z())
+    push_coordinates(
+        out,
+        i64::from(point.x()),
+        i64::from(point.y()),
+        i64::from(point.z()),
+    )
 }
 
 // The line of a face with these three places.

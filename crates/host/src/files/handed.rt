@@ -1,6 +1,6 @@
 //! The files that a host in memory is made with.
 ghost use Rattle.std.specs.Prelude.{◌≡◌, ◌<◌, ℕ, IfOk, length};
-ghost use Rattle.host.specs.Files.{files_of, names_of_files, room_at, AreApart};
+ghost use Rattle.host.specs.Files.{files_of, names_of_files, room_at, FilesApart};
 ghost use Rattle.host.specs.Handed.{files_handed, names_handed, NamesApart, IsKept};
 
 use super::MemFile;
@@ -41,7 +41,7 @@ pub fn kept_files(
     requires { NamesApart files.items }
     ensures files { IfOk result (λ kept. files_of kept.items ≡ files_handed files.items) }
     ensures names { IfOk result (λ kept. names_of_files kept.items ≡ names_handed files.items) }
-    ensures apart { IfOk result (λ kept. AreApart kept.items) }
+    ensures apart { IfOk result (λ kept. FilesApart kept.items) }
     ensures room { IfOk result (λ kept. (place : ℕ) → place < length kept.items → room_at kept.items place ≡ room) }
 {
     let mut kept = Vec::with_capacity(alloc, files.len())?;

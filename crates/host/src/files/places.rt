@@ -1,7 +1,7 @@
 //! What is done with the file at a place of the list.
 ghost use Rattle.std.specs.Prelude.{◌≡◌, ◌≢◌, ◌≤◌, ◌<◌, ◌-◌, ◌+◌, ◌^◌, ℕ, [], true, ◌↔◌, Some, None, IsTrue, OnSome, IfSome, IfNone, Contains, length, take, drop, min};
-ghost use Rattle.host.specs.State.{bytes_of, with_file, with_more};
-ghost use Rattle.host.specs.Files.{files_of, name_at, names_of_files, exists_at, bytes_at, AreApart, room_at, KeepsPlaces};
+ghost use Rattle.host.specs.State.{file_bytes, with_file, with_more};
+ghost use Rattle.host.specs.Files.{files_of, name_at, names_of_files, exists_at, bytes_at, FilesApart, room_at, KeepsPlaces};
 
 use super::MemFile;
 
@@ -23,7 +23,7 @@ pub fn place_of_name(files: &[MemFile], name: &str) -> Option<usize>
 /// The place of the file of this name, if there is such a file.
 #[tactic(auto, using(crate::proofs::FileList::found_file))]
 pub fn find_file(files: &[MemFile], name: &str) -> Option<usize>
-    requires { AreApart files.now }
+    requires { FilesApart files.now }
     ensures found { IfSome result (λ place. (exists_at files.now place ≡ true) × (files_of files.now name.now ≡ Some (bytes_at files.now place))) }
     ensures none { IfNone result (files_of files.now name.now ≡ None) }
 {
@@ -37,8 +37,8 @@ pub fn find_file(files: &[MemFile], name: &str) -> Option<usize>
 #[tactic(auto, using(crate::proofs::FileList::at_place))]
 pub fn is_full(files: &[MemFile], at: usize) -> bool
     requires there { exists_at files.now at ≡ true }
-    requires apart { AreApart files.now }
-    ensures { IsTrue result ↔ (room_at files.now at - length (bytes_of (files_of files.now) (name_at files.now at)) ≡ 0) }
+    requires apart { FilesApart files.now }
+    ensures { IsTrue result ↔ (room_at files.now at - length (file_bytes (files_of files.now) (name_at files.now at)) ≡ 0) }
 {
     files[at].store.room <= files[at].store.bytes.len()
 }
@@ -76,7 +76,7 @@ fn read_part(bytes: &[u8], start: usize, piece: usize, buffer: &mut [u8]) -> usi
 /// Makes the file at a place, or empties it.
 pub fn empty_file(files: &mut [MemFile], at: usize)
     requires at { at < length files.old }
-    requires apart { AreApart files.old }
+    requires apart { FilesApart files.old }
     ensures files { files_of files.new ≡ with_file (name_at files.old at) [] (files_of files.old) }
     ensures there { exists_at files.new at ≡ true }
     ensures places { KeepsPlaces files.old files.new }
@@ -90,8 +90,8 @@ pub fn empty_file(files: &mut [MemFile], at: usize)
 #[tactic(auto, using(crate::proofs::FileList::exists_lt))]
 pub fn add_to_file(files: &mut [MemFile], at: usize, bytes: &[u8], piece: usize) -> usize
     requires there { exists_at files.old at ≡ true }
-    requires apart { AreApart files.old }
-    ensures count { result ≡ min piece (min (length bytes.now) (room_at files.old at - length (bytes_of (files_of files.old) (name_at files.old at)))) }
+    requires apart { FilesApart files.old }
+    ensures count { result ≡ min piece (min (length bytes.now) (room_at files.old at - length (file_bytes (files_of files.old) (name_at files.old at)))) }
     ensures files { files_of files.new ≡ with_more (name_at files.old at) (take result bytes.now) (files_of files.old) }
     ensures there { exists_at files.new at ≡ exists_at files.old at }
     ensures places { KeepsPlaces files.old files.new }

@@ -32,7 +32,7 @@ first_so (Ok cert) text ok err r h = absurd (printed_not_refused (claim_of cert)
 first_so (Err s) text ok err r h = (same_or_memory s r text err h, refl)
 
 pub returns-clause-printed : goal.returns-clause-printed
-returns-clause-printed c = printed_so c.read_lines.result c.args.bytes.now c.read_lines.ensures.ok c.read_lines.ensures.refused
+returns-clause-printed c = printed_so c.read_or_refuse.result c.args.bytes.now c.read_or_refuse.ensures.ok c.read_or_refuse.ensures.refused
 
 pub returns-clause-first : goal.returns-clause-first
-returns-clause-first c = first_so c.read_lines.result c.args.bytes.now c.read_lines.ensures.ok c.read_lines.ensures.refused
+returns-clause-first c = first_so c.read_or_refuse.result c.args.bytes.now c.read_or_refuse.ensures.ok c.read_or_refuse.ensures.refused

@@ -1,7 +1,7 @@
-use Rattle.cert_text.specs.Rows.{IsSinkRow}
+use Rattle.cert_text.specs.Rows.{IsSinkRow, sink_order}
 use Rattle.cert_text.specs.Texts.{sink_line}
-use Rattle.cert_text.proofs.RowLemmas.{IsReadSoFar}
+use Rattle.line_text.proofs.Rows.{IsReadSoFar}
 use Rattle.cert_text.proofs.read.read_sink_rows.Given as goal
 
 abbrev pub invariant-loop-k : goal.invariant-loop-k
-invariant-loop-k l = IsReadSoFar IsSinkRow sink_line (λ s. s.cell) l.text l.rest l.rows.items l.k l.line l.at
+invariant-loop-k l = IsReadSoFar IsSinkRow sink_line sink_order l.text l.rest l.rows.items l.k l.line l.at

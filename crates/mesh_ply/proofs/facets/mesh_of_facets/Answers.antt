@@ -2,8 +2,8 @@ use Rattle.std.proofs.Common.{ℕ, ◌≡◌, ◌<◌, ◌^◌, ◌∙◌, ap, s
 use Rattle.std.specs.List.{All, AllPairs}
 use Rattle.std.proofs.lemmas.List.{length-map}
 use Rattle.line_text.specs.Rising.{IsBefore}
-use Rattle.geo_sign.specs.Place.{Place}
-use Rattle.mesh_ply.specs.Meshes.{below, is_used, number_of, marked, number_among, place_of, mesh_of, IsFacet, IsMesh}
+use Rattle.geo_sign.specs.Point.{Point}
+use Rattle.mesh_ply.specs.Meshes.{below, is_used, new_number, marked, number_among, point_at, mesh_of, IsFace, IsMesh}
 use Rattle.mesh_ply.proofs.Vertices.{length_below, marked_used, number_in_table, facets_same}
 use Rattle.mesh_ply.proofs.Renumbered.{mesh_valid, faces_rise}
 use Rattle.mesh_ply.proofs.facets.mesh_of_facets.Goals as goal
@@ -19,20 +19,20 @@ faces_of-requires c =
     let n = length c.args.places.now in
     let marks = c.deref.result.now in
     let same : n ≡ length c.deref-2.result.now = omega (arith, ap (λ (t : List ℕ). length t) c.in_ok-numbering.ensures.numbers, ap (λ (t : List ℕ). length t) c.deref-2.ensures.value, length-map (below n) (number_among marks), length_below n) in
-    subst (λ (k : ℕ). All (IsFacet k) c.args.facets.now) same c.requires.facets.each
+    subst (λ (k : ℕ). All (IsFace k) c.args.facets.now) same c.requires.facets.each
 
 -- the whole mesh, as the definition has it
-points_are : (places points : List Place) (facets : List (List ℕ)) (marks from : List Bool) → points ≡ map (place_of places) (marked marks (length places)) → marks ≡ from → from ≡ map (is_used facets) (below (length places)) → points ≡ (mesh_of places facets).points
-points_are places points facets marks from e f g = e ∙ ap (map (place_of places)) (marked_used facets marks (length places) (length places) (f ∙ g) (omega arith))
+points_are : (places points : List Point) (facets : List (List ℕ)) (marks from : List Bool) → points ≡ map (point_at places) (marked marks (length places)) → marks ≡ from → from ≡ map (is_used facets) (below (length places)) → points ≡ (mesh_of places facets).points
+points_are places points facets marks from e f g = e ∙ ap (map (point_at places)) (marked_used facets marks (length places) (length places) (f ∙ g) (omega arith))
 
-faces_are : (places : List Place) (facets faces : List (List ℕ)) (marks from : List Bool) (table numbers : List ℕ) → All (IsFacet (length places)) facets → faces ≡ map (map (λ v. get_or table v 0)) facets → table ≡ numbers → numbers ≡ map (number_among marks) (below (length places)) → marks ≡ from → from ≡ map (is_used facets) (below (length places)) → faces ≡ (mesh_of places facets).faces
+faces_are : (places : List Point) (facets faces : List (List ℕ)) (marks from : List Bool) (table numbers : List ℕ) → All (IsFace (length places)) facets → faces ≡ map (map (λ v. get_or table v 0)) facets → table ≡ numbers → numbers ≡ map (number_among marks) (below (length places)) → marks ≡ from → from ≡ map (is_used facets) (below (length places)) → faces ≡ (mesh_of places facets).faces
 faces_are places facets faces marks from table numbers o e f g h k =
-    e ∙ facets_same (length places) (λ v. get_or table v 0) (number_of facets) facets o (λ v l. number_in_table facets marks table (length places) v (h ∙ k) (f ∙ g) l)
+    e ∙ facets_same (length places) (λ v. get_or table v 0) (new_number facets) facets o (λ v l. number_in_table facets marks table (length places) v (h ∙ k) (f ∙ g) l)
 
-valid_so : (places points : List Place) (facets faces : List (List ℕ)) → points ≡ (mesh_of places facets).points → faces ≡ (mesh_of places facets).faces → IsMesh (mesh_of places facets).points (mesh_of places facets).faces → IsMesh points faces
-valid_so places points facets faces e f m = subst (λ (ps : List Place). IsMesh ps faces) (sym e) (subst (λ (fs : List (List ℕ)). IsMesh (mesh_of places facets).points fs) (sym f) m)
+valid_so : (places points : List Point) (facets faces : List (List ℕ)) → points ≡ (mesh_of places facets).points → faces ≡ (mesh_of places facets).faces → IsMesh (mesh_of places facets).points (mesh_of places facets).faces → IsMesh points faces
+valid_so places points facets faces e f m = subst (λ (ps : List Point). IsMesh ps faces) (sym e) (subst (λ (fs : List (List ℕ)). IsMesh (mesh_of places facets).points fs) (sym f) m)
 
-rising_so : (facets faces : List (List ℕ)) → faces ≡ map (map (number_of facets)) facets → AllPairs IsBefore (map (map (number_of facets)) facets) → AllPairs IsBefore faces
+rising_so : (facets faces : List (List ℕ)) → faces ≡ map (map (new_number facets)) facets → AllPairs IsBefore (map (map (new_number facets)) facets) → AllPairs IsBefore faces
 rising_so facets faces e m = subst (λ (fs : List (List ℕ)). AllPairs IsBefore fs) (sym e) m
 
 pub returns-clause-points : goal.returns-clause-points

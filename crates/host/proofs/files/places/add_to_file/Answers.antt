@@ -1,12 +1,12 @@
 use Rattle.std.proofs.Common.{arith, rules, sym, ◌∙◌}
-use Rattle.host.proofs.FileList.{adds, content_more, name_at-get, name_at-set, room_at-set, names_of_files-set, exists_at-set, exists_at-get, room_at-get, exists_lt, bytes_of-name_at}
+use Rattle.host.proofs.FileList.{adds, content_more, name_at-get, name_at-set, room_at-set, names_of_files-set, exists_at-set, exists_at-get, room_at-get, exists_lt, file_bytes-name_at}
 use Rattle.host.proofs.files.places.add_to_file.Goals as goal
 
 pub returns-clause-count : goal.returns-clause-count
 returns-clause-count c =
     let within = exists_lt c.args.files.now c.args.at c.requires.there in
     let room = room_at-get c.args.files.now c.args.at c.index-files-at.result within in
-    let bytes = bytes_of-name_at c.args.files.now c.args.at c.index-files-at.result c.requires.apart within (sym (exists_at-get c.args.files.now c.args.at c.index-files-at.result within) ∙ c.requires.there) in
+    let bytes = file_bytes-name_at c.args.files.now c.args.at c.index-files-at.result c.requires.apart within (sym (exists_at-get c.args.files.now c.args.at c.index-files-at.result within) ∙ c.requires.there) in
     grind arith
 
 pub returns-clause-files : goal.returns-clause-files

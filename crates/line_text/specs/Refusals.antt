@@ -1,0 +1,135 @@
+-- Why a text that is read line by line is refused: the first refusal in line order.
+--
+--   line_after n k               the number of the line k lines behind line n; it stays at the last number of 64 bits
+--   IsCutOrBad n text r          how a line that is not of its form is refused
+--   WithMemory r P               want of memory, or the fact
+--   RefusedWord, RefusedNumber   line n, a fixed text, a word and a number, is refused
+--   Rise order rows              rows that rise strictly by their keys, where they have to
+--   RisesAbove order rows row    a row comes behind the last of these rows, where it has to
+--   AreRows                      rows of their form that rise
+--   IsOutOfOrder                 a row of the form that does not rise above the row before it
+--   IsRefusedRow                 a row of a list is refused, behind rows that are good
+--   BeginsWith                   a part of the form stands in front, and something is said of what is behind
+--   AtPart                       a part is refused, or it is good and something is said of what is behind
+--   AtWord, AtNumber             the same of a line of a fixed text, of a word and a number
+--   AtRows, AtList               the same of so many rows, of a list with its length before it
+--   RefusedList                  a list is refused
+--   list_text, IsList            the text of a whole list, and when its rows are good
+--   IsBehindEnd n rest r         something follows the last line, as a line n of its own
+use Rattle.std.specs.Prelude.{ℕ, ◌≡◌, ◌⊎◌, ◌+◌, ◌-◌, ◌<◌, ◌^◌, min, Option, Some, None, List, [], ◌∷◌, ◌++◌, All, AllPairs, Contains, length, map}
+use Rattle.std.specs.List.{flat_map}
+use Rattle.line_text.specs.Numbers.{line_feed, counted, Lacks, BeginsWithNone, IsBetween}
+use Rattle.line_text.specs.Rising.{IsBefore}
+use Rattle.line_text.specs.declared.refusal.LineRefusal.{LineRefusal}
+use Rattle.line_text.specs.declared.refusal.LineRefusal.TheVariants.{BadLine, Order, Cut, NoMemory}
+
+-- the number of the line that is k lines behind line n; it stays at the last number of 64 bits
+abbrev pub line_after : ℕ → ℕ → ℕ
+line_after n k = min (n + k) (2 ^ 64 - 1)
+
+-- A line that is not of its form: the text ends before the line does, or the line n is there and bad.
+abbrev pub IsCutOrBad : ℕ → List ℕ → LineRefusal → Type 0
+IsCutOrBad n text Cut = Lacks line_feed text
+IsCutOrBad n text (BadLine m) = (m ≡ n) × Contains text line_feed
+IsCutOrBad n text (Order m) = ⊥
+IsCutOrBad n text NoMemory = ⊥
+
+-- a fact about the text, where memory was found
+abbrev pub WithMemory : LineRefusal → Type 0 → Type 0
+WithMemory NoMemory P = Unit {0}
+WithMemory _ P = P
+
+-- line n is not this fixed text
+abbrev pub RefusedWord : List ℕ → ℕ → List ℕ → LineRefusal → Type 0
+RefusedWord word n text r = ((rest : List ℕ) → ¬ (text ≡ word ++ rest)) × IsCutOrBad n text r
+
+-- line n is not the word and a number from the least to the greatest
+abbrev pub RefusedNumber : List ℕ → (least greatest : ℕ) → ℕ → List ℕ → LineRefusal → Type 0
+RefusedNumber word least greatest n text r = BeginsWithNone (IsBetween least greatest) (counted word) text × IsCutOrBad n text r
+
+-- ---- rows
+-- rows that rise strictly by their keys, or in any order
+abbrev pub Rise : {A : Type 0} → Option (A → List ℕ) → List A → Type 0
+Rise None rows = Unit {0}
+Rise (Some key) rows = AllPairs IsBefore (map key rows)
+
+-- the row rises above the row before it, if there is one and rows have to rise
+abbrev pub RisesAbove : {A : Type 0} → Option (A → List ℕ) → List A → A → Type 0
+RisesAbove None rows row = Unit {0}
+RisesAbove {A} (Some key) rows row = (earlier : List A) (before : A) → rows ≡ earlier ++ before ∷ [] → IsBefore (key before) (key row)
+
+-- rows of their form that rise
+pub record AreRows {A : Type 0} (IsForm : A → Type 0) (order : Option (A → List ℕ)) (rows : List A) : Type 0 where
+  pub each : All IsForm rows
+  pub rising : Rise order rows
+
+-- so many rows
+abbrev pub AreCounted : {A : Type 0} → (A → Type 0) → Option (A → List ℕ) → ℕ → List A → Type 0
+AreCounted IsForm order count rows = (length rows ≡ count) × AreRows IsForm order rows
+
+-- line n is of the form, but its row does not rise above the row before it
+pub record IsOutOfOrder {A : Type 0} (IsForm : A → Type 0) (line_of : A → List ℕ) (order : Option (A → List ℕ)) (rows : List A) (n : ℕ) (text : List ℕ) (r : LineRefusal) : Type 0 where
+  pub row : A
+  pub rest : List ℕ
+  pub form : IsForm row
+  pub front : text ≡ line_of row ++ rest
+  pub falls : ¬ RisesAbove order rows row
+  pub says : r ≡ Order n
+
+-- the row at line n, behind these rows, is not of its form or out of order
+abbrev pub IsRefusedLine : {A : Type 0} → (A → Type 0) → (A → List ℕ) → Option (A → List ℕ) → List A → ℕ → List ℕ → LineRefusal → Type 0
+IsRefusedLine IsForm line_of order rows n text r = (BeginsWithNone IsForm line_of text × IsCutOrBad n text r) ⊎ IsOutOfOrder IsForm line_of order rows n text r
+
+-- one of `count` rows that begin at line n is refused, and the rows before it are good
+pub record IsRefusedRow {A : Type 0} (IsForm : A → Type 0) (line_of : A → List ℕ) (order : Option (A → List ℕ)) (count n : ℕ) (text : List ℕ) (r : LineRefusal) : Type 0 where
+  pub rows : List A
+  pub rest : List ℕ
+  pub few : length rows < count
+  pub good : AreRows IsForm order rows
+  pub front : text ≡ flat_map line_of rows ++ rest
+  pub refused : IsRefusedLine IsForm line_of order rows (line_after n (length rows)) rest r
+
+-- ---- parts, one behind the other
+-- a part of the form stands in front, and what is said of the text behind it holds
+pub record BeginsWith {A : Type 0} (IsForm : A → Type 0) (text_of : A → List ℕ) (text : List ℕ) (Next : A → List ℕ → Type 0) : Type 0 where
+  pub value : A
+  pub rest : List ℕ
+  pub form : IsForm value
+  pub front : text ≡ text_of value ++ rest
+  pub next : Next value rest
+
+-- a part is refused, or it is good and something is said of what is behind it
+abbrev pub AtPart : {A : Type 0} → (A → Type 0) → (A → List ℕ) → List ℕ → Type 0 → (A → List ℕ → Type 0) → Type 0
+AtPart IsForm text_of text Refused Next = Refused ⊎ BeginsWith IsForm text_of text Next
+
+-- line n, a fixed text
+abbrev pub AtWord : List ℕ → ℕ → List ℕ → LineRefusal → (List ℕ → Type 0) → Type 0
+AtWord word n text r Next = RefusedWord word n text r ⊎ ((rest : List ℕ) × (text ≡ word ++ rest) × Next rest)
+
+-- line n, a word and a number
+abbrev pub AtNumber : List ℕ → (least greatest : ℕ) → ℕ → List ℕ → LineRefusal → (ℕ → List ℕ → Type 0) → Type 0
+AtNumber word least greatest n text r = AtPart (IsBetween least greatest) (counted word) text (RefusedNumber word least greatest n text r)
+
+-- so many rows from line n on
+abbrev pub AtRows : {A : Type 0} → (A → Type 0) → (A → List ℕ) → Option (A → List ℕ) → (count : ℕ) → ℕ → List ℕ → LineRefusal → (List A → List ℕ → Type 0) → Type 0
+AtRows IsForm line_of order count n text r = AtPart (AreCounted IsForm order count) (flat_map line_of) text (IsRefusedRow IsForm line_of order count n text r)
+
+-- a list from line n on, with its length before it: what is said of the text behind it has that text's first line
+abbrev pub AtList : {A : Type 0} → (A → Type 0) → (A → List ℕ) → Option (A → List ℕ) → (word : List ℕ) → ℕ → List ℕ → LineRefusal → (ℕ → List ℕ → Type 0) → Type 0
+AtList IsForm line_of order word n text r Next =
+    AtNumber word 0 (2 ^ 64 - 1) n text r (λ count rows. AtRows IsForm line_of order count (line_after n 1) rows r (λ _ rest. Next (line_after (line_after n 1) count) rest))
+
+-- a list is refused, at its length or at one of its rows
+abbrev pub RefusedList : {A : Type 0} → (A → Type 0) → (A → List ℕ) → Option (A → List ℕ) → (word : List ℕ) → ℕ → List ℕ → LineRefusal → Type 0
+RefusedList IsForm line_of order word n text r = AtList IsForm line_of order word n text r (λ _ _. ⊥)
+
+-- the text of a whole list, and when its rows are good
+abbrev pub list_text : {A : Type 0} → (A → List ℕ) → List ℕ → List A → List ℕ
+list_text line_of word rows = counted word (length rows) ++ flat_map line_of rows
+
+abbrev pub IsList : {A : Type 0} → (A → Type 0) → Option (A → List ℕ) → List A → Type 0
+IsList IsForm order rows = (length rows < 2 ^ 64) × AreRows IsForm order rows
+
+-- something follows the last line: it begins line n
+abbrev pub IsBehindEnd : ℕ → List ℕ → LineRefusal → Type 0
+IsBehindEnd n rest r = (¬ (rest ≡ [])) × (r ≡ BadLine n)

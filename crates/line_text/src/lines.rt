@@ -1,0 +1,38 @@
+//! Lines of fixed texts, and of a word and a number, at the front of a text: read, or refused
+//! by their number.
+
+ghost use Rattle.std.specs.Prelude.{◌≡◌, ◌++◌, IfOk, IfErr};
+ghost use Rattle.line_text.specs.Numbers.{counted, IsBetween};
+ghost use Rattle.line_text.specs.Refusals.{RefusedWord, RefusedNumber};
+
+use crate::read::{behind, counted_within};
+use crate::refusal::{LineRefusal, refusal_of};
+
+/// What stands behind line `line`, which is this fixed text.
+pub fn word_line<'a>(text: &'a [u8], word: &[u8], line: u64) -> Result<&'a [u8], LineRefusal>
+    ensures ok { IfOk result (λ rest. text.now ≡ word.now ++ rest.now) }
+    ensures refused { IfErr result (RefusedWord word.now line text.now) }
+{
+    match behind(text, word) {
+        Some(rest) => Ok(rest),
+        None => Err(refusal_of(text, line)),
+    }
+}
+
+/// The number from `least` to `greatest` that line `line` states behind this word, and what
+/// stands behind the line.
+pub fn number_line<'a>(
+    text: &'a [u8],
+    word: &[u8],
+    least: u64,
+    greatest: u64,
+    line: u64,
+) -> Result<(u64, &'a [u8]), LineRefusal>
+    ensures ok { IfOk result (λ read. IsBetween least greatest read.0 × (text.now ≡ counted word.now read.0 ++ read.1.now)) }
+    ensures refused { IfErr result (RefusedNumber word.now least greatest line text.now) }
+{
+    match counted_within(text, word, least, greatest) {
+        Some(read) => Ok(read),
+        None => Err(refusal_of(text, line)),
+    }
+}

@@ -1,0 +1,56 @@
+-- Why a text is no mesh: the first refusal in line order.
+--
+--   mesh_refusal l        the refusal of a line as one of a mesh
+--   AtFaces, AtPoints     from the first face on, from the first point on, at line 10
+--   AtFaceCount           from line 4 on, behind the number of points
+--   AtMesh                the whole text, line by line
+--   IsRefusedMesh text r  the text is refused so
+use Rattle.std.specs.Prelude.{ℕ, ◌≡◌, ◌-◌, ◌^◌, min, None, List}
+use Rattle.geo_sign.specs.Point.{IsWithin}
+use Rattle.line_text.specs.declared.refusal.LineRefusal.{LineRefusal}
+use Rattle.line_text.specs.declared.refusal.LineRefusal.TheVariants as lines
+use Rattle.line_text.specs.Refusals.{line_after, AtWord, AtNumber, AtRows, IsBehindEnd}
+use Rattle.mesh_ply.specs.declared.refusal.MeshRefusal.{MeshRefusal}
+use Rattle.mesh_ply.specs.declared.refusal.MeshRefusal.TheVariants.{BadLine, MeshCut, NoMemory}
+use Rattle.mesh_ply.specs.Meshes.{IsFace}
+use Rattle.mesh_ply.specs.Texts.{ply_line, format_line, vertex_word, x_line, y_line, z_line, face_word, list_line, header_end, point_line, face_line}
+use Rattle.geo_sign.specs.declared.point.TheConstants.{BOX_LIMIT}
+
+-- The refusal of a line as one of a mesh: a line's number stays at the last number of 32 bits. No list of a mesh has an
+-- order, so none is refused for it.
+abbrev pub mesh_refusal : LineRefusal → MeshRefusal
+mesh_refusal (lines.BadLine n) = BadLine (min n (2 ^ 32 - 1))
+mesh_refusal (lines.Order n) = BadLine (min n (2 ^ 32 - 1))
+mesh_refusal lines.Cut = MeshCut
+mesh_refusal lines.NoMemory = NoMemory
+
+-- m faces among n points from line k on, and nothing behind them
+abbrev pub AtFaces : (n m k : ℕ) → List ℕ → LineRefusal → Type 0
+AtFaces n m k text r = AtRows (IsFace n) face_line None m k text r (λ _ rest. IsBehindEnd (line_after k m) rest r)
+
+-- n points from line 10 on, and m faces
+abbrev pub AtPoints : (n m : ℕ) → List ℕ → LineRefusal → Type 0
+AtPoints n m text r = AtRows (IsWithin BOX_LIMIT) point_line None n 10 text r (λ _ rest. AtFaces n m (line_after 10 n) rest r)
+
+-- the lines 4 to 9 behind the number n of points, and what follows
+abbrev pub AtFaceCount : ℕ → List ℕ → LineRefusal → Type 0
+AtFaceCount n text r =
+    AtWord x_line 4 text r (λ a.
+    AtWord y_line 5 a r (λ b.
+    AtWord z_line 6 b r (λ c.
+    AtNumber face_word 0 (2 ^ 32 - 1) 7 c r (λ m d.
+    AtWord list_line 8 d r (λ e.
+    AtWord header_end 9 e r (λ f.
+    AtPoints n m f r))))))
+
+-- the whole text
+abbrev pub AtMesh : List ℕ → LineRefusal → Type 0
+AtMesh text r =
+    AtWord ply_line 1 text r (λ a.
+    AtWord format_line 2 a r (λ b.
+    AtNumber vertex_word 0 (2 ^ 32 - 1) 3 b r (λ n c.
+    AtFaceCount n c r)))
+
+-- the text is refused so: the first line, in order, that is cut, not of its form, or behind the end
+abbrev pub IsRefusedMesh : List ℕ → MeshRefusal → Type 0
+IsRefusedMesh text r = (l : LineRefusal) × AtMesh text l × (r ≡ mesh_refusal l)

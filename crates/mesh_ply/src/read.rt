@@ -1,0 +1,142 @@
+//! A mesh read from its text. Exactly the texts that are printed are read; of any other text
+//! the first refusal in line order is answered. Nothing is reserved by a stated count, so
+//! time and memory are linear in the bytes. It stands on `line_text`.
+
+ghost use Rattle.std.specs.Prelude.{◌≡◌, ◌<◌, ◌≤◌, ◌^◌, ◌++◌, ◌⊎◌, None, ℕ, List, IfOk, IfErr, IsErr, MatchResult, length};
+ghost use Rattle.std.specs.List.{flat_map};
+ghost use Rattle.geo_sign.specs.Point.{Point, IsWithin};
+ghost use Rattle.line_text.specs.Refusals.{WithMemory, AreCounted, IsRefusedRow};
+ghost use Rattle.mesh_ply.specs.Meshes.{IsFace};
+ghost use Rattle.mesh_ply.specs.Texts.{point_line, face_line, text_behind_count, mesh_text, IsPrinted};
+ghost use Rattle.mesh_ply.specs.Refusals.{AtPoints, AtFaceCount, AtMesh, IsRefusedMesh};
+ghost use Rattle.mesh_ply.specs.declared.refusal.MeshRefusal.{MeshRefusal};
+ghost use Rattle.geo_sign.specs.declared.point.TheConstants.{BOX_LIMIT};
+
+use crate::fields::{face_first, point_first};
+use crate::refusal::refusal_of_mesh;
+use crate::words::{faces, first_line, format, last_line, list, vertices, x, y, z};
+use crate::{Mesh, MeshRefusal};
+use geo_sign::Point;
+use line_text::{LineRefusal, number_line, refusal_of, word_line};
+use std::alloc::Global;
+
+// The lines of so many points, from this line on.
+fn read_points(
+    alloc: Global,
+    text: &[u8],
+    count: u64,
+    line: u64,
+) -> Result<(Vec<Point>, &[u8]), LineRefusal>
+    ensures ok { IfOk result (λ read. AreCounted (IsWithin BOX_LIMIT) None count read.0.items × (text.now ≡ flat_map point_line read.0.items ++ read.1.now)) }
+    ensures refused { IfErr result (λ r. WithMemory r (IsRefusedRow (IsWithin BOX_LIMIT) point_line None count line text.now r)) }
+{
+    let mut rows: Vec<Point> = Vec::new(alloc);
+    let mut rest = text;
+    let mut at = line;
+    for k in 0..count {
+        let (row, next) = match point_first(rest) {
+            Some(read) => read,
+            None => return Err(refusal_of(rest, at)),
+        };
+        if rows.push(row).is_err() {
+            return Err(LineRefusal::NoMemory);
+        }
+        rest = next;
+        at = at.saturating_add(1);
+    }
+    Ok((rows, rest))
+}
+
+// The lines of so many faces among these many points, from this line on.
+fn read_faces(
+    alloc: Global,
+    text: &[u8],
+    points: u64,
+    count: u64,
+    line: u64,
+) -> Result<(Vec<[u32; 3]>, &[u8]), LineRefusal>
+    requires { points < 2 ^ 32 }
+    ensures ok { IfOk result (λ read. AreCounted (IsFace points) None count read.0.items × (text.now ≡ flat_map face_line read.0.items ++ read.1.now)) }
+    ensures refused { IfErr result (λ r. WithMemory r (IsRefusedRow (IsFace points) face_line None count line text.now r)) }
+{
+    let mut rows: Vec<[u32; 3]> = Vec::new(alloc);
+    let mut rest = text;
+    let mut at = line;
+    for k in 0..count {
+        let (row, next) = match face_first(rest, points) {
+            Some(read) => read,
+            None => return Err(refusal_of(rest, at)),
+        };
+        if rows.push(row).is_err() {
+            return Err(LineRefusal::NoMemory);
+        }
+        rest = next;
+        at = at.saturating_add(1);
+    }
+    Ok((rows, rest))
+}
+
+// The points and faces from line 10 on, and nothing behind them.
+fn read_rows(alloc: Global, text: &[u8], points: u64, faces: u64) -> Result<Mesh, LineRefusal>
+    requires { points < 2 ^ 32 }
+    ensures ok { IfOk result (λ mesh. AreCounted (IsWithin BOX_LIMIT) None points mesh.points.items × AreCounted (IsFace points) None faces mesh.faces.items × (text.now ≡ flat_map point_line mesh.points.items ++ flat_map face_line mesh.faces.items)) }
+    ensures refused { IfErr result (λ r. WithMemory r (AtPoints points faces text.now r)) }
+{
+    let (vertices, rest) = read_points(alloc, text, points, 10)?;
+    let line = points + 10;
+    let (triangles, rest) = read_faces(alloc, rest, points, faces, line)?;
+    if !rest.is_empty() {
+        return Err(LineRefusal::BadLine(line.saturating_add(faces)));
+    }
+    Ok(Mesh {
+        points: vertices,
+        faces: triangles,
+    })
+}
+
+// What stands behind the number of points, from line 4 on.
+fn read_from_face_count(alloc: Global, text: &[u8], points: u64) -> Result<Mesh, LineRefusal>
+    requires { points < 2 ^ 32 }
+    ensures ok { IfOk result (λ mesh. (length mesh.points.items ≡ points) × IsPrinted mesh.points.items mesh.faces.items × (text.now ≡ text_behind_count mesh.points.items mesh.faces.items)) }
+    ensures refused { IfErr result (λ r. WithMemory r (AtFaceCount points text.now r)) }
+{
+    let rest = word_line(text, x(), 4)?;
+    let rest = word_line(rest, y(), 5)?;
+    let rest = word_line(rest, z(), 6)?;
+    let (count, rest) = number_line(rest, faces(), 0, 4_294_967_295, 7)?;
+    let rest = word_line(rest, list(), 8)?;
+    let rest = word_line(rest, last_line(), 9)?;
+    read_rows(alloc, rest, points, count)
+}
+
+// The mesh, or the first refusal.
+fn read_lines(alloc: Global, bytes: &[u8]) -> Result<Mesh, LineRefusal>
+    ensures ok { IfOk result (λ mesh. IsPrinted mesh.points.items mesh.faces.items × (bytes.now ≡ mesh_text mesh.points.items mesh.faces.items)) }
+    ensures refused { IfErr result (λ r. WithMemory r (AtMesh bytes.now r)) }
+{
+    let rest = word_line(bytes, first_line(), 1)?;
+    let rest = word_line(rest, format(), 2)?;
+    let (points, rest) = number_line(rest, vertices(), 0, 4_294_967_295, 3)?;
+    read_from_face_count(alloc, rest, points)
+}
+
+/// The mesh whose text the bytes are.
+///
+/// Ok exactly for the texts that [`push_mesh`](crate::push_mesh) writes. Otherwise the first
+/// refusal, line by line: `MeshCut` where the bytes end before the line feed of an expected
+/// line, `BadLine` where the line isn't of the form that stands there, which includes any
+/// byte behind the last line, as a line of its own. A count is at most 2^32 - 1, a point is
+/// one of the box, and a face has three distinct places among the points, the smallest
+/// first. Lines are counted from 1, and a number that would pass the end of 32 bits stays
+/// there. `NoMemory` says nothing of the text.
+pub fn read_mesh(alloc: Global, bytes: &[u8]) -> Result<Mesh, MeshRefusal>
+    ensures ok { IfOk result (λ mesh. IsPrinted mesh.points.items mesh.faces.items × (bytes.now ≡ mesh_text mesh.points.items mesh.faces.items)) }
+    ensures printed { (points : List Point) (faces : List (List ℕ)) → IsPrinted points faces → bytes.now ≡ mesh_text points faces → MatchResult result (λ mesh. (mesh.points.items ≡ points) × (mesh.faces.items ≡ faces)) (λ r. r ≡ MeshRefusal.NoMemory) }
+    ensures refused { IfErr result (λ r. (r ≡ MeshRefusal.NoMemory) ⊎ IsRefusedMesh bytes.now r) }
+    ensures first { (r : MeshRefusal) → IsRefusedMesh bytes.now r → IfErr result (λ s. (s ≡ MeshRefusal.NoMemory) ⊎ (s ≡ r)) × IsErr result }
+{
+    match read_lines(alloc, bytes) {
+        Ok(mesh) => Ok(mesh),
+        Err(refusal) => Err(refusal_of_mesh(refusal)),
+    }
+}
