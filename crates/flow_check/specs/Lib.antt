@@ -1,4 +1,3 @@
 pub mod Firsts
-pub mod Totals
 pub mod Verdicts
 pub mod Laws

@@ -1,23 +1,13 @@
-//! Nodes at which a flow is not balanced. It stands on `flow_net` alone.
-//!
-//! Fewer than 2^64 amounts, each below 2^64, are added up, so no sum of 128 bits wraps.
+//! Nodes at which a flow is not balanced. It stands on the totals of `flow_valid`.
 
-ghost use Rattle.std.specs.Prelude.{◌≡◌, length, IfOk, IfSome, IfNone};
+ghost use Rattle.std.specs.Prelude.{◌≡◌, length, IfSome, IfNone};
 ghost use Rattle.flow_net.specs.Flows.{amount_in};
 ghost use Rattle.flow_check.specs.Firsts.{IsFirst, NoneBelow};
-ghost use Rattle.flow_check.specs.Totals.{AreTotals};
+ghost use Rattle.flow_valid.specs.Totals.{AreTotals};
 ghost use Rattle.flow_check.specs.Verdicts.{IsUnbalanced, total_out};
 
-use crate::NoMemory;
 use flow_net::{Flow, Net};
-use std::alloc::Global;
-
-/// What enters each node over arcs, and what leaves it over arcs.
-#[derive(Debug, Drop)]
-pub struct Totals {
-    pub entering: Vec<u128>,
-    pub leaving: Vec<u128>,
-}
+use flow_valid::Totals;
 
 /// A free node that a flow enters with another amount than it leaves.
 #[derive(Clone, Copy, Debug, PartialEq, Eq)]
@@ -27,23 +17,6 @@ pub struct Unbalance {
     pub amount_in: u128,
     /// What leaves the node over arcs and at its sink.
     pub amount_out: u128,
-}
-
-/// Adds up what enters and what leaves each node over arcs, in one pass over the arcs.
-pub fn add_up(alloc: Global, net: &Net, flow: &Flow) -> Result<Totals, NoMemory>
-    requires { length flow.now.on_arc ≡ length net.now.arcs }
-    ensures { IfOk result (AreTotals net.now flow.now) }
-{
-    let amounts = flow.on_arc.as_slice();
-    let nodes = net.fixed.as_slice().len();
-    let mut entering = vec![in alloc; 0u128; nodes]?;
-    let mut leaving = vec![in alloc; 0u128; nodes]?;
-    for (place, arc) in net.arcs.as_slice().iter().enumerate() {
-        let amount = u128::from(amounts[place]);
-        entering[arc.to] += amount;
-        leaving[arc.from] += amount;
-    }
-    Ok(Totals { entering, leaving })
 }
 
 /// The first free node that is not balanced, if there is one.

@@ -5,10 +5,11 @@ ghost use Rattle.flow_net.specs.Flows.{IsValidFlow, IsLeastInside, value_of, cos
 ghost use Rattle.flow_check.specs.Firsts.{IsFirst, NoneBelow};
 ghost use Rattle.flow_check.specs.Verdicts.{IsCertified, IsInsideAlone, IsNotLeast, IsVerdict};
 
-use crate::balance::{add_up, unbalanced};
+use crate::balance::unbalanced;
 use crate::limits::{fixed_inside, limit_at, over_capacity, over_sink};
 use crate::{NoMemory, Verdict};
 use flow_net::{Flow, Labels, Net, cost, value};
+use flow_valid::add_up;
 use max_flow::least_inside;
 use std::alloc::Global;
 

@@ -6,7 +6,7 @@
 //!
 //! `verdict` holds the answers, `limits` finds fixed nodes inside and amounts over their limits, `balance` finds nodes at
 //! which a flow is not balanced, `checking` puts them together, and `laws` says what holds of all verdicts. The crate stands
-//! on `flow_net`, and on `max_flow` for the least-inside labels.
+//! on `flow_net`, on `flow_valid` for what enters and leaves each node, and on `max_flow` for the least-inside labels.
 #![tactic(auto)]
 
 mod balance;

@@ -1,16 +1,22 @@
 //! A largest flow through a network, and the least-inside labels that it shows.
 //!
-//! The flow is found by augmenting paths in the residual network (Ford and Fulkerson 1956), one shortest path a round
-//! (Edmonds and Karp 1972). The labels are the nodes from which a sink with room can still be reached, which are the
-//! smallest inside of all minimum cuts. Labatut, Pons and Keriven (2007) cut such a network of cells.
+//! The flow begins with a hint, which is tested: where it is valid, and labels beside it cost what it is worth, it is a
+//! largest one (Ford and Fulkerson 1956). Else rounds go on from it, or from nothing where it is not valid. A round finds
+//! all nodes from which a sink with room can be reached in the residual network, with their levels, and sends more along
+//! paths that lead down by levels until none is left (Dinic 1970). Where no fixed node is found, the flow is a largest one.
+//!
+//! The least-inside labels are the nodes from which a sink with room can still be reached, which are the smallest inside of
+//! all minimum cuts. Labatut, Pons and Keriven (2007) cut such a network of cells.
 //!
 //! `residual` holds the residual arcs, `incidence` finds those that enter a node, `searches` goes backwards from the
-//! sinks with room, `paths` sends more along augmenting paths, and `solving` has the two calls that stand on all these.
-//! The crate stands on `flow_net` alone.
+//! sinks with room, `paths` sends more along augmenting paths, `phases` does so down the levels of a search, and `solving`
+//! has the two calls that stand on all these. The crate stands on `flow_net`, on `flow_hint` for the hint and on
+//! `flow_valid` for its test.
 #![tactic(auto)]
 
 mod incidence;
 mod paths;
+mod phases;
 mod residual;
 mod searches;
 mod solving;
@@ -20,5 +26,7 @@ pub use solving::{least_inside, solve};
 /// The error of a call for which there was no memory.
 pub type NoMemory = std::alloc::AllocError;
 
+#[cfg(test)]
+mod comparison;
 #[cfg(test)]
 mod tests;

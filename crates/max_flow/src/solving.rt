@@ -1,5 +1,5 @@
-//! A largest flow by one augmenting path at a time, and the least-inside labels that it shows. It stands on the search
-//! and on augmenting paths.
+//! A largest flow from a tested hint and by rounds, and the least-inside labels that it shows. It stands on the search, on
+//! augmenting paths and on phases.
 
 ghost use Rattle.std.specs.Prelude.{◌≡◌, ◌<◌, ◌≤◌, length, true, false, ℕ, IfOk, IfSome, IfNone, OnOk, OnErr};
 ghost use Rattle.flow_net.specs.Nets.{flag_at};
@@ -11,20 +11,23 @@ ghost use Rattle.max_flow.specs.Searches.{IsComplete};
 use crate::NoMemory;
 use crate::incidence::Incidence;
 use crate::paths::{augment, bottleneck};
+use crate::phases::Phase;
 use crate::residual::ResidualArc;
 use crate::searches::{Search, search_back};
-use flow_net::{Flow, Labels, Net, Sequence};
+use flow_hint::{Hint, find_hint};
+use flow_net::{Flow, Labels, Net, Sequence, cost, equal_value_and_cost_are_best, value};
+use flow_valid::is_valid_flow;
 use std::alloc::Global;
 
 /// An augmenting path, and the node at its end.
 #[derive(Debug, Drop)]
-struct Augmenting {
-    path: Vec<ResidualArc>,
-    end: usize,
+pub struct Augmenting {
+    pub path: Vec<ResidualArc>,
+    pub end: usize,
 }
 
 /// A fixed node from which a sink with room can be reached, if there is one.
-fn found_fixed(net: &Net, marked: &[bool]) -> Option<usize>
+pub fn found_fixed(net: &Net, marked: &[bool]) -> Option<usize>
     requires { length marked.now ≡ length net.now.fixed }
     ensures node { IfSome result (λ v. v < length net.now.fixed) }
     ensures fixed { IfSome result (λ v. flag_at net.now.fixed v ≡ true) }
@@ -41,7 +44,7 @@ fn found_fixed(net: &Net, marked: &[bool]) -> Option<usize>
 }
 
 /// The path from a found fixed node to a sink with room.
-fn path_from(
+pub fn path_from(
     alloc: Global,
     net: &Net,
     flow: &Flow,
@@ -55,7 +58,7 @@ fn path_from(
     ensures path { IfOk result (λ found. IsAugmenting net.now flow.now start found.path.items 1) }
     ensures end { IfOk result (λ found. end_of net.now start found.path.items ≡ found.end) }
 {
-    let mut path = Vec::with_capacity(alloc, search.level[start])?;
+    let mut path = Vec::with_capacity(alloc, search.level[start] as usize)?;
     let mut node = start;
     while let Some(residual) = search.toward[node] {
         node = residual.head(net);
@@ -85,9 +88,11 @@ fn improve(
     let Some(start) = found_fixed(net, &search.marked) else {
         return Ok(false);
     };
+    let mut phase = Phase::new(alloc, net, incidence)?;
     let found = path_from(alloc, net, flow, &search, start)?;
     let amount = bottleneck(net, flow, start, &found.path, found.end);
     augment(net, flow, start, &found.path, amount);
+    phase.block(net, incidence, &search, flow);
     Ok(true)
 }
 
@@ -105,16 +110,56 @@ fn finish(alloc: Global, net: &Net, flow: &mut Flow) -> Result<(), NoMemory>
     Ok(())
 }
 
+/// The flow of nothing.
+pub fn zero_flow(alloc: Global, net: &Net) -> Result<Flow, NoMemory>
+    ensures { IfOk result (λ flow. IsValidFlow net.now flow) }
+{
+    Ok(Flow {
+        on_arc: Sequence::from(vec![in alloc; 0u64; net.arcs.as_slice().len()]?),
+        on_sink: Sequence::from(vec![in alloc; 0u64; net.fixed.as_slice().len()]?),
+    })
+}
+
+/// Whether labels show that a valid flow is a largest one: no fixed node is inside, and they cost what the flow is worth.
+fn is_shown_largest(net: &Net, flow: &Flow, labels: &Labels) -> bool
+    requires { IsValidFlow net.now flow.now }
+    ensures { result ≡ true → IsLargest net.now flow.now }
+{
+    let inside = labels.inside.as_slice();
+    if inside.len() != net.fixed.as_slice().len() {
+        return false;
+    }
+    let None = found_fixed(net, inside) else {
+        return false;
+    };
+    equal_value_and_cost_are_best();
+    value(net, flow) == cost(net, labels)
+}
+
+/// A valid flow to start from, and whether it is known to be a largest one: that of a hint, which mostly is, or the flow of
+/// nothing where the hint's is not valid.
+fn first_flow(alloc: Global, net: &Net) -> Result<(Flow, bool), NoMemory>
+    ensures valid { IfOk result (λ found. IsValidFlow net.now found.0) }
+    ensures largest { IfOk result (λ found. found.1 ≡ true → IsLargest net.now found.0) }
+{
+    if let Some(Hint { flow, labels }) = find_hint(alloc, net)? {
+        if is_valid_flow(alloc, net, &flow)? {
+            let is_largest = is_shown_largest(net, &flow, &labels);
+            return Ok((flow, is_largest));
+        }
+    }
+    Ok((zero_flow(alloc, net)?, false))
+}
+
 /// A flow of the largest value: it is valid, so 0 at the sinks of fixed nodes, and no valid flow has a larger value.
 pub fn solve(alloc: Global, net: &Net) -> Result<Flow, NoMemory>
     ensures valid { IfOk result (λ flow. IsValidFlow net.now flow) }
     ensures largest { IfOk result (λ flow. IsLargest net.now flow) }
 {
-    let mut flow = Flow {
-        on_arc: Sequence::from(vec![in alloc; 0u64; net.arcs.as_slice().len()]?),
-        on_sink: Sequence::from(vec![in alloc; 0u64; net.fixed.as_slice().len()]?),
-    };
-    finish(alloc, net, &mut flow)?;
+    let (mut flow, is_largest) = first_flow(alloc, net)?;
+    if !is_largest {
+        finish(alloc, net, &mut flow)?;
+    }
     Ok(flow)
 }
 

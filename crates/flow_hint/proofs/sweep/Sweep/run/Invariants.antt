@@ -1,0 +1,5 @@
+use Rattle.std.proofs.Common.{◌≡◌}
+use Rattle.flow_hint.proofs.sweep.Sweep.run.Given as goal
+
+abbrev pub invariant-loop-done : goal.invariant-loop-done
+invariant-loop-done l = l.self.refund.wiring ≡ l.initial.self.refund.wiring

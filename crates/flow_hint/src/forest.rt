@@ -1,0 +1,371 @@
+//! A forest that grows from nodes with excess, and sends along its branches to each sink with room that it meets. It
+//! stands on preflows.
+//!
+//! It is half of the two trees of Boykov and Kolmogorov (2004): a node whose branch is full looks for another parent that
+//! is nearer to a root, and else leaves the forest. The work is bounded by fuel; where it ends, the amounts are as good a
+//! start for another method as any.
+
+ghost use Rattle.std.specs.Prelude.{◌≡◌, ◌<◌, length, slice_index, EachIndex, IfSome};
+
+use crate::NoMemory;
+use crate::preflow::Preflow;
+use std::alloc::Global;
+
+/// The parent of a node outside the forest.
+const FREE: u32 = u32::MAX;
+
+/// The parent of a root.
+const ROOT: u32 = u32::MAX - 1;
+
+/// The parent of a node that looks for one.
+const ORPHAN: u32 = u32::MAX - 2;
+
+/// How many slots may be looked at for each slot that there is.
+const FUEL: usize = 8;
+
+/// The place of a node in the forest.
+#[derive(Clone, Copy, Debug, PartialEq, Eq)]
+struct Branch {
+    /// The slot of the node towards its parent, or one of the constants.
+    parent: u32,
+    /// How far the node is from its root, at most.
+    distance: u32,
+}
+
+/// A preflow, and a forest over its nodes.
+#[derive(Debug, Drop)]
+pub struct Forest {
+    /// The amounts.
+    pub preflow: Preflow,
+    /// The branch of each node.
+    branch: Vec<Branch>,
+    /// Whether each node waits to grow.
+    is_waiting: Vec<bool>,
+    /// The nodes that wait, in a ring.
+    ring: Vec<u32>,
+    /// The place in the ring of the node that has waited longest.
+    first: usize,
+    /// How many nodes wait.
+    waiting: usize,
+    /// The nodes that look for a parent, in the order in which they lost it.
+    orphans: Vec<u32>,
+    /// How many of them there are.
+    orphaned: usize,
+    /// How many more slots may be looked at.
+    fuel: usize,
+    ghost branch_count: { length branch.items ≡ preflow.wiring.nodes },
+    ghost flag_count: { length is_waiting.items ≡ preflow.wiring.nodes },
+    ghost ring_count: { length ring.items ≡ preflow.wiring.nodes },
+    ghost ring_in: { EachIndex ring.items (λ k. slice_index ring.items k < preflow.wiring.nodes) },
+    ghost first_in: { first < preflow.wiring.nodes },
+    ghost orphan_count: { length orphans.items ≡ preflow.wiring.nodes },
+    ghost orphans_in: { EachIndex orphans.items (λ k. slice_index orphans.items k < preflow.wiring.nodes) },
+}
+
+impl Branch {
+    /// Whether the node has a parent or is a root.
+    fn is_in_tree(self) -> bool {
+        self.parent != FREE && self.parent != ORPHAN
+    }
+}
+
+impl Forest {
+    /// No node is in the forest.
+    pub fn new(alloc: Global, preflow: Preflow) -> Result<Forest, NoMemory> {
+        let nodes = preflow.wiring.nodes;
+        let fuel = preflow.room.len().saturating_mul(FUEL);
+        let outside = Branch {
+            parent: FREE,
+            distance: 0,
+        };
+        let branch = vec![in alloc; outside; nodes]?;
+        let is_waiting = vec![in alloc; false; nodes]?;
+        let ring = vec![in alloc; 0u32; nodes]?;
+        let orphans = vec![in alloc; 0u32; nodes]?;
+        Ok(Forest {
+            preflow,
+            branch,
+            is_waiting,
+            ring,
+            first: 0,
+            waiting: 0,
+            orphans,
+            orphaned: 0,
+            fuel,
+        })
+    }
+
+    /// Uses up some fuel.
+    fn burn(&mut self, slots: usize)
+        ensures { self.new.preflow ≡ self.old.preflow }
+    {
+        self.fuel = self.fuel.saturating_sub(slots);
+    }
+
+    /// Lets a node wait to grow.
+    fn enqueue(&mut self, node: usize)
+        requires { node < self.old.preflow.wiring.nodes }
+        ensures { self.new.preflow ≡ self.old.preflow }
+    {
+        if self.is_waiting[node] || self.waiting >= self.ring.len() {
+            return;
+        }
+        self.is_waiting[node] = true;
+        let behind = self.ring.len() - self.first;
+        let place = if self.waiting < behind {
+            self.first + self.waiting
+        } else {
+            self.waiting - behind
+        };
+        self.ring[place] = node as u32;
+        self.waiting += 1;
+    }
+
+    /// The node that has waited longest. It waits no longer.
+    fn dequeue(&mut self) -> Option<usize>
+        ensures preflow { self.new.preflow ≡ self.old.preflow }
+        ensures node { IfSome result (λ node. node < self.old.preflow.wiring.nodes) }
+    {
+        if self.waiting == 0 {
+            return None;
+        }
+        let node = self.ring[self.first] as usize;
+        self.first += 1;
+        if self.first >= self.ring.len() {
+            self.first = 0;
+        }
+        self.waiting -= 1;
+        self.is_waiting[node] = false;
+        Some(node)
+    }
+
+    /// Makes a node look for a parent.
+    fn orphan(&mut self, node: usize)
+        requires { node < self.old.preflow.wiring.nodes }
+        ensures { self.new.preflow ≡ self.old.preflow }
+    {
+        self.branch[node].parent = ORPHAN;
+        if self.orphaned < self.orphans.len() {
+            self.orphans[self.orphaned] = node as u32;
+            self.orphaned += 1;
+        }
+    }
+
+    /// How much can come to a node along its branch into its sink.
+    fn most_along(&self, node: usize) -> u64
+        requires { node < self.now.preflow.wiring.nodes }
+    {
+        let mut most = self.preflow.sink[node];
+        let mut at = node;
+        for _ in 0..self.preflow.wiring.nodes {
+            let up = self.branch[at].parent as usize;
+            if up >= self.preflow.room.len() {
+                return most.min(self.preflow.excess[at]);
+            }
+            let slot = self.preflow.wiring.slot(up);
+            most = most.min(self.preflow.room[slot.twin as usize]);
+            at = slot.head as usize;
+        }
+        0
+    }
+
+    /// Takes an amount from a root. A root with no excess left looks for a parent.
+    fn take_from(&mut self, root: usize, amount: u64)
+        requires { root < self.old.preflow.wiring.nodes }
+        ensures { self.new.preflow.wiring ≡ self.old.preflow.wiring }
+    {
+        let left = self.preflow.excess[root].saturating_sub(amount);
+        self.preflow.excess[root] = left;
+        if left == 0 {
+            self.orphan(root);
+        }
+    }
+
+    /// Sends an amount to a node along its branch into its sink. Nodes that this cuts off look for a parent.
+    fn send_along(&mut self, node: usize, amount: u64)
+        requires { node < self.old.preflow.wiring.nodes }
+        ensures { self.new.preflow.wiring ≡ self.old.preflow.wiring }
+    {
+        self.preflow.sink[node] = self.preflow.sink[node].saturating_sub(amount);
+        let mut at = node;
+        for _ in 0..self.preflow.wiring.nodes {
+            self.burn(1);
+            let up = self.branch[at].parent as usize;
+            if up >= self.preflow.room.len() {
+                self.take_from(at, amount);
+                return;
+            }
+            let slot = self.preflow.wiring.slot(up);
+            let down = slot.twin as usize;
+            self.preflow.shift(down, up, amount);
+            if self.preflow.room[down] == 0 {
+                self.orphan(at);
+            }
+            at = slot.head as usize;
+        }
+    }
+
+    /// The branch of a node by the parent nearest to a root, among those nearer to one than the node was.
+    fn best_branch(&self, node: usize) -> Branch
+        requires { node < self.now.preflow.wiring.nodes }
+    {
+        let mut parent = FREE;
+        let mut least = self.branch[node].distance;
+        let (start, end) = self.preflow.wiring.around(node);
+        for slot in start..end {
+            let along = self.preflow.wiring.slot(slot);
+            let other = self.branch[along.head as usize];
+            if other.distance < least
+                && other.is_in_tree()
+                && self.preflow.room[along.twin as usize] > 0
+            {
+                least = other.distance;
+                parent = slot as u32;
+            }
+        }
+        Branch {
+            parent,
+            distance: least.saturating_add(1),
+        }
+    }
+
+    /// Takes a node out of the forest. Its children look for a parent, and those that could be its parent wait to grow.
+    fn release(&mut self, node: usize)
+        requires { node < self.old.preflow.wiring.nodes }
+        ensures { self.new.preflow ≡ self.old.preflow }
+    {
+        self.branch[node].parent = FREE;
+        let (start, end) = self.preflow.wiring.around(node);
+        for slot in start..end {
+            let along = self.preflow.wiring.slot(slot);
+            let head = along.head as usize;
+            let parent = self.branch[head].parent;
+            if parent == along.twin {
+                self.orphan(head);
+            }
+            if parent != FREE && self.preflow.room[along.twin as usize] > 0 {
+                self.enqueue(head);
+            }
+        }
+    }
+
+    /// Gives a node that looks for a parent the best one, or takes it out of the forest.
+    fn adopt(&mut self, node: usize)
+        requires { node < self.old.preflow.wiring.nodes }
+        ensures { self.new.preflow ≡ self.old.preflow }
+    {
+        let (start, end) = self.preflow.wiring.around(node);
+        let slots = end.saturating_sub(start);
+        self.burn(slots.saturating_mul(2));
+        let best = self.best_branch(node);
+        if best.parent == FREE {
+            self.release(node);
+        } else {
+            self.branch[node] = best;
+        }
+    }
+
+    /// Lets the node at a place of the list find a parent or leave the forest, if it still looks for one.
+    fn adopt_at(&mut self, place: usize)
+        ensures { self.new.preflow ≡ self.old.preflow }
+    {
+        if place < self.orphans.len() {
+            let node = self.orphans[place] as usize;
+            if self.branch[node].parent == ORPHAN {
+                self.adopt(node);
+            }
+        }
+    }
+
+    /// Lets each node that a full branch has cut off find a parent or leave the forest, the one nearest to the root first.
+    fn adopt_cut(&mut self, cut: usize)
+        ensures { self.new.preflow ≡ self.old.preflow }
+    {
+        for done in 0..cut {
+            self.adopt_at(cut - 1 - done);
+        }
+    }
+
+    /// Lets each further node that looks for a parent find one or leave the forest.
+    fn adopt_rest(&mut self, cut: usize)
+        ensures { self.new.preflow ≡ self.old.preflow }
+    {
+        for place in cut..self.orphans.len() {
+            if place >= self.orphaned {
+                break;
+            }
+            self.adopt_at(place);
+        }
+        self.orphaned = 0;
+    }
+
+    /// Sends to a node until its sink is full, or it has left the forest.
+    fn serve(&mut self, node: usize)
+        requires { node < self.old.preflow.wiring.nodes }
+        ensures { self.new.preflow.wiring ≡ self.old.preflow.wiring }
+    {
+        for _ in 0..self.fuel {
+            if self.fuel == 0 || self.preflow.sink[node] == 0 || !self.branch[node].is_in_tree() {
+                return;
+            }
+            let amount = self.most_along(node);
+            self.send_along(node, amount);
+            let cut = self.orphaned;
+            self.adopt_cut(cut);
+            self.adopt_rest(cut);
+        }
+    }
+
+    /// Makes a node the parent of those to which it has an arc with room, and serves them.
+    fn grow(&mut self, node: usize)
+        requires { node < self.old.preflow.wiring.nodes }
+        ensures { self.new.preflow.wiring ≡ self.old.preflow.wiring }
+    {
+        let (start, end) = self.preflow.wiring.around(node);
+        for slot in start..end {
+            let parent = self.branch[node];
+            if parent.parent == FREE {
+                return;
+            }
+            self.burn(1);
+            let along = self.preflow.wiring.slot(slot);
+            let head = along.head as usize;
+            if self.branch[head].parent == FREE && self.preflow.room[slot] > 0 {
+                self.branch[head] = Branch {
+                    parent: along.twin,
+                    distance: parent.distance.saturating_add(1),
+                };
+                self.enqueue(head);
+                self.serve(head);
+            }
+        }
+    }
+
+    /// Makes each node with excess a root.
+    fn plant(&mut self)
+        ensures { self.new.preflow ≡ self.old.preflow }
+    {
+        for node in 0..self.preflow.wiring.nodes {
+            if self.preflow.excess[node] > 0 {
+                self.branch[node].parent = ROOT;
+                self.enqueue(node);
+            }
+        }
+    }
+
+    /// Grows until nothing grows, or the fuel is used.
+    pub fn run(&mut self)
+        ensures { self.new.preflow.wiring ≡ self.old.preflow.wiring }
+    {
+        self.plant();
+        for _ in 0..self.fuel {
+            if self.fuel == 0 {
+                return;
+            }
+            let Some(node) = self.dequeue() else {
+                return;
+            };
+            self.grow(node);
+        }
+    }
+}

@@ -1,0 +1,30 @@
+//! A hint at a largest flow through a network, with labels that show it. It mostly is one, and nothing but its lengths is
+//! proved of it: whoever asks tests it.
+//!
+//! It starts with every arc full, as far as that goes, and moves the excess that this leaves at nodes into sinks with room:
+//! first along a forest that grows from the nodes with excess (half of the two trees of Boykov and Kolmogorov 2004), for a
+//! bounded time, and then by levels, the node nearest to a sink first (Goldberg and Tarjan 1988). What reaches no sink
+//! goes back to the fixed nodes.
+//!
+//! `survey` adds up capacities, `wiring` says which arcs meet at a node, `preflow` holds what is where, `forest` and `rounds`
+//! move excess into sinks, `refund` holds what can go back, `sweep` and `walk` give it back, and `hinting` puts them
+//! together. The crate stands on `flow_net` alone.
+#![tactic(auto)]
+
+mod forest;
+mod hinting;
+mod preflow;
+mod refund;
+mod rounds;
+mod survey;
+mod sweep;
+mod walk;
+mod wiring;
+
+pub use hinting::{Hint, find_hint};
+
+/// The error of a call for which there was no memory.
+pub type NoMemory = std::alloc::AllocError;
+
+#[cfg(test)]
+mod tests;

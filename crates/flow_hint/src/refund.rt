@@ -1,0 +1,130 @@
+//! Amounts that go back to the fixed nodes, as far as they have come to no sink. It stands on the wiring.
+
+ghost use Rattle.std.specs.Prelude.{◌≡◌, ◌<◌, length, IfOk};
+
+use crate::NoMemory;
+use crate::wiring::Wiring;
+use flow_net::{Flow, Net, Sequence};
+use std::alloc::Global;
+
+/// Amounts on the arcs of a network, and what has entered each node and not left it.
+#[derive(Debug, Drop)]
+pub struct Refund {
+    /// The arcs between free nodes.
+    pub wiring: Wiring,
+    /// How much can go back along each slot: what flows on the reverse of its arc.
+    pub back: Vec<u64>,
+    /// What has entered each node and not left it.
+    pub excess: Vec<u64>,
+    /// How much more can leave at each node.
+    pub sink: Vec<u64>,
+    /// How much has come to each node from fixed nodes.
+    pub source: Vec<u64>,
+    pub ghost back_count: { length back.items ≡ length wiring.slots.items },
+    pub ghost excess_count: { length excess.items ≡ wiring.nodes },
+    pub ghost sink_count: { length sink.items ≡ wiring.nodes },
+    pub ghost source_count: { length source.items ≡ wiring.nodes },
+}
+
+impl Refund {
+    /// Gives what is at each node back to the fixed nodes beside it, as far as it came from there.
+    pub fn settle(&mut self)
+        ensures { self.new.wiring ≡ self.old.wiring }
+    {
+        for node in 0..self.wiring.nodes {
+            let amount = self.excess[node].min(self.source[node]);
+            self.excess[node] -= amount;
+            self.source[node] -= amount;
+        }
+    }
+
+    /// Whether nothing is left to be given back.
+    pub fn is_settled(&self) -> bool {
+        self.excess.iter().all(|amount| *amount == 0)
+    }
+
+    /// Sends an amount back along a slot.
+    pub fn give(&mut self, slot: usize, amount: u64)
+        requires { slot < length self.old.wiring.slots.items }
+        ensures { self.new.wiring ≡ self.old.wiring }
+    {
+        self.back[slot] = self.back[slot].saturating_sub(amount);
+    }
+
+    /// Lets an amount come to a node, and go to fixed nodes as far as it came from there.
+    pub fn arrive(&mut self, node: usize, amount: u64)
+        requires { node < self.old.wiring.nodes }
+        ensures { self.new.wiring ≡ self.old.wiring }
+    {
+        let arrived = self.excess[node].saturating_add(amount);
+        let goes = arrived.min(self.source[node]);
+        self.source[node] -= goes;
+        self.excess[node] = arrived - goes;
+    }
+
+    /// The amount on each arc between free nodes.
+    fn on_arcs(&self, alloc: Global, net: &Net) -> Result<Vec<u64>, NoMemory>
+        ensures { IfOk result (λ amounts. length amounts.items ≡ length net.now.arcs) }
+    {
+        let arcs = net.arcs.as_slice();
+        let mut numbering = self.wiring.numbering(alloc)?;
+        let mut amounts = vec![in alloc; 0u64; arcs.len()]?;
+        for number in 0..arcs.len() {
+            if let Some(pair) = numbering.take(arcs, number) {
+                amounts[number] = self.back[pair.twin];
+                amounts[pair.reverse] = self.back[pair.slot];
+            }
+        }
+        Ok(amounts)
+    }
+
+    /// Writes the amount on each arc from a fixed node: what came to the free node, by one arc after the other.
+    fn add_fixed(&mut self, net: &Net, amounts: &mut Vec<u64>)
+        requires { length amounts.old.items ≡ length net.now.arcs }
+        ensures { length amounts.new.items ≡ length net.now.arcs }
+    {
+        for (number, arc) in net.arcs.as_slice().iter().enumerate() {
+            if arc.pair.is_none() && arc.to < self.source.len() {
+                let amount = arc.cap.min(self.source[arc.to]);
+                amounts[number] = amount;
+                self.source[arc.to] -= amount;
+            }
+        }
+    }
+
+    /// The amount at each sink: its capacity less what it still takes, and nothing where the node is fixed.
+    fn on_sinks(&self, alloc: Global, net: &Net) -> Result<Vec<u64>, NoMemory>
+        ensures { IfOk result (λ amounts. length amounts.items ≡ length net.now.fixed) }
+    {
+        let mut amounts = Vec::from_slice(alloc, net.sink.as_slice())?;
+        for node in 0..amounts.len() {
+            let is_fixed = net.fixed.as_slice()[node];
+            let left = if node < self.sink.len() {
+                self.sink[node]
+            } else {
+                0
+            };
+            amounts[node] = if is_fixed {
+                0
+            } else {
+                amounts[node].saturating_sub(left)
+            };
+        }
+        Ok(amounts)
+    }
+
+    /// The amounts as a flow.
+    pub fn into_flow(self, alloc: Global, net: &Net) -> Result<Flow, NoMemory>
+        ensures arcs { IfOk result (λ flow. length flow.on_arc ≡ length net.now.arcs) }
+        ensures sinks { IfOk result (λ flow. length flow.on_sink ≡ length net.now.fixed) }
+    {
+        let mut refund = self;
+        let on_sink = refund.on_sinks(alloc, net)?;
+        let mut on_arc = refund.on_arcs(alloc, net)?;
+        refund.add_fixed(net, &mut on_arc);
+        Ok(Flow {
+            on_arc: Sequence::from(on_arc),
+            on_sink: Sequence::from(on_sink),
+        })
+    }
+}

@@ -1,0 +1,293 @@
+//! Rounds that move excess to sinks. It stands on preflows.
+//!
+//! A round gives each node its level, how many arcs with room lie between it and a sink with room, and then moves excess
+//! down by levels, from the node of the lowest level first, and lifts a node that keeps some.
+
+ghost use Rattle.std.specs.Prelude.{◌≡◌, ◌<◌, ◌^◌, length, slice_index, EachIndex, IfSome, IfOk};
+
+use crate::NoMemory;
+use crate::preflow::Preflow;
+use std::alloc::Global;
+
+/// The level of a node from which no sink is known to be reached, and the end of a list of nodes.
+const NONE: u32 = u32::MAX;
+
+/// How many levels above the highest a node may be lifted in a round.
+const SPARE_LEVELS: usize = 8;
+
+/// How many slots may be looked at in a round for each node.
+const FUEL: usize = 3;
+
+/// How many rounds there are at most. Networks of cells took fewer than twenty.
+const MOST_ROUNDS: usize = 100;
+
+/// A preflow, with the levels of its nodes and lists of nodes with excess.
+#[derive(Debug, Drop)]
+pub struct Rounds {
+    /// The amounts.
+    pub preflow: Preflow,
+    /// The level of each node.
+    level: Vec<u32>,
+    /// The nodes in the order in which they got their levels.
+    queue: Vec<u32>,
+    /// How many nodes have got one.
+    found: usize,
+    /// For each level the first node that waits there.
+    bucket: Vec<u32>,
+    /// For each node that waits the next one at its level.
+    after: Vec<u32>,
+    /// Whether each node waits.
+    is_waiting: Vec<bool>,
+    /// No node waits at a lower level.
+    low: usize,
+    /// How many more slots may be looked at in this round.
+    fuel: usize,
+    ghost level_count: { length level.items ≡ preflow.wiring.nodes },
+    ghost queue_count: { length queue.items ≡ preflow.wiring.nodes },
+    ghost after_count: { length after.items ≡ preflow.wiring.nodes },
+    ghost flag_count: { length is_waiting.items ≡ preflow.wiring.nodes },
+    ghost queue_in: { EachIndex queue.items (λ k. slice_index queue.items k < preflow.wiring.nodes) },
+}
+
+impl Rounds {
+    /// No node has a level yet.
+    pub fn new(alloc: Global, preflow: Preflow) -> Result<Rounds, NoMemory> {
+        let nodes = preflow.wiring.nodes;
+        let level = vec![in alloc; NONE; nodes]?;
+        let queue = vec![in alloc; 0u32; nodes]?;
+        let after = vec![in alloc; NONE; nodes]?;
+        let is_waiting = vec![in alloc; false; nodes]?;
+        Ok(Rounds {
+            preflow,
+            level,
+            queue,
+            found: 0,
+            bucket: Vec::new(alloc),
+            after,
+            is_waiting,
+            low: 0,
+            fuel: 0,
+        })
+    }
+
+    /// Gives a node its level.
+    fn mark(&mut self, node: usize, level: u32)
+        requires { node < self.old.preflow.wiring.nodes }
+        ensures { self.new.preflow ≡ self.old.preflow }
+    {
+        self.level[node] = level;
+        if self.found < self.queue.len() {
+            self.queue[self.found] = node as u32;
+            self.found += 1;
+        }
+    }
+
+    /// Gives level 0 to each node whose sink has room, and none to others.
+    fn mark_sinks(&mut self)
+        ensures { self.new.preflow ≡ self.old.preflow }
+    {
+        self.found = 0;
+        for node in 0..self.preflow.wiring.nodes {
+            self.level[node] = NONE;
+            self.is_waiting[node] = false;
+            if self.preflow.sink[node] > 0 {
+                self.mark(node, 0);
+            }
+        }
+    }
+
+    /// Gives a level to each node from which an arc with room leads to a node.
+    fn reach(&mut self, node: usize)
+        requires { node < self.old.preflow.wiring.nodes }
+        ensures { self.new.preflow ≡ self.old.preflow }
+    {
+        let level = self.level[node].saturating_add(1);
+        let (start, end) = self.preflow.wiring.around(node);
+        for slot in start..end {
+            let against = self.preflow.wiring.slot(slot);
+            let tail = against.head as usize;
+            if self.level[tail] == NONE && self.preflow.room[against.twin as usize] > 0 {
+                self.mark(tail, level);
+            }
+        }
+    }
+
+    /// Gives each node its level, and says whether a node with excess has one above 0.
+    fn find_levels(&mut self) -> bool
+        ensures { self.new.preflow ≡ self.old.preflow }
+    {
+        self.mark_sinks();
+        let mut any = false;
+        for at in 0..self.queue.len() {
+            if at >= self.found {
+                break;
+            }
+            let node = self.queue[at] as usize;
+            any = any || (self.preflow.excess[node] > 0 && self.level[node] > 0);
+            self.reach(node);
+        }
+        any
+    }
+
+    /// The highest level of a node.
+    fn highest(&self) -> usize
+        ensures { result < 2 ^ 32 }
+    {
+        if self.found == 0 || self.found > self.queue.len() {
+            return 0;
+        }
+        self.level[self.queue[self.found - 1] as usize] as usize
+    }
+
+    /// Lets a node wait at its level, or takes its level away where that is too high.
+    fn put(&mut self, node: usize)
+        requires { node < self.old.preflow.wiring.nodes }
+        ensures { self.new.preflow ≡ self.old.preflow }
+    {
+        let level = self.level[node] as usize;
+        if level < self.bucket.len() {
+            self.after[node] = self.bucket[level];
+            self.bucket[level] = node as u32;
+            self.is_waiting[node] = true;
+            self.low = self.low.min(level);
+        } else {
+            self.level[node] = NONE;
+        }
+    }
+
+    /// Lets each node with excess and a level above 0 wait there.
+    fn put_all(&mut self, alloc: Global) -> Result<(), NoMemory>
+        ensures { self.new.preflow ≡ self.old.preflow }
+    {
+        let levels = self.highest() + 1 + SPARE_LEVELS;
+        self.bucket = vec![in alloc; NONE; levels]?;
+        self.low = self.bucket.len();
+        for at in 0..self.queue.len() {
+            if at >= self.found {
+                break;
+            }
+            let node = self.queue[at] as usize;
+            if self.preflow.excess[node] > 0 && self.level[node] > 0 {
+                self.put(node);
+            }
+        }
+        Ok(())
+    }
+
+    /// The node that came last to the lowest level at which one waits. It waits no longer.
+    fn take(&mut self) -> Option<usize>
+        ensures preflow { self.new.preflow ≡ self.old.preflow }
+        ensures node { IfSome result (λ node. node < self.old.preflow.wiring.nodes) }
+    {
+        for level in self.low..self.bucket.len() {
+            let node = self.bucket[level] as usize;
+            if node < self.preflow.wiring.nodes {
+                self.bucket[level] = self.after[node];
+                self.is_waiting[node] = false;
+                self.low = level;
+                return Some(node);
+            }
+        }
+        None
+    }
+
+    /// Sends from a slot to its head, which then waits if it keeps some.
+    fn send(&mut self, slot: usize, head: usize, twin: usize, amount: u64)
+        requires slot { slot < length self.old.preflow.wiring.slots.items }
+        requires twin { twin < length self.old.preflow.wiring.slots.items }
+        requires head { head < self.old.preflow.wiring.nodes }
+        ensures { self.new.preflow.wiring ≡ self.old.preflow.wiring }
+    {
+        self.preflow.shift(slot, twin, amount);
+        if self.preflow.arrive(head, amount) > 0 && !self.is_waiting[head] {
+            self.level[head] = self.level[head].max(1);
+            self.put(head);
+        }
+    }
+
+    /// Moves an amount from a node down along its slots as far as it goes, and answers what is left.
+    ///
+    /// The level of the node becomes one more than the least to which an arc with room leads.
+    fn send_down(&mut self, node: usize, amount: u64) -> u64
+        requires { node < self.old.preflow.wiring.nodes }
+        ensures { self.new.preflow.wiring ≡ self.old.preflow.wiring }
+    {
+        let level = self.level[node];
+        let mut left = amount;
+        let mut least = NONE;
+        let (start, end) = self.preflow.wiring.around(node);
+        for slot in start..end {
+            self.fuel = self.fuel.saturating_sub(1);
+            let along = self.preflow.wiring.slot(slot);
+            let head = along.head as usize;
+            let room = self.preflow.room[slot];
+            if room > 0 && self.level[head] < level {
+                let part = left.min(room);
+                self.send(slot, head, along.twin as usize, part);
+                left -= part;
+                if left == 0 {
+                    return 0;
+                }
+            } else if room > 0 {
+                least = least.min(self.level[head]);
+            }
+        }
+        self.level[node] = level.max(least.saturating_add(1));
+        left
+    }
+
+    /// Moves the excess of a node down as far as it goes, and lifts the node if it keeps some.
+    fn discharge(&mut self, node: usize)
+        requires { node < self.old.preflow.wiring.nodes }
+        ensures { self.new.preflow.wiring ≡ self.old.preflow.wiring }
+    {
+        let amount = self.preflow.excess[node];
+        let left = self.send_down(node, amount);
+        self.preflow.excess[node] = left;
+        if left > 0 {
+            self.put(node);
+        }
+    }
+
+    /// Moves the excess of nodes that wait, until the fuel is used.
+    fn drain(&mut self)
+        ensures { self.new.preflow.wiring ≡ self.old.preflow.wiring }
+    {
+        self.fuel = self.preflow.wiring.nodes.saturating_mul(FUEL);
+        for _ in 0..self.fuel {
+            if self.fuel == 0 {
+                return;
+            }
+            let Some(node) = self.take() else {
+                return;
+            };
+            self.discharge(node);
+        }
+    }
+
+    /// Moves excess to sinks until none moves, or the rounds are over.
+    pub fn run(&mut self, alloc: Global) -> Result<(), NoMemory>
+        ensures { self.new.preflow.wiring ≡ self.old.preflow.wiring }
+    {
+        for _ in 0..MOST_ROUNDS {
+            if !self.find_levels() {
+                return Ok(());
+            }
+            self.put_all(alloc)?;
+            self.drain();
+        }
+        Ok(())
+    }
+
+    /// Which nodes reached a sink with room when levels were last found. Where no excess was among them, they are the inside
+    /// of labels that cost what the flow is worth.
+    pub fn inside(&self, alloc: Global) -> Result<Vec<bool>, NoMemory>
+        ensures { IfOk result (λ inside. length inside.items ≡ self.now.preflow.wiring.nodes) }
+    {
+        let mut inside = vec![in alloc; false; self.level.len()]?;
+        for node in 0..self.level.len() {
+            inside[node] = self.level[node] != NONE;
+        }
+        Ok(inside)
+    }
+}

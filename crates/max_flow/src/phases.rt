@@ -1,0 +1,236 @@
+//! A phase: more flow along paths down the levels of one search, until no such path is left (Dinic 1970). It stands on
+//! the search and on augmenting paths.
+//!
+//! Each node has a cursor, the residual arc that is tried next from it. Room along an arc to a lower level only falls
+//! during a phase, so a cursor never goes back.
+
+ghost use Rattle.std.specs.Prelude.{◌≡◌, ◌<◌, ◌≤◌, length, true, IfOk, IfSome};
+ghost use Rattle.flow_net.specs.Nets.{flag_at};
+ghost use Rattle.flow_net.specs.Flows.{IsValidFlow, value_of};
+ghost use Rattle.max_flow.specs.Paths.{HasRoom, IsAugmenting, end_of};
+ghost use Rattle.max_flow.specs.Phases.{LeadsDown};
+
+use crate::NoMemory;
+use crate::incidence::Incidence;
+use crate::paths::{augment, bottleneck};
+use crate::residual::ResidualArc;
+use crate::searches::Search;
+use flow_net::{Flow, Net};
+use std::alloc::Global;
+
+/// The state of a phase.
+#[derive(Debug, Drop)]
+pub struct Phase {
+    /// For each node the residual arc that is tried next from it, if one is left.
+    cursor: Vec<Option<ResidualArc>>,
+    /// The path that was walked last.
+    path: Vec<ResidualArc>,
+}
+
+/// A residual arc of one direction.
+fn along(arc: Option<u32>, forward: bool) -> Option<ResidualArc> {
+    arc.map(|arc| ResidualArc { arc, forward })
+}
+
+/// The first residual arc that leaves a node: those that run the way of their arcs come first.
+fn first_from(incidence: &Incidence, node: usize) -> Option<ResidualArc> {
+    let forward = incidence.backward.last.get(node).copied().flatten();
+    if forward.is_some() {
+        return along(forward, true);
+    }
+    along(incidence.forward.last.get(node).copied().flatten(), false)
+}
+
+/// The residual arc that leaves a node after this one.
+fn next_from(incidence: &Incidence, node: usize, residual: ResidualArc) -> Option<ResidualArc> {
+    if !residual.forward {
+        return along(
+            incidence
+                .forward
+                .before
+                .get(residual.arc as usize)
+                .copied()
+                .flatten(),
+            false,
+        );
+    }
+    let forward = incidence
+        .backward
+        .before
+        .get(residual.arc as usize)
+        .copied()
+        .flatten();
+    if forward.is_some() {
+        return along(forward, true);
+    }
+    along(incidence.forward.last.get(node).copied().flatten(), false)
+}
+
+/// Whether a residual arc leads from a node to a found node of a lower level, and has room.
+fn leads_down(net: &Net, flow: &Flow, search: &Search, node: usize, residual: ResidualArc) -> bool
+    requires valid { IsValidFlow net.now flow.now }
+    requires levels { length search.now.level.items ≡ length net.now.fixed }
+    requires marked { length search.now.marked.items ≡ length net.now.fixed }
+    requires node { node < length net.now.fixed }
+    ensures { result ≡ true → LeadsDown net.now flow.now search.now.level.items node residual }
+{
+    if residual.arc as usize >= net.arcs.as_slice().len() || residual.tail(net) != node {
+        return false;
+    }
+    let head = residual.head(net);
+    search.marked[head] && search.level[head] < search.level[node] && residual.room(net, flow) > 0
+}
+
+impl Phase {
+    /// The beginning of a phase.
+    pub fn new(alloc: Global, net: &Net, incidence: &Incidence) -> Result<Phase, NoMemory>
+        ensures { IfOk result (λ phase. length phase.cursor.items ≡ length net.now.fixed) }
+    {
+        let nodes = net.fixed.as_slice().len();
+        let mut cursor = vec![in alloc; None; nodes]?;
+        for node in 0..nodes {
+            cursor[node] = first_from(incidence, node);
+        }
+        Ok(Phase {
+            cursor,
+            path: Vec::with_capacity(alloc, nodes)?,
+        })
+    }
+
+    /// The first residual arc from the cursor of a node on that leads down. The cursor moves there.
+    fn lead(
+        &mut self,
+        net: &Net,
+        incidence: &Incidence,
+        search: &Search,
+        flow: &Flow,
+        node: usize,
+    ) -> Option<ResidualArc>
+        requires valid { IsValidFlow net.now flow.now }
+        requires levels { length search.now.level.items ≡ length net.now.fixed }
+        requires marked { length search.now.marked.items ≡ length net.now.fixed }
+        requires cursors { length self.old.cursor.items ≡ length net.now.fixed }
+        requires node { node < length net.now.fixed }
+        ensures cursors { length self.new.cursor.items ≡ length net.now.fixed }
+        ensures path { self.new.path ≡ self.old.path }
+        ensures leads { IfSome result (λ residual. LeadsDown net.now flow.now search.now.level.items node residual) }
+    {
+        for _ in 0..net.arcs.as_slice().len().saturating_mul(2) {
+            let Some(residual) = self.cursor[node] else {
+                return None;
+            };
+            if leads_down(net, flow, search, node, residual) {
+                return Some(residual);
+            }
+            self.cursor[node] = next_from(incidence, node, residual);
+        }
+        None
+    }
+
+    /// Walks down from a fixed node. Answers the node at the end of the path where its sink has room, or None where
+    /// nothing leads down from there.
+    fn walk(
+        &mut self,
+        net: &Net,
+        incidence: &Incidence,
+        search: &Search,
+        flow: &Flow,
+        start: usize,
+    ) -> Option<usize>
+        requires valid { IsValidFlow net.now flow.now }
+        requires levels { length search.now.level.items ≡ length net.now.fixed }
+        requires marked { length search.now.marked.items ≡ length net.now.fixed }
+        requires cursors { length self.old.cursor.items ≡ length net.now.fixed }
+        requires node { start < length net.now.fixed }
+        requires fixed { flag_at net.now.fixed start ≡ true }
+        ensures cursors { length self.new.cursor.items ≡ length net.now.fixed }
+        ensures path { IfSome result (λ end. IsAugmenting net.now flow.now start self.new.path.items 1) }
+        ensures end { IfSome result (λ end. end_of net.now start self.new.path.items ≡ end) }
+    {
+        self.path.clear();
+        let mut node = start;
+        for _ in 0..net.fixed.as_slice().len() {
+            if has_room(net, flow, node) {
+                return Some(node);
+            }
+            let Some(residual) = self.lead(net, incidence, search, flow, node) else {
+                return None;
+            };
+            let Ok(()) = self.path.push(residual) else {
+                return None;
+            };
+            node = residual.head(net);
+        }
+        None
+    }
+
+    /// Passes over the last residual arc of the path, and says whether there was one.
+    fn pass_over(&mut self, net: &Net, incidence: &Incidence) -> bool
+        requires { length self.old.cursor.items ≡ length net.now.fixed }
+        ensures { length self.new.cursor.items ≡ length net.now.fixed }
+    {
+        let Some(residual) = self.path.last().copied() else {
+            return false;
+        };
+        if (residual.arc as usize) < net.arcs.as_slice().len() {
+            let tail = residual.tail(net);
+            self.cursor[tail] = next_from(incidence, tail, residual);
+        }
+        true
+    }
+
+    /// Sends more from a fixed node, until nothing leads down from it.
+    fn send_from(
+        &mut self,
+        net: &Net,
+        incidence: &Incidence,
+        search: &Search,
+        flow: &mut Flow,
+        start: usize,
+    )
+        requires valid { IsValidFlow net.now flow.old }
+        requires levels { length search.now.level.items ≡ length net.now.fixed }
+        requires marked { length search.now.marked.items ≡ length net.now.fixed }
+        requires cursors { length self.old.cursor.items ≡ length net.now.fixed }
+        requires node { start < length net.now.fixed }
+        requires fixed { flag_at net.now.fixed start ≡ true }
+        ensures cursors { length self.new.cursor.items ≡ length net.now.fixed }
+        ensures valid { IsValidFlow net.now flow.new }
+        ensures rises { value_of net.now flow.old ≤ value_of net.now flow.new }
+    {
+        let steps = net.arcs.as_slice().len().saturating_mul(4);
+        for _ in 0..steps.saturating_add(net.fixed.as_slice().len()) {
+            if let Some(end) = self.walk(net, incidence, search, flow, start) {
+                let amount = bottleneck(net, flow, start, &self.path, end);
+                augment(net, flow, start, &self.path, amount);
+            } else if !self.pass_over(net, incidence) {
+                return;
+            }
+        }
+    }
+
+    /// Sends more from each found fixed node, until no path down the levels is left.
+    pub fn block(&mut self, net: &Net, incidence: &Incidence, search: &Search, flow: &mut Flow)
+        requires valid { IsValidFlow net.now flow.old }
+        requires levels { length search.now.level.items ≡ length net.now.fixed }
+        requires marked { length search.now.marked.items ≡ length net.now.fixed }
+        requires cursors { length self.old.cursor.items ≡ length net.now.fixed }
+        ensures valid { IsValidFlow net.now flow.new }
+        ensures rises { value_of net.now flow.old ≤ value_of net.now flow.new }
+    {
+        for node in 0..net.fixed.as_slice().len() {
+            if net.fixed.as_slice()[node] && search.marked[node] {
+                self.send_from(net, incidence, search, flow, node);
+            }
+        }
+    }
+}
+
+/// Whether a node is free and its sink has room.
+fn has_room(net: &Net, flow: &Flow, node: usize) -> bool
+    requires valid { IsValidFlow net.now flow.now }
+    requires node { node < length net.now.fixed }
+    ensures { result ≡ true → HasRoom net.now flow.now node }
+{
+    !net.fixed.as_slice()[node] && flow.on_sink.as_slice()[node] < net.sink.as_slice()[node]
+}
