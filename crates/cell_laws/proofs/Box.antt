@@ -1,0 +1,298 @@
+-- What is outer in the box. A facet is outer where all vertices that are in are before it or in its plane. Each axis of the normal has
+-- one wall that is lowest along it, so one corner of the box is lowest along the normal, and it is in. An outer facet has that corner
+-- in its plane or before it; then each of the facet's own vertices is as low along each axis as the box, or the facet is level there.
+-- A facet of a cell is not level along all axes, so along some axis all three vertices are on one wall: they are corners, since data
+-- points are strictly inside. So an outer facet of a cell is on a wall, and each data point is strictly before every outer facet.
+-- Stands on: Order, Writing, and geo_sign's places.
+use Rattle.std.proofs.Common.{ℕ, zero, suc, ◌≡◌, ◌≢◌, ◌<◌, ◌≤◌, refl, ap, ap₂, sym, subst, ◌∙◌, ◌⊎◌, inl, inr, ⊎_elim, arith, Bool, true, false, int_lt, bit_and, cond, ◌==◌, unsigned_abs, ℤ, pos, negsuc, neg_ℤ, ◌+ℤ◌, ◌-ℤ◌, ◌*ℤ◌, ◌≤ℤ◌, ◌<ℤ◌, [], ◌∷◌}
+use Rattle.std.proofs.lemmas.Bool.{cases_lt}
+use Rattle.std.proofs.lemmas.Int.{ints, by_lt_z}
+use lib.IntN.{zero-*ℤ}
+use Rattle.geo_sign.specs.Polynomial.{difference, negation, product, sum, variable}
+use Rattle.geo_sign.proofs.Ring.{ring}
+use Rattle.geo_sign.specs.Orientation.{orientation}
+use Rattle.geo_sign.specs.Point.{corner_point, cross, IsWithin, Point, point, step}
+use Rattle.geo_sign.proofs.Written.{coordinates, cross', orientation', step', Symbols, symbols}
+use Rattle.geo_sign.specs.Cells.{IsCell}
+use Rattle.geo_sign.specs.Tetrahedron.{facet}
+use Rattle.geo_sign.specs.Vertices.{IsWall, orientation_of, Vertices}
+use Rattle.geo_sign.specs.Boxes.{IsBoxed}
+use Rattle.cell_laws.proofs.Order.{mul_not_negative, mul_positive, neg_left, neg_right}
+use Rattle.cell_laws.proofs.Regions.{IsInner, IsOuter}
+use Rattle.cell_laws.proofs.Writing.{flat_a, flat_b, flat_c}
+
+-- ---- the corner that is lowest along a direction
+abbrev pub edge : Bool → ℤ
+edge true = pos 8388608
+edge false = neg_ℤ (pos 8388608)
+
+abbrev pub far : Bool → Bool → Bool → ℕ
+far false false false = 0
+far true false false = 1
+far false true false = 2
+far true true false = 3
+far false false true = 4
+far true false true = 5
+far false true true = 6
+far true true true = 7
+
+pub far_below : (i j k : Bool) → far i j k < 8
+far_below false false false = omega arith
+far_below true false false = omega arith
+far_below false true false = omega arith
+far_below true true false = omega arith
+far_below false false true = omega arith
+far_below true false true = omega arith
+far_below false true true = omega arith
+far_below true true true = omega arith
+
+pub far_place : (i j k : Bool) → corner_point (far i j k) ≡ point (edge i) (edge j) (edge k)
+far_place false false false = refl
+far_place true false false = refl
+far_place false true false = refl
+far_place true true false = refl
+far_place false false true = refl
+far_place true false true = refl
+far_place false true true = refl
+far_place true true true = refl
+
+abbrev pub low : ℤ → ℤ
+low n = edge (int_lt n (pos 0))
+
+pub test_below : (n : ℤ) → int_lt n (pos 0) ≡ true → n <ℤ pos 0
+test_below n h = grind (arith, ints)
+
+pub test_above : (n : ℤ) → int_lt n (pos 0) ≡ false → pos 0 ≤ℤ n
+test_above n h = grind (arith, ints)
+
+pub both_negative : (a b : ℤ) → a ≤ℤ pos 0 → b ≤ℤ pos 0 → pos 0 ≤ℤ (a *ℤ b)
+both_negative a b h k =
+    let m = mul_not_negative (neg_ℤ a) (neg_ℤ b) (omega (arith, ints)) (omega (arith, ints)) in
+    let e : neg_ℤ a *ℤ neg_ℤ b ≡ a *ℤ b = ring (a ∷ b ∷ []) (product (negation (variable 0)) (negation (variable 1))) (product (variable 0) (variable 1)) tt in
+    subst (λ x. pos 0 ≤ℤ x) e m
+
+axis : (n p : ℤ) → unsigned_abs p ≤ 8388608 → pos 0 ≤ℤ (n *ℤ (p -ℤ low n))
+axis n p h = pick (int_lt n (pos 0)) refl
+  where
+    pick : (b : Bool) → int_lt n (pos 0) ≡ b → pos 0 ≤ℤ (n *ℤ (p -ℤ edge b))
+    pick true e = both_negative n (p -ℤ pos 8388608) (let m = test_below n e in omega (arith, ints, m)) (omega (arith, ints))
+    pick false e = mul_not_negative n (p -ℤ neg_ℤ (pos 8388608)) (test_above n e) (omega (arith, ints))
+
+-- ---- where the vertices are
+corner_within : (k : ℕ) → IsWithin 8388608 (corner_point k)
+corner_within k = record { x_within = wall_within (bit_and k 1 == 0); y_within = wall_within (bit_and k 2 == 0); z_within = wall_within (bit_and k 4 == 0) }
+  where
+    wall_within : (b : Bool) → unsigned_abs (cond b (neg_ℤ (pos 8388608)) (pos 8388608)) ≤ 8388608
+    wall_within true = omega (arith, ints)
+    wall_within false = omega (arith, ints)
+
+pub vertex_within : (v : Vertices) → IsBoxed v → (u : ℕ) → u < v.count → IsWithin 8388608 (v.at u)
+vertex_within v x u h =
+    ⊎_elim (λ (l : u < 8). subst (λ p. IsWithin 8388608 p) (sym (x.corner_at u l)) (corner_within u))
+    (λ (l : 8 ≤ u). let d = x.data_at u l h in
+    let dx = d.x_within in let dy = d.y_within in let dz = d.z_within in
+    record { x_within = omega (arith, dx); y_within = omega (arith, dy); z_within = omega (arith, dz) })
+    (cases_lt u 8)
+
+-- ---- a facet's plane at two points
+abbrev pub facet_normal : Point → Point → Point → Point
+facet_normal a b c = cross (step a b) (step a c)
+
+abbrev pub lowest : Point → Point
+lowest n = point (low n.x) (low n.y) (low n.z)
+
+shift :
+    (a b c w p : Point) → orientation a b c p ≡
+    orientation a b c w +ℤ ((facet_normal a b c).x *ℤ (p.x -ℤ w.x) +ℤ (facet_normal a b c).y *ℤ (p.y -ℤ w.y) +ℤ (facet_normal a b c).z *ℤ (p.z -ℤ w.z))
+unfolding orientation
+shift a b c w p =
+    let A : Symbols = symbols 0 in let B : Symbols = symbols 3 in let C : Symbols = symbols 6 in let W : Symbols = symbols 9 in let P : Symbols = symbols 12 in
+    let N : Symbols = cross' (step' A B) (step' A C) in
+    ring (coordinates a (coordinates b (coordinates c (coordinates w (coordinates p []))))) (orientation' A B C P) (sum (orientation' A B C W) (sum (sum (product N.x (difference P.x W.x)) (product N.y (difference P.y W.y))) (product N.z (difference P.z W.z)))) tt
+
+-- what is left over the lowest corner, along each axis
+abbrev over_x : Vertices → (a b c : ℕ) → Point → ℤ
+over_x v a b c p = (facet_normal (v.at a) (v.at b) (v.at c)).x *ℤ (p.x -ℤ low (facet_normal (v.at a) (v.at b) (v.at c)).x)
+
+abbrev over_y : Vertices → (a b c : ℕ) → Point → ℤ
+over_y v a b c p = (facet_normal (v.at a) (v.at b) (v.at c)).y *ℤ (p.y -ℤ low (facet_normal (v.at a) (v.at b) (v.at c)).y)
+
+abbrev over_z : Vertices → (a b c : ℕ) → Point → ℤ
+over_z v a b c p = (facet_normal (v.at a) (v.at b) (v.at c)).z *ℤ (p.z -ℤ low (facet_normal (v.at a) (v.at b) (v.at c)).z)
+
+-- a point of the box over an outer facet
+record Over (v : Vertices) (a b c : ℕ) (p : Point) : Type 0 where
+  bottom : ℤ
+  is : orientation (v.at a) (v.at b) (v.at c) p ≡ bottom +ℤ (over_x v a b c p +ℤ over_y v a b c p +ℤ over_z v a b c p)
+  bottom_in : pos 0 ≤ℤ bottom
+  x_in : pos 0 ≤ℤ over_x v a b c p
+  y_in : pos 0 ≤ℤ over_y v a b c p
+  z_in : pos 0 ≤ℤ over_z v a b c p
+
+over : (v : Vertices) → IsBoxed v → (a b c : ℕ) → IsOuter v a b c → (p : Point) → IsWithin 8388608 p → Over v a b c p
+over v x a b c o p w =
+    let n = facet_normal (v.at a) (v.at b) (v.at c) in
+    let i = int_lt n.x (pos 0) in
+    let j = int_lt n.y (pos 0) in
+    let k = int_lt n.z (pos 0) in
+    let e : v.at (far i j k) ≡ lowest n = x.corner_at (far i j k) (far_below i j k) ∙ far_place i j k in
+    record {
+      bottom = orientation (v.at a) (v.at b) (v.at c) (lowest n);
+      is = shift (v.at a) (v.at b) (v.at c) (lowest n) p;
+      bottom_in = subst (λ (q : Point). pos 0 ≤ℤ orientation (v.at a) (v.at b) (v.at c) q) e (o (far i j k) (x.corner_in (far i j k) (far_below i j k)));
+      x_in = axis n.x p.x w.x_within;
+      y_in = axis n.y p.y w.y_within;
+      z_in = axis n.z p.z w.z_within;
+    }
+
+-- ---- a point in the plane of an outer facet
+pub factor_is_zero : (a b : ℤ) → a *ℤ b ≡ pos 0 → (a ≡ pos 0) ⊎ (b ≡ pos 0)
+factor_is_zero (pos zero) b e = inl refl
+factor_is_zero (pos (suc m)) (pos zero) e = inr refl
+factor_is_zero (pos (suc m)) (pos (suc n)) e = let h = mul_positive (pos (suc m)) (pos (suc n)) (omega (arith, ints)) (omega (arith, ints)) in absurd (omega (arith, ints, h, e))
+factor_is_zero (pos (suc m)) (negsuc n) e =
+    let h = mul_positive (pos (suc m)) (neg_ℤ (negsuc n)) (omega (arith, ints)) (omega (arith, ints)) in
+    let f = neg_right (pos (suc m)) (negsuc n) in
+    absurd (omega (arith, ints, h, e, f))
+factor_is_zero (negsuc m) (pos zero) e = inr refl
+factor_is_zero (negsuc m) (pos (suc n)) e =
+    let h = mul_positive (neg_ℤ (negsuc m)) (pos (suc n)) (omega (arith, ints)) (omega (arith, ints)) in
+    let f = neg_left (negsuc m) (pos (suc n)) in
+    absurd (omega (arith, ints, h, e, f))
+factor_is_zero (negsuc m) (negsuc n) e =
+    let h = mul_positive (neg_ℤ (negsuc m)) (neg_ℤ (negsuc n)) (omega (arith, ints)) (omega (arith, ints)) in
+    let f : neg_ℤ (negsuc m) *ℤ neg_ℤ (negsuc n) ≡ negsuc m *ℤ negsuc n = ring (negsuc m ∷ negsuc n ∷ []) (product (negation (variable 0)) (negation (variable 1))) (product (variable 0) (variable 1)) tt in
+    absurd (omega (arith, ints, h, e, f))
+
+-- along each axis the facet is level, or the point is as low as the box
+record Down (n p : Point) : Type 0 where
+  x_down : (n.x ≡ pos 0) ⊎ (p.x ≡ low n.x)
+  y_down : (n.y ≡ pos 0) ⊎ (p.y ≡ low n.y)
+  z_down : (n.z ≡ pos 0) ⊎ (p.z ≡ low n.z)
+
+settle : (n p l : ℤ) → n *ℤ (p -ℤ l) ≡ pos 0 → (n ≡ pos 0) ⊎ (p ≡ l)
+settle n p l e = ⊎_elim (λ h. inl h) (λ h. inr (omega (arith, ints, h))) (factor_is_zero n (p -ℤ l) e)
+
+down :
+    (v : Vertices) → IsBoxed v → (a b c : ℕ) → IsOuter v a b c → (p : Point) → IsWithin 8388608 p →
+    orientation (v.at a) (v.at b) (v.at c) p ≤ℤ pos 0 → Down (facet_normal (v.at a) (v.at b) (v.at c)) p
+down v x a b c o p w h =
+    let z = over v x a b c o p w in
+    let e = z.is in let f = z.bottom_in in let i = z.x_in in let j = z.y_in in let k = z.z_in in
+    let n = facet_normal (v.at a) (v.at b) (v.at c) in
+    record {
+      x_down = settle n.x p.x (low n.x) (omega (arith, ints, e, f, i, j, k, h));
+      y_down = settle n.y p.y (low n.y) (omega (arith, ints, e, f, i, j, k, h));
+      z_down = settle n.z p.z (low n.z) (omega (arith, ints, e, f, i, j, k, h));
+    }
+
+-- a facet of three points that isn't level along all axes
+pub level :
+    (a b c d : Point) → (facet_normal a b c).x ≡ pos 0 → (facet_normal a b c).y ≡ pos 0 → (facet_normal a b c).z ≡ pos 0 →
+    orientation a b c d ≡ pos 0
+unfolding orientation
+level a b c d e f g =
+    let t = step a d in
+    let i : (facet_normal a b c).x *ℤ t.x ≡ pos 0 = ap (λ y. y *ℤ t.x) e ∙ zero-*ℤ t.x in
+    let j : (facet_normal a b c).y *ℤ t.y ≡ pos 0 = ap (λ y. y *ℤ t.y) f ∙ zero-*ℤ t.y in
+    let k : (facet_normal a b c).z *ℤ t.z ≡ pos 0 = ap (λ y. y *ℤ t.z) g ∙ zero-*ℤ t.z in
+    ap₂ (λ y z. y +ℤ z) (ap₂ (λ y z. y +ℤ z) i j) k
+
+not_low : (n p : ℤ) → unsigned_abs p ≤ 2097151 → (n ≡ pos 0) ⊎ (p ≡ low n) → n ≡ pos 0
+not_low n p h (inl e) = e
+not_low n p h (inr e) = absurd (pick (int_lt n (pos 0)) e)
+  where
+    pick : (b : Bool) → p ≡ edge b → ⊥
+    pick true e = absurd (omega (arith, ints))
+    pick false e = absurd (omega (arith, ints))
+
+-- a data point is before each outer facet of a cell
+pub data_inner : (v : Vertices) → IsBoxed v → (p : ℕ) → 8 ≤ p → p < v.count → IsInner v p
+data_inner v x p h l =
+    record {
+      weak = λ a b c o.
+          (let q = over v x a b c o (v.at p) (vertex_within v x p l) in
+          let e = q.is in let f = q.bottom_in in let i = q.x_in in let j = q.y_in in let k = q.z_in in
+          omega (arith, ints, e, f, i, j, k));
+      strict = λ a b c d hd k o.
+          by_lt_z (pos 0) (orientation_of v a b c p) (λ m. m)
+          (λ m.
+          let w = x.data_at p h l in
+          let n = facet_normal (v.at a) (v.at b) (v.at c) in
+          let y = down v x a b c o (v.at p) (vertex_within v x p l) m in
+          let z = level (v.at a) (v.at b) (v.at c) (v.at d) (not_low n.x (v.at p).x w.x_within y.x_down) (not_low n.y (v.at p).y w.y_within y.y_down) (not_low n.z (v.at p).z w.z_within y.z_down) in
+          absurd (omega (arith, ints, z, k)));
+    }
+
+zero_or_not : (z : ℤ) → (z ≡ pos 0) ⊎ (z ≢ pos 0)
+zero_or_not (pos zero) = inl refl
+zero_or_not (pos (suc n)) = inr (λ e. absurd (omega (arith, ints, e)))
+zero_or_not (negsuc n) = inr (λ e. absurd (omega (arith, ints, e)))
+
+-- a vertex at an edge of the box is a corner
+is_corner : (v : Vertices) → IsBoxed v → (u : ℕ) → u < v.count → (((w : IsWithin 2097151 (v.at u)) → ⊥)) → u < 8
+is_corner v x u h f = ⊎_elim (λ l. l) (λ (l : 8 ≤ u). absurd (f (x.data_at u l h))) (cases_lt u 8)
+
+at_low : (n p : ℤ) → n ≢ pos 0 → (n ≡ pos 0) ⊎ (p ≡ low n) → p ≡ low n
+at_low n p h (inl e) = absurd (h e)
+at_low n p h (inr e) = e
+
+not_within : (n p : ℤ) → p ≡ low n → unsigned_abs p ≤ 2097151 → ⊥
+not_within n p e h = pick (int_lt n (pos 0)) e
+  where
+    pick : (b : Bool) → p ≡ edge b → ⊥
+    pick true e = absurd (omega (arith, ints))
+    pick false e = absurd (omega (arith, ints))
+
+-- an outer facet of a cell is on a wall
+pub outer_wall : (v : Vertices) → IsBoxed v → (a b c d : ℕ) → IsCell v a b c d → IsOuter v a b c → IsWall v (facet a b c)
+outer_wall v x a b c d k o =
+    ⊎_elim (λ e. ⊎_elim (λ f. ⊎_elim (λ g. absurd (let z = level (v.at a) (v.at b) (v.at c) (v.at d) e f g in let q = k.positive in omega (arith, ints, z, q))) along_z (zero_or_not n.z)) along_y (zero_or_not n.y)) along_x (zero_or_not n.x)
+  where
+    n : Point
+    n = facet_normal (v.at a) (v.at b) (v.at c)
+
+    da : Down n (v.at a)
+    da = down v x a b c o (v.at a) (vertex_within v x a k.has_a.0) (let z = flat_a (v.at a) (v.at b) (v.at c) in omega (arith, ints, z))
+
+    db : Down n (v.at b)
+    db = down v x a b c o (v.at b) (vertex_within v x b k.has_b.0) (let z = flat_b (v.at a) (v.at b) (v.at c) in omega (arith, ints, z))
+
+    dc : Down n (v.at c)
+    dc = down v x a b c o (v.at c) (vertex_within v x c k.has_c.0) (let z = flat_c (v.at a) (v.at b) (v.at c) in omega (arith, ints, z))
+
+    along_x : n.x ≢ pos 0 → IsWall v (facet a b c)
+    along_x h =
+        let ea = at_low n.x (v.at a).x h da.x_down in
+        let eb = at_low n.x (v.at b).x h db.x_down in
+        let ec = at_low n.x (v.at c).x h dc.x_down in
+        record {
+          first = is_corner v x a k.has_a.0 (λ w. not_within n.x (v.at a).x ea w.x_within);
+          second = is_corner v x b k.has_b.0 (λ w. not_within n.x (v.at b).x eb w.x_within);
+          third = is_corner v x c k.has_c.0 (λ w. not_within n.x (v.at c).x ec w.x_within);
+          agree = inl (ea ∙ sym eb, ea ∙ sym ec);
+        }
+
+    along_y : n.y ≢ pos 0 → IsWall v (facet a b c)
+    along_y h =
+        let ea = at_low n.y (v.at a).y h da.y_down in
+        let eb = at_low n.y (v.at b).y h db.y_down in
+        let ec = at_low n.y (v.at c).y h dc.y_down in
+        record {
+          first = is_corner v x a k.has_a.0 (λ w. not_within n.y (v.at a).y ea w.y_within);
+          second = is_corner v x b k.has_b.0 (λ w. not_within n.y (v.at b).y eb w.y_within);
+          third = is_corner v x c k.has_c.0 (λ w. not_within n.y (v.at c).y ec w.y_within);
+          agree = inr (inl (ea ∙ sym eb, ea ∙ sym ec));
+        }
+
+    along_z : n.z ≢ pos 0 → IsWall v (facet a b c)
+    along_z h =
+        let ea = at_low n.z (v.at a).z h da.z_down in
+        let eb = at_low n.z (v.at b).z h db.z_down in
+        let ec = at_low n.z (v.at c).z h dc.z_down in
+        record {
+          first = is_corner v x a k.has_a.0 (λ w. not_within n.z (v.at a).z ea w.z_within);
+          second = is_corner v x b k.has_b.0 (λ w. not_within n.z (v.at b).z eb w.z_within);
+          third = is_corner v x c k.has_c.0 (λ w. not_within n.z (v.at c).z ec w.z_within);
+          agree = inr (inr (ea ∙ sym eb, ea ∙ sym ec));
+        }

@@ -1,0 +1,152 @@
+-- The laws of cells, of one vertex more and of linked cells, as specs/ states them.
+-- Stands on: the lemmas of Wrap to LinkedCells, with Heights, Box and Goal for what those suppose.
+use Rattle.std.proofs.Common.{ℕ, ◌≡◌, refl, sym, ◌∙◌, pos, true≢false, Option, Some, None, inl, inr, ⊎_elim}
+use Rattle.std.proofs.lemmas.Int.{by_lt_z}
+use Rattle.geo_sign.specs.Rational.{displaced, RationalPoint}
+use Rattle.geo_sign.specs.Cells.{IsCell}
+use Rattle.geo_sign.specs.Tetrahedron.{DirectedFacet, facet_of, Tetrahedron, tetrahedron}
+use Rattle.geo_sign.specs.Vertices.{IsWall, Vertices}
+use Rattle.geo_sign.specs.Boxes.{IsBoxed, with_vertex}
+use Rattle.geo_sign.specs.Places.{IsInBox, IsLyingIn}
+use Rattle.cell_laws.specs.CellLaws.{AcrossLaw, ConvexLaw, EnvelopeLaw, GenericLaw, JoinedLaw, OneLaw, WritingLaw}
+use Rattle.cell_laws.specs.InsertionLaws.{EdgeLaw, FanLaw, FloodLaw, InsertLaw, StayLaw, VertexLaw}
+use Rattle.cell_laws.specs.LinkLaws.{CavityLaw, FloodedLaw, FoundLaw, LinkedLaw, ReplaceLaw, RimLaw, WallLaw}
+use Rattle.cell_laws.specs.Links.{IsBackAt}
+use Rattle.cell_laws.specs.Lists.{IsListing}
+use Rattle.geo_sign.specs.Writings.{IsVertexOf}
+use Rattle.cell_laws.proofs.Box.{data_inner, outer_wall}
+use Rattle.cell_laws.proofs.Closed.{closed_full, outer_none}
+use Rattle.cell_laws.proofs.Cover.{each_place}
+use Rattle.cell_laws.proofs.Edges.{fan_edges}
+use Rattle.cell_laws.proofs.Fan.{cell_fan, fan_before, fan_cell, fan_next, fan_once, not_in, stays, stays_cell, was_cell}
+use Rattle.cell_laws.proofs.Flood.{above, flood, holds_one}
+use Rattle.cell_laws.proofs.Goal.{goal, wall_outer}
+use Rattle.cell_laws.proofs.Heights.{tied_convex, tied_generic}
+use Rattle.cell_laws.proofs.Insert.{inserted, made_cells}
+use Rattle.cell_laws.proofs.Inside.{box_inside}
+use Rattle.cell_laws.proofs.LinkedCells.{back_same, facet_same, fan_link, flooded_closed, from_facet, link_fan, linked_listing}
+use Rattle.cell_laws.proofs.Regions.{IsInner, IsOuter}
+use Rattle.cell_laws.proofs.Rim.{fan_some, fan_spin, vertex_kept}
+use Rattle.cell_laws.proofs.Ways.{power_at, same_cell, same_orientation, same_power}
+use Rattle.cell_laws.proofs.Wrap.{across, one_over}
+
+pub generic_law : GenericLaw
+generic_law v x a b c d u ha hb hc hd hu o e = tied_generic v x a b c d u ha hb hc hd hu o e
+
+pub convex_law : ConvexLaw
+convex_law v x t u ha hb hc hd hu o l k = tied_convex v x t u ha hb hc hd hu o l k
+
+pub writing_law : WritingLaw
+writing_law v t r w = record { cell = same_cell v t r w; orientation = same_orientation v t r w; power = λ p. same_power v p t r w }
+
+pub envelope_law : EnvelopeLaw
+envelope_law v t r q ht hr l = above v t r q ht hr l
+
+pub across_law : AcrossLaw
+across_law v x a b c d k =
+    ⊎_elim (λ (o : IsOuter v a b c). inl (outer_wall v x a b c d k o, λ e z. outer_none v a b c e o z))
+    (λ (z : (e : ℕ) × IsCell v a c b e).
+    inr (λ w. outer_none v a b c z.0 (wall_outer v x a b c d k w) z.1, record { vertex = z.0; cell = z.1; one = λ e y. one_over v (tied_generic v x) a c b e z.0 y z.1 }))
+    (across v a b c d k)
+
+-- where there is a cell at all
+pub placed :
+    (v : Vertices) → IsBoxed v → (a b c d : ℕ) → IsCell v a b c d → (q : RationalPoint) → IsInBox q →
+    (t : Tetrahedron) × IsCell v t.a t.b t.c t.d × IsLyingIn v t q
+placed v x a b c d k q h = each_place v (tied_generic v x) a b c d k q (λ i j l m n o. box_inside v x q h i j l o)
+
+pub one_law : OneLaw
+one_law v x t r q ht hr l k = holds_one v (tied_generic v x) t r q ht hr l k
+
+pub joined_law : JoinedLaw
+joined_law v x live cell j y i = closed_full v (tied_generic v x) live cell j y i
+
+-- ---- one vertex more
+pub fan_law : FanLaw
+fan_law v x p n =
+    let g = tied_generic v x in
+    let i : IsInner v p = data_inner v x p n.above n.below in
+    record {
+      before = fan_before v p g i;
+      cells = λ a b c. (fan_cell v p g i n.below a b c, cell_fan v p g i n.out n.below a b c);
+      turned = fan_spin v p;
+      next = fan_next v p g i n.out n.below;
+      once = fan_once v p g i n.below;
+      some = fan_some v g p;
+    }
+
+pub stay_law : StayLaw
+stay_law v p a b c d h na nb nc nd = (λ k. was_cell v p h a b c d k na nb nc nd, λ k. stays_cell v p a b c d k.0 k.1)
+
+pub vertex_law : VertexLaw
+vertex_law v x p n a b c d k h u w =
+    vertex_kept v (tied_generic v x) (tied_convex v x) p (data_inner v x p n.above n.below) n.out n.below a b c d k h u w
+
+pub flood_law : FloodLaw
+flood_law v x p n live cell list marked closed y i m c z j d =
+    flood v (tied_generic v x) p (displaced (v.at p)) (goal v x p n.above n.below) live cell list marked closed y i m c z j d
+
+pub boxed_with : (v : Vertices) (p : ℕ) → IsBoxed v → IsBoxed (with_vertex v p)
+boxed_with v p x =
+    record { corner_in = λ k h. stays v p k (x.corner_in k h); corner_at = x.corner_at; data_at = x.data_at; apart = x.apart; tied = x.tied }
+
+pub insert_law : InsertLaw
+insert_law v x p n live cell live' cell' f r =
+    (boxed_with v p x, inserted v p (tied_generic v x) (data_inner v x p n.above n.below) n.out n.below live cell live' cell' f r)
+
+pub edge_law : EdgeLaw
+edge_law v x p n m f h = fan_edges v p (fan_law v x p n) m f h
+
+-- ---- linked cells
+pub wall_law : WallLaw
+wall_law v b live cell next l cells x k i m = (l.walls x k i m, λ w. by w (next x k) refl)
+  where
+    f : DirectedFacet
+    f = facet_of (cell x) k
+
+    by : IsWall v f → (o : Option ℕ) → next x k ≡ o → next x k ≡ None
+    by w None e = e
+    by w (Some y) e =
+        let t = from_facet (cell x) k in
+        let r : IsBackAt live cell f y = l.back x k y i m e in
+        let z = back_same live cell f y r in
+        let o = wall_outer v b t.a t.b t.c t.d (same_cell v (cell x) t (facet_same (cell x) k) (cells x i)) w in
+        absurd (outer_none v t.a t.b t.c z.0 o (same_cell v (cell y) (tetrahedron t.a t.c t.b z.0) z.1 (cells y r.listed)))
+
+pub linked_law : LinkedLaw
+linked_law v x live cell next l cells y i = linked_listing v x (tied_generic v x) live cell next l cells y i
+
+pub flooded_law : FloodedLaw
+flooded_law v x p n live cell next l cells marked f y i m c z j d =
+    let g = tied_generic v x in
+    flood v g p (displaced (v.at p)) (goal v x p n.above n.below) live cell (linked_listing v x g live cell next l cells y i) marked (flooded_closed v x p live cell next l cells marked f) y i m c z j d
+
+pub found_law : FoundLaw
+found_law v b p n t c l =
+    by_lt_z (power_at v t p) (pos 0) (λ h. h) (λ h. absurd (not_own (tied_convex v b t p c.has_a.0 c.has_b.0 c.has_c.0 c.has_d.0 n.below c.positive l h)))
+  where
+    not_own : IsVertexOf t p → ⊥
+    not_own (inl e) = not_in v p t.a n.out c.has_a (sym e)
+    not_own (inr (inl e)) = not_in v p t.b n.out c.has_b (sym e)
+    not_own (inr (inr (inl e))) = not_in v p t.c n.out c.has_c (sym e)
+    not_own (inr (inr (inr e))) = not_in v p t.d n.out c.has_d (sym e)
+
+pub cavity_law : CavityLaw
+cavity_law v b p n live cell next l cells marked f conflict x i m =
+    record {
+      taken = conflict;
+      kept = λ y j e.
+          by_lt_z (power_at v (cell y) p) (pos 0) (λ h. absurd (true≢false (sym (flooded_law v b p n live cell next l cells marked f x i m (conflict x i m) y j h) ∙ e))) (λ h. h);
+    }
+
+pub rim_law : RimLaw
+rim_law v x p live cell next l cells y i =
+    let g = tied_generic v x in
+    let list : IsListing v live cell = linked_listing v x g live cell next l cells y i in
+    record { fan = link_fan v x g p live cell next l cells; all = fan_link v p live cell next l list.full }
+
+pub replace_law : ReplaceLaw
+replace_law v x p n live cell cells live' cell' next' made l y i =
+    let g = tied_generic v x in
+    let all = made_cells v p g (data_inner v x p n.above n.below) n.below live cell cells live' cell' made in
+    (boxed_with v p x, linked_listing (with_vertex v p) (boxed_with v p x) g live' cell' next' l all y i)

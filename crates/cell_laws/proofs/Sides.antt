@@ -1,0 +1,96 @@
+-- The sides of places of a cell's facets, by the index of the facet.
+--
+--   inward v t k q    how far q is on the inner side of facet k of t
+--   HasVertex f n     n is a vertex of the facet
+--
+-- Stands on: the definitions alone.
+use Rattle.std.proofs.Common.{ℕ, zero, suc, ◌≡◌, ap, ◌∙◌, inl, inr, ◌⊎◌, ℤ, pos, neg_ℤ, [], ◌∷◌}
+use Rattle.geo_sign.specs.Edges.{HasVertex}
+use Rattle.geo_sign.specs.Polynomial.{constant, negation, variable}
+use Rattle.geo_sign.proofs.Ring.{ring}
+use Rattle.geo_sign.specs.Orientation.{orientation}
+use Rattle.geo_sign.specs.Point.{Point}
+use Rattle.geo_sign.specs.Rational.{rational, RationalPoint, side}
+use Rattle.geo_sign.proofs.Written.{coordinates, orientation', side', symbols}
+use Rattle.geo_sign.specs.Sights.{side_of}
+use Rattle.geo_sign.specs.Tetrahedron.{DirectedFacet, facet_of, IsTurned, Tetrahedron, vertex_of}
+use Rattle.geo_sign.specs.Vertices.{Vertices}
+use Rattle.geo_sign.specs.Writings.{IsVertexOf}
+use Rattle.cell_laws.proofs.Ways.{orientation_at}
+
+abbrev pub inward : Vertices → Tetrahedron → ℕ → RationalPoint → ℤ
+inward v cell k q = side_of v (facet_of cell k) q
+
+-- ---- the sides of a facet and of the turned one
+pub turned_side : (a b c : Point) (q : RationalPoint) → side a c b q ≡ neg_ℤ (side a b c q)
+unfolding side
+turned_side a b c q =
+    ring (coordinates a (coordinates b (coordinates c (coordinates q.at (q.over ∷ []))))) (side' (symbols 0) (symbols 6) (symbols 3) (record { at = symbols 9; over = variable 12 })) (negation (side' (symbols 0) (symbols 3) (symbols 6) (record { at = symbols 9; over = variable 12 }))) tt
+
+turned_side_second : (a b c : Point) (q : RationalPoint) → side c b a q ≡ neg_ℤ (side a b c q)
+unfolding side
+turned_side_second a b c q =
+    ring (coordinates a (coordinates b (coordinates c (coordinates q.at (q.over ∷ []))))) (side' (symbols 6) (symbols 3) (symbols 0) (record { at = symbols 9; over = variable 12 })) (negation (side' (symbols 0) (symbols 3) (symbols 6) (record { at = symbols 9; over = variable 12 }))) tt
+
+turned_side_third : (a b c : Point) (q : RationalPoint) → side b a c q ≡ neg_ℤ (side a b c q)
+unfolding side
+turned_side_third a b c q =
+    ring (coordinates a (coordinates b (coordinates c (coordinates q.at (q.over ∷ []))))) (side' (symbols 3) (symbols 0) (symbols 6) (record { at = symbols 9; over = variable 12 })) (negation (side' (symbols 0) (symbols 3) (symbols 6) (record { at = symbols 9; over = variable 12 }))) tt
+
+pub beside_turned : (v : Vertices) (f g : DirectedFacet) (q : RationalPoint) → IsTurned f g → side_of v g q ≡ neg_ℤ (side_of v f q)
+beside_turned v f g q (inl e) = ap (λ h. side_of v h q) e ∙ turned_side (v.at f.a) (v.at f.b) (v.at f.c) q
+beside_turned v f g q (inr (inl e)) = ap (λ h. side_of v h q) e ∙ turned_side_second (v.at f.a) (v.at f.b) (v.at f.c) q
+beside_turned v f g q (inr (inr e)) = ap (λ h. side_of v h q) e ∙ turned_side_third (v.at f.a) (v.at f.b) (v.at f.c) q
+
+-- ---- a cell's own vertices lie in it
+at_first : (a b c : Point) → side a b c (rational a) ≡ pos 0
+unfolding side
+at_first a b c =
+    ring (coordinates a (coordinates b (coordinates c []))) (side' (symbols 0) (symbols 3) (symbols 6) (record { at = symbols 0; over = constant (pos 1) })) (constant (pos 0)) tt
+
+at_second : (a b c : Point) → side a b c (rational b) ≡ pos 0
+unfolding side
+at_second a b c =
+    ring (coordinates a (coordinates b (coordinates c []))) (side' (symbols 0) (symbols 3) (symbols 6) (record { at = symbols 3; over = constant (pos 1) })) (constant (pos 0)) tt
+
+at_third : (a b c : Point) → side a b c (rational c) ≡ pos 0
+unfolding side
+at_third a b c =
+    ring (coordinates a (coordinates b (coordinates c []))) (side' (symbols 0) (symbols 3) (symbols 6) (record { at = symbols 6; over = constant (pos 1) })) (constant (pos 0)) tt
+
+-- the opposite vertex is at the cell's volume
+pub opposite :
+    (v : Vertices) (cell : Tetrahedron) (k : ℕ) → inward v cell k (rational (v.at (vertex_of cell k))) ≡ orientation_at v cell
+unfolding side orientation
+opposite v cell zero =
+    ring (coordinates (v.at cell.a) (coordinates (v.at cell.b) (coordinates (v.at cell.c) (coordinates (v.at cell.d) [])))) (side' (symbols 3) (symbols 9) (symbols 6) (record { at = symbols 0; over = constant (pos 1) })) (orientation' (symbols 0) (symbols 3) (symbols 6) (symbols 9)) tt
+opposite v cell (suc zero) =
+    ring (coordinates (v.at cell.a) (coordinates (v.at cell.b) (coordinates (v.at cell.c) (coordinates (v.at cell.d) [])))) (side' (symbols 0) (symbols 6) (symbols 9) (record { at = symbols 3; over = constant (pos 1) })) (orientation' (symbols 0) (symbols 3) (symbols 6) (symbols 9)) tt
+opposite v cell (suc (suc zero)) =
+    ring (coordinates (v.at cell.a) (coordinates (v.at cell.b) (coordinates (v.at cell.c) (coordinates (v.at cell.d) [])))) (side' (symbols 0) (symbols 9) (symbols 3) (record { at = symbols 6; over = constant (pos 1) })) (orientation' (symbols 0) (symbols 3) (symbols 6) (symbols 9)) tt
+opposite v cell (suc (suc (suc k))) =
+    ring (coordinates (v.at cell.a) (coordinates (v.at cell.b) (coordinates (v.at cell.c) (coordinates (v.at cell.d) [])))) (side' (symbols 0) (symbols 3) (symbols 6) (record { at = symbols 9; over = constant (pos 1) })) (orientation' (symbols 0) (symbols 3) (symbols 6) (symbols 9)) tt
+
+pub on_facet : (v : Vertices) (f : DirectedFacet) (n : ℕ) → HasVertex f n → side_of v f (rational (v.at n)) ≡ pos 0
+on_facet v f n (inl e) = ap (λ m. side_of v f (rational (v.at m))) e ∙ at_first (v.at f.a) (v.at f.b) (v.at f.c)
+on_facet v f n (inr (inl e)) = ap (λ m. side_of v f (rational (v.at m))) e ∙ at_second (v.at f.a) (v.at f.b) (v.at f.c)
+on_facet v f n (inr (inr e)) = ap (λ m. side_of v f (rational (v.at m))) e ∙ at_third (v.at f.a) (v.at f.b) (v.at f.c)
+
+-- each vertex of a cell is opposite to a facet, or on it
+pub opposite_or_on : (v : Tetrahedron) (k n : ℕ) → IsVertexOf v n → (n ≡ vertex_of v k) ⊎ HasVertex (facet_of v k) n
+opposite_or_on v zero n (inl e) = inl e
+opposite_or_on v zero n (inr (inl e)) = inr (inl e)
+opposite_or_on v zero n (inr (inr (inl e))) = inr (inr (inr e))
+opposite_or_on v zero n (inr (inr (inr e))) = inr (inr (inl e))
+opposite_or_on v (suc zero) n (inl e) = inr (inl e)
+opposite_or_on v (suc zero) n (inr (inl e)) = inl e
+opposite_or_on v (suc zero) n (inr (inr (inl e))) = inr (inr (inl e))
+opposite_or_on v (suc zero) n (inr (inr (inr e))) = inr (inr (inr e))
+opposite_or_on v (suc (suc zero)) n (inl e) = inr (inl e)
+opposite_or_on v (suc (suc zero)) n (inr (inl e)) = inr (inr (inr e))
+opposite_or_on v (suc (suc zero)) n (inr (inr (inl e))) = inl e
+opposite_or_on v (suc (suc zero)) n (inr (inr (inr e))) = inr (inr (inl e))
+opposite_or_on v (suc (suc (suc k))) n (inl e) = inr (inl e)
+opposite_or_on v (suc (suc (suc k))) n (inr (inl e)) = inr (inr (inl e))
+opposite_or_on v (suc (suc (suc k))) n (inr (inr (inl e))) = inr (inr (inr e))
+opposite_or_on v (suc (suc (suc k))) n (inr (inr (inr e))) = inl e

@@ -1,0 +1,5 @@
+use Rattle.cell_laws.proofs.RimLists.{facet_law}
+use Rattle.cell_laws.proofs.cells.facet_law.Goals as goal
+
+pub returns : goal.returns
+returns c = facet_law

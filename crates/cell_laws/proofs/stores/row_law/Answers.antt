@@ -1,0 +1,5 @@
+use Rattle.cell_laws.proofs.CellRows.{row_law}
+use Rattle.cell_laws.proofs.stores.row_law.Goals as goal
+
+pub returns : goal.returns
+returns c = row_law

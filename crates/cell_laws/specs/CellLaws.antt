@@ -1,0 +1,114 @@
+-- Laws of the cells over the vertices that are in.
+--
+--   ThreeTermsLaw     the powers at two tetrahedra across a facet
+--   GenericLaw        the power is zero at a tetrahedron's own vertices alone
+--   ConvexLaw         a vertex that lies in a tetrahedron is in conflict with it or one of its own
+--   IsWrittenAnew     the same cell, orientation and powers
+--   WritingLaw        a cell written anew is so
+--   EnvelopeLaw       over a place, the cell that has it is the highest
+--   HasOneAcross      exactly one vertex makes a cell across a facet
+--   AcrossLaw         each facet of a cell is on a wall, or has exactly one cell across it
+--   HaveOneFacet      two cells have a directed facet in common at one side at most, and are then one
+--   FacetLaw          at most one cell has a given directed facet, at one side
+--   SomeLaw           there is a cell
+--   PlaceLaw          each place of the box lies in a cell
+--   OneLaw            a place strictly inside a cell lies in no other
+--   JoinedLaw         a list of cells that has one, and with each those across its facets, has all
+--   six, CornerLaw    the six cells of the box, which are all cells of the corners alone
+use Rattle.std.specs.Prelude.{ℕ, ◌<◌, ◌≡◌, ◌⊎◌, ℤ, pos, ◌+ℤ◌, ◌*ℤ◌, ◌<ℤ◌, ◌≤ℤ◌, List, [], ◌∷◌}
+use Rattle.geo_sign.specs.Point.{Point}
+use Rattle.geo_sign.specs.Orientation.{orientation}
+use Rattle.geo_sign.specs.Power.{power}
+use Rattle.geo_sign.specs.Rational.{RationalPoint, rational}
+use Rattle.geo_sign.specs.Tetrahedron.{Tetrahedron, tetrahedron, facet, facet_of, IsRotated}
+use Rattle.geo_sign.specs.Vertices.{Vertices, Has, orientation_of, power_of, IsWall}
+use Rattle.geo_sign.specs.Cells.{IsCell}
+use Rattle.geo_sign.specs.Writings.{IsRewritten, IsVertexOf}
+use Rattle.geo_sign.specs.Boxes.{IsBoxed}
+use Rattle.geo_sign.specs.Places.{IsInBox, IsLyingIn, IsStrictlyIn}
+use Rattle.cell_laws.specs.Lifts.{lift_of}
+use Rattle.cell_laws.specs.Lists.{IsIn, IsFull, IsJoined}
+
+-- of any five points at any heights
+abbrev pub ThreeTermsLaw : Type 0
+ThreeTermsLaw =
+    (a b c d e p : Point) (ha hb hc hd he hp : ℤ) →
+    orientation a b c d *ℤ power a c b e p ha hc hb he hp ≡
+    orientation a c b e *ℤ power a b c d p ha hb hc hd hp +ℤ power a b c d e ha hb hc hd he *ℤ orientation a b c p
+
+-- five vertices below the count, whether they are in or not
+abbrev pub GenericLaw : Type 0
+GenericLaw =
+    (v : Vertices) → IsBoxed v → (a b c d u : ℕ) → a < v.count → b < v.count → c < v.count → d < v.count → u < v.count →
+    pos 0 <ℤ orientation_of v a b c d → power_of v a b c d u ≡ pos 0 → IsVertexOf (tetrahedron a b c d) u
+
+-- whether the five are in or not, again
+abbrev pub ConvexLaw : Type 0
+ConvexLaw =
+    (v : Vertices) → IsBoxed v → (t : Tetrahedron) (u : ℕ) → t.a < v.count → t.b < v.count → t.c < v.count → t.d < v.count →
+    u < v.count → pos 0 <ℤ orientation_of v t.a t.b t.c t.d → IsLyingIn v t (rational (v.at u)) →
+    pos 0 ≤ℤ power_of v t.a t.b t.c t.d u → IsVertexOf t u
+
+-- the same cell; this needs nothing of the vertices
+pub record IsWrittenAnew (v : Vertices) (t r : Tetrahedron) : Type 0 where
+  pub cell : IsCell v t.a t.b t.c t.d → IsCell v r.a r.b r.c r.d
+  pub orientation : orientation_of v r.a r.b r.c r.d ≡ orientation_of v t.a t.b t.c t.d
+  pub power : (p : ℕ) → power_of v r.a r.b r.c r.d p ≡ power_of v t.a t.b t.c t.d p
+
+abbrev pub WritingLaw : Type 0
+WritingLaw = (v : Vertices) (t r : Tetrahedron) → IsRewritten t r → IsWrittenAnew v t r
+
+-- the heights of two planes at q, each times the other cell's orientation; this needs nothing of the vertices
+abbrev pub EnvelopeLaw : Type 0
+EnvelopeLaw =
+    (v : Vertices) (t r : Tetrahedron) (q : RationalPoint) → IsCell v t.a t.b t.c t.d → IsCell v r.a r.b r.c r.d →
+    IsLyingIn v r q → (orientation_of v r.a r.b r.c r.d *ℤ lift_of v t q) ≤ℤ (orientation_of v t.a t.b t.c t.d *ℤ lift_of v r q)
+
+-- exactly one vertex makes a cell across the facet
+pub record HasOneAcross (v : Vertices) (a b c : ℕ) : Type 0 where
+  pub vertex : ℕ
+  pub cell : IsCell v a c b vertex
+  pub one : (e : ℕ) → IsCell v a c b e → e ≡ vertex
+
+abbrev pub AcrossLaw : Type 0
+AcrossLaw =
+    (v : Vertices) → IsBoxed v → (a b c d : ℕ) → IsCell v a b c d →
+    (IsWall v (facet a b c) × ((e : ℕ) → ¬ IsCell v a c b e)) ⊎ ((¬ IsWall v (facet a b c)) × HasOneAcross v a b c)
+
+-- two cells with a directed facet in common are one, and no two sides of a cell are one facet
+pub record HaveOneFacet (v : Vertices) (t r : Tetrahedron) : Type 0 where
+  pub cell : (j k : ℕ) → j < 4 → k < 4 → IsRotated (facet_of t j) (facet_of r k) → IsRewritten t r
+  pub side : (j k : ℕ) → j < 4 → k < 4 → IsRotated (facet_of t j) (facet_of t k) → j ≡ k
+
+abbrev pub FacetLaw : Type 0
+FacetLaw =
+    (v : Vertices) → IsBoxed v → (t r : Tetrahedron) → IsCell v t.a t.b t.c t.d → IsCell v r.a r.b r.c r.d → HaveOneFacet v t r
+
+-- whatever data points are in
+abbrev pub SomeLaw : Type 0
+SomeLaw = (v : Vertices) → IsBoxed v → (t : Tetrahedron) × IsCell v t.a t.b t.c t.d
+
+abbrev pub PlaceLaw : Type 0
+PlaceLaw =
+    (v : Vertices) → IsBoxed v → (q : RationalPoint) → IsInBox q →
+    (t : Tetrahedron) × IsCell v t.a t.b t.c t.d × IsLyingIn v t q
+
+-- it lies in t, and strictly in r
+abbrev pub OneLaw : Type 0
+OneLaw =
+    (v : Vertices) → IsBoxed v → (t r : Tetrahedron) (q : RationalPoint) → IsCell v t.a t.b t.c t.d → IsCell v r.a r.b r.c r.d →
+    IsLyingIn v t q → IsStrictlyIn v r q → IsRewritten t r
+
+-- from any name on
+abbrev pub JoinedLaw : Type 0
+JoinedLaw =
+    (v : Vertices) → IsBoxed v → (live : List ℕ) (cell : ℕ → Tetrahedron) → IsJoined v live cell → (x : ℕ) → IsIn live x →
+    IsFull v live cell
+
+-- the six cells of the box
+abbrev pub six : List Tetrahedron
+six = tetrahedron 0 1 2 4 ∷ tetrahedron 1 2 4 3 ∷ tetrahedron 1 3 4 5 ∷ tetrahedron 2 3 6 4 ∷ tetrahedron 3 4 5 6 ∷ tetrahedron 3 5 7 6 ∷ []
+
+-- for every number of vertices, of which the corners alone are in
+abbrev pub CornerLaw : Type 0
+CornerLaw = (v : Vertices) → IsBoxed v → ((u : ℕ) → Has v u → u < 8) → IsFull v six (λ t. t)

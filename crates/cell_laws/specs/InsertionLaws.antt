@@ -1,0 +1,78 @@
+-- Laws of one vertex more.
+--
+--   FanLaw        the cells with the new vertex are those over the fan, which is closed and lies before the vertex
+--   StayLaw       the cells without it are those that it is not in conflict with
+--   VertexLaw     no vertex is lost
+--   FloodLaw      marked cells in conflict that no step between cells in conflict leaves are all cells in conflict
+--   InsertLaw     taking out the cells in conflict and putting in the fan gives the cells with one vertex more
+--   EdgeLaw       each directed edge of the fan stands once, and its reverse too
+--   SideLaw       what edges of two facets say of the sides of the new cells over them
+use Rattle.std.specs.Prelude.{ℕ, ◌<◌, ◌≡◌, ◌≢◌, ◌⊎◌, ◌↔◌, Bool, true, pos, ◌<ℤ◌, ◌≤ℤ◌, List}
+use Rattle.geo_sign.specs.Tetrahedron.{Tetrahedron, DirectedFacet, facet_of, IsTurned, IsRotated}
+use Rattle.geo_sign.specs.Vertices.{Vertices, Has, orientation_of, power_of}
+use Rattle.geo_sign.specs.Cells.{IsCell}
+use Rattle.geo_sign.specs.Writings.{IsVertexOf}
+use Rattle.geo_sign.specs.Boxes.{IsBoxed, with_vertex, IsNew, IsInConflict, IsClearOf}
+use Rattle.cell_laws.specs.Fans.{IsFan}
+use Rattle.cell_laws.specs.Lists.{IsIn, IsFull, IsListing, IsClosed, IsReplaced}
+use Rattle.geo_sign.specs.Edges.{edge_start, edge_end, over}
+use Rattle.cell_laws.specs.Edges.{IsFanList, AreEdges, HaveEdge}
+
+pub record IsFanOf (v : Vertices) (p : ℕ) : Type 0 where
+  -- p is before each facet
+  pub before : (a b c : ℕ) → IsFan v p a b c → pos 0 <ℤ orientation_of v a b c p
+  pub cells : (a b c : ℕ) → IsFan v p a b c ↔ IsCell (with_vertex v p) a b c p
+  -- a facet written anew
+  pub turned : (a b c : ℕ) → IsFan v p a b c → IsFan v p b c a
+  -- each directed edge's reverse is in the fan, and each directed edge once
+  pub next : (a b c : ℕ) → IsFan v p a b c → (x : ℕ) × IsFan v p b a x
+  pub once : (a b c d : ℕ) → IsFan v p a b c → IsFan v p a b d → c ≡ d
+  -- there is a facet where a cell is in conflict
+  pub some : (a b c d : ℕ) → IsCell v a b c d → power_of v a b c d p <ℤ pos 0 → (i j k : ℕ) × IsFan v p i j k
+
+abbrev pub FanLaw : Type 0
+FanLaw = (v : Vertices) → IsBoxed v → (p : ℕ) → IsNew v p → IsFanOf v p
+
+-- this needs nothing of the vertices
+abbrev pub StayLaw : Type 0
+StayLaw =
+    (v : Vertices) (p a b c d : ℕ) → p < v.count → a ≢ p → b ≢ p → c ≢ p → d ≢ p →
+    IsCell (with_vertex v p) a b c d ↔ (IsCell v a b c d × (pos 0 ≤ℤ power_of v a b c d p))
+
+-- where a cell is in conflict with p, each vertex is in a facet of the fan, or in a cell with which p is not in conflict
+abbrev pub VertexLaw : Type 0
+VertexLaw =
+    (v : Vertices) → IsBoxed v → (p : ℕ) → IsNew v p → (a b c d : ℕ) → IsCell v a b c d → power_of v a b c d p <ℤ pos 0 →
+    (u : ℕ) → Has v u →
+    ((i j k : ℕ) × IsFan v p i j k × ((u ≡ i) ⊎ ((u ≡ j) ⊎ (u ≡ k)))) ⊎
+    ((t : Tetrahedron) × IsCell v t.a t.b t.c t.d × IsVertexOf t u × IsClearOf v p t)
+
+abbrev pub FloodLaw : Type 0
+FloodLaw =
+    (v : Vertices) → IsBoxed v → (p : ℕ) → IsNew v p → (live : List ℕ) (cell : ℕ → Tetrahedron) → IsListing v live cell →
+    (marked : ℕ → Bool) → IsClosed v p live cell marked →
+    (x : ℕ) → IsIn live x → marked x ≡ true → IsInConflict v p (cell x) → (y : ℕ) → IsIn live y → IsInConflict v p (cell y) →
+    marked y ≡ true
+
+abbrev pub InsertLaw : Type 0
+InsertLaw =
+    (v : Vertices) → IsBoxed v → (p : ℕ) → IsNew v p →
+    (live : List ℕ) (cell : ℕ → Tetrahedron) (live' : List ℕ) (cell' : ℕ → Tetrahedron) → IsFull v live cell →
+    IsReplaced v p live cell live' cell' →
+    IsBoxed (with_vertex v p) × IsFull (with_vertex v p) live' cell'
+
+abbrev pub EdgeLaw : Type 0
+EdgeLaw = (v : Vertices) → IsBoxed v → (p : ℕ) → IsNew v p → (n : ℕ) (f : ℕ → DirectedFacet) → IsFanList v p n f → AreEdges n f
+
+-- Two new cells over p: where their facets have an edge and its reverse they are neighbours across those sides, and where
+-- they have a side in common their facets have an edge in common. This needs nothing of the vertices.
+pub record IsSideLaw (f g : DirectedFacet) (p : ℕ) : Type 0 where
+  pub turned :
+      (i j : ℕ) → i < 3 → j < 3 → edge_start f i ≡ edge_end g j → edge_end f i ≡ edge_start g j →
+      IsTurned (facet_of (over f p) i) (facet_of (over g p) j)
+  pub common :
+      f.a ≢ p → f.b ≢ p → f.c ≢ p → g.a ≢ p → g.b ≢ p → g.c ≢ p → (i j : ℕ) → i < 4 → j < 4 →
+      IsRotated (facet_of (over f p) i) (facet_of (over g p) j) → HaveEdge f g
+
+abbrev pub SideLaw : Type 0
+SideLaw = (f g : DirectedFacet) (p : ℕ) → IsSideLaw f g p

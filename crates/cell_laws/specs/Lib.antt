@@ -1,0 +1,16 @@
+pub mod Lifts
+pub mod Fans
+pub mod Lists
+pub mod Links
+pub mod Edges
+pub mod CellLaws
+pub mod InsertionLaws
+pub mod Replacements
+pub mod LinkLaws
+pub mod Paths
+pub mod WalkLaws
+pub mod ExampleLaws
+pub mod StoredLaws
+pub mod TieLaws
+pub mod ClosedLaws
+pub mod RowLaws

@@ -1,0 +1,179 @@
+-- Laws of linked cells, in the words of any store: a list of live names, the cell of each, and the neighbour at each side.
+--
+--   BoxLaw        the six cells over the corners, and how they are linked
+--   WallLaw       a linked cell has no neighbour exactly across a wall
+--   BackLaw       neighbours name each other across the same facet
+--   LinkedLaw     linked cells that are cells are all cells, each once
+--   FloodedLaw    a flood over their links from one cell in conflict finds all
+--   FoundLaw      the cell in which a new vertex lies is in conflict with it
+--   CavityLaw     a flood over the links marks exactly the cells in conflict
+--   RimLaw        the fan is the facets of cells in conflict at the rim
+--   ReplaceLaw    linked cells that were made from those with one vertex less are all cells with it, each once
+--   RimOfLaw      a list of the sides at the rim, as RimListLaw takes it
+--   RimListLaw    the facets at the rim of the cells in conflict have all that putting in new cells over them asks for
+--   RelinkLaw     what a replacement leaves is linked; this is about links alone and needs nothing of the vertices
+--   RenewLaw      a replacement of all cells in conflict leaves all cells with one vertex more, each once
+use Rattle.std.specs.Prelude.{ℕ, zero, suc, ◌<◌, ◌≡◌, ◌⊎◌, ◌↔◌, pos, ◌<ℤ◌, Bool, true, false, Option, Some, None, List, [], ◌∷◌, length, slice_index_or}
+use Rattle.geo_sign.specs.Rational.{rational}
+use Rattle.geo_sign.specs.Tetrahedron.{Tetrahedron, tetrahedron, DirectedFacet, facet_of, IsTurned}
+use Rattle.geo_sign.specs.Vertices.{Vertices, Has, IsWall, orientation_of}
+use Rattle.geo_sign.specs.Cells.{IsCell}
+use Rattle.geo_sign.specs.Boxes.{IsBoxed, with_vertex, IsNew, IsInConflict, IsClearOf}
+use Rattle.geo_sign.specs.Places.{IsLyingIn}
+use Rattle.cell_laws.specs.Edges.{IsFanList, AreEdges}
+use Rattle.cell_laws.specs.Fans.{IsFan}
+use Rattle.cell_laws.specs.Lists.{IsIn, AreCells, IsListing, IsMade}
+use Rattle.cell_laws.specs.Links.{Side, IsLinked, IsFlooded, IsRim, IsFanAt}
+use Rattle.cell_laws.specs.Replacements.{IsRimList, IsRimOf, IsReplacement}
+use Rattle.geo_sign.specs.Writings.{IsVertexOf}
+
+abbrev pub WallLaw : Type 0
+WallLaw =
+    (v : Vertices) → IsBoxed v → (live : List ℕ) (cell : ℕ → Tetrahedron) (next : ℕ → ℕ → Option ℕ) →
+    IsLinked v live cell next → AreCells v live cell → (x k : ℕ) → IsIn live x → k < 4 →
+    (next x k ≡ None) ↔ IsWall v (facet_of (cell x) k)
+
+-- y has the facet turned, and x across it
+pub record IsNamedBack (cell : ℕ → Tetrahedron) (next : ℕ → ℕ → Option ℕ) (x k y : ℕ) : Type 0 where
+  pub side : ℕ
+  pub in_range : side < 4
+  pub turned : IsTurned (facet_of (cell x) k) (facet_of (cell y) side)
+  pub named : next y side ≡ Some x
+
+abbrev pub BackLaw : Type 0
+BackLaw =
+    (v : Vertices) → IsBoxed v → (live : List ℕ) (cell : ℕ → Tetrahedron) (next : ℕ → ℕ → Option ℕ) →
+    IsLinked v live cell next → AreCells v live cell → (x k y : ℕ) → IsIn live x → k < 4 → next x k ≡ Some y →
+    IsNamedBack cell next x k y
+
+abbrev pub LinkedLaw : Type 0
+LinkedLaw =
+    (v : Vertices) → IsBoxed v → (live : List ℕ) (cell : ℕ → Tetrahedron) (next : ℕ → ℕ → Option ℕ) →
+    IsLinked v live cell next → AreCells v live cell → (x : ℕ) → IsIn live x → IsListing v live cell
+
+abbrev pub FloodedLaw : Type 0
+FloodedLaw =
+    (v : Vertices) → IsBoxed v → (p : ℕ) → IsNew v p → (live : List ℕ) (cell : ℕ → Tetrahedron) (next : ℕ → ℕ → Option ℕ) →
+    IsLinked v live cell next → AreCells v live cell → (marked : ℕ → Bool) → IsFlooded v p live cell next marked →
+    (x : ℕ) → IsIn live x → marked x ≡ true → IsInConflict v p (cell x) → (y : ℕ) → IsIn live y → IsInConflict v p (cell y) →
+    marked y ≡ true
+
+abbrev pub FoundLaw : Type 0
+FoundLaw =
+    (v : Vertices) → IsBoxed v → (p : ℕ) → IsNew v p → (t : Tetrahedron) → IsCell v t.a t.b t.c t.d →
+    IsLyingIn v t (rational (v.at p)) → IsInConflict v p t
+
+-- the cells taken out are those in conflict with p
+pub record AreConflicts (v : Vertices) (p : ℕ) (live : List ℕ) (cell : ℕ → Tetrahedron) (removed : ℕ → Bool) : Type 0 where
+  pub taken : (x : ℕ) → IsIn live x → removed x ≡ true → IsInConflict v p (cell x)
+  pub kept : (x : ℕ) → IsIn live x → removed x ≡ false → IsClearOf v p (cell x)
+
+abbrev pub CavityLaw : Type 0
+CavityLaw =
+    (v : Vertices) → IsBoxed v → (p : ℕ) → IsNew v p → (live : List ℕ) (cell : ℕ → Tetrahedron) (next : ℕ → ℕ → Option ℕ) →
+    IsLinked v live cell next → AreCells v live cell → (marked : ℕ → Bool) → IsFlooded v p live cell next marked →
+    ((x : ℕ) → IsIn live x → marked x ≡ true → IsInConflict v p (cell x)) → (x : ℕ) → IsIn live x → marked x ≡ true →
+    AreConflicts v p live cell marked
+
+pub record IsRimLaw (v : Vertices) (p : ℕ) (live : List ℕ) (cell : ℕ → Tetrahedron) (next : ℕ → ℕ → Option ℕ) : Type 0 where
+  pub fan :
+      (x k : ℕ) → IsIn live x → k < 4 → IsInConflict v p (cell x) → IsRim v p cell next x k →
+      IsFan v p (facet_of (cell x) k).a (facet_of (cell x) k).b (facet_of (cell x) k).c
+  pub all : (a b c : ℕ) → IsFan v p a b c → IsFanAt v p live cell next a b c
+
+abbrev pub RimLaw : Type 0
+RimLaw =
+    (v : Vertices) → IsBoxed v → (p : ℕ) (live : List ℕ) (cell : ℕ → Tetrahedron) (next : ℕ → ℕ → Option ℕ) →
+    IsLinked v live cell next → AreCells v live cell → (x : ℕ) → IsIn live x → IsRimLaw v p live cell next
+
+abbrev pub ReplaceLaw : Type 0
+ReplaceLaw =
+    (v : Vertices) → IsBoxed v → (p : ℕ) → IsNew v p → (live : List ℕ) (cell : ℕ → Tetrahedron) → AreCells v live cell →
+    (live' : List ℕ) (cell' : ℕ → Tetrahedron) (next' : ℕ → ℕ → Option ℕ) → IsMade v p live cell live' cell' →
+    IsLinked (with_vertex v p) live' cell' next' → (y : ℕ) → IsIn live' y →
+    IsBoxed (with_vertex v p) × IsListing (with_vertex v p) live' cell'
+
+-- side i of the list, and past the end side 0 of the cell 0
+abbrev pub side_of_list : List Side → ℕ → Side
+side_of_list sides i = slice_index_or sides i (record { at = 0; side = 0 })
+
+abbrev pub RimOfLaw : Type 0
+RimOfLaw =
+    (v : Vertices) (live : List ℕ) (cell : ℕ → Tetrahedron) (next : ℕ → ℕ → Option ℕ) → IsLinked v live cell next →
+    AreCells v live cell → (removed : ℕ → Bool) (sides : List Side) → IsRimOf live next removed sides →
+    IsRimList live cell next removed (length sides) (λ i. facet_of (cell (side_of_list sides i).at) (side_of_list sides i).side)
+    (λ i. next (side_of_list sides i).at (side_of_list sides i).side)
+
+-- the facets over which new cells are put in: they are the fan's, their edges meet, p is before each, no vertex is lost, and there is one
+pub record AreRims (v : Vertices) (p : ℕ) (live : List ℕ) (cell : ℕ → Tetrahedron) (removed : ℕ → Bool) (n : ℕ)
+    (fan : ℕ → DirectedFacet) : Type 0 where
+  pub facets : IsFanList v p n fan
+  pub edges : AreEdges n fan
+  pub before : (i : ℕ) → i < n → pos 0 <ℤ orientation_of v (fan i).a (fan i).b (fan i).c p
+  pub vertices :
+      (u : ℕ) → Has v u → ((i : ℕ) × (i < n) × ((u ≡ (fan i).a) ⊎ ((u ≡ (fan i).b) ⊎ (u ≡ (fan i).c)))) ⊎
+      ((x : ℕ) × IsIn live x × (removed x ≡ false) × IsVertexOf (cell x) u)
+  pub some : 0 < n
+
+-- x is one of the cells taken out
+abbrev pub RimListLaw : Type 0
+RimListLaw =
+    (v : Vertices) → IsBoxed v → (p : ℕ) → IsNew v p → (live : List ℕ) (cell : ℕ → Tetrahedron) (next : ℕ → ℕ → Option ℕ) →
+    IsLinked v live cell next → AreCells v live cell → (removed : ℕ → Bool) → AreConflicts v p live cell removed →
+    (n : ℕ) (fan : ℕ → DirectedFacet) (outer : ℕ → Option ℕ) → IsRimList live cell next removed n fan outer → (x : ℕ) →
+    IsIn live x → removed x ≡ true → AreRims v p live cell removed n fan
+
+abbrev pub RelinkLaw : Type 0
+RelinkLaw =
+    (v : Vertices) (p : ℕ) (live : List ℕ) (cell : ℕ → Tetrahedron) (next : ℕ → ℕ → Option ℕ) → IsLinked v live cell next →
+    ((x : ℕ) → IsIn live x → ¬ IsVertexOf (cell x) p) →
+    (removed : ℕ → Bool) (n : ℕ) (fan : ℕ → DirectedFacet) (outer : ℕ → Option ℕ) →
+    IsRimList live cell next removed n fan outer → AreEdges n fan →
+    (fresh : ℕ → ℕ) (live' : List ℕ) (cell' : ℕ → Tetrahedron) (next' : ℕ → ℕ → Option ℕ) →
+    IsReplacement p live cell next removed n fan outer fresh live' cell' next' →
+    IsLinked v live' cell' next' × IsLinked (with_vertex v p) live' cell' next'
+
+-- what a store of all cells has, for its next insertion too
+pub record AreAllCells (v : Vertices) (live : List ℕ) (cell : ℕ → Tetrahedron) (next : ℕ → ℕ → Option ℕ) : Type 0 where
+  pub boxed : IsBoxed v
+  pub linked : IsLinked v live cell next
+  pub cells : AreCells v live cell
+  pub listing : IsListing v live cell
+
+abbrev pub RenewLaw : Type 0
+RenewLaw =
+    (v : Vertices) (live : List ℕ) (cell : ℕ → Tetrahedron) (next : ℕ → ℕ → Option ℕ) → AreAllCells v live cell next → (p : ℕ) →
+    IsNew v p → (removed : ℕ → Bool) → AreConflicts v p live cell removed →
+    (n : ℕ) (fan : ℕ → DirectedFacet) (outer : ℕ → Option ℕ) →
+    IsRimList live cell next removed n fan outer → (x : ℕ) → IsIn live x → removed x ≡ true →
+    (fresh : ℕ → ℕ) (live' : List ℕ) (cell' : ℕ → Tetrahedron) (next' : ℕ → ℕ → Option ℕ) →
+    IsReplacement p live cell next removed n fan outer fresh live' cell' next' → AreAllCells (with_vertex v p) live' cell' next'
+
+-- ---- the corners alone
+abbrev pub six_names : List ℕ
+six_names = 0 ∷ 1 ∷ 2 ∷ 3 ∷ 4 ∷ 5 ∷ []
+
+abbrev pub six_cell : ℕ → Tetrahedron
+six_cell zero = tetrahedron 0 1 2 4
+six_cell (suc zero) = tetrahedron 1 2 4 3
+six_cell (suc (suc zero)) = tetrahedron 1 3 4 5
+six_cell (suc (suc (suc zero))) = tetrahedron 2 3 6 4
+six_cell (suc (suc (suc (suc zero)))) = tetrahedron 3 4 5 6
+six_cell (suc (suc (suc (suc (suc x))))) = tetrahedron 3 5 7 6
+
+abbrev pub four_links : (a b c d : Option ℕ) → ℕ → Option ℕ
+four_links a b c d zero = a
+four_links a b c d (suc zero) = b
+four_links a b c d (suc (suc zero)) = c
+four_links a b c d (suc (suc (suc k))) = d
+
+abbrev pub six_next : ℕ → ℕ → Option ℕ
+six_next zero = four_links (Some 1) None None None
+six_next (suc zero) = four_links (Some 3) (Some 2) None (Some 0)
+six_next (suc (suc zero)) = four_links (Some 4) None None (Some 1)
+six_next (suc (suc (suc zero))) = four_links (Some 4) None (Some 1) None
+six_next (suc (suc (suc (suc zero)))) = four_links None (Some 5) (Some 3) (Some 2)
+six_next (suc (suc (suc (suc (suc x))))) = four_links None None (Some 4) None
+
+abbrev pub BoxLaw : Type 0
+BoxLaw = (v : Vertices) → IsBoxed v → ((u : ℕ) → Has v u → u < 8) → AreAllCells v six_names six_cell six_next

@@ -1,0 +1,68 @@
+-- Cells that stand in a list of names: x stands for the cell with the vertices cell x. A store's names are ids.
+--
+--   IsIn xs x                         x is in the list
+--   AreCells v live cell              each name stands for a cell
+--   IsFull, IsListing                 the names stand for all cells; and for each once
+--   IsJoined v live cell              with each cell the list has those across its facets
+--   IsClosed v p live cell marked     no step between cells in conflict leaves the marked ones
+--   IsMade, IsReplaced                the second list came from the first by taking out all cells in conflict with p and
+--                                     putting in p over the fan's facets
+--   count f xs                        how many pass a test
+use Rattle.std.specs.Prelude.{ℕ, ◌≡◌, ◌⊎◌, ◌+◌, Bool, true, false, List, [], ◌∷◌}
+use Rattle.geo_sign.specs.Tetrahedron.{Tetrahedron, tetrahedron}
+use Rattle.geo_sign.specs.Vertices.{Vertices}
+use Rattle.geo_sign.specs.Cells.{IsCell}
+use Rattle.geo_sign.specs.Writings.{IsRewritten}
+use Rattle.geo_sign.specs.Boxes.{IsInConflict, IsClearOf}
+use Rattle.cell_laws.specs.Fans.{IsFan}
+
+abbrev pub IsIn : {X : Type 0} → List X → X → Type 0
+IsIn [] t = ⊥
+IsIn (x ∷ xs) t = (x ≡ t) ⊎ IsIn xs t
+
+abbrev pub AreCells : {X : Type 0} (v : Vertices) (live : List X) (cell : X → Tetrahedron) → Type 0
+AreCells {X} v live cell = (x : X) → IsIn live x → IsCell v (cell x).a (cell x).b (cell x).c (cell x).d
+
+pub record IsFull {X : Type 0} (v : Vertices) (live : List X) (cell : X → Tetrahedron) : Type 0 where
+  pub cells : AreCells v live cell
+  pub all : (a b c d : ℕ) → IsCell v a b c d → (x : X) × IsIn live x × IsRewritten (cell x) (tetrahedron a b c d)
+
+pub record IsListing {X : Type 0} (v : Vertices) (live : List X) (cell : X → Tetrahedron) : Type 0 where
+  pub full : IsFull v live cell
+  pub once : (x y : X) → IsIn live x → IsIn live y → IsRewritten (cell x) (cell y) → x ≡ y
+
+pub record IsJoined {X : Type 0} (v : Vertices) (live : List X) (cell : X → Tetrahedron) : Type 0 where
+  pub cells : AreCells v live cell
+  pub next :
+      (x : X) (a b c d e : ℕ) → IsIn live x → IsRewritten (cell x) (tetrahedron a b c d) → IsCell v a c b e →
+      (y : X) × IsIn live y × IsRewritten (cell y) (tetrahedron a c b e)
+
+-- from each that is marked, each in conflict across a facet is marked
+abbrev pub IsClosed : {X : Type 0} (v : Vertices) (p : ℕ) (live : List X) (cell : X → Tetrahedron) → (X → Bool) → Type 0
+IsClosed {X} v p live cell marked =
+    (x y : X) (a b c d e : ℕ) → IsIn live x → IsIn live y → marked x ≡ true → IsInConflict v p (cell x) →
+    IsInConflict v p (cell y) → IsRewritten (cell x) (tetrahedron a b c d) → IsRewritten (cell y) (tetrahedron a c b e) →
+    marked y ≡ true
+
+-- each of the second list is one of the first that p is not in conflict with, or p over a facet of the fan
+abbrev pub IsMade :
+    {X : Type 0} (v : Vertices) (p : ℕ) (live : List X) (cell : X → Tetrahedron) (live' : List X) (cell' : X → Tetrahedron) →
+    Type 0
+IsMade {X} v p live cell live' cell' =
+    (y : X) → IsIn live' y → ((x : X) × IsIn live x × IsRewritten (cell x) (cell' y) × IsClearOf v p (cell x)) ⊎
+    ((a b c : ℕ) × IsFan v p a b c × IsRewritten (tetrahedron a b c p) (cell' y))
+
+-- and all of these are there
+pub record IsReplaced {X : Type 0} (v : Vertices) (p : ℕ) (live : List X) (cell : X → Tetrahedron) (live' : List X)
+    (cell' : X → Tetrahedron) : Type 0 where
+  pub only : IsMade v p live cell live' cell'
+  pub stay : (x : X) → IsIn live x → IsClearOf v p (cell x) → (y : X) × IsIn live' y × IsRewritten (cell' y) (cell x)
+  pub come : (a b c : ℕ) → IsFan v p a b c → (y : X) × IsIn live' y × IsRewritten (cell' y) (tetrahedron a b c p)
+
+abbrev pub one_if : Bool → ℕ
+one_if true = 1
+one_if false = 0
+
+abbrev pub count : {X : Type 0} → (X → Bool) → List X → ℕ
+count f [] = 0
+count f (x ∷ xs) = one_if (f x) + count f xs

@@ -1,0 +1,77 @@
+//! Laws of the cells over the vertices that are in, whatever these are: Delaunay tetrahedra by the empty-sphere definition under the
+//! tie rule. They suppose only the corners of the box in their places and in, other vertices at distinct data points, and the heights
+//! of the tie rule (`IsBoxed`).
+
+ghost use Rattle.cell_laws.specs.CellLaws.{ThreeTermsLaw, GenericLaw, ConvexLaw, WritingLaw, EnvelopeLaw, AcrossLaw, FacetLaw, SomeLaw, PlaceLaw, OneLaw, JoinedLaw, CornerLaw};
+ghost use Rattle.cell_laws.specs.TieLaws.{TieLaw};
+
+/// The powers of a fifth vertex at two tetrahedra across a facet, each times the other's orientation, differ by the power of the one
+/// apex at the other tetrahedron times the side of the facet on which the fifth vertex lies. It holds of any five points at any
+/// heights, and nearly all that follows is an inequality drawn from it.
+pub fn three_terms_law()
+    ensures { ThreeTermsLaw }
+{}
+
+/// The power of a vertex at four others written positively is never zero, and its sign is the same at the heights of every exponent
+/// above the five numbers. So cells do not depend on how many vertices there are in all. From the tie rule: the powers of the base
+/// stand so far apart that the greatest number with a coefficient other than zero decides.
+pub fn tie_law()
+    ensures { TieLaw }
+{}
+
+/// No five vertices lie on one sphere: the power of a vertex at a tetrahedron is zero only where it is one of its four.
+pub fn generic_law()
+    ensures { GenericLaw }
+{}
+
+/// A vertex that lies in a tetrahedron, its facets included, is inside its sphere, or one of its four. A ball is convex, and the
+/// heights keep that.
+pub fn convex_law()
+    ensures { ConvexLaw }
+{}
+
+/// The twelve ways to write a tetrahedron positively are one cell, with the same orientation and the same powers.
+pub fn writing_law()
+    ensures { WritingLaw }
+{}
+
+/// The lifted cells are an upper envelope: over a place, the plane of the cell that has the place is at least as high as that of each
+/// other cell. This is the lifting map, which takes the empty sphere to a supporting plane.
+pub fn envelope_law()
+    ensures { EnvelopeLaw }
+{}
+
+/// Each directed facet of a cell is on a wall of the box and has no cell across, or is on none and has exactly one.
+pub fn across_law()
+    ensures { AcrossLaw }
+{}
+
+/// At most one cell has a given directed facet, and no two sides of a cell are one facet.
+pub fn facet_law()
+    ensures { FacetLaw }
+{}
+
+/// There is a cell, whatever data points are in.
+pub fn some_law()
+    ensures { SomeLaw }
+{}
+
+/// Cells cover the box: each place of it lies in a cell.
+pub fn place_law()
+    ensures { PlaceLaw }
+{}
+
+/// Cells do not overlap: a place strictly inside one lies in no other.
+pub fn one_law()
+    ensures { OneLaw }
+{}
+
+/// A list of cells that is not empty and has with each cell those across its facets has all cells.
+pub fn joined_law()
+    ensures { JoinedLaw }
+{}
+
+/// With the corners alone in, the six cells of the box are exactly the cells, at every exponent.
+pub fn corner_law()
+    ensures { CornerLaw }
+{}
