@@ -1,0 +1,283 @@
+-- Directed facets, turned and written from another vertex on.
+use Rattle.std.proofs.Common.{ℕ, zero, suc, ◌≡◌, ◌≢◌, ◌<◌, refl, sym, ap, ◌∙◌, ◌⊎◌, inl, inr, subst, arith}
+use Rattle.geo_sign.specs.Tetrahedron.{Tetrahedron, DirectedFacet, facet, vertex_of, facet_of, IsRotated, IsTurned}
+use Rattle.geo_sign.specs.Writings.{IsVertexOf}
+use Rattle.geo_sign.specs.Edges.{HasVertex, over, edge_start, edge_end}
+
+abbrev one : DirectedFacet → DirectedFacet
+one f = facet f.b f.c f.a
+
+abbrev two : DirectedFacet → DirectedFacet
+two f = facet f.c f.a f.b
+
+abbrev back : DirectedFacet → DirectedFacet
+back f = facet f.a f.c f.b
+
+abbrev back_one : DirectedFacet → DirectedFacet
+back_one f = facet f.c f.b f.a
+
+abbrev back_two : DirectedFacet → DirectedFacet
+back_two f = facet f.b f.a f.c
+
+pub rotated_refl : (f : DirectedFacet) → IsRotated f f
+rotated_refl f = inl refl
+
+pub rotated_sym : (f g : DirectedFacet) → IsRotated f g → IsRotated g f
+rotated_sym f g (inl e) = inl (sym e)
+rotated_sym f g (inr (inl e)) = inr (inr (ap two (sym e)))
+rotated_sym f g (inr (inr e)) = inr (inl (ap one (sym e)))
+
+pub rotated_trans : (f g h : DirectedFacet) → IsRotated f g → IsRotated g h → IsRotated f h
+rotated_trans f g h (inl e) (inl d) = inl (d ∙ e)
+rotated_trans f g h (inl e) (inr (inl d)) = inr (inl (d ∙ ap one e))
+rotated_trans f g h (inl e) (inr (inr d)) = inr (inr (d ∙ ap two e))
+rotated_trans f g h (inr (inl e)) (inl d) = inr (inl (d ∙ e))
+rotated_trans f g h (inr (inl e)) (inr (inl d)) = inr (inr (d ∙ ap one e))
+rotated_trans f g h (inr (inl e)) (inr (inr d)) = inl (d ∙ ap two e)
+rotated_trans f g h (inr (inr e)) (inl d) = inr (inr (d ∙ e))
+rotated_trans f g h (inr (inr e)) (inr (inl d)) = inl (d ∙ ap one e)
+rotated_trans f g h (inr (inr e)) (inr (inr d)) = inr (inl (d ∙ ap two e))
+
+pub turned_sym : (f g : DirectedFacet) → IsTurned f g → IsTurned g f
+turned_sym f g (inl e) = inl (ap back (sym e))
+turned_sym f g (inr (inl e)) = inr (inl (ap back_one (sym e)))
+turned_sym f g (inr (inr e)) = inr (inr (ap back_two (sym e)))
+
+pub turned_rotated : (f g h : DirectedFacet) → IsTurned f g → IsRotated g h → IsTurned f h
+turned_rotated f g h (inl e) (inl d) = inl (d ∙ e)
+turned_rotated f g h (inl e) (inr (inl d)) = inr (inl (d ∙ ap one e))
+turned_rotated f g h (inl e) (inr (inr d)) = inr (inr (d ∙ ap two e))
+turned_rotated f g h (inr (inl e)) (inl d) = inr (inl (d ∙ e))
+turned_rotated f g h (inr (inl e)) (inr (inl d)) = inr (inr (d ∙ ap one e))
+turned_rotated f g h (inr (inl e)) (inr (inr d)) = inl (d ∙ ap two e)
+turned_rotated f g h (inr (inr e)) (inl d) = inr (inr (d ∙ e))
+turned_rotated f g h (inr (inr e)) (inr (inl d)) = inl (d ∙ ap one e)
+turned_rotated f g h (inr (inr e)) (inr (inr d)) = inr (inl (d ∙ ap two e))
+
+pub rotated_turned : (f g h : DirectedFacet) → IsRotated f g → IsTurned g h → IsTurned f h
+rotated_turned f g h r t = turned_sym h f (turned_rotated h g f (turned_sym g h t) (rotated_sym f g r))
+
+-- two that are the reverse of one are the same
+pub both_turned : (f g h : DirectedFacet) → IsTurned f g → IsTurned f h → IsRotated g h
+both_turned f g h (inl e) (inl d) = inl (d ∙ sym e)
+both_turned f g h (inl e) (inr (inl d)) = inr (inl (d ∙ ap one (sym e)))
+both_turned f g h (inl e) (inr (inr d)) = inr (inr (d ∙ ap two (sym e)))
+both_turned f g h (inr (inl e)) (inl d) = inr (inr (d ∙ ap two (sym e)))
+both_turned f g h (inr (inl e)) (inr (inl d)) = inl (d ∙ sym e)
+both_turned f g h (inr (inl e)) (inr (inr d)) = inr (inl (d ∙ ap one (sym e)))
+both_turned f g h (inr (inr e)) (inl d) = inr (inl (d ∙ ap one (sym e)))
+both_turned f g h (inr (inr e)) (inr (inl d)) = inr (inr (d ∙ ap two (sym e)))
+both_turned f g h (inr (inr e)) (inr (inr d)) = inl (d ∙ sym e)
+
+-- the same vertices from another one on
+pub in_rotated : (f g : DirectedFacet) (u : ℕ) → IsRotated f g → HasVertex f u → HasVertex g u
+in_rotated f g u (inl e) h = subst (λ (t : DirectedFacet). HasVertex t u) (sym e) h
+in_rotated f g u (inr (inl e)) (inl h) = inr (inr (h ∙ sym (ap (λ (t : DirectedFacet). t.c) e)))
+in_rotated f g u (inr (inl e)) (inr (inl h)) = inl (h ∙ sym (ap (λ (t : DirectedFacet). t.a) e))
+in_rotated f g u (inr (inl e)) (inr (inr h)) = inr (inl (h ∙ sym (ap (λ (t : DirectedFacet). t.b) e)))
+in_rotated f g u (inr (inr e)) (inl h) = inr (inl (h ∙ sym (ap (λ (t : DirectedFacet). t.b) e)))
+in_rotated f g u (inr (inr e)) (inr (inl h)) = inr (inr (h ∙ sym (ap (λ (t : DirectedFacet). t.c) e)))
+in_rotated f g u (inr (inr e)) (inr (inr h)) = inl (h ∙ sym (ap (λ (t : DirectedFacet). t.a) e))
+
+-- a facet's vertex is one of the four
+pub in_of : (t : Tetrahedron) (k u : ℕ) → HasVertex (facet_of t k) u → IsVertexOf t u
+in_of t zero u (inl h) = inr (inl h)
+in_of t zero u (inr (inl h)) = inr (inr (inr h))
+in_of t zero u (inr (inr h)) = inr (inr (inl h))
+in_of t (suc zero) u (inl h) = inl h
+in_of t (suc zero) u (inr (inl h)) = inr (inr (inl h))
+in_of t (suc zero) u (inr (inr h)) = inr (inr (inr h))
+in_of t (suc (suc zero)) u (inl h) = inl h
+in_of t (suc (suc zero)) u (inr (inl h)) = inr (inr (inr h))
+in_of t (suc (suc zero)) u (inr (inr h)) = inr (inl h)
+in_of t (suc (suc (suc k))) u (inl h) = inl h
+in_of t (suc (suc (suc k))) u (inr (inl h)) = inr (inl h)
+in_of t (suc (suc (suc k))) u (inr (inr h)) = inr (inr (inl h))
+
+-- the place of a vertex among the four
+pub place_of : (t : Tetrahedron) (u : ℕ) → IsVertexOf t u → (k : ℕ) × (k < 4) × (vertex_of t k ≡ u)
+place_of t u (inl e) = (0, omega arith, sym e)
+place_of t u (inr (inl e)) = (1, omega arith, sym e)
+place_of t u (inr (inr (inl e))) = (2, omega arith, sym e)
+place_of t u (inr (inr (inr e))) = (3, omega arith, sym e)
+
+-- what stands at a place is a vertex
+pub at_place : (t : Tetrahedron) (k u : ℕ) → vertex_of t k ≡ u → IsVertexOf t u
+at_place t zero u e = inl (sym e)
+at_place t (suc zero) u e = inr (inl (sym e))
+at_place t (suc (suc zero)) u e = inr (inr (inl (sym e)))
+at_place t (suc (suc (suc k))) u e = inr (inr (inr (sym e)))
+
+abbrev pub IsDistinct : Tetrahedron → Type 0
+IsDistinct t = (j k : ℕ) → j < 4 → k < 4 → vertex_of t j ≡ vertex_of t k → j ≡ k
+
+-- the vertex opposite to a facet is not in it
+pub opposite_out : (t : Tetrahedron) → IsDistinct t → (k : ℕ) → k < 4 → HasVertex (facet_of t k) (vertex_of t k) → ⊥
+opposite_out t d zero l (inl h) = let e = d 0 1 (omega arith) (omega arith) h in omega arith
+opposite_out t d zero l (inr (inl h)) = let e = d 0 3 (omega arith) (omega arith) h in omega arith
+opposite_out t d zero l (inr (inr h)) = let e = d 0 2 (omega arith) (omega arith) h in omega arith
+opposite_out t d (suc zero) l (inl h) = let e = d 1 0 (omega arith) (omega arith) h in omega arith
+opposite_out t d (suc zero) l (inr (inl h)) = let e = d 1 2 (omega arith) (omega arith) h in omega arith
+opposite_out t d (suc zero) l (inr (inr h)) = let e = d 1 3 (omega arith) (omega arith) h in omega arith
+opposite_out t d (suc (suc zero)) l (inl h) = let e = d 2 0 (omega arith) (omega arith) h in omega arith
+opposite_out t d (suc (suc zero)) l (inr (inl h)) = let e = d 2 3 (omega arith) (omega arith) h in omega arith
+opposite_out t d (suc (suc zero)) l (inr (inr h)) = let e = d 2 1 (omega arith) (omega arith) h in omega arith
+opposite_out t d (suc (suc (suc zero))) l (inl h) = let e = d 3 0 (omega arith) (omega arith) h in omega arith
+opposite_out t d (suc (suc (suc zero))) l (inr (inl h)) = let e = d 3 1 (omega arith) (omega arith) h in omega arith
+opposite_out t d (suc (suc (suc zero))) l (inr (inr h)) = let e = d 3 2 (omega arith) (omega arith) h in omega arith
+opposite_out t d (suc (suc (suc (suc k)))) l h = omega arith
+
+-- each other vertex is
+pub others_in : (t : Tetrahedron) (j k : ℕ) → j < 4 → k < 4 → (j ≡ k) ⊎ HasVertex (facet_of t k) (vertex_of t j)
+others_in t zero zero l m = inl refl
+others_in t zero (suc zero) l m = inr (inl refl)
+others_in t zero (suc (suc zero)) l m = inr (inl refl)
+others_in t zero (suc (suc (suc k))) l m = inr (inl refl)
+others_in t (suc zero) zero l m = inr (inl refl)
+others_in t (suc zero) (suc zero) l m = inl refl
+others_in t (suc zero) (suc (suc zero)) l m = inr (inr (inr refl))
+others_in t (suc zero) (suc (suc (suc k))) l m = inr (inr (inl refl))
+others_in t (suc (suc zero)) zero l m = inr (inr (inr refl))
+others_in t (suc (suc zero)) (suc zero) l m = inr (inr (inl refl))
+others_in t (suc (suc zero)) (suc (suc zero)) l m = inl refl
+others_in t (suc (suc zero)) (suc (suc (suc k))) l m = inr (inr (inr refl))
+others_in t (suc (suc (suc zero))) zero l m = inr (inr (inl refl))
+others_in t (suc (suc (suc zero))) (suc zero) l m = inr (inr (inr refl))
+others_in t (suc (suc (suc zero))) (suc (suc zero)) l m = inr (inr (inl refl))
+others_in t (suc (suc (suc zero))) (suc (suc (suc zero))) l m = inl refl
+others_in t (suc (suc (suc (suc j)))) k l m = absurd (omega arith)
+others_in t j (suc (suc (suc (suc k)))) l m = absurd (omega arith)
+
+-- one side of a cell has the facet
+pub same_side : (t : Tetrahedron) → IsDistinct t → (j k : ℕ) → j < 4 → k < 4 → IsRotated (facet_of t j) (facet_of t k) → j ≡ k
+same_side t d j k l m r = elim (others_in t j k l m) [
+  | inl e ↦ e
+  | inr h ↦ absurd (opposite_out t d j l (in_rotated (facet_of t k) (facet_of t j) (vertex_of t j) (rotated_sym (facet_of t j) (facet_of t k) r) h))
+]
+
+-- ---- cells over a facet with p
+
+-- side e of the cell over f has f's edge e in the other direction, and p
+pub side_over : (f : DirectedFacet) (p e : ℕ) → e < 3 → IsRotated (facet (edge_end f e) (edge_start f e) p) (facet_of (over f p) e)
+side_over f p zero l = inr (inl refl)
+side_over f p (suc zero) l = inl refl
+side_over f p (suc (suc zero)) l = inr (inl refl)
+side_over f p (suc (suc (suc e))) l = absurd (omega arith)
+
+pub side_has : (f : DirectedFacet) (p e : ℕ) → e < 3 → HasVertex (facet_of (over f p) e) p
+side_has f p e l = in_rotated (facet (edge_end f e) (edge_start f e) p) (facet_of (over f p) e) p (side_over f p e l) (inr (inr refl))
+
+-- facets with p whose other vertices are not p have the same edge
+pub same_edge : (u w x y p : ℕ) → u ≢ p → w ≢ p → IsRotated (facet u w p) (facet x y p) → (u ≡ x) × (w ≡ y)
+same_edge u w x y p a b (inl e) = (sym (ap (λ (t : DirectedFacet). t.a) e), sym (ap (λ (t : DirectedFacet). t.b) e))
+same_edge u w x y p a b (inr (inl e)) = absurd (a (sym (ap (λ (t : DirectedFacet). t.c) e)))
+same_edge u w x y p a b (inr (inr e)) = absurd (b (sym (ap (λ (t : DirectedFacet). t.c) e)))
+
+pub start_in : (f : DirectedFacet) (e : ℕ) → HasVertex f (edge_start f e)
+start_in f zero = inr (inl refl)
+start_in f (suc zero) = inr (inr refl)
+start_in f (suc (suc e)) = inl refl
+
+pub end_in : (f : DirectedFacet) (e : ℕ) → HasVertex f (edge_end f e)
+end_in f zero = inr (inr refl)
+end_in f (suc zero) = inl refl
+end_in f (suc (suc e)) = inr (inl refl)
+
+-- an edge and its reverse make sides that are the reverse of each other
+pub edges_turned : (f g : DirectedFacet) (p e d : ℕ) → e < 3 → d < 3 → edge_start g d ≡ edge_end f e → edge_end g d ≡ edge_start f e → IsTurned (facet_of (over f p) e) (facet_of (over g p) d)
+edges_turned f g p e d l m s t =
+    let x : IsTurned (facet (edge_end f e) (edge_start f e) p) (facet (edge_end g d) (edge_start g d) p) =
+    subst (λ (a : ℕ). IsTurned (facet (edge_end f e) (edge_start f e) p) (facet a (edge_start g d) p)) (sym t)
+    (subst (λ (b : ℕ). IsTurned (facet (edge_end f e) (edge_start f e) p) (facet (edge_start f e) b p)) (sym s) (inr (inr refl))) in
+    turned_rotated (facet_of (over f p) e) (facet (edge_end g d) (edge_start g d) p) (facet_of (over g p) d)
+    (rotated_turned (facet_of (over f p) e) (facet (edge_end f e) (edge_start f e) p) (facet (edge_end g d) (edge_start g d) p)
+    (rotated_sym (facet (edge_end f e) (edge_start f e) p) (facet_of (over f p) e) (side_over f p e l)) x)
+    (side_over g p d m)
+
+-- ---- distinct vertices
+
+pub record IsApart (f : DirectedFacet) : Type 0 where
+  pub a_b : f.a ≢ f.b
+  pub b_c : f.b ≢ f.c
+  pub c_a : f.c ≢ f.a
+
+pub facet_apart : (t : Tetrahedron) → IsDistinct t → (k : ℕ) → IsApart (facet_of t k)
+facet_apart t d zero = record {
+  a_b = λ h. let e = d 1 3 (omega arith) (omega arith) h in omega arith;
+  b_c = λ h. let e = d 3 2 (omega arith) (omega arith) h in omega arith;
+  c_a = λ h. let e = d 2 1 (omega arith) (omega arith) h in omega arith;
+}
+facet_apart t d (suc zero) = record {
+  a_b = λ h. let e = d 0 2 (omega arith) (omega arith) h in omega arith;
+  b_c = λ h. let e = d 2 3 (omega arith) (omega arith) h in omega arith;
+  c_a = λ h. let e = d 3 0 (omega arith) (omega arith) h in omega arith;
+}
+facet_apart t d (suc (suc zero)) = record {
+  a_b = λ h. let e = d 0 3 (omega arith) (omega arith) h in omega arith;
+  b_c = λ h. let e = d 3 1 (omega arith) (omega arith) h in omega arith;
+  c_a = λ h. let e = d 1 0 (omega arith) (omega arith) h in omega arith;
+}
+facet_apart t d (suc (suc (suc k))) = record {
+  a_b = λ h. let e = d 0 1 (omega arith) (omega arith) h in omega arith;
+  b_c = λ h. let e = d 1 2 (omega arith) (omega arith) h in omega arith;
+  c_a = λ h. let e = d 2 0 (omega arith) (omega arith) h in omega arith;
+}
+
+pub apart_rotated : (f g : DirectedFacet) → IsRotated f g → IsApart f → IsApart g
+apart_rotated f g (inl e) h = subst (λ (t : DirectedFacet). IsApart t) (sym e) h
+apart_rotated f g (inr (inl e)) h = subst (λ (t : DirectedFacet). IsApart t) (sym e) (let r : IsApart (one f) = record { a_b = h.b_c; b_c = h.c_a; c_a = h.a_b } in r)
+apart_rotated f g (inr (inr e)) h = subst (λ (t : DirectedFacet). IsApart t) (sym e) (let r : IsApart (two f) = record { a_b = h.c_a; b_c = h.a_b; c_a = h.b_c } in r)
+
+pub over_distinct : (f : DirectedFacet) (p : ℕ) → IsApart f → (HasVertex f p → ⊥) → IsDistinct (over f p)
+over_distinct f p h out zero zero l m e = refl
+over_distinct f p h out zero (suc zero) l m e = absurd (h.a_b e)
+over_distinct f p h out zero (suc (suc zero)) l m e = absurd (h.c_a (sym e))
+over_distinct f p h out zero (suc (suc (suc zero))) l m e = absurd (out (inl (sym e)))
+over_distinct f p h out (suc zero) zero l m e = absurd (h.a_b (sym e))
+over_distinct f p h out (suc zero) (suc zero) l m e = refl
+over_distinct f p h out (suc zero) (suc (suc zero)) l m e = absurd (h.b_c e)
+over_distinct f p h out (suc zero) (suc (suc (suc zero))) l m e = absurd (out (inr (inl (sym e))))
+over_distinct f p h out (suc (suc zero)) zero l m e = absurd (h.c_a e)
+over_distinct f p h out (suc (suc zero)) (suc zero) l m e = absurd (h.b_c (sym e))
+over_distinct f p h out (suc (suc zero)) (suc (suc zero)) l m e = refl
+over_distinct f p h out (suc (suc zero)) (suc (suc (suc zero))) l m e = absurd (out (inr (inr (sym e))))
+over_distinct f p h out (suc (suc (suc zero))) zero l m e = absurd (out (inl e))
+over_distinct f p h out (suc (suc (suc zero))) (suc zero) l m e = absurd (out (inr (inl e)))
+over_distinct f p h out (suc (suc (suc zero))) (suc (suc zero)) l m e = absurd (out (inr (inr e)))
+over_distinct f p h out (suc (suc (suc zero))) (suc (suc (suc zero))) l m e = refl
+over_distinct f p h out (suc (suc (suc (suc j)))) k l m e = absurd (omega arith)
+over_distinct f p h out j (suc (suc (suc (suc k)))) l m e = absurd (omega arith)
+
+-- the first three vertices of the cell over f are f's
+pub over_in : (f : DirectedFacet) (p k : ℕ) → k < 3 → HasVertex f (vertex_of (over f p) k)
+over_in f p zero l = inl refl
+over_in f p (suc zero) l = inr (inl refl)
+over_in f p (suc (suc zero)) l = inr (inr refl)
+over_in f p (suc (suc (suc k))) l = absurd (omega arith)
+
+pub three_or_below : (k : ℕ) → k < 4 → (k < 3) ⊎ (k ≡ 3)
+three_or_below zero l = inl (omega arith)
+three_or_below (suc zero) l = inl (omega arith)
+three_or_below (suc (suc zero)) l = inl (omega arith)
+three_or_below (suc (suc (suc zero))) l = inr refl
+three_or_below (suc (suc (suc (suc k)))) l = absurd (omega arith)
+
+-- ---- the edges of a facet
+
+pub start_apart : (f : DirectedFacet) → IsApart f → (e d : ℕ) → e < 3 → d < 3 → edge_start f e ≡ edge_start f d → e ≡ d
+start_apart f a zero zero l m h = refl
+start_apart f a zero (suc zero) l m h = absurd (a.b_c h)
+start_apart f a zero (suc (suc zero)) l m h = absurd (a.a_b (sym h))
+start_apart f a (suc zero) zero l m h = absurd (a.b_c (sym h))
+start_apart f a (suc zero) (suc zero) l m h = refl
+start_apart f a (suc zero) (suc (suc zero)) l m h = absurd (a.c_a h)
+start_apart f a (suc (suc zero)) zero l m h = absurd (a.a_b h)
+start_apart f a (suc (suc zero)) (suc zero) l m h = absurd (a.c_a (sym h))
+start_apart f a (suc (suc zero)) (suc (suc zero)) l m h = refl
+start_apart f a (suc (suc (suc e))) d l m h = absurd (omega arith)
+start_apart f a e (suc (suc (suc d))) l m h = absurd (omega arith)
+
+pub start_end : (f : DirectedFacet) → IsApart f → (e : ℕ) → edge_start f e ≢ edge_end f e
+start_end f a zero h = a.b_c h
+start_end f a (suc zero) h = a.c_a h
+start_end f a (suc (suc e)) h = a.a_b h

@@ -1,0 +1,178 @@
+-- Tests of small tables that are computed, and what they say.
+use Rattle.std.proofs.Common.{ℕ, zero, suc, ◌≡◌, ◌<◌, Bool, true, false, not, cond, ◌&&◌, ◌||◌, ◌==◌, nat_lt, bit_and, ℤ, pos, neg_ℤ, ◌<ℤ◌, int_lt, refl, sym, ap, ◌∙◌, ◌⊎◌, inl, inr, subst, arith}
+use Rattle.std.proofs.lemmas.Bool.{cases_lt, eqb-true, eq-eqb, false≢true}
+use borrow.Author.Tests.{ltb-true}
+use Rattle.std.proofs.lemmas.Int.{ints}
+use Rattle.geo_sign.specs.Point.{Point, corner_point}
+use Rattle.geo_sign.specs.Tetrahedron as geo
+use Rattle.geo_sign.specs.Tetrahedron.{facet, IsRotated, IsTurned}
+use Rattle.geo_sign.specs.Vertices.{Vertices, IsWall}
+
+abbrev pub every : ℕ → (ℕ → Bool) → Bool
+every zero f = true
+every (suc n) f = every n f && f n
+
+pub and_left : (a b : Bool) → (a && b) ≡ true → a ≡ true
+and_left true b h = refl
+and_left false b h = absurd (false≢true h)
+
+pub and_right : (a b : Bool) → (a && b) ≡ true → b ≡ true
+and_right true b h = h
+and_right false b h = absurd (false≢true h)
+
+pub and_both : (a b : Bool) → a ≡ true → b ≡ true → (a && b) ≡ true
+and_both true b h k = k
+and_both false b h k = absurd (false≢true h)
+
+pub or_cases : (a b : Bool) → (a || b) ≡ true → (a ≡ true) ⊎ (b ≡ true)
+or_cases true b h = inl refl
+or_cases false b h = inr h
+
+pub or_left : (a b : Bool) → a ≡ true → (a || b) ≡ true
+or_left true b h = refl
+or_left false b h = absurd (false≢true h)
+
+pub or_right : (a b : Bool) → b ≡ true → (a || b) ≡ true
+or_right true b h = refl
+or_right false b h = h
+
+-- not a, or b
+pub implied : (a b : Bool) → (not a || b) ≡ true → a ≡ true → b ≡ true
+implied true b h k = h
+implied false b h k = absurd (false≢true k)
+
+pub not_true : (a : Bool) → not a ≡ true → a ≡ true → ⊥
+not_true true h k = false≢true h
+not_true false h k = false≢true k
+
+abbrev pub same : Bool → Bool → Bool
+same true b = b
+same false b = not b
+
+pub same_is : (a b : Bool) → same a b ≡ true → a ≡ b
+same_is true b h = sym h
+same_is false true h = absurd (false≢true h)
+same_is false false h = refl
+
+pub same_refl : (a : Bool) → same a a ≡ true
+same_refl true = refl
+same_refl false = refl
+
+pub every_at : (n : ℕ) (f : ℕ → Bool) → every n f ≡ true → (k : ℕ) → k < n → f k ≡ true
+every_at zero f h k l = absurd (omega arith)
+every_at (suc n) f h k l = elim (cases_lt k n) [
+  | inl less ↦ every_at n f (and_left (every n f) (f n) h) k less
+  | inr more ↦ let e : n ≡ k = omega arith in subst (λ (i : ℕ). f i ≡ true) e (and_right (every n f) (f n) h)
+]
+
+pub lt_of : (a b : ℕ) → nat_lt a b ≡ true → a < b
+lt_of a b h = ltb-true a b h
+
+pub eq_of : (a b : ℕ) → (a == b) ≡ true → a ≡ b
+eq_of a b h = eqb-true a b h
+
+pub eq_refl : (a : ℕ) → (a == a) ≡ true
+eq_refl a = eq-eqb a a refl
+
+pub above_of : (z : ℤ) → int_lt (pos 0) z ≡ true → pos 0 <ℤ z
+above_of z h = grind (arith, ints)
+
+-- ---- facets
+
+abbrev pub is_facet : geo.DirectedFacet → (a b c : ℕ) → Bool
+is_facet g a b c = (g.a == a) && ((g.b == b) && (g.c == c))
+
+abbrev pub rotated_test : geo.DirectedFacet → geo.DirectedFacet → Bool
+rotated_test f g = is_facet g f.a f.b f.c || (is_facet g f.b f.c f.a || is_facet g f.c f.a f.b)
+
+abbrev pub turned_test : geo.DirectedFacet → geo.DirectedFacet → Bool
+turned_test f g = is_facet g f.a f.c f.b || (is_facet g f.c f.b f.a || is_facet g f.b f.a f.c)
+
+facet_is : (g : geo.DirectedFacet) (a b c : ℕ) → is_facet g a b c ≡ true → g ≡ facet a b c
+facet_is g a b c h =
+    let x = eq_of g.a a (and_left (g.a == a) ((g.b == b) && (g.c == c)) h) in
+    let r = and_right (g.a == a) ((g.b == b) && (g.c == c)) h in
+    let y = eq_of g.b b (and_left (g.b == b) (g.c == c) r) in
+    let z = eq_of g.c c (and_right (g.b == b) (g.c == c) r) in
+    ap (λ (t : ℕ). facet t g.b g.c) x ∙ (ap (λ (t : ℕ). facet a t g.c) y ∙ ap (λ (t : ℕ). facet a b t) z)
+
+facet_yes : (a b c : ℕ) → is_facet (facet a b c) a b c ≡ true
+facet_yes a b c = and_both (a == a) ((b == b) && (c == c)) (eq_refl a) (and_both (b == b) (c == c) (eq_refl b) (eq_refl c))
+
+pub turned_of : (f g : geo.DirectedFacet) → turned_test f g ≡ true → IsTurned f g
+turned_of f g h = elim (or_cases (is_facet g f.a f.c f.b) (is_facet g f.c f.b f.a || is_facet g f.b f.a f.c) h) [
+  | inl x ↦ inl (facet_is g f.a f.c f.b x)
+  | inr r ↦ elim (or_cases (is_facet g f.c f.b f.a) (is_facet g f.b f.a f.c) r) [
+    | inl x ↦ inr (inl (facet_is g f.c f.b f.a x))
+    | inr x ↦ inr (inr (facet_is g f.b f.a f.c x))
+  ]
+]
+
+pub rotated_yes : (f g : geo.DirectedFacet) → IsRotated f g → rotated_test f g ≡ true
+rotated_yes f g (inl e) = or_left (is_facet g f.a f.b f.c) (is_facet g f.b f.c f.a || is_facet g f.c f.a f.b)
+    (subst (λ (t : geo.DirectedFacet). is_facet t f.a f.b f.c ≡ true) (sym e) (facet_yes f.a f.b f.c))
+rotated_yes f g (inr (inl e)) = or_right (is_facet g f.a f.b f.c) (is_facet g f.b f.c f.a || is_facet g f.c f.a f.b)
+    (or_left (is_facet g f.b f.c f.a) (is_facet g f.c f.a f.b) (subst (λ (t : geo.DirectedFacet). is_facet t f.b f.c f.a ≡ true) (sym e) (facet_yes f.b f.c f.a)))
+rotated_yes f g (inr (inr e)) = or_right (is_facet g f.a f.b f.c) (is_facet g f.b f.c f.a || is_facet g f.c f.a f.b)
+    (or_right (is_facet g f.b f.c f.a) (is_facet g f.c f.a f.b) (subst (λ (t : geo.DirectedFacet). is_facet t f.c f.a f.b ≡ true) (sym e) (facet_yes f.c f.a f.b)))
+
+-- ---- walls
+
+-- the coordinate of a corner by its bit
+abbrev pub low : (bit k : ℕ) → Bool
+low bit k = bit_and k bit == 0
+
+abbrev side_of : Bool → ℤ
+side_of b = cond b (neg_ℤ (pos 8388608)) (pos 8388608)
+
+side_same : (a b : Bool) → side_of a ≡ side_of b → same a b ≡ true
+side_same true true h = refl
+side_same true false h = absurd (omega (arith, ints))
+side_same false true h = absurd (omega (arith, ints))
+side_same false false h = refl
+
+abbrev pub agree_test : (bit : ℕ) → geo.DirectedFacet → Bool
+agree_test bit f = same (low bit f.a) (low bit f.b) && same (low bit f.a) (low bit f.c)
+
+abbrev pub wall_test : geo.DirectedFacet → Bool
+wall_test f = agree_test 1 f || (agree_test 2 f || agree_test 4 f)
+
+abbrev AreCorners : Vertices → Type 0
+AreCorners v = (k : ℕ) → k < 8 → v.at k ≡ corner_point k
+
+agree_yes : (v : Vertices) → AreCorners v → (bit : ℕ) (f : geo.DirectedFacet) → f.a < 8 → f.b < 8 → f.c < 8 → (x : Point → ℤ) → ((k : ℕ) → x (corner_point k) ≡ side_of (low bit k)) →
+    agree_test bit f ≡ true → (x (v.at f.a) ≡ x (v.at f.b)) × (x (v.at f.a) ≡ x (v.at f.c))
+agree_yes v h bit f a b c x is t =
+    let p = same_is (low bit f.a) (low bit f.b) (and_left (same (low bit f.a) (low bit f.b)) (same (low bit f.a) (low bit f.c)) t) in
+    let q = same_is (low bit f.a) (low bit f.c) (and_right (same (low bit f.a) (low bit f.b)) (same (low bit f.a) (low bit f.c)) t) in
+    let at_a : x (v.at f.a) ≡ side_of (low bit f.a) = ap x (h f.a a) ∙ is f.a in
+    let at_b : x (v.at f.b) ≡ side_of (low bit f.b) = ap x (h f.b b) ∙ is f.b in
+    let at_c : x (v.at f.c) ≡ side_of (low bit f.c) = ap x (h f.c c) ∙ is f.c in
+    (at_a ∙ (ap side_of p ∙ sym at_b), at_a ∙ (ap side_of q ∙ sym at_c))
+
+agree_no : (v : Vertices) → AreCorners v → (bit : ℕ) (f : geo.DirectedFacet) → f.a < 8 → f.b < 8 → f.c < 8 → (x : Point → ℤ) → ((k : ℕ) → x (corner_point k) ≡ side_of (low bit k)) →
+    (x (v.at f.a) ≡ x (v.at f.b)) × (x (v.at f.a) ≡ x (v.at f.c)) → agree_test bit f ≡ true
+agree_no v h bit f a b c x is t =
+    let at_a : x (v.at f.a) ≡ side_of (low bit f.a) = ap x (h f.a a) ∙ is f.a in
+    let at_b : x (v.at f.b) ≡ side_of (low bit f.b) = ap x (h f.b b) ∙ is f.b in
+    let at_c : x (v.at f.c) ≡ side_of (low bit f.c) = ap x (h f.c c) ∙ is f.c in
+    and_both (same (low bit f.a) (low bit f.b)) (same (low bit f.a) (low bit f.c))
+    (side_same (low bit f.a) (low bit f.b) (sym at_a ∙ (t.0 ∙ at_b))) (side_same (low bit f.a) (low bit f.c) (sym at_a ∙ (t.1 ∙ at_c)))
+
+pub wall_of : (v : Vertices) → AreCorners v → (f : geo.DirectedFacet) → f.a < 8 → f.b < 8 → f.c < 8 → wall_test f ≡ true → IsWall v f
+wall_of v h f a b c t = elim (or_cases (agree_test 1 f) (agree_test 2 f || agree_test 4 f) t) [
+  | inl x ↦ record { first = a; second = b; third = c; agree = inl (agree_yes v h 1 f a b c (λ (p : Point). p.x) (λ k. refl) x) }
+  | inr r ↦ elim (or_cases (agree_test 2 f) (agree_test 4 f) r) [
+    | inl x ↦ record { first = a; second = b; third = c; agree = inr (inl (agree_yes v h 2 f a b c (λ (p : Point). p.y) (λ k. refl) x)) }
+    | inr x ↦ record { first = a; second = b; third = c; agree = inr (inr (agree_yes v h 4 f a b c (λ (p : Point). p.z) (λ k. refl) x)) }
+  ]
+]
+
+pub wall_yes : (v : Vertices) → AreCorners v → (f : geo.DirectedFacet) → IsWall v f → wall_test f ≡ true
+wall_yes v h f w = elim w.agree [
+  | inl e ↦ or_left (agree_test 1 f) (agree_test 2 f || agree_test 4 f) (agree_no v h 1 f w.first w.second w.third (λ (p : Point). p.x) (λ k. refl) e)
+  | inr r ↦ or_right (agree_test 1 f) (agree_test 2 f || agree_test 4 f) (elim r [
+    | inl e ↦ or_left (agree_test 2 f) (agree_test 4 f) (agree_no v h 2 f w.first w.second w.third (λ (p : Point). p.y) (λ k. refl) e)
+    | inr e ↦ or_right (agree_test 2 f) (agree_test 4 f) (agree_no v h 4 f w.first w.second w.third (λ (p : Point). p.z) (λ k. refl) e)
+  ])
+]

@@ -1,0 +1,34 @@
+use Rattle.std.proofs.Common.{◌<◌, length, ◌∙◌, arith}
+use Rattle.std.proofs.lemmas.List.{get_or_default}
+use Rattle.std.proofs.lemmas.List.Elements.{Contains-get_or}
+use Rattle.tetra_store.specs.Links.{links_of}
+use Rattle.tetra_store.specs.Edges.{edge_at, no_edge}
+use Rattle.tetra_store.proofs.Joins.{AreJoined_join}
+use Rattle.tetra_store.proofs.joining.join_sorted.Goals as goal
+
+pub join_side-requires-clause-live : goal.join_side-requires-clause-live
+join_side-requires-clause-live c =
+    let lt : c.loop-at.at < length c.args.edges.now = omega arith in
+    let x = edge_at c.args.edges.now c.loop-at.at in
+    c.loop-at.invariant.joined.live x.cell ∙ c.requires.can.live x (Contains-get_or c.args.edges.now c.loop-at.at no_edge lt)
+
+pub join_side-requires-clause-side : goal.join_side-requires-clause-side
+join_side-requires-clause-side c =
+    let lt : c.loop-at.at < length c.args.edges.now = omega arith in
+    c.requires.can.side_in (edge_at c.args.edges.now c.loop-at.at) (Contains-get_or c.args.edges.now c.loop-at.at no_edge lt)
+
+pub join_side-requires-clause-small : goal.join_side-requires-clause-small
+join_side-requires-clause-small c = c.requires.can.small c.reverse_of-mate.result c.reverse_of-mate.ensures.listed
+
+pub loop-at-preserved : goal.loop-at-preserved
+loop-at-preserved c =
+    let edges = c.args.edges.now in
+    let n = c.loop-at.at in
+    let lt : n < length edges = omega arith in
+    let x = edge_at edges n in
+    let r = c.reverse_of-mate.result in
+    record {
+      joined = AreJoined_join (links_of c.args.cells.now.slots) (links_of c.loop-at.cells.slots) (links_of c.join_side.new.cells.slots) edges n x r c.loop-at.invariant.joined c.requires.can lt (get_or_default edges n x no_edge lt) c.reverse_of-mate.ensures.listed c.reverse_of-mate.ensures.reverse c.join_side.ensures.written;
+      capacity = c.join_side.ensures.capacity ∙ c.loop-at.invariant.capacity;
+      len = c.join_side.ensures.len ∙ c.loop-at.invariant.len;
+    }

@@ -1,0 +1,58 @@
+-- The six cells of the box.
+--
+--   box_rows, box_across          their vertices, and which of them is across each side, where 6 stands for none
+--   box_cell i                    cell i, with no neighbors yet
+--   across_in ids i k             the number of the cell across side k of cell i
+--   AreBoxCells links ids         the cells are these six, linked
+--   box_keeper u                  one of the six that has corner u
+use Rattle.std.specs.Prelude.{ℕ, ◌≡◌, ◌≢◌, ◌<◌, ◌≤◌, ◌+◌, ◌*◌, ◌==◌, ◌⊎◌, if◌then◌else◌, List, [], ◌∷◌, Option, Some, None, slice_index, slice_index_or}
+use Rattle.geo_sign.specs.Tetrahedron.{Tetrahedron}
+use Rattle.tetra_store.specs.declared.link.Cell.{Cell}
+use Rattle.tetra_store.specs.Links.{Links, tetrahedron_from, IsLive}
+
+abbrev pub box_rows : List (List ℕ)
+box_rows = (0 ∷ 1 ∷ 2 ∷ 4 ∷ []) ∷ (1 ∷ 2 ∷ 4 ∷ 3 ∷ []) ∷ (1 ∷ 3 ∷ 4 ∷ 5 ∷ []) ∷ (2 ∷ 3 ∷ 6 ∷ 4 ∷ []) ∷ (3 ∷ 4 ∷ 5 ∷ 6 ∷ []) ∷ (3 ∷ 5 ∷ 7 ∷ 6 ∷ []) ∷ []
+
+abbrev pub box_across : List (List ℕ)
+box_across = (1 ∷ 6 ∷ 6 ∷ 6 ∷ []) ∷ (3 ∷ 2 ∷ 6 ∷ 0 ∷ []) ∷ (4 ∷ 6 ∷ 6 ∷ 1 ∷ []) ∷ (4 ∷ 6 ∷ 1 ∷ 6 ∷ []) ∷ (6 ∷ 5 ∷ 3 ∷ 2 ∷ []) ∷ (6 ∷ 6 ∷ 4 ∷ 6 ∷ []) ∷ []
+
+abbrev pub box_keepers : List ℕ
+box_keepers = 0 ∷ 0 ∷ 0 ∷ 1 ∷ 0 ∷ 2 ∷ 3 ∷ 5 ∷ []
+
+abbrev pub box_row : ℕ → List ℕ
+box_row i = slice_index_or box_rows i []
+
+abbrev pub box_tetrahedron : ℕ → Tetrahedron
+box_tetrahedron i = tetrahedron_from (box_row i)
+
+abbrev pub box_number : (i k : ℕ) → ℕ
+box_number i k = slice_index (slice_index_or box_across i []) k
+
+abbrev pub box_keeper : ℕ → ℕ
+box_keeper u = slice_index box_keepers u
+
+abbrev pub box_cell : ℕ → Cell
+box_cell i = record { v = box_row i; next = None ∷ None ∷ None ∷ None ∷ [] }
+
+abbrev pub across_in : List ℕ → (i k : ℕ) → Option ℕ
+across_in ids i k = if box_number i k == 6 then None else Some (slice_index ids (box_number i k))
+
+-- one side of the six cells is linked
+pub record IsBoxStep (a b : Links) (ids : List ℕ) (i k : ℕ) : Type 0 where
+  pub live : (x : ℕ) → b.is_live x ≡ a.is_live x
+  pub same : (x : ℕ) → b.at x ≡ a.at x
+  pub here : a.next (slice_index ids i) k ≡ None → b.next (slice_index ids i) k ≡ across_in ids i k
+  pub others : (x m : ℕ) → (x ≢ slice_index ids i) ⊎ (m ≢ k) → b.next x m ≡ a.next x m
+
+-- the first n of their 24 sides are linked
+pub record IsBoxLinked (a b : Links) (ids : List ℕ) (n : ℕ) : Type 0 where
+  pub live : (x : ℕ) → b.is_live x ≡ a.is_live x
+  pub same : (x : ℕ) → b.at x ≡ a.at x
+  pub done : (i k : ℕ) → i < 6 → k < 4 → 4 * i + k < n → b.next (slice_index ids i) k ≡ across_in ids i k
+  pub left : (i k : ℕ) → i < 6 → k < 4 → n ≤ 4 * i + k → b.next (slice_index ids i) k ≡ None
+
+pub record AreBoxCells (links : Links) (ids : List ℕ) : Type 0 where
+  pub live : (i : ℕ) → i < 6 → IsLive links (slice_index ids i)
+  pub at : (i : ℕ) → i < 6 → links.at (slice_index ids i) ≡ box_tetrahedron i
+  pub next : (i k : ℕ) → i < 6 → k < 4 → links.next (slice_index ids i) k ≡ across_in ids i k
+  pub only : (x : ℕ) → IsLive links x → (i : ℕ) × (i < 6) × (slice_index ids i ≡ x)

@@ -1,0 +1,67 @@
+-- What a store is seen as, and what it keeps.
+--
+--   Store                            points, which are inserted, slots of the cells, kept cells, room
+--   vertices_at points inserted      vertices by number, with the heights of the tie rule
+--   vertices_of s                    those of a store
+--   AreVertices points inserted      they are the corners and data points
+--   AreKept s                        each inserted vertex's kept cell is live and has it
+--   IsStore s                        what is true of each store
+--   room_of capacity count ..        how many cells fit
+--   store_from points ..             what a store is seen as, from its parts
+use Rattle.std.specs.Prelude.{ℕ, ◌≡◌, ◌≤◌, ◌-◌, ◌/◌, Bool, false, List, Option, length, get_or, slice_index, slice_index_or, min, if◌then◌else◌, nat_lt}
+use Rattle.geo_sign.specs.Point.{Point, origin}
+use Rattle.geo_sign.specs.Tie.{height}
+use Rattle.geo_sign.specs.Boxes.{IsBoxed}
+use Rattle.geo_sign.specs.Vertices.{Vertices, Has}
+use Rattle.slab.specs.Slab.{Slab, slab_len}
+use Rattle.tetra_store.specs.declared.link.Cell.{Cell}
+use Rattle.geo_sign.specs.Writings.{IsVertexOf}
+use Rattle.tetra_store.specs.Links.{links_of, IsLive, IsLinked}
+
+-- the point of each vertex, which are inserted, the cell at each number, a cell of each inserted vertex, and how many cells more fit
+-- with no memory taken
+pub record Store : Type 0 where
+  pub points : List Point
+  pub inserted : List Bool
+  pub slots : List (Option Cell)
+  pub kept : List ℕ
+  pub spare : ℕ
+
+-- these vertices by number, with the heights of the tie rule
+abbrev pub vertices_at : List Point → List Bool → Vertices
+vertices_at points inserted =
+    record {
+      at = λ u. get_or points u origin;
+      high = λ u. height (length points) u (get_or points u origin);
+      count = length points;
+      is_in = λ u. slice_index_or inserted u false;
+    }
+
+abbrev pub vertices_of : Store → Vertices
+vertices_of s = vertices_at s.points s.inserted
+
+-- The corners of the box, inserted, and then distinct data points: 1,048,576 of them at most.
+pub record AreVertices (points : List Point) (inserted : List Bool) : Type 0 where
+  pub few : length points ≤ 1048584
+  pub boxed : IsBoxed (vertices_at points inserted)
+
+-- the kept cell of each inserted vertex is live and has it
+abbrev pub AreKept : Store → Type 0
+AreKept s = (u : ℕ) → Has (vertices_of s) u → IsLive (links_of s.slots) (slice_index s.kept u) × IsVertexOf ((links_of s.slots).at (slice_index s.kept u)) u
+
+pub record IsStore (s : Store) : Type 0 where
+  pub flags : length s.inserted ≡ length s.points
+  pub keeps : length s.kept ≡ length s.points
+  pub vertices : AreVertices s.points s.inserted
+  pub linked : IsLinked (vertices_of s) (links_of s.slots)
+  pub kept_cells : AreKept s
+
+-- how many cells fit: those for which the slab has room, at numbers below the one that stands for none, and the two lists that are
+-- filled when cells are put in, with one number and three edges a cell
+abbrev pub room_of : (capacity count ids edges : ℕ) → ℕ
+room_of capacity count ids edges = if nat_lt capacity 4294967296 then min (capacity - count) (min ids (edges / 3)) else 0
+
+-- what a store is seen as, from its parts
+abbrev pub store_from : List Point → List Bool → Slab Cell → List ℕ → (ids edges : ℕ) → Store
+store_from points inserted cells kept ids edges =
+    record { points = points; inserted = inserted; slots = cells.slots; kept = kept; spare = room_of cells.capacity (slab_len cells) ids edges }

@@ -1,0 +1,68 @@
+//! Cells, as callers see them and as the store keeps them: 32 bytes each.
+
+ghost use Rattle.std.specs.Prelude.{◌≡◌, ◌+◌, ◌<◌, ◌^◌, Some, None};
+
+use crate::CellId;
+use std::marker::Model;
+
+/// The number that no cell has.
+const NO_CELL: u32 = u32::MAX;
+
+/// A cell, as callers see it.
+#[derive(Clone, Copy, Debug, PartialEq, Eq)]
+pub struct Cell {
+    /// Its four vertices by number, written positively: vertex 3 is on the positive side of the facet of vertices 0, 1, 2.
+    pub v: [u32; 4],
+    /// The neighbor across the facet opposite to each vertex. There is none exactly where that facet is on a wall of the box.
+    pub next: [Option<CellId>; 4],
+}
+
+/// A neighbor or none, in four bytes.
+#[derive(Clone, Copy, Debug, PartialEq, Eq)]
+pub(crate) struct Link {
+    number: u32,
+}
+
+impl Model for Link {
+    ghost use Rattle.std.specs.Prelude.{Option, ℕ};
+    ghost use Rattle.std.proofs.Common.{ap};
+    ghost use Rattle.tetra_store.specs.Packed.{link_of, number_of, number_of-link_of};
+
+    ghost Value = { Option ℕ };
+
+    ghost view = { λ l. link_of l.number };
+
+    ghost inverse = { λ o. record { number = number_of o } };
+
+    ghost inverse_ok = { λ l h. ap (λ n. record { number = n }) (number_of-link_of l.number) };
+}
+
+impl Link {
+    /// No neighbor.
+    pub(crate) fn none() -> Link
+        ensures { result ≡ None }
+    {
+        Link { number: NO_CELL }
+    }
+
+    /// This neighbor, whose number is small enough.
+    pub(crate) fn to(id: CellId) -> Link
+        requires { id + 1 < 2 ^ 32 }
+        ensures { result ≡ Some id }
+    {
+        Link {
+            number: id.number() as u32,
+        }
+    }
+
+    /// The neighbor.
+    pub(crate) fn get(self) -> Option<CellId>
+        ensures { result ≡ self }
+    {
+        if self.number == NO_CELL {
+            None
+        } else {
+            Some(CellId::new(self.number as usize))
+        }
+    }
+}

@@ -1,0 +1,100 @@
+//! A cell as the store keeps it, in 32 bytes.
+
+ghost use Rattle.std.specs.Prelude.{◌≡◌, ◌+◌, ◌<◌, ◌^◌, ◌↔◌, IsTrue, Some, None, [], ◌∷◌, length, slice_index_or, slice_set};
+ghost use Rattle.slab.specs.Slab.{ContainsKey, slab_len};
+ghost use Rattle.geo_sign.specs.Writings.{IsVertexOf};
+ghost use Rattle.tetra_store.specs.Links.{links_of, tetrahedron_from};
+ghost use Rattle.tetra_store.specs.Steps.{IsWritten};
+
+use crate::link::Link;
+use crate::{Cell, CellId};
+use slab::Slab;
+use std::marker::Model;
+
+/// A cell whose neighbors take four bytes each. Contracts see it as the cell that it stands for.
+#[derive(Clone, Copy)]
+pub(crate) struct Linked {
+    v: [u32; 4],
+    next: [Link; 4],
+}
+
+impl Model for Linked {
+    ghost use Rattle.std.specs.Prelude.{◌≡◌, length};
+    ghost use Rattle.tetra_store.specs.declared.link.Cell.{Cell};
+
+    ghost Value = { Cell };
+
+    ghost view = { λ c. record { v = c.v; next = c.next } };
+
+    ghost invariant = { λ c. length c.next ≡ 4 };
+
+    ghost inverse = { λ c. record { v = c.v; next = c.next } };
+}
+
+impl Linked {
+    /// A cell with these vertices, and no neighbor but one across the facet opposite to the last.
+    pub(crate) fn new(v: [u32; 4], outer: Link) -> Linked
+        ensures { result ≡ record { v = v; next = None ∷ None ∷ None ∷ outer ∷ [] } }
+    {
+        Linked {
+            v,
+            next: [Link::none(), Link::none(), Link::none(), outer],
+        }
+    }
+
+    /// Its vertices.
+    pub(crate) fn vertices(&self) -> [u32; 4]
+        ensures { result ≡ self.now.v }
+    {
+        self.v
+    }
+
+    /// Whether it has a vertex.
+    pub(crate) fn has(&self, v: u32) -> bool
+        ensures { IsTrue result ↔ IsVertexOf (tetrahedron_from self.now.v) v }
+    {
+        let [a, b, c, d] = self.v;
+        a == v || b == v || c == v || d == v
+    }
+
+    /// The neighbor across a side.
+    pub(crate) fn next(&self, side: usize) -> Option<CellId>
+        requires { side < 4 }
+        ensures { result ≡ slice_index_or self.now.next side None }
+    {
+        self.next[side].get()
+    }
+
+    /// The cell that it stands for.
+    pub(crate) fn cell(&self) -> Cell
+        ensures { result ≡ self.now }
+    {
+        Cell {
+            v: self.v,
+            next: [self.next(0), self.next(1), self.next(2), self.next(3)],
+        }
+    }
+
+    /// Names the neighbor across a side.
+    pub(crate) fn set_next(&mut self, side: usize, other: CellId)
+        requires side { side < 4 }
+        requires other { other + 1 < 2 ^ 32 }
+        ensures whole { length self.old.next ≡ 4 }
+        ensures after { self.new ≡ record self.old { next = slice_set self.old.next side (Some other) } }
+    {
+        self.next[side] = Link::to(other);
+    }
+}
+
+/// Names a cell across a side of another.
+pub(crate) fn set_next(cells: &mut Slab<Linked>, id: CellId, side: usize, other: CellId)
+    requires live { ContainsKey cells.old id }
+    requires side { side < 4 }
+    requires small { other + 1 < 2 ^ 32 }
+    ensures written { IsWritten (links_of cells.old.slots) (links_of cells.new.slots) id side other }
+    ensures capacity { cells.new.capacity ≡ cells.old.capacity }
+    ensures len { slab_len cells.new ≡ slab_len cells.old }
+{
+    let cell = &mut cells[id.number()];
+    cell.set_next(side, other);
+}

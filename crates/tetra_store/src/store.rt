@@ -1,0 +1,138 @@
+//! The store.
+
+ghost use Rattle.std.specs.Prelude.{◌≡◌, ◌<◌, ◌≤◌, ◌↔◌, ℕ, None, OnOk, length, get_or, slice_index, slice_index_or, false, IfSome, IfNone};
+ghost use Rattle.geo_sign.specs.Point.{origin};
+ghost use Rattle.geo_sign.specs.Tetrahedron.{facet_of};
+ghost use Rattle.geo_sign.specs.Vertices.{Has, IsWall};
+ghost use Rattle.geo_sign.specs.Writings.{IsVertexOf};
+ghost use Rattle.tetra_store.specs.Links.{links_of, slot_at, IsLive, IsOnlyAcross};
+
+use crate::edge::Edge;
+use crate::hints::Hints;
+use crate::kept::KeptCell;
+use crate::linked::Linked;
+use crate::{Cell, CellId, NoMemory};
+use geo_sign::Point;
+use slab::Slab;
+use std::alloc::AllocError;
+use std::marker::Model;
+
+/// The cells that may have a number, as the largest stands for none.
+pub(crate) const MOST_CELLS: usize = 4_294_967_295;
+
+/// All vertices, which of them are inserted, and linked cells over those.
+///
+/// The corners of the box are the vertices 0 to 7 and are inserted. The others are distinct data points. Each cell is written
+/// positively over distinct inserted vertices. No two cells have a directed facet in common. Neighbors name each other across the same
+/// facet in its two directions. A facet has no neighbor exactly on a wall of the box. Each inserted vertex has a kept cell, which has
+/// it.
+#[derive(Drop)]
+pub struct Tetra {
+    pub(crate) points: Vec<Point>,
+    pub(crate) inserted: Vec<bool>,
+    pub(crate) kept: Vec<KeptCell>,
+    pub(crate) cells: Slab<Linked>,
+    // Filled and emptied by `replace`, so that it takes no memory.
+    pub(crate) ids: Vec<CellId>,
+    pub(crate) edges: Vec<Edge>,
+    pub(crate) hints: Hints,
+}
+
+impl Model for Tetra {
+    ghost use Rattle.std.specs.Prelude.{vec_capacity};
+    ghost use Rattle.tetra_store.specs.Store.{Store, IsStore, store_from};
+
+    ghost Value = { Store };
+
+    ghost view = { λ t. store_from t.points.items t.inserted.items t.cells t.kept.items (vec_capacity t.ids) (vec_capacity t.edges) };
+
+    ghost invariant = { λ t. IsStore (store_from t.points.items t.inserted.items t.cells t.kept.items (vec_capacity t.ids) (vec_capacity t.edges)) };
+}
+
+impl Tetra {
+    ghost use Rattle.tetra_store.specs.Store.{IsStore, vertices_of};
+
+    /// Does nothing. Its clause is what each store keeps, for the proofs of callers.
+    pub fn facts(&self)
+        ensures { IsStore self.now }
+    {
+        let _points = &self.points;
+    }
+
+    /// How many vertices there are, inserted or not: the eight corners and the data points. They are numbered from 0.
+    pub fn vertex_count(&self) -> u32
+        ensures { result ≡ length self.now.points }
+    {
+        self.points.len() as u32
+    }
+
+    /// Where a vertex is, in scaled whole units.
+    pub fn point(&self, v: u32) -> Point
+        requires { v < length self.now.points }
+        ensures { result ≡ get_or self.now.points v origin }
+    {
+        self.points[v as usize]
+    }
+
+    /// Whether a vertex is inserted.
+    pub fn is_inserted(&self, v: u32) -> bool
+        requires { v < length self.now.points }
+        ensures { result ≡ slice_index_or self.now.inserted v false }
+    {
+        self.inserted[v as usize]
+    }
+
+    /// The cell with a number, which is live.
+    pub fn cell(&self, id: CellId) -> Cell
+        requires { IsLive (links_of self.now.slots) id }
+        ensures { slot_at self.now.slots id ≡ Some result }
+    {
+        self.cells[id.number()].cell()
+    }
+
+    /// The neighbor of a cell across a side, which is 0 to 3: the cell across the facet opposite to that vertex. There is none exactly
+    /// where the facet is on a wall, and else it is the only cell that has the facet in the other direction.
+    pub fn across(&self, id: CellId, side: u8) -> Option<CellId>
+        requires live { IsLive (links_of self.now.slots) id }
+        requires side { side < 4 }
+        ensures value { result ≡ (links_of self.now.slots).next id side }
+        ensures wall { (result ≡ None) ↔ IsWall (vertices_of self.now) (facet_of ((links_of self.now.slots).at id) side) }
+        ensures only { IfSome result (λ other. IsOnlyAcross (links_of self.now.slots) id side other) }
+    {
+        self.cells[id.number()].next(side as usize)
+    }
+
+    /// The kept cell of an inserted vertex: a live cell that has it. Which one it is changes as cells are replaced.
+    pub fn cell_at(&self, v: u32) -> CellId
+        requires { Has (vertices_of self.now) v }
+        ensures value { result ≡ slice_index self.now.kept v }
+        ensures live { IsLive (links_of self.now.slots) result }
+        ensures has { IsVertexOf ((links_of self.now.slots).at result) v }
+    {
+        self.kept[v as usize].id()
+    }
+
+    /// Makes room for so many cells, so that `replace` may put them in with no memory taken. Want of memory is answered too where
+    /// numbers of cells would not fit 32 bits. Points, cells and what is inserted stay in any case.
+    pub fn reserve(&mut self, cells: usize) -> Result<(), NoMemory>
+        ensures spare { OnOk result (cells ≤ self.new.spare) }
+        ensures points { self.new.points ≡ self.old.points }
+        ensures inserted { self.new.inserted ≡ self.old.inserted }
+        ensures slots { self.new.slots ≡ self.old.slots }
+        ensures kept { self.new.kept ≡ self.old.kept }
+    {
+        if cells > MOST_CELLS {
+            return Err(AllocError);
+        }
+        self.ids.clear();
+        self.ids.reserve(cells)?;
+        self.edges.clear();
+        self.edges.reserve(cells * 3)?;
+        self.hints.reserve(cells * 3)?;
+        self.cells.reserve(cells)?;
+        if self.cells.capacity() > MOST_CELLS {
+            return Err(AllocError);
+        }
+        Ok(())
+    }
+}
