@@ -1,0 +1,145 @@
+-- What a walk along a sight is seen as.
+--
+--   Walk                        the sight, the cell now reached and the side through which it was entered, the facets to come
+--   first_of a b c d            which of four tests is the first that holds
+--   leaves v p s t k            the sight goes out of t through facet k
+--   exit_of v p s t             the side through which it goes out
+--   is_some_of n x              the neighbor is the cell x
+--   side_naming links y x       the side of y that names x
+--   next_side s p o x           the next facet from the cell x, as a side of the cell that is entered
+--   sides_from s p o x          all facets from there on
+--   IsSight w                   they are exactly the facets that the sight crosses, each once, each nearer than every later one
+--   IsTaken w v c               the crossing c is the first of those to come in w, and v has the others
+--   IsEndCell s o e             the cell e is the scanner's
+--   IsWalking s p o x v k       what is kept of each walk
+--
+-- The list to come follows from the store, the sight and the cell reached, so it is no field of a walk: `sides_from` is that list.
+-- What a reader has to believe of it is `IsSight` alone, which leaves one list: the crossed facets, each once, in their order.
+use Rattle.std.specs.Prelude.{ℕ, zero, suc, ◌≡◌, ◌<◌, ◌==◌, Bool, true, false, List, [], ◌∷◌, Option, Some, None, length}
+use Rattle.geo_sign.specs.declared.point.TheConstants.{DATA_LIMIT}
+use Rattle.geo_sign.specs.Point.{Point, IsWithin}
+use Rattle.geo_sign.specs.Rational.{RationalPoint, displaced}
+use Rattle.geo_sign.specs.Sights.{is_crossed, is_towards, is_cell_of}
+use Rattle.geo_sign.specs.Tetrahedron.{Tetrahedron, facet_at, facet_of, turned}
+use Rattle.geo_sign.specs.Vertices.{Vertices, Has}
+use Rattle.cell_laws.specs.Links.{Side}
+use Rattle.cell_laws.specs.Lists.{IsIn, count, one_if}
+use Rattle.cell_laws.specs.Paths.{is_that, entered, IsPath, AreNearing}
+use Rattle.geo_sign.specs.Tetrahedron.{facet_at}
+use Rattle.tetra_store.specs.Links.{Links, links_of, tetrahedron_from, IsLive}
+use Rattle.tetra_store.specs.Store.{Store, vertices_of}
+use Rattle.tetra_store.specs.Delaunay.{IsDelaunay}
+use Rattle.tetra_walk.specs.Stored.{live_of}
+use Rattle.sight.specs.declared.along.Crossing.{Crossing}
+use Rattle.sight.specs.Exits.{IsEntered}
+
+-- the sight from a vertex to the scanner at a point, through the cells of a store
+pub record Walk : Type 0 where
+  pub store : Store
+  pub vertex : ℕ
+  pub scanner : Point
+  pub at : ℕ
+  pub entered : ℕ
+  pub to_come : List Side
+
+-- ---- the facets to come
+-- the first test of four that holds
+abbrev pub first_of : (a b c d : Bool) → Option ℕ
+first_of true b c d = Some 0
+first_of false true c d = Some 1
+first_of false false true d = Some 2
+first_of false false false true = Some 3
+first_of false false false false = None
+
+-- the facet turned round is crossed: the scanner is behind the facet, and the vertex before it
+abbrev pub leaves : Vertices → (p : ℕ) → RationalPoint → Tetrahedron → ℕ → Bool
+leaves v p s t k = is_crossed v p s (turned (facet_of t k))
+
+-- the side through which the sight goes out of the cell
+abbrev pub exit_of : Vertices → (p : ℕ) → RationalPoint → Tetrahedron → Option ℕ
+exit_of v p s t = first_of (leaves v p s t 0) (leaves v p s t 1) (leaves v p s t 2) (leaves v p s t 3)
+
+-- the neighbor is this cell
+abbrev pub is_some_of : Option ℕ → ℕ → Bool
+is_some_of None x = false
+is_some_of (Some y) x = y == x
+
+-- the first of three tests that holds, and else 3
+abbrev pub number_first : (a b c : Bool) → ℕ
+number_first true b c = 0
+number_first false true c = 1
+number_first false false true = 2
+number_first false false false = 3
+
+-- the side of y that names x
+abbrev pub side_naming : Links → (y x : ℕ) → ℕ
+side_naming links y x = number_first (is_some_of (links.next y 0) x) (is_some_of (links.next y 1) x) (is_some_of (links.next y 2) x)
+
+-- the side of the neighbor, if there is one, that names x
+abbrev pub side_into : Links → ℕ → Option ℕ → Option Side
+side_into links x None = None
+side_into links x (Some y) = Some (record { at = y; side = side_naming links y x })
+
+-- that of the neighbor across side k
+abbrev pub side_through : Links → ℕ → Option ℕ → Option Side
+side_through links x None = None
+side_through links x (Some k) = side_into links x (links.next x k)
+
+-- where the sight goes on from the cell x
+abbrev pub next_side : Store → (p : ℕ) → Point → ℕ → Option Side
+next_side s p o x = side_through (links_of s.slots) x (exit_of (vertices_of s) p (displaced o) ((links_of s.slots).at x))
+
+-- a side, if there is one, and the rest from its cell on
+abbrev pub with_rest : Option Side → (ℕ → List Side) → List Side
+with_rest None rest = []
+with_rest (Some c) rest = c ∷ rest c.at
+
+-- at most n of them
+abbrev pub sides_within : Store → (p : ℕ) → Point → ℕ → ℕ → List Side
+sides_within s p o zero x = []
+sides_within s p o (suc n) x = with_rest (next_side s p o x) (sides_within s p o n)
+
+-- no cell comes back, so there are at most as many as slots
+unfoldable pub sides_from : Store → (p : ℕ) → Point → ℕ → List Side
+sides_from s p o x = sides_within s p o (length s.slots) x
+
+-- ---- what they are
+-- the walk before its first step: exactly the facets that the sight crosses are to come
+pub record IsSight (w : Walk) : Type 0 where
+  -- the cell reached is the one at the vertex that is towards the scanner
+  pub live : IsLive (links_of w.store.slots) w.at
+  pub towards : is_towards (vertices_of w.store) w.vertex (displaced w.scanner) ((links_of w.store.slots).at w.at) ≡ true
+  -- each facet is between the cell reached and the next one, and the last cell is the scanner's
+  pub path : IsPath (vertices_of w.store) (live_of w.store.slots) (links_of w.store.slots).at (links_of w.store.slots).next w.vertex (displaced w.scanner) w.at w.to_come
+  pub crossed : (c : Side) → IsIn w.to_come c → IsLive (links_of w.store.slots) c.at × (c.side < 4) × (is_crossed (vertices_of w.store) w.vertex (displaced w.scanner) (entered (links_of w.store.slots).at c) ≡ true)
+  -- each facet stands in the list once or not at all, as the sight crosses it or not
+  pub counted : (c : Side) → IsLive (links_of w.store.slots) c.at → c.side < 4 → count (is_that c) w.to_come ≡ one_if (is_crossed (vertices_of w.store) w.vertex (displaced w.scanner) (entered (links_of w.store.slots).at c))
+  -- each is nearer to the vertex than each later one
+  pub nearing : AreNearing (vertices_of w.store) (links_of w.store.slots).at w.vertex (displaced w.scanner) w.to_come
+
+-- a step from w to v: the cell that is entered is the scanner side, and the facet is its own; the cell left is the point side, and is
+-- across that facet
+pub record IsTaken (w v : Walk) (c : Crossing) : Type 0 where
+  pub same : (v.store ≡ w.store) × (v.vertex ≡ w.vertex) × (v.scanner ≡ w.scanner)
+  pub first : w.to_come ≡ record { at = v.at; side = v.entered } ∷ v.to_come
+  pub side_in : v.entered < 4
+  pub live : IsLive (links_of w.store.slots) v.at
+  pub scanner_side : c.scanner_side ≡ v.at
+  pub point_side : c.point_side ≡ w.at
+  pub facet : facet_at c.facet ≡ facet_of ((links_of w.store.slots).at v.at) v.entered
+  pub across : (links_of w.store.slots).next v.at v.entered ≡ Some w.at
+
+-- ---- what is kept
+-- the cell reached has these four vertices, and the sight came into it through side k
+pub record IsWalking (s : Store) (p : ℕ) (o : Point) (x : ℕ) (v : List ℕ) (k : ℕ) : Type 0 where
+  pub delaunay : IsDelaunay (vertices_of s) (links_of s.slots)
+  pub inserted : Has (vertices_of s) p
+  pub data_point : IsWithin DATA_LIMIT o
+  pub live : IsLive (links_of s.slots) x
+  pub loaded : (links_of s.slots).at x ≡ tetrahedron_from v
+  pub came : IsEntered (vertices_of s) p (displaced o) (tetrahedron_from v) k
+
+-- the scanner lies in the live cell e
+pub record IsEndCell (s : Store) (o : Point) (e : ℕ) : Type 0 where
+  pub live : IsLive (links_of s.slots) e
+  pub is : is_cell_of (vertices_of s) (displaced o) ((links_of s.slots).at e) ≡ true

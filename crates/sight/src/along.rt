@@ -1,0 +1,164 @@
+//! Walks along sights.
+
+ghost use Rattle.std.specs.Prelude.{◌≡◌, ◌≤◌, [], true, false, IfSome, IfNone};
+ghost use Rattle.std.specs.Option.{ForSome};
+ghost use Rattle.geo_sign.specs.declared.point.TheConstants.{DATA_LIMIT};
+ghost use Rattle.geo_sign.specs.Point.{IsWithin};
+ghost use Rattle.geo_sign.specs.Rational.{displaced};
+ghost use Rattle.geo_sign.specs.Sights.{is_cell_of};
+ghost use Rattle.geo_sign.specs.Vertices.{Has};
+ghost use Rattle.tetra_store.specs.Delaunay.{IsDelaunay};
+ghost use Rattle.tetra_store.specs.Links.{links_of};
+ghost use Rattle.tetra_store.specs.Store.{vertices_of};
+ghost use Rattle.sight.specs.Walks.{IsSight, IsTaken, IsEndCell};
+
+use crate::exit::{NO_SIDE, exit};
+use geo_sign::Point;
+use std::marker::Model;
+use tetra_store::{CellId, Tetra};
+use tetra_walk::{facet, side_to, toward};
+
+/// A directed facet that a sight crosses. The sight's point is behind it, the scanner before it.
+#[derive(Clone, Copy, Debug, PartialEq, Eq)]
+pub struct Crossing {
+    /// Its three vertex numbers, as the cell on the scanner's side has them.
+    pub facet: [u32; 3],
+    /// The cell whose facet it is.
+    pub scanner_side: CellId,
+    /// The cell across.
+    pub point_side: CellId,
+}
+
+/// A walk along the sight from a vertex to a displaced scanner.
+///
+/// Contracts see it as the facets still to come, the nearest to the vertex first, each as a side of the cell that is entered through
+/// it, and the cell now reached with the side through which it was entered.
+#[derive(Drop)]
+pub struct SightWalk<'a> {
+    tetra: &'a Tetra,
+    vertex: u32,
+    scanner: Point,
+    end: Option<CellId>,
+    at: CellId,
+    vertices: [u32; 4],
+    entered: usize,
+}
+
+impl<'a> Model for SightWalk<'a> {
+    ghost use Rattle.sight.specs.Walks.{Walk, IsWalking, IsEndCell, sides_from};
+    ghost use Rattle.std.specs.Option.{ForSome};
+
+    ghost Value = { Walk };
+
+    ghost view = { λ w. record { store = w.tetra.now; vertex = w.vertex; scanner = w.scanner; at = w.at; entered = w.entered; to_come = sides_from w.tetra.now w.vertex w.scanner w.at } };
+
+    ghost invariant = { λ w. IsWalking w.tetra.now w.vertex w.scanner w.at w.vertices w.entered × ForSome w.end (λ e. IsEndCell w.tetra.now w.scanner e) };
+}
+
+/// A walk that begins in the cell towards the scanner, whose end may be known.
+fn begin<'a>(t: &'a Tetra, v: u32, s: Point, end: Option<CellId>) -> SightWalk<'a>
+    requires delaunay { IsDelaunay (vertices_of t.now) (links_of t.now.slots) }
+    requires inserted { Has (vertices_of t.now) v }
+    requires data_vertex { 8 ≤ v }
+    requires data_point { IsWithin DATA_LIMIT s }
+    requires end { ForSome end (λ e. IsEndCell t.now s e) }
+    ensures same { (result.store ≡ t.now) × (result.vertex ≡ v) × (result.scanner ≡ s) }
+    ensures sight { IsSight result }
+{
+    t.facts();
+    let at = toward(t, v, s);
+    let vertices = t.cell(at).v;
+    SightWalk {
+        tetra: t,
+        vertex: v,
+        scanner: s,
+        end,
+        at,
+        vertices,
+        entered: NO_SIDE,
+    }
+}
+
+/// The walk along the sight from an inserted data point, a vertex number of at least 8, to the scanner at a data point, with exactly
+/// the facets to come that the sight crosses, each once, each nearer to the point than every later one. The cells have to be Delaunay.
+///
+/// It takes no memory and does not refuse.
+pub fn walk<'a>(t: &'a Tetra, v: u32, s: Point) -> SightWalk<'a>
+    requires delaunay { IsDelaunay (vertices_of t.now) (links_of t.now.slots) }
+    requires inserted { Has (vertices_of t.now) v }
+    requires data_vertex { 8 ≤ v }
+    requires data_point { IsWithin DATA_LIMIT s }
+    ensures same { (result.store ≡ t.now) × (result.vertex ≡ v) × (result.scanner ≡ s) }
+    ensures sight { IsSight result }
+{
+    begin(t, v, s, None)
+}
+
+/// The same walk where the scanner's cell is known, as `locate_scanner` finds it: it takes one sign less a step.
+pub fn walk_into<'a>(t: &'a Tetra, v: u32, s: Point, end: CellId) -> SightWalk<'a>
+    requires delaunay { IsDelaunay (vertices_of t.now) (links_of t.now.slots) }
+    requires inserted { Has (vertices_of t.now) v }
+    requires data_vertex { 8 ≤ v }
+    requires data_point { IsWithin DATA_LIMIT s }
+    requires end { IsEndCell t.now s end }
+    ensures same { (result.store ≡ t.now) × (result.vertex ≡ v) × (result.scanner ≡ s) }
+    ensures sight { IsSight result }
+{
+    begin(t, v, s, Some(end))
+}
+
+impl<'a> SightWalk<'a> {
+    /// The next facet that the sight crosses, from the point towards the scanner: the first of those to come. Its point side is the
+    /// cell reached before, its scanner side the cell reached now. None exactly where the cell reached is the scanner's, and then
+    /// nothing is to come and the walk stays as it is. It takes no memory.
+    pub fn next(&mut self) -> Option<Crossing>
+        ensures some { IfSome result (λ c. IsTaken self.old self.new c) }
+        ensures more { IfSome result (λ _. is_cell_of (vertices_of self.old.store) (displaced self.old.scanner) ((links_of self.old.store.slots).at self.old.at) ≡ false) }
+        ensures none { IfNone result ((self.old.to_come ≡ []) × (self.new ≡ self.old)) }
+        ensures end { IfNone result (is_cell_of (vertices_of self.old.store) (displaced self.old.scanner) ((links_of self.old.store.slots).at self.old.at) ≡ true) }
+    {
+        self.tetra.facts();
+        match exit(
+            self.tetra,
+            self.at,
+            self.end,
+            self.vertices,
+            self.entered,
+            self.vertex,
+            self.scanner,
+        ) {
+            None => None,
+            Some(side) => match self.tetra.across(self.at, side as u8) {
+                None => unreachable!(),
+                Some(next) => {
+                    let cell = self.tetra.cell(next);
+                    let entered = side_to(&cell, self.at);
+                    let crossing = Crossing {
+                        facet: facet(cell.v, entered),
+                        scanner_side: next,
+                        point_side: self.at,
+                    };
+                    self.at = next;
+                    self.vertices = cell.v;
+                    self.entered = entered;
+                    Some(crossing)
+                }
+            },
+        }
+    }
+
+    /// The cell now reached: before the first step the one towards the scanner, after None the scanner's.
+    pub fn end_cell(&self) -> CellId
+        ensures { result ≡ self.now.at }
+    {
+        self.at
+    }
+
+    /// The side, 0 to 3, of the cell now reached through which it was entered, which is the last crossing's facet. Before the first
+    /// step, in the cell at the vertex, it is 4.
+    pub fn entered(&self) -> usize
+        ensures { result ≡ self.now.entered }
+    {
+        self.entered
+    }
+}

@@ -1,0 +1,20 @@
+-- The side of a place near a point, by two signs: that of the point, and where the point is in the plane that of the scanner.
+use Rattle.std.proofs.Common.{◌≡◌, ap₂, sym, ◌∙◌}
+use Rattle.geo_sign.specs.declared.point.TheConstants.{BOX_LIMIT, DATA_LIMIT}
+use Rattle.geo_sign.specs.Point.{Point, IsWithin}
+use Rattle.geo_sign.specs.Orientation.{orientation}
+use Rattle.geo_sign.specs.Rational.{side, displaced}
+use Rattle.geo_sign.specs.Signs.{sign_of, first_sign, opposite_sign}
+use Rattle.geo_sign.specs.declared.sign.Sign.{Sign}
+use Rattle.geo_sign.specs.NearPlaces.{towards_place, behind_place}
+use Rattle.cell_laws.proofs.Scanners.{near_law}
+
+pub towards_side : (a b c p s : Point) → IsWithin BOX_LIMIT a → IsWithin BOX_LIMIT b → IsWithin BOX_LIMIT c → IsWithin DATA_LIMIT p → IsWithin DATA_LIMIT s →
+    (g h : Sign) → g ≡ sign_of (orientation a b c p) → h ≡ sign_of (side a b c (displaced s)) → first_sign g h ≡ sign_of (side a b c (towards_place p s))
+towards_side a b c p s i j k m n g h e f =
+    ap₂ (λ (x y : Sign). first_sign x y) e f ∙ sym ((near_law p s m n).towards_sign a b c i j k)
+
+pub behind_side : (a b c p s : Point) → IsWithin BOX_LIMIT a → IsWithin BOX_LIMIT b → IsWithin BOX_LIMIT c → IsWithin DATA_LIMIT p → IsWithin DATA_LIMIT s →
+    (g h : Sign) → g ≡ sign_of (orientation a b c p) → h ≡ sign_of (side a b c (displaced s)) → first_sign g (opposite_sign h) ≡ sign_of (side a b c (behind_place p s))
+behind_side a b c p s i j k m n g h e f =
+    ap₂ (λ (x y : Sign). first_sign x (opposite_sign y)) e f ∙ sym ((near_law p s m n).behind_sign a b c i j k)

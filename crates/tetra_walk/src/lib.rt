@@ -1,0 +1,16 @@
+//! Walks through linked Delaunay cells, to a cell in which a place lies.
+//!
+//! A step goes across a facet that the goal is behind (the visibility walk of Devillers, Pion and Teillaud 2002). Lift each vertex by
+//! its height by the tie rule: at the goal, the plane of the next cell's lifted vertices is above that of the last one's. So no cell
+//! comes back, and the walk ends, whichever facet is taken. The goal is a point, a displaced scanner, or a place as near to a vertex
+//! as is wanted, towards a scanner or away from it. One loop serves all four. No walk takes memory, and none refuses.
+#![tactic(auto)]
+
+mod goal;
+mod side;
+#[cfg(test)]
+mod tests;
+mod walk;
+
+pub use side::{facet, side_to};
+pub use walk::{behind, locate, locate_scanner, toward};

@@ -1,0 +1,49 @@
+//! Sides of cells: side k is that of the facet opposite to vertex k.
+
+ghost use Rattle.std.specs.Prelude.{◌≡◌, ◌<◌, Some, None, slice_index_or};
+ghost use Rattle.geo_sign.specs.Tetrahedron.{facet_of, facet_at};
+ghost use Rattle.tetra_store.specs.Links.{tetrahedron_from};
+ghost use Rattle.tetra_walk.specs.Walks.{HasNamed};
+
+use tetra_store::{Cell, CellId};
+
+/// The directed facet of a side of the cell with these vertices: three vertex numbers, which turn counterclockwise as seen from the
+/// vertex opposite to the side where the cell is written positively.
+pub fn facet(v: [u32; 4], side: usize) -> [u32; 3]
+    requires { side < 4 }
+    ensures { facet_at result ≡ facet_of (tetrahedron_from v) side }
+{
+    let [a, b, c, d] = v;
+    match side {
+        0 => [b, d, c],
+        1 => [a, c, d],
+        2 => [a, d, b],
+        _ => [a, b, c],
+    }
+}
+
+/// The neighbor of a cell across a side, of which there is none on a wall.
+pub(crate) fn neighbor(cell: &Cell, side: usize) -> Option<CellId>
+    requires { side < 4 }
+    ensures { result ≡ slice_index_or cell.now.next side None }
+{
+    cell.next[side]
+}
+
+/// The first side of a cell across which a neighbor of it is. It compares numbers, and computes no sign.
+pub fn side_to(cell: &Cell, other: CellId) -> usize
+    requires { HasNamed cell.now.next other }
+    ensures side { result < 4 }
+    ensures named { slice_index_or cell.now.next result None ≡ Some other }
+{
+    if cell.next[0] == Some(other) {
+        return 0;
+    }
+    if cell.next[1] == Some(other) {
+        return 1;
+    }
+    if cell.next[2] == Some(other) {
+        return 2;
+    }
+    3
+}
