@@ -1,0 +1,5 @@
+pub mod Stores
+pub mod Growing
+pub mod Crossing
+pub mod Flooding
+pub mod Found

@@ -1,0 +1,90 @@
+-- A flood over the links of cells, from cell to cell across facets. Sides are counted through the list of cells that were reached:
+-- side k of the cell at index j is number 4 * j + k.
+--
+--   AreMarked stamps round cells             exactly the cells reached are marked
+--   facet_on f across                        a facet with the cell across it
+--   IsReached, IsEntered, IsLeft             the three ways to cross a facet: the cell across was reached before; it is reached now;
+--                                            none in conflict is across, and the facet goes into the fan
+--   IsCrossed v links p f across c g c' g'   the facet f was crossed in one of the three ways, from cells c and fan g to c' and g'
+--   IsRimAt v links p cells fan n i          fan facet i is that of a side that was crossed
+--   IsInFan fan f across                     the fan has the facet f, with this cell across
+--   IsPassed cells fan f across              the cell across was reached, or the facet is in the fan
+--   IsFlooding v links p from cells fan n    the first n sides of the cells reached were crossed
+use Rattle.std.specs.Prelude.{ℕ, ◌≡◌, ◌<◌, ◌+◌, ◌*◌, ◌⊎◌, List, [], ◌∷◌, ◌++◌, Option, Some, length, slice_index, Contains}
+use Rattle.geo_sign.specs.Tetrahedron as geo
+use Rattle.geo_sign.specs.Tetrahedron.{facet_of, IsRotated}
+use Rattle.geo_sign.specs.Vertices.{Vertices}
+use Rattle.tetra_store.specs.declared.fan.Facet.{Facet}
+use Rattle.tetra_store.specs.Links.{Links, IsLive}
+use Rattle.tetra_store.specs.Fan.{fan_facet, fan_outer}
+use Rattle.geo_sign.specs.Boxes.{IsInConflict, IsClearOf}
+use Rattle.cavity.specs.Marks.{IsMarked}
+
+-- exactly the cells reached are marked
+pub record AreMarked (stamps : List ℕ) (round : ℕ) (cells : List ℕ) : Type 0 where
+  pub listed : (x : ℕ) → IsMarked stamps round x → Contains cells x
+  pub marked : (x : ℕ) → Contains cells x → IsMarked stamps round x
+
+-- a facet with the cell across it
+abbrev pub facet_on : List ℕ → Option ℕ → Facet
+facet_on f across = record { v = f; outer = across }
+
+-- the cell across was reached before
+pub record IsReached (across : Option ℕ) (cells : List ℕ) (fan : List Facet) (cells' : List ℕ) (fan' : List Facet) : Type 0 where
+  pub cell : ℕ
+  pub is : across ≡ Some cell
+  pub listed : Contains cells cell
+  pub cells_same : cells' ≡ cells
+  pub fan_same : fan' ≡ fan
+
+-- the cell across is in conflict, and is reached now
+pub record IsEntered (v : Vertices) (links : Links) (p : ℕ) (across : Option ℕ) (cells : List ℕ) (fan : List Facet) (cells' : List ℕ) (fan' : List Facet) : Type 0 where
+  pub cell : ℕ
+  pub is : across ≡ Some cell
+  pub new : ¬ Contains cells cell
+  pub conflict : IsInConflict v p (links.at cell)
+  pub cells_more : cells' ≡ cells ++ cell ∷ []
+  pub fan_same : fan' ≡ fan
+
+-- no cell in conflict is across
+pub record IsLeft (v : Vertices) (links : Links) (p : ℕ) (f : List ℕ) (across : Option ℕ) (cells : List ℕ) (fan : List Facet) (cells' : List ℕ) (fan' : List Facet) : Type 0 where
+  pub clear : (y : ℕ) → across ≡ Some y → IsClearOf v p (links.at y)
+  pub cells_same : cells' ≡ cells
+  pub fan_more : fan' ≡ fan ++ facet_on f across ∷ []
+
+-- in one of the three ways
+abbrev pub IsCrossed : (v : Vertices) (links : Links) (p : ℕ) (f : List ℕ) (across : Option ℕ) (cells : List ℕ) (fan : List Facet) (cells' : List ℕ) (fan' : List Facet) → Type 0
+IsCrossed v links p f across cells fan cells' fan' = IsReached across cells fan cells' fan' ⊎ (IsEntered v links p across cells fan cells' fan' ⊎ IsLeft v links p f across cells fan cells' fan')
+
+-- fan facet i is that of a side before side n, and across it is no cell in conflict
+pub record IsRimAt (v : Vertices) (links : Links) (p : ℕ) (cells : List ℕ) (fan : List Facet) (n i : ℕ) : Type 0 where
+  pub cell : ℕ
+  pub side : ℕ
+  pub cell_in : cell < length cells
+  pub side_in : side < 4
+  pub before : 4 * cell + side < n
+  pub facet : fan_facet fan i ≡ facet_of (links.at (slice_index cells cell)) side
+  pub outer : fan_outer fan i ≡ links.next (slice_index cells cell) side
+  pub clear : (y : ℕ) → fan_outer fan i ≡ Some y → IsClearOf v p (links.at y)
+
+-- a fan facet is this one, with this cell across
+pub record IsInFan (fan : List Facet) (f : geo.DirectedFacet) (across : Option ℕ) : Type 0 where
+  pub facet : ℕ
+  pub facet_in : facet < length fan
+  pub is : fan_facet fan facet ≡ f
+  pub outer : fan_outer fan facet ≡ across
+
+-- across a side is a cell that was reached, or its facet is in the fan
+abbrev pub IsPassed : (cells : List ℕ) (fan : List Facet) (f : geo.DirectedFacet) (across : Option ℕ) → Type 0
+IsPassed cells fan f across = ((y : ℕ) × (across ≡ Some y) × Contains cells y) ⊎ IsInFan fan f across
+
+-- The cells reached have the first one, are live, in conflict and distinct. Of the first n sides each has been dealt with, the fan has
+-- facets of such sides alone, and no facet twice.
+pub record IsFlooding (v : Vertices) (links : Links) (p from : ℕ) (cells : List ℕ) (fan : List Facet) (n : ℕ) : Type 0 where
+  pub start : Contains cells from
+  pub live : (id : ℕ) → Contains cells id → IsLive links id
+  pub conflict : (id : ℕ) → Contains cells id → IsInConflict v p (links.at id)
+  pub distinct : (j k : ℕ) → j < length cells → k < length cells → slice_index cells j ≡ slice_index cells k → j ≡ k
+  pub rim : (i : ℕ) → i < length fan → IsRimAt v links p cells fan n i
+  pub passed : (j k : ℕ) → j < length cells → k < 4 → 4 * j + k < n → IsPassed cells fan (facet_of (links.at (slice_index cells j)) k) (links.next (slice_index cells j) k)
+  pub once : (i j : ℕ) → i < length fan → j < length fan → IsRotated (fan_facet fan i) (fan_facet fan j) → i ≡ j

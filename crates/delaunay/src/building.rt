@@ -1,0 +1,61 @@
+//! The insertion of all points.
+
+ghost use Rattle.std.specs.Prelude.{◌≡◌, ◌<◌, ◌≤◌, ◌++◌, ℕ, true, false, IfOk, length, get_or, slice_index_or};
+ghost use Rattle.geo_sign.specs.Point.{origin, IsWithin};
+ghost use Rattle.geo_sign.specs.Vertices.{corners, vertices_of as all_vertices_of};
+ghost use Rattle.tetra_store.specs.Links.{links_of};
+ghost use Rattle.tetra_store.specs.Store.{vertices_of};
+ghost use Rattle.tetra_store.specs.Delaunay.{IsDelaunay};
+ghost use Rattle.curve_order.specs.Order.{IsOrder};
+ghost use Rattle.delaunay.specs.Partition.{IsPartition};
+
+use crate::NoMemory;
+use crate::insertion::insert_with;
+use cavity::Cavity;
+use curve_order::{in_rounds, order};
+use geo_sign::Point;
+use std::alloc::Global;
+use tetra_store::Tetra;
+
+/// The Delaunay cells of the box's corners and these distinct data points, of which point i is vertex 8 + i; all are inserted.
+///
+/// The points are inserted in rounds along a curve, so that each is near the one before it and few cells are made that do not last. The
+/// cells do not depend on that, and the time does. The only error is want of memory.
+pub fn build(alloc: Global, points: &[Point]) -> Result<Tetra, NoMemory>
+    requires within { (k : ℕ) → k < length points.now → IsWithin 2097151 (get_or points.now k origin) }
+    requires distinct { (j k : ℕ) → j < length points.now → k < length points.now → get_or points.now j origin ≡ get_or points.now k origin → j ≡ k }
+    requires few { length points.now ≤ 1048576 }
+    ensures points { IfOk result (λ t. t.points ≡ corners ++ points.now) }
+    ensures inserted { IfOk result (λ t. (u : ℕ) → u < length t.points → slice_index_or t.inserted u false ≡ true) }
+    ensures delaunay { IfOk result (λ t. IsDelaunay (vertices_of t) (links_of t.slots)) }
+    ensures cells { IfOk result (λ t. IsDelaunay (all_vertices_of points.now) (links_of t.slots)) }
+    ensures partition { IfOk result (λ t. IsPartition t) }
+{
+    let along = order(alloc, points)?;
+    let order = in_rounds(along)?;
+    build_in_order(alloc, points, &order)
+}
+
+/// The same, where the points are inserted in this order. Each walk begins at the cell that the insertion before it answered.
+fn build_in_order(alloc: Global, points: &[Point], order: &[u32]) -> Result<Tetra, NoMemory>
+    requires within { (k : ℕ) → k < length points.now → IsWithin 2097151 (get_or points.now k origin) }
+    requires distinct { (j k : ℕ) → j < length points.now → k < length points.now → get_or points.now j origin ≡ get_or points.now k origin → j ≡ k }
+    requires few { length points.now ≤ 1048576 }
+    requires order { IsOrder (length points.now) order.now }
+    ensures points { IfOk result (λ t. t.points ≡ corners ++ points.now) }
+    ensures inserted { IfOk result (λ t. (u : ℕ) → u < length t.points → slice_index_or t.inserted u false ≡ true) }
+    ensures delaunay { IfOk result (λ t. IsDelaunay (vertices_of t) (links_of t.slots)) }
+    ensures cells { IfOk result (λ t. IsDelaunay (all_vertices_of points.now) (links_of t.slots)) }
+    ensures partition { IfOk result (λ t. IsPartition t) }
+{
+    let mut t = Tetra::with_box(alloc, points)?;
+    t.facts();
+    let mut cavity = Cavity::new(alloc);
+    let mut at = t.cell_at(0);
+    for i in 0..order.len() {
+        t.facts();
+        at = insert_with(&mut t, 8 + order[i], at, &mut cavity)?;
+    }
+    t.facts();
+    Ok(t)
+}

@@ -1,0 +1,21 @@
+//! Delaunay cells of points, by inserting one vertex after another.
+//!
+//! An insertion is that of Bowyer and Watson (1981): a walk to a cell in which the vertex lies, a flood from there over all cells in
+//! conflict with it, and cells with it over the facets round these, in place of them. `insert` does it for one vertex, and `build` for
+//! all points, in rounds along a space-filling curve, so that the walks are short.
+//!
+//! What both promise is of the cells alone: they are exactly the Delaunay cells of the vertices that are inserted, and with the links
+//! between them they part the box. The order of insertion is not promised, and no cell depends on it.
+#![tactic(auto)]
+
+mod building;
+mod insertion;
+#[cfg(test)]
+mod tests;
+
+pub use building::build;
+pub use insertion::{insert, insert_with};
+use std::alloc::AllocError;
+
+/// Want of memory: the one answer that any input may get.
+pub type NoMemory = AllocError;

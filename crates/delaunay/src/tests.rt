@@ -1,0 +1,194 @@
+//! `build` beside the plain list of cells, on made sets of points, and one insertion alone.
+
+ghost use Rattle.std.specs.Prelude.{◌≡◌, ◌<◌, ℕ, IsTrue, length, get_or};
+ghost use Rattle.geo_sign.specs.Point.{origin, IsWithin};
+
+use crate::{build, insert};
+use geo_sign::Point;
+use geo_tie::plain_cells;
+use std::alloc::{AllocError, Global};
+use std::test::Fail;
+use tetra_store::Tetra;
+
+/// Whether all are data points.
+fn are_data(points: &[Point]) -> bool
+    ensures { IsTrue result → (k : ℕ) → k < length points.now → IsWithin 2097151 (get_or points.now k origin) }
+{
+    for i in 0..points.len() {
+        let p = points[i];
+        if Point::data(i64::from(p.x()), i64::from(p.y()), i64::from(p.z())).is_none() {
+            return false;
+        }
+    }
+    true
+}
+
+/// Whether no point before the one at an index is equal to it.
+fn is_first(points: &[Point], k: usize) -> bool
+    requires { k < length points.now }
+    ensures { IsTrue result → (j : ℕ) → j < k → get_or points.now j origin ≡ get_or points.now k origin → ⊥ }
+{
+    for j in 0..k {
+        if points[j] == points[k] {
+            return false;
+        }
+    }
+    true
+}
+
+/// Whether no two are equal.
+fn are_distinct(points: &[Point]) -> bool
+    ensures { IsTrue result → (j k : ℕ) → j < length points.now → k < length points.now → get_or points.now j origin ≡ get_or points.now k origin → j ≡ k }
+{
+    for k in 0..points.len() {
+        if !is_first(points, k) {
+            return false;
+        }
+    }
+    true
+}
+
+/// The vertices of each cell in rising order, the rows in rising order.
+fn rows(alloc: Global, store: &Tetra) -> Result<Vec<[u32; 4]>, AllocError> {
+    let mut rows = Vec::new(alloc);
+    let mut cells = store.cells();
+    while let Some((_, cell)) = cells.next() {
+        let mut v = cell.v;
+        v.sort_unstable();
+        rows.push(v)?;
+    }
+    rows.sort_unstable();
+    Ok(rows)
+}
+
+/// Whether `build` gives the cells that the plain list has. No, too, where points are not distinct data points or too many.
+fn agrees(alloc: Global, points: &[Point]) -> Result<bool, AllocError> {
+    if points.len() > 48 || !are_data(points) || !are_distinct(points) {
+        return Ok(false);
+    }
+    let store = build(alloc, points)?;
+    let found = rows(alloc, &store)?;
+    let plain = plain_cells(alloc, points)?;
+    Ok(found.as_slice() == plain.as_slice())
+}
+
+/// Points from three lists of coordinates.
+fn grid(alloc: Global, xs: &[i64], ys: &[i64], zs: &[i64]) -> Result<Vec<Point>, AllocError> {
+    let mut points = Vec::new(alloc);
+    for x in xs {
+        for y in ys {
+            for z in zs {
+                if let Some(point) = Point::data(*x, *y, *z) {
+                    points.push(point)?;
+                }
+            }
+        }
+    }
+    Ok(points)
+}
+
+/// A number from -1000 to 1000 by its index, the same at each run.
+fn number(index: u64) -> i64 {
+    let mixed = index
+        .wrapping_mul(6_364_136_223_846_793_005)
+        .wrapping_add(1_442_695_040_888_963_407);
+    (((mixed ^ (mixed >> 29)).wrapping_mul(2_862_933_555_777_941_757) >> 33) as i64
+        % 2001).wrapping_sub(1000)
+}
+
+/// Points with numbers of no pattern as coordinates, in the plane z = 0 if they are to be flat.
+fn scattered(alloc: Global, count: u64, flat: bool) -> Result<Vec<Point>, AllocError> {
+    let mut points = Vec::new(alloc);
+    for i in 0..count {
+        let z = if flat {
+            0
+        } else {
+            number(i.wrapping_mul(3).wrapping_add(2))
+        };
+        let x = number(i.wrapping_mul(3));
+        let y = number(i.wrapping_mul(3).wrapping_add(1));
+        if let Some(point) = Point::data(x, y, z) {
+            points.push(point)?;
+        }
+    }
+    Ok(points)
+}
+
+#[test]
+fn the_cube_is_built(rt: HostRuntime) -> Result<(), Fail> {
+    let sides = [-100, 100];
+    let mut points = Vec::new(rt.alloc());
+    for z in sides {
+        for y in sides {
+            for x in sides {
+                points.push(Point::data(x, y, z).ok_or("a data point")?)?;
+            }
+        }
+    }
+    assert_eq!(rt; points.len(), 8);
+    assert!(rt; agrees(rt.alloc(), &points)?);
+    Ok(())
+}
+
+#[test]
+fn points_in_general_position_are_built(rt: HostRuntime) -> Result<(), Fail> {
+    for count in [0, 1, 2, 3, 5, 12, 24] {
+        let points = scattered(rt.alloc(), count, false)?;
+        assert!(rt; agrees(rt.alloc(), &points)?, "{count} points");
+    }
+    Ok(())
+}
+
+#[test]
+fn points_of_a_plane_are_built(rt: HostRuntime) -> Result<(), Fail> {
+    let points = scattered(rt.alloc(), 24, true)?;
+    assert!(rt; agrees(rt.alloc(), &points)?);
+    let line = grid(rt.alloc(), &[-70, -3, 0, 1, 2, 5, 80, 90], &[7], &[-7])?;
+    assert!(rt; agrees(rt.alloc(), &line)?);
+    Ok(())
+}
+
+#[test]
+fn points_of_a_lattice_are_built(rt: HostRuntime) -> Result<(), Fail> {
+    let points = grid(rt.alloc(), &[-10, 0, 10], &[-10, 0, 10, 20], &[-10, 0, 10])?;
+    assert_eq!(rt; points.len(), 36);
+    assert!(rt; agrees(rt.alloc(), &points)?);
+    Ok(())
+}
+
+/// The points with two coordinates of size 10 and one of size 40 lie on one sphere.
+#[test]
+fn points_of_a_sphere_are_built(rt: HostRuntime) -> Result<(), Fail> {
+    let sizes = [-40, -10, 10, 40];
+    let mut points = Vec::new(rt.alloc());
+    for point in &grid(rt.alloc(), &sizes, &sizes, &sizes)? {
+        let far = [point.x(), point.y(), point.z()];
+        if far.iter().filter(|c| c.unsigned_abs() == 40).count() == 1 {
+            points.push(*point)?;
+        }
+    }
+    assert_eq!(rt; points.len(), 24);
+    assert!(rt; agrees(rt.alloc(), &points)?);
+    Ok(())
+}
+
+#[test]
+fn vertices_are_inserted_by_falling_number(rt: HostRuntime) -> Result<(), Fail> {
+    let points = [
+        Point::data(30, -20, 7).ok_or("a data point")?,
+        Point::data(-5, 60, 1).ok_or("a data point")?,
+    ];
+    assert!(rt; are_data(&points) && are_distinct(&points));
+    let mut store = Tetra::with_box(rt.alloc(), &points)?;
+    store.facts();
+    let first = store.cell_at(0);
+    assert!(rt; store.vertex_count() == 10 && !store.is_inserted(9));
+    let next = insert(rt.alloc(), &mut store, 9, first)?;
+    assert!(rt; store.vertex_count() == 10 && !store.is_inserted(8));
+    let last = insert(rt.alloc(), &mut store, 8, next)?;
+    assert!(rt; store.cell(last).v.contains(&8));
+    let found = rows(rt.alloc(), &store)?;
+    let plain = plain_cells(rt.alloc(), &points)?;
+    assert_eq!(rt; found.as_slice(), plain.as_slice());
+    Ok(())
+}
