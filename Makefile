@@ -11,7 +11,7 @@ run: recon
 	./recon build examples/tetrahedron.ply tetrahedron_mesh.ply tetrahedron.cert
 	@echo "recon check: whether mesh and certificate are those of the scan"
 	./recon check examples/tetrahedron.ply tetrahedron_mesh.ply tetrahedron.cert
-	@echo "tetrahedron_mesh.ply opens in any viewer of PLY meshes"
+	@echo "tetrahedron_mesh.ply opens in viewers of PLY meshes, in MeshLab after tools/mesh_to_floats.py"
 
 recon:
 	@echo "proving and building the program: about twenty minutes the first time, then seconds"
@@ -19,9 +19,9 @@ recon:
 	cp $(PROGRAM) recon
 
 # The gate: proves every crate and its tests from nothing, tries the edits that must be refused, runs every test and
-# the program. About an hour the first time on four processors; afterwards what has not changed is not proved again.
+# the program, each time. About an hour on four processors.
 test:
-	@echo "rt ci: every proof, every edit that must be refused, every test (about an hour the first time)"
+	@echo "rt ci: every proof, every edit that must be refused, every test (about an hour)"
 	rt ci
 
 # Installs the built program and its manual page under PREFIX (a second).

@@ -1,0 +1,63 @@
+#!/usr/bin/env python3
+"""A mesh of `recon` in the numbers of the file that was scanned, for programs that want them so: MeshLab, for one, reads no
+PLY with whole-number coordinates. Coordinates are divided by the unit, and the origin that was taken off is added.
+
+  mesh_to_floats.py IN OUT [unit=U] [origin=X,Y,Z]
+
+  unit=U             the unit that the mesh was built with. Without it 1
+  origin=X,Y,Z       the place that floats_to_text, thin or clip took off
+
+Coordinates are exact decimals, rounded only where they have over 30 digits. The faces stay as they are.
+"""
+from decimal import Decimal
+
+from exact import quotients
+from ply_text import ARE_THREE, Property, Reader, Refusal, plain_names, whole_file
+from tool import number_of, run, three
+
+
+def unit_of(options):
+    word = options.unit or '1'
+    if not word.isdecimal() or not 1 <= int(word) <= 1000000:
+        raise Refusal('unit= is a whole number from 1 to 1,000,000')
+    return Decimal(word)
+
+
+def head(vertex, face):
+    columns = [Property(axis, 'double').line() for axis in 'xyz']
+    return '\n'.join(['ply', 'format ascii 1.0', 'comment made by mesh_to_floats', f'element vertex {vertex.count}', *columns,
+                      f'element face {face.count}', plain_names(face.properties)[0].line(), 'end_header', ''])
+
+
+def pass_mesh(reader, file, unit, origin):
+    """Writes the mesh, and answers its two elements."""
+    vertex, face = reader.element('vertex'), reader.element('face')
+    if reader.elements != [vertex, face] or vertex.has_lists() or len(face.properties) != 1 or not face.has_lists():
+        raise Refusal('this is no mesh of recon: vertices and then faces, each with a list')
+    x, y, z = vertex.point_columns()
+    file.write(head(vertex, face))
+    for row, words in enumerate(reader.rows(vertex)):
+        point = [words[x], words[y], words[z]]
+        if not ARE_THREE(' '.join(point)):
+            raise Refusal(f'vertex row {row}: {" ".join(point)[:80]} is no place')
+        file.write(' '.join(quotients(point, unit, origin)) + '\n')
+    for words in reader.rows(face):
+        file.write(' '.join(words) + '\n')
+    reader.finish()
+    return vertex, face
+
+
+def main(names, options):
+    unit, origin = unit_of(options), [Decimal(word) for word in three(options.origin or '0,0,0', 'origin')]
+    reader = Reader(names[0])
+    try:
+        with whole_file(names[1]) as file:
+            vertex, face = pass_mesh(reader, file, unit, origin)
+    finally:
+        reader.close()
+    counts = f'{vertex.count} vertices and {number_of(face.count, "face")}'
+    return f'read {counts} of {names[0]}; left out nothing; wrote as many to {names[1]}'
+
+
+if __name__ == '__main__':
+    run(main, __doc__, 2, ('unit', 'origin'))

@@ -1,0 +1,47 @@
+#!/usr/bin/env python3
+"""Runs the tests of the programs in tools/ (half a minute). The last line counts them; the status is 1 where one failed.
+
+  python3 tools/tests/run.py [PART OF A NAME]
+
+Where `recon` is built (the path in RECON, ./recon, or what is left in crates/recon_main/out), it has to read what the
+programs wrote.
+"""
+import os
+import sys
+import tempfile
+import traceback
+
+import test_all
+import test_points
+import test_stations
+from helpers import RECON, ROOT
+
+
+def passes(name, test):
+    """Runs a test in an empty folder."""
+    with tempfile.TemporaryDirectory() as folder:
+        os.chdir(folder)
+        try:
+            test()
+            return True
+        except Exception:
+            print(f'FAILED {name}')
+            traceback.print_exc(limit=-2, file=sys.stdout)
+            return False
+        finally:
+            os.chdir(ROOT)
+
+
+def main():
+    part = sys.argv[1] if len(sys.argv) > 1 else ''
+    tests = [(name, test) for module in (test_points, test_stations, test_all) for name, test in vars(module).items()
+             if name.startswith('test_') and part in name]
+    passed = sum(passes(name, test) for name, test in tests)
+    if RECON is None:
+        print('recon is not built here, so what the programs wrote was not read by it')
+    print(f'tools: {passed} passed, {len(tests) - passed} failed')
+    sys.exit(passed < len(tests) or not tests)
+
+
+if __name__ == '__main__':
+    main()

@@ -1,0 +1,165 @@
+"""What holds for all programs; meshes and scans that are made."""
+import os
+import random
+import re
+import struct
+import subprocess
+import sys
+
+from helpers import POINTS, ROOT, SCAN, TOOLS, Nothing, binary, call, equal, head, holds, read, refuses, says, write
+from ply_text import Refusal
+from test_stations import FIRST_STATION, PTX
+
+MESH = """ply
+format ascii 1.0
+element vertex 4
+property int x
+property int y
+property int z
+element face 4
+property list uchar int vertex_indices
+end_header
+100 100 100
+100 -100 -100
+-100 100 -100
+-100 -100 100
+3 0 1 2
+3 0 2 3
+3 0 3 1
+3 1 3 2
+"""
+
+
+def test_meshes_in_the_numbers_of_the_scan():
+    write('in.ply', MESH)
+    line = 'read 4 vertices and 4 faces of in.ply; left out nothing; wrote as many to out.ply'
+    faces = '3 0 1 2\n3 0 2 3\n3 0 3 1\n3 1 3 2\n'
+    start = head(4, 'double x, double y, double z')[:-11] + 'element face 4\nproperty list uchar int vertex_indices\nend_header\n'
+    says('mesh_to_floats', line, 'in.ply', 'out.ply', 'unit=1000')
+    equal(read('out.ply').replace('comment made by mesh_to_floats\n', ''),
+          start + '0.1 0.1 0.1\n0.1 -0.1 -0.1\n-0.1 0.1 -0.1\n-0.1 -0.1 0.1\n' + faces)
+    says('mesh_to_floats', line, 'in.ply', 'out.ply', 'unit=3', 'origin=500000,0.5,-1')
+    equal(read('out.ply').split('end_header\n')[1].splitlines()[1],
+          '500033.333333333333333333333333 -32.8333333333333333333333333333 -34.3333333333333333333333333333')
+    refuses('mesh_to_floats', 'unit= is a whole number', 'in.ply', 'out.ply', 'unit=0')
+    write('in.ply', MESH[:-4])
+    refuses('mesh_to_floats', 'cut: the file ends in row 3 of the 4 of face', 'in.ply', 'out.ply')
+    write('in.ply', head(1, SCAN, 1) + '0 0 0 0\n0 0 9\n')
+    refuses('mesh_to_floats', 'no mesh', 'in.ply', 'out.ply')
+
+
+def test_files_that_are_cut_anywhere_are_refused():
+    faces = 'element face 1\nproperty list uchar int vertex_indices'
+    text = head(2, 'float x, float y, float z')[:-11] + faces + '\nend_header\n1 2 3\n4.25 5 67\n3 0 1 12\n'
+    files = (('floats_to_text', ('cut', 'out.ply'), text.encode('ascii')),
+             ('floats_to_text', ('cut', 'out.ply'), binary('<', '\r\n', POINTS[:1], extra=b'\1\0\0\0\0', more=faces)),
+             ('floats_to_text', ('cut', 'out.ply'), binary('>', '\n', POINTS[:1] * 3)),
+             ('ptx_to_ply', ('cut', 'out.ply'), PTX.encode('ascii')),
+             ('stations_to_ply', ('out.ply', 'cut=1,2,3'), b'2\n1 2 3 4\n5 6 7 8\n'))
+    for program, words, data in files:
+        module = __import__(program)
+        for length in range(len(data)):
+            if data[:length] == FIRST_STATION.encode('ascii'):
+                continue
+            write('cut', data[:length])
+            write('out.ply', 'before')
+            try:
+                module.main(words, Nothing())
+            except Refusal:
+                equal((read('out.ply'), os.path.exists('out.ply.part')), ('before', False))
+            else:
+                raise AssertionError(f'{program}: cut at {length}, and taken')
+        write('cut', data)
+        module.main(words, Nothing())
+
+
+def changed(draw, data):
+    """The file with a byte or two put in, taken out or made another."""
+    data = bytearray(data)
+    for _ in range(draw.choice((1, 1, 2, 3))):
+        k = draw.randrange(len(data))
+        data[k:k + draw.randrange(3)] = bytes(draw.choice(b'0123456789 \n.-eE+,;#nai\xe9') for _ in range(draw.randrange(3)))
+    return bytes(data)
+
+
+def test_changed_files_are_taken_or_refused():
+    draw = random.Random(1)
+    text = head(2, 'float x, float y, float z, float scalar_scanner', 1) + '1 2 3 0.000\n4.5 nan -7e2 0\n0 0 9\n'
+    files = (('floats_to_text', ('in', 'out'), text.encode('ascii')),
+             ('floats_to_text', ('in', 'out'), binary('>', '\n', POINTS)),
+             ('ptx_to_ply', ('in', 'out'), PTX.encode('ascii')), ('mesh_to_floats', ('in', 'out'), MESH.encode('ascii')),
+             ('stations_to_ply', ('out', 'in=1,2,3'), b'X;Y;Z;I\n1;2;3;4\n# a\n4;5;nan;7\n'))
+    taken = 0
+    for _ in range(1000):
+        program, words, data = draw.choice(files)
+        write('in', changed(draw, data))
+        try:
+            __import__(program).main(words, Nothing())
+            taken += 1
+        except (Refusal, ArithmeticError):
+            equal(os.path.exists('out.part'), False)
+    equal(50 < taken < 950, True)
+
+
+def test_a_last_line_without_end():
+    write('in.ply', head(1, 'float x, float y, float z') + '1 2 3')
+    refuses('floats_to_text', 'open_end=yes', 'in.ply', 'out.ply')
+    equal(call('floats_to_text', 'in.ply', 'out.ply', 'open_end=yes')[0], 0)
+    holds('out.ply', head(1, 'float x, float y, float z') + '1 2 3\n')
+    write('a.xyz', '1 2 3\n4 5 6')
+    refuses('stations_to_ply', 'open_end=yes', 'out.ply', 'a.xyz=0,0,0')
+    equal(call('stations_to_ply', 'out.ply', 'a.xyz=0,0,0', 'open_end=yes')[0], 0)
+
+
+def test_help_and_words():
+    for program in ('floats_to_text', 'thin', 'clip', 'surround', 'mesh_to_floats', 'ptx_to_ply', 'stations_to_ply', 'make_scan'):
+        status, said, error = call(program, '--help')
+        equal((status, error, f'{program}.py' in said), (0, '', True))
+        equal(call(program, 'a', 'b', 'c', 'd=e', 'f=g')[0] in (1, 2), True)
+    equal(call('thin', 'a', 'b', 'side=1', 'side=2')[0], 2)
+    refuses('thin', 'No such file or directory: none', 'none', 'out.ply', 'side=1')
+    write('in.ply', head(0, 'float x, float y, float z'))
+    refuses('thin', 'yes or no', 'in.ply', 'out.ply', 'side=1', 'open_end=1')
+
+
+def test_the_lines_of_the_guide_are_understood():
+    # no file is there, so each program that reads one has to say so, and not that it does not know the words
+    with open(os.path.join(ROOT, 'docs', 'using.md'), encoding='utf-8') as file:
+        lines = re.findall(r'python3 tools/(\w+)\.py ([^`\n]+)', file.read())
+    equal(len(lines) > 15, True)
+    for program, words in lines:
+        status, said, error = call(program, *words.split())
+        wanted = (0, False) if program == 'make_scan' else (1, True)
+        equal((program, words, status, 'No such file' in error), (program, words) + wanted)
+
+
+def test_large_files_take_little_memory():
+    rows = 200000
+    block = b''.join(struct.pack('<fff', k, k % 777, 0.25) for k in range(rows))
+    write('in.ply', binary('<', '\n', [], 'fff', 'x y z').replace(b'vertex 0', b'vertex %d' % rows) + block)
+    measure = ('import resource, subprocess, sys;'
+               'subprocess.run([sys.executable] + sys.argv[1:], check=True, stdout=subprocess.DEVNULL);'
+               'print(resource.getrusage(resource.RUSAGE_CHILDREN).ru_maxrss)')
+    for program, words in (('floats_to_text', []), ('thin', ['side=0.5'])):
+        done = subprocess.run([sys.executable, '-c', measure, os.path.join(TOOLS, program + '.py'), 'in.ply', 'out.ply'] + words,
+                              capture_output=True, text=True)
+        equal((program, done.returncode, int(done.stdout) < 60000), (program, 0, True))
+        equal(read('out.ply')[:400].count('element vertex 200000\n'), 1)
+
+
+def test_scans_that_are_made():
+    for shape, scanners in (('torus', 8), ('room', 4), ('statue', 8), ('cube', 8), ('sphere', 8)):
+        says('make_scan', f'wrote 50 points and {scanners} scanners of a {shape} to out.ply', shape, '50', '7', 'out.ply')
+        first = read('out.ply')
+        holds('out.ply', re.sub('comment made by .*\n', '', first))
+        lines = first.split('end_header\n')[1].splitlines()
+        are_plain = all(re.fullmatch('(-?[1-9][0-9]*|0)( (-?[1-9][0-9]*|0))+', line) for line in lines)
+        equal((len(lines), are_plain), (50 + scanners, True))
+        equal((call('make_scan', shape, '50', '7', 'out.ply')[0], read('out.ply') == first), (0, True))
+        equal((call('make_scan', shape, '50', '8', 'out.ply')[0], read('out.ply') == first), (0, False))
+    says('make_scan', 'wrote 500 points and 8 scanners of a sphere to out.ply', 'sphere', '500', '1', 'out.ply', 'noise=0',
+         'stray=0', 'scale=1000000')
+    for line in read('out.ply').split('end_header\n')[1].splitlines()[:500]:
+        x, y, z, _ = map(int, line.split())
+        equal(abs((x * x + y * y + z * z) ** 0.5 - 700000) < 2, True)
+    refuses('make_scan', 'shape', 'cone', '5', '1', 'out.ply')

@@ -1,0 +1,36 @@
+"""Lines of a text file, one after another, with their numbers."""
+from ply_text import Refusal
+
+LONGEST = 4096
+
+
+class Lines:
+    """The lines of a text file as words. `number` is that of the last one, from 1."""
+
+    def __init__(self, path, open_end=False):
+        self.file, self.open_end, self.number = open(path, 'rb'), open_end, 0
+
+    def next_line(self):
+        """The next line without its end, or None at the end of the file."""
+        line = self.file.readline(LONGEST)
+        if not line:
+            return None
+        self.number += 1
+        if not line.endswith(b'\n'):
+            if len(line) == LONGEST:
+                raise Refusal(f'line {self.number} is too long for a list of numbers')
+            if not self.open_end:
+                raise Refusal(f'cut: line {self.number}, the last one, has no end (open_end=yes takes it as it is)')
+        if self.number == 1:
+            line = line[3:] if line.startswith(b'\xef\xbb\xbf') else line
+        return line.decode('latin-1').rstrip('\r\n')
+
+    def next_words(self):
+        """The words of the next line that has any, or None at the end of the file."""
+        line = self.next_line()
+        while line is not None and not line.split():
+            line = self.next_line()
+        return None if line is None else line.split()
+
+    def close(self):
+        self.file.close()

@@ -1,0 +1,93 @@
+"""What the programs of this folder share on the command line.
+
+The words are names first and then options `key=value`, as those of `recon`; --help prints the head of the program's file.
+A program says one line and ends with 0, or says on standard error why not and ends with 1 (2 where the words are wrong).
+"""
+import os
+import sys
+
+from ply_text import IS_NUMBER, Refusal
+
+
+def field(key):
+    """The name under which an option is kept; `from` is a word of the language."""
+    return 'from_' if key == 'from' else key
+
+
+class Options:
+    """The values of the options by key, or None."""
+
+    def __init__(self, keys):
+        for key in keys:
+            setattr(self, field(key), None)
+
+
+def read_words(words, name_count, keys):
+    """The names, and the options behind them; None where the words are none of ours. Without a count all words that are no
+    option are names."""
+    names, options = [], Options(keys)
+    for word in words:
+        key, equals, value = word.partition('=')
+        if name_count is not None and len(names) < name_count:
+            names.append(word)
+        elif equals and key in keys:
+            if getattr(options, field(key)) is not None or not value:
+                return None
+            setattr(options, field(key), value)
+        elif name_count is None:
+            names.append(word)
+        else:
+            return None
+    if '' in names or name_count is not None and len(names) != name_count:
+        return None
+    return names, options
+
+
+def run(main, doc, name_count, keys):
+    """Runs `main(names, options)`, which answers the line to be said."""
+    words = sys.argv[1:]
+    if '--help' in words or '-h' in words:
+        print(doc.strip())
+        return
+    name = os.path.basename(sys.argv[0])
+    parsed = read_words(words, name_count, keys)
+    if parsed is None:
+        print(f'{name}: the words are not understood; {name} --help says which are', file=sys.stderr)
+        sys.exit(2)
+    try:
+        print(f'{name}: {main(*parsed)}')
+    except Refusal as refusal:
+        print(f'{name}: refused: {refusal}', file=sys.stderr)
+        sys.exit(1)
+    except ArithmeticError:
+        print(f'{name}: refused: a number is far out of range', file=sys.stderr)
+        sys.exit(1)
+    except OSError as error:
+        print(f'{name}: refused: {error.strerror}: {error.filename or "writing"}', file=sys.stderr)
+        sys.exit(1)
+
+
+def three(text, what):
+    """The three numbers of `X,Y,Z`, as words."""
+    words = text.split(',')
+    if len(words) != 3 or not all(map(IS_NUMBER, words)):
+        raise Refusal(f'{what} is not X,Y,Z: {text}')
+    return words
+
+
+def yes(value, key):
+    """Whether a switch is on."""
+    if value not in (None, 'yes', 'no'):
+        raise Refusal(f'{key} is yes or no')
+    return value == 'yes'
+
+
+def left_out(counts):
+    """What was left out, in words."""
+    parts = [f'{count} {what}' for what, count in counts.items() if count]
+    return ', '.join(parts) or 'nothing'
+
+
+def number_of(count, what):
+    """`1 point`, `2 points`."""
+    return f'{count} {what}' + ('' if count == 1 else 's')
