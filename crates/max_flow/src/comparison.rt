@@ -112,7 +112,7 @@ fn row_with_sights(alloc: Global, state: &mut u64, smooth: u64) -> Result<Parts,
     let mut there = vec![in alloc; smooth; 41]?;
     let mut back = vec![in alloc; smooth; 41]?;
     for _ in 0..30 {
-        let crossed = 1 + random(state, 39) as usize;
+        let crossed = (random(state, 39) as usize).wrapping_add(1);
         let is_from_first = random(state, 2) == 0;
         for step in 0..crossed {
             if is_from_first {
