@@ -17,9 +17,9 @@ use Rattle.geo_sign.specs.Cells.{IsCell}
 use Rattle.geo_sign.specs.Tetrahedron.{facet}
 use Rattle.geo_sign.specs.Vertices.{IsWall, orientation_of, Vertices}
 use Rattle.geo_sign.specs.Boxes.{IsBoxed}
+use Rattle.geo_sign.proofs.Exchanges.{flat_a, flat_b, flat_c}
 use Rattle.cell_laws.proofs.Order.{mul_not_negative, mul_positive, neg_left, neg_right}
 use Rattle.cell_laws.proofs.Regions.{IsInner, IsOuter}
-use Rattle.cell_laws.proofs.Writing.{flat_a, flat_b, flat_c}
 
 -- ---- the corner that is lowest along a direction
 abbrev pub edge : Bool → ℤ

@@ -24,12 +24,12 @@ use Rattle.geo_sign.proofs.Ties.{decided, five_kept}
 use Rattle.geo_sign.specs.Boxes.{IsBoxed, IsTied}
 use Rattle.geo_sign.specs.Places.{IsLyingIn}
 use Rattle.geo_sign.specs.Writings.{IsVertexOf}
+use Rattle.geo_sign.proofs.CellRows.{distinct}
 use Rattle.cell_laws.proofs.Box.{factor_is_zero, vertex_within}
 use Rattle.cell_laws.proofs.Cover.{point_side}
 use Rattle.cell_laws.proofs.Insert.{IsNoneOf, of_or_not}
 use Rattle.cell_laws.proofs.Order.{mul_not_negative, mul_positive}
 use Rattle.cell_laws.proofs.Regions.{IsConvex, IsGeneric}
-use Rattle.cell_laws.proofs.Ways.{distinct}
 
 -- ---- how large a normal is
 pub step_within : (a b : Point) → IsWithin 8388608 a → IsWithin 8388608 b → IsWithin (2 ^ 24) (step a b)

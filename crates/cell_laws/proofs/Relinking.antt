@@ -16,8 +16,8 @@ use Rattle.cell_laws.specs.Links.{IsLinked, IsBackAt}
 use Rattle.cell_laws.specs.Lists.{IsIn}
 use Rattle.cell_laws.specs.Replacements.{IsRimFacet, IsRimList, IsRenewed, IsRelinked}
 use Rattle.geo_sign.specs.Writings.{IsVertexOf}
+use Rattle.geo_sign.proofs.Rotations.{rotated_after, rotated_back}
 use Rattle.cell_laws.proofs.Edges.{edges_turned, side_edge}
-use Rattle.cell_laws.proofs.LinkedCells.{rotated_after, rotated_back}
 use Rattle.cell_laws.proofs.RimLists.{rotated_vertex}
 
 -- ---- the links

@@ -1,6 +1,6 @@
 -- The vertices of a store, its list of names, and the power by the tie rule.
--- Stands on: Heights, Goal and Corners (computed lists).
-use Rattle.std.proofs.Common.{ℕ, zero, suc, ◌+◌, ◌*◌, ◌<◌, ◌≤◌, ◌≡◌, ◌≢◌, refl, ap, sym, subst, ◌∙◌, ◌⊎◌, inl, inr, ⊎_elim, arith, Bool, true, false, eqb, ◌||◌, int_lt, pos, List, [], ◌∷◌, Option, length, get_or, set, All, AllPairs, Contains}
+-- Stands on: Heights, Goal, Corners (computed lists) and RisingRows (what is in a list).
+use Rattle.std.proofs.Common.{ℕ, zero, suc, ◌+◌, ◌*◌, ◌<◌, ◌≤◌, ◌≡◌, ◌≢◌, refl, ap, sym, subst, ◌∙◌, ◌⊎◌, inl, inr, ⊎_elim, arith, Bool, true, false, eqb, ◌||◌, int_lt, pos, List, Option, length, get_or, set, All, AllPairs}
 use Rattle.std.proofs.lemmas.Bool.{cases_lt, eqb-true, eqb-false}
 use Rattle.std.proofs.lemmas.Int.{ints}
 use Rattle.std.proofs.lemmas.List.{get_or-set_same, get_or-set_other}
@@ -9,12 +9,13 @@ use Rattle.geo_sign.specs.Tetrahedron.{Tetrahedron}
 use Rattle.geo_sign.specs.Vertices.{Vertices, point_of, vertices_of}
 use Rattle.geo_sign.specs.Cells.{IsCell}
 use Rattle.cell_laws.specs.LinkLaws.{AreAllCells}
-use Rattle.cell_laws.specs.Lists.{AreCells, IsIn, one_if}
+use Rattle.cell_laws.specs.Lists.{AreCells, one_if}
 use Rattle.geo_sign.specs.Boxes.{inserted_vertices}
 use Rattle.cell_laws.specs.StoredLaws.{AllLaw, StoredLaw, TiedLaw, ListedLaw}
 use Rattle.cell_laws.proofs.Corners.{all_below_at}
 use Rattle.cell_laws.proofs.Goal.{corner_edge}
 use Rattle.cell_laws.proofs.Heights.{power_tied}
+use Rattle.cell_laws.proofs.RisingRows.{listed, is_listed}
 
 -- ---- where the vertices are
 at_corner : (points : List Point) (k : ℕ) → k < 8 → point_of points k ≡ corner_point k
@@ -175,15 +176,5 @@ pub tied_law : TiedLaw
 tied_law v t a b c d p = power_tied v t a b c d p
 
 -- ---- lists of names
-in_of : (xs : List ℕ) (x : ℕ) → IsIn xs x → Contains xs x
-in_of [] x h = absurd h
-in_of (y ∷ ys) x (inl e) = (0, omega arith, e)
-in_of (y ∷ ys) x (inr h) = let z = in_of ys x h in let l = z.1 in (suc z.0, omega (arith, l), z.2)
-
-of_in : (xs : List ℕ) (x k : ℕ) → k < length xs → get_or xs k x ≡ x → IsIn xs x
-of_in [] x k h e = absurd (omega (arith, h))
-of_in (y ∷ ys) x zero h e = inl e
-of_in (y ∷ ys) x (suc k) h e = inr (of_in ys x k (omega (arith, h)) e)
-
 pub listed_law : ListedLaw
-listed_law xs x = (in_of xs x, λ c. of_in xs x c.0 c.1 c.2)
+listed_law xs x = (listed xs x, is_listed xs x)

@@ -7,14 +7,13 @@
 --   ScannerLaw    each scanner has one cell
 --   VertexSightLaw   each sight has one cell towards its scanner, and one behind
 --   SightLaw      a cell on a sight is left through one facet, or is the scanner's
---   TurnLaw       whether a facet is crossed does not depend on its first vertex
 --   PathLaw       the way of a sight over linked cells: there is one, and it has each crossed facet once, the nearer first
 use Rattle.std.specs.Prelude.{ℕ, ◌<◌, ◌≤◌, ◌≡◌, ◌⊎◌, true, pos, ◌<ℤ◌, Option, Some, List}
 use Rattle.geo_sign.specs.Point.{Point, IsWithin}
 use Rattle.geo_sign.specs.Orientation.{orientation, IsOnLine}
 use Rattle.geo_sign.specs.Rational.{RationalPoint, displaced, side}
 use Rattle.geo_sign.specs.Signs.{sign_of, first_sign, opposite_sign}
-use Rattle.geo_sign.specs.Tetrahedron.{Tetrahedron, DirectedFacet, facet_of, IsRotated, turned}
+use Rattle.geo_sign.specs.Tetrahedron.{Tetrahedron, facet_of, turned}
 use Rattle.geo_sign.specs.Vertices.{Vertices, Has}
 use Rattle.geo_sign.specs.Cells.{IsCell}
 use Rattle.geo_sign.specs.Sights.{side_of, is_crossed, is_towards, is_behind, is_cell_of}
@@ -112,12 +111,6 @@ abbrev pub SightLaw : Type 0
 SightLaw =
     (v : Vertices) → IsBoxed v → (p : ℕ) → Has v p → (s : Point) → IsWithin 2097151 s → (t : Tetrahedron) →
     IsCell v t.a t.b t.c t.d → IsPassed v p (displaced s) t
-
--- this needs nothing of the vertices
-abbrev pub TurnLaw : Type 0
-TurnLaw =
-    (v : Vertices) (p : ℕ) (s : RationalPoint) (f g : DirectedFacet) → IsRotated f g → is_crossed v p s f ≡ true →
-    is_crossed v p s g ≡ true
 
 pub record HasPaths (v : Vertices) (live : List ℕ) (cell : ℕ → Tetrahedron) (next : ℕ → ℕ → Option ℕ) (p : ℕ)
     (s : RationalPoint) : Type 0 where
