@@ -5,6 +5,7 @@ use Rattle.std.proofs.lemmas.Bool.{cases_lt, eqb-true, eqb-false}
 use Rattle.std.proofs.lemmas.Int.{ints}
 use Rattle.std.proofs.lemmas.List.{get_or-set_same, get_or-set_other}
 use Rattle.geo_sign.specs.Point.{Point, IsWithin, corner_point, origin}
+use Rattle.geo_sign.specs.declared.point.TheConstants.{DATA_LIMIT}
 use Rattle.geo_sign.specs.Tetrahedron.{Tetrahedron}
 use Rattle.geo_sign.specs.Vertices.{Vertices, point_of, vertices_of}
 use Rattle.geo_sign.specs.Cells.{IsCell}
@@ -44,12 +45,12 @@ at_point points (suc zero) h = absurd (omega (arith, h))
 at_point points zero h = absurd (omega (arith, h))
 
 data_within :
-    (points : List Point) → All (IsWithin 2097151) points → (u : ℕ) → 8 ≤ u → u < 8 + length points →
-    IsWithin 2097151 (point_of points u)
+    (points : List Point) → All (IsWithin DATA_LIMIT) points → (u : ℕ) → 8 ≤ u → u < 8 + length points →
+    IsWithin DATA_LIMIT (point_of points u)
 data_within points w u h l =
     let z = at_point points u h in
     let e = z.1 in
-    subst (λ (p : Point). IsWithin 2097151 p) (sym z.2) (w z.0 origin (omega (arith, e, l)))
+    subst (λ (p : Point). IsWithin DATA_LIMIT p) (sym z.2) (w z.0 origin (omega (arith, e, l)))
 
 -- ---- no two are at one point
 -- the number of a corner, from its point
@@ -59,18 +60,18 @@ number p = one_if (int_lt (pos 0) p.x) + 2 * one_if (int_lt (pos 0) p.y) + 4 * o
 numbered : (k : ℕ) → k < 8 → number (corner_point k) ≡ k
 numbered k h = eqb-true (number (corner_point k)) k (all_below_at 8 (λ i. eqb (number (corner_point i)) i) k refl h)
 
-corner_outside : (k : ℕ) → IsWithin 2097151 (corner_point k) → ⊥
+corner_outside : (k : ℕ) → IsWithin DATA_LIMIT (corner_point k) → ⊥
 corner_outside k w =
     ⊎_elim (λ e. absurd (let h = w.x_within in omega (arith, ints, h, e))) (λ e. absurd (let h = w.x_within in omega (arith, ints, h, e))) (corner_edge k 1)
 
 apart :
-    (points : List Point) → All (IsWithin 2097151) points → AllPairs (λ p q. p ≢ q) points → (u w : ℕ) → u < 8 + length points →
+    (points : List Point) → All (IsWithin DATA_LIMIT) points → AllPairs (λ p q. p ≢ q) points → (u w : ℕ) → u < 8 + length points →
     w < 8 + length points → point_of points u ≡ point_of points w → u ≡ w
 apart points all distinct u w hu hw e = by (cases_lt u 8) (cases_lt w 8)
   where
     mixed : (k i : ℕ) → k < 8 → 8 ≤ i → i < 8 + length points → point_of points k ≡ point_of points i → ⊥
     mixed k i h l m f =
-        corner_outside k (subst (λ (p : Point). IsWithin 2097151 p) (sym f ∙ at_corner points k h) (data_within points all i l m))
+        corner_outside k (subst (λ (p : Point). IsWithin DATA_LIMIT p) (sym f ∙ at_corner points k h) (data_within points all i l m))
 
     later : (i j : ℕ) → i < j → j < length points → get_or points i origin ≡ get_or points j origin → ⊥
     later i j h l f = distinct i j origin h l f

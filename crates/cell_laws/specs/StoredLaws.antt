@@ -9,6 +9,7 @@
 use Rattle.std.specs.Prelude.{ℕ, ◌<◌, ◌≡◌, ◌≢◌, ◌↔◌, ◌+◌, Bool, true, false, Option, List, length, get_or, set, All, AllPairs, Contains}
 use Rattle.geo_sign.specs.Boxes.{inserted_vertices, IsBoxed, IsTied, with_vertex}
 use Rattle.geo_sign.specs.Point.{Point, IsWithin}
+use Rattle.geo_sign.specs.declared.point.TheConstants.{DATA_LIMIT}
 use Rattle.geo_sign.specs.Tetrahedron.{Tetrahedron}
 use Rattle.geo_sign.specs.Tie.{tied_power}
 use Rattle.geo_sign.specs.Vertices.{Vertices, power_of, vertices_of}
@@ -19,11 +20,11 @@ use Rattle.geo_sign.specs.RowLaws.{IsOneRow, IsRowOf}
 
 -- the box's corners and distinct data points, all in
 abbrev pub AllLaw : Type 0
-AllLaw = (points : List Point) → All (IsWithin 2097151) points → AllPairs (λ p q. p ≢ q) points → IsBoxed (vertices_of points)
+AllLaw = (points : List Point) → All (IsWithin DATA_LIMIT) points → AllPairs (λ p q. p ≢ q) points → IsBoxed (vertices_of points)
 
 pub record AreStored (points : List Point) (flags : List Bool) : Type 0 where
   pub boxed :
-      All (IsWithin 2097151) points → AllPairs (λ p q. p ≢ q) points → ((k : ℕ) → k < 8 → get_or flags k false ≡ true) →
+      All (IsWithin DATA_LIMIT) points → AllPairs (λ p q. p ≢ q) points → ((k : ℕ) → k < 8 → get_or flags k false ≡ true) →
       IsBoxed (inserted_vertices points flags)
   pub one_more :
       (p : ℕ) → p < length flags → inserted_vertices points (set flags p true) ≡ with_vertex (inserted_vertices points flags) p
