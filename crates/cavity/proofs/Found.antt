@@ -31,9 +31,8 @@ use Rattle.cell_laws.specs.LinkLaws.{AreConflicts, IsRimLaw}
 use Rattle.cell_laws.specs.InsertionLaws.{IsFanOf}
 use Rattle.cell_laws.specs.Edges as edges
 use Rattle.geo_sign.specs.Edges.{edge_start}
+use Rattle.geo_sign.proofs.Rewritings.{rewritten_back, same_power, same_vertex}
 use Rattle.cell_laws.proofs.Laws.{fan_law, vertex_law, cavity_law, rim_law, linked_law, edge_law}
-use Rattle.cell_laws.proofs.Ways.{same_of, same_power}
-use Rattle.cell_laws.proofs.Insert.{same_back}
 use Rattle.cavity.specs.Flood.{IsInFan, IsPassed, IsFlooding}
 use Rattle.cavity.specs.Cavity.{IsCavity}
 use Rattle.cavity.proofs.Stores.{names, in_names, of_names, boxed, linked, cells, new_vertex}
@@ -225,7 +224,7 @@ module _ (s : Store) (p from : ℕ) (found : List ℕ) (fan : List Facet) (store
         cell = w.0;
         live = of_names s.slots w.0 w.1;
         outside = λ l. both (vertices_of s) p (at w.0) (f.conflict w.0 l) (subst (λ (y : ℤ). pos 0 ≤ℤ y) e z.3);
-        has = same_of u z.0 (at w.0) (same_back (at w.0) z.0 w.2) z.2;
+        has = same_vertex u z.0 (at w.0) (rewritten_back (at w.0) z.0 w.2) z.2;
       })) (vertex_law (vertices_of s) (boxed s store_is) p new (at from).a (at from).b (at from).c (at from).d c (f.conflict from f.start) u h)
 
   can : (room : ℕ) → length fan ≤ room → CanReplace (record s { spare = room }) found fan p

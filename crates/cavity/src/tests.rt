@@ -2,6 +2,7 @@
 
 ghost use Rattle.std.specs.Prelude.{◌≡◌, ◌++◌, ◌∷◌, [], IfOk, nat_lt, false, slice_index_or, ℕ};
 ghost use Rattle.geo_sign.specs.Point.{IsWithin};
+ghost use Rattle.geo_sign.specs.declared.point.TheConstants.{DATA_LIMIT};
 ghost use Rattle.geo_sign.specs.Vertices.{corners};
 ghost use Rattle.tetra_store.specs.Delaunay.{IsDelaunay};
 ghost use Rattle.tetra_store.specs.Links.{links_of};
@@ -16,7 +17,7 @@ use tetra_store::Tetra;
 
 /// The box with one point.
 fn box_with(alloc: Global, point: Point) -> Result<Tetra, NoMemory>
-    requires { IsWithin 2097151 point }
+    requires { IsWithin DATA_LIMIT point }
     ensures points { IfOk result (λ t. t.points ≡ corners ++ point ∷ []) }
     ensures inserted { IfOk result (λ t. (u : ℕ) → slice_index_or t.inserted u false ≡ nat_lt u 8) }
     ensures cells { IfOk result (λ t. IsDelaunay (vertices_of t) (links_of t.slots)) }

@@ -12,19 +12,20 @@ use Rattle.geo_sign.specs.Polynomial.{difference, negation, product, sum, variab
 use Rattle.geo_sign.proofs.Ring.{ring}
 use Rattle.geo_sign.specs.Orientation.{orientation}
 use Rattle.geo_sign.specs.Point.{corner_point, cross, IsWithin, Point, point, step}
+use Rattle.geo_sign.specs.declared.point.TheConstants.{BOX_LIMIT, DATA_LIMIT}
 use Rattle.geo_sign.proofs.Written.{coordinates, cross', orientation', step', Symbols, symbols}
 use Rattle.geo_sign.specs.Cells.{IsCell}
 use Rattle.geo_sign.specs.Tetrahedron.{facet}
 use Rattle.geo_sign.specs.Vertices.{IsWall, orientation_of, Vertices}
 use Rattle.geo_sign.specs.Boxes.{IsBoxed}
+use Rattle.geo_sign.proofs.Exchanges.{flat_a, flat_b, flat_c}
 use Rattle.cell_laws.proofs.Order.{mul_not_negative, mul_positive, neg_left, neg_right}
 use Rattle.cell_laws.proofs.Regions.{IsInner, IsOuter}
-use Rattle.cell_laws.proofs.Writing.{flat_a, flat_b, flat_c}
 
 -- ---- the corner that is lowest along a direction
 abbrev pub edge : Bool → ℤ
-edge true = pos 8388608
-edge false = neg_ℤ (pos 8388608)
+edge true = pos BOX_LIMIT
+edge false = neg_ℤ (pos BOX_LIMIT)
 
 abbrev pub far : Bool → Bool → Bool → ℕ
 far false false false = 0
@@ -71,24 +72,24 @@ both_negative a b h k =
     let e : neg_ℤ a *ℤ neg_ℤ b ≡ a *ℤ b = ring (a ∷ b ∷ []) (product (negation (variable 0)) (negation (variable 1))) (product (variable 0) (variable 1)) tt in
     subst (λ x. pos 0 ≤ℤ x) e m
 
-axis : (n p : ℤ) → unsigned_abs p ≤ 8388608 → pos 0 ≤ℤ (n *ℤ (p -ℤ low n))
+axis : (n p : ℤ) → unsigned_abs p ≤ BOX_LIMIT → pos 0 ≤ℤ (n *ℤ (p -ℤ low n))
 axis n p h = pick (int_lt n (pos 0)) refl
   where
     pick : (b : Bool) → int_lt n (pos 0) ≡ b → pos 0 ≤ℤ (n *ℤ (p -ℤ edge b))
-    pick true e = both_negative n (p -ℤ pos 8388608) (let m = test_below n e in omega (arith, ints, m)) (omega (arith, ints))
-    pick false e = mul_not_negative n (p -ℤ neg_ℤ (pos 8388608)) (test_above n e) (omega (arith, ints))
+    pick true e = both_negative n (p -ℤ pos BOX_LIMIT) (let m = test_below n e in omega (arith, ints, m)) (omega (arith, ints))
+    pick false e = mul_not_negative n (p -ℤ neg_ℤ (pos BOX_LIMIT)) (test_above n e) (omega (arith, ints))
 
 -- ---- where the vertices are
-corner_within : (k : ℕ) → IsWithin 8388608 (corner_point k)
+corner_within : (k : ℕ) → IsWithin BOX_LIMIT (corner_point k)
 corner_within k = record { x_within = wall_within (bit_and k 1 == 0); y_within = wall_within (bit_and k 2 == 0); z_within = wall_within (bit_and k 4 == 0) }
   where
-    wall_within : (b : Bool) → unsigned_abs (cond b (neg_ℤ (pos 8388608)) (pos 8388608)) ≤ 8388608
+    wall_within : (b : Bool) → unsigned_abs (cond b (neg_ℤ (pos BOX_LIMIT)) (pos BOX_LIMIT)) ≤ BOX_LIMIT
     wall_within true = omega (arith, ints)
     wall_within false = omega (arith, ints)
 
-pub vertex_within : (v : Vertices) → IsBoxed v → (u : ℕ) → u < v.count → IsWithin 8388608 (v.at u)
+pub vertex_within : (v : Vertices) → IsBoxed v → (u : ℕ) → u < v.count → IsWithin BOX_LIMIT (v.at u)
 vertex_within v x u h =
-    ⊎_elim (λ (l : u < 8). subst (λ p. IsWithin 8388608 p) (sym (x.corner_at u l)) (corner_within u))
+    ⊎_elim (λ (l : u < 8). subst (λ p. IsWithin BOX_LIMIT p) (sym (x.corner_at u l)) (corner_within u))
     (λ (l : 8 ≤ u). let d = x.data_at u l h in
     let dx = d.x_within in let dy = d.y_within in let dz = d.z_within in
     record { x_within = omega (arith, dx); y_within = omega (arith, dy); z_within = omega (arith, dz) })
@@ -129,7 +130,7 @@ record Over (v : Vertices) (a b c : ℕ) (p : Point) : Type 0 where
   y_in : pos 0 ≤ℤ over_y v a b c p
   z_in : pos 0 ≤ℤ over_z v a b c p
 
-over : (v : Vertices) → IsBoxed v → (a b c : ℕ) → IsOuter v a b c → (p : Point) → IsWithin 8388608 p → Over v a b c p
+over : (v : Vertices) → IsBoxed v → (a b c : ℕ) → IsOuter v a b c → (p : Point) → IsWithin BOX_LIMIT p → Over v a b c p
 over v x a b c o p w =
     let n = facet_normal (v.at a) (v.at b) (v.at c) in
     let i = int_lt n.x (pos 0) in
@@ -174,7 +175,7 @@ settle : (n p l : ℤ) → n *ℤ (p -ℤ l) ≡ pos 0 → (n ≡ pos 0) ⊎ (p 
 settle n p l e = ⊎_elim (λ h. inl h) (λ h. inr (omega (arith, ints, h))) (factor_is_zero n (p -ℤ l) e)
 
 down :
-    (v : Vertices) → IsBoxed v → (a b c : ℕ) → IsOuter v a b c → (p : Point) → IsWithin 8388608 p →
+    (v : Vertices) → IsBoxed v → (a b c : ℕ) → IsOuter v a b c → (p : Point) → IsWithin BOX_LIMIT p →
     orientation (v.at a) (v.at b) (v.at c) p ≤ℤ pos 0 → Down (facet_normal (v.at a) (v.at b) (v.at c)) p
 down v x a b c o p w h =
     let z = over v x a b c o p w in
@@ -198,7 +199,7 @@ level a b c d e f g =
     let k : (facet_normal a b c).z *ℤ t.z ≡ pos 0 = ap (λ y. y *ℤ t.z) g ∙ zero-*ℤ t.z in
     ap₂ (λ y z. y +ℤ z) (ap₂ (λ y z. y +ℤ z) i j) k
 
-not_low : (n p : ℤ) → unsigned_abs p ≤ 2097151 → (n ≡ pos 0) ⊎ (p ≡ low n) → n ≡ pos 0
+not_low : (n p : ℤ) → unsigned_abs p ≤ DATA_LIMIT → (n ≡ pos 0) ⊎ (p ≡ low n) → n ≡ pos 0
 not_low n p h (inl e) = e
 not_low n p h (inr e) = absurd (pick (int_lt n (pos 0)) e)
   where
@@ -230,14 +231,14 @@ zero_or_not (pos (suc n)) = inr (λ e. absurd (omega (arith, ints, e)))
 zero_or_not (negsuc n) = inr (λ e. absurd (omega (arith, ints, e)))
 
 -- a vertex at an edge of the box is a corner
-is_corner : (v : Vertices) → IsBoxed v → (u : ℕ) → u < v.count → (((w : IsWithin 2097151 (v.at u)) → ⊥)) → u < 8
+is_corner : (v : Vertices) → IsBoxed v → (u : ℕ) → u < v.count → (((w : IsWithin DATA_LIMIT (v.at u)) → ⊥)) → u < 8
 is_corner v x u h f = ⊎_elim (λ l. l) (λ (l : 8 ≤ u). absurd (f (x.data_at u l h))) (cases_lt u 8)
 
 at_low : (n p : ℤ) → n ≢ pos 0 → (n ≡ pos 0) ⊎ (p ≡ low n) → p ≡ low n
 at_low n p h (inl e) = absurd (h e)
 at_low n p h (inr e) = e
 
-not_within : (n p : ℤ) → p ≡ low n → unsigned_abs p ≤ 2097151 → ⊥
+not_within : (n p : ℤ) → p ≡ low n → unsigned_abs p ≤ DATA_LIMIT → ⊥
 not_within n p e h = pick (int_lt n (pos 0)) e
   where
     pick : (b : Bool) → p ≡ edge b → ⊥

@@ -10,10 +10,11 @@ use Rattle.cell_laws.specs.LinkLaws.{BoxLaw, six_names, six_cell, six_next}
 use Rattle.cell_laws.specs.Links.{IsLinked, IsBackAt}
 use Rattle.cell_laws.specs.Lists.{IsIn, AreCells}
 use Rattle.geo_sign.specs.Writings.{IsRewritten}
+use Rattle.geo_sign.proofs.Rewritings.{carry_rewritten}
+use Rattle.geo_sign.proofs.Rotations.{rotated_back}
 use Rattle.cell_laws.proofs.Corners.{six_cells}
 use Rattle.cell_laws.proofs.Heights.{tied_generic}
-use Rattle.cell_laws.proofs.LinkedCells.{facet_same, facet_of_same, rotated_back, once_apart, linked_listing}
-use Rattle.cell_laws.proofs.Ways.{carry_same}
+use Rattle.cell_laws.proofs.LinkedCells.{facet_same, facet_of_same, once_apart, linked_listing}
 
 pub none_some : (y : ℕ) → None ≡ Some y → ⊥
 none_some y e = cc
@@ -66,7 +67,7 @@ total t = t.a + t.b + t.c + t.d
 
 same_total : (t r : Tetrahedron) → IsRewritten t r → total r ≡ total t
 unfolding total
-same_total t r w = carry_same (λ q. total q ≡ total t) (λ q h. omega (arith, h)) (λ q h. omega (arith, h)) t r w refl
+same_total t r w = carry_rewritten (λ q. total q ≡ total t) (λ q h. omega (arith, h)) (λ q h. omega (arith, h)) t r w refl
 
 -- the name of a cell, by that sum
 name_of : ℕ → ℕ

@@ -16,12 +16,13 @@ use Rattle.geo_sign.specs.Vertices.{Vertices}
 use Rattle.geo_sign.specs.Places.{IsStrictlyIn}
 use Rattle.cell_laws.specs.Lists.{IsFull, IsIn, IsJoined}
 use Rattle.geo_sign.specs.Writings.{IsRewritten}
+use Rattle.geo_sign.proofs.Exchanges.{turned_orientation}
+use Rattle.geo_sign.proofs.Rewritings.{IsCellOf, orientation_at, same_cell}
 use Rattle.cell_laws.proofs.Cover.{cover}
 use Rattle.cell_laws.proofs.Flood.{holds_one}
 use Rattle.cell_laws.proofs.Regions.{IsGeneric, IsOuter}
-use Rattle.cell_laws.proofs.Ways.{beside, IsCellOf, orientation_at, same_cell, strictly}
+use Rattle.cell_laws.proofs.Ways.{beside, strictly}
 use Rattle.cell_laws.proofs.Wrap.{one_over}
-use Rattle.cell_laws.proofs.Writing.{turned_orientation}
 
 -- the middle of four points, as a place
 abbrev plus' : Symbols → Symbols → Symbols

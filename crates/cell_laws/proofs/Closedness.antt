@@ -13,8 +13,9 @@ use Rattle.cell_laws.specs.ClosedLaws.{edges_of, edge_count, facets_at, HasNoCor
 use Rattle.cell_laws.specs.LinkLaws.{IsNamedBack}
 use Rattle.cell_laws.specs.Links.{Side, IsLinked, IsBackAt}
 use Rattle.cell_laws.specs.Lists.{IsIn, AreCells}
+use Rattle.geo_sign.proofs.Rotations.{turned_back, turned_turned}
 use Rattle.cell_laws.proofs.CutSides.{edges_turned, boundary, side_at, all_sides, side_listed, listed_side, sides_once, is_turned, turned_means, means_turned, is_same_side, same_side_means, same_side_is, is_inside, corner_first}
-use Rattle.cell_laws.proofs.NamedBack.{back_law, turned_back, turned_twice}
+use Rattle.cell_laws.proofs.NamedBack.{back_law}
 use Rattle.cell_laws.proofs.RimLists.{one_side}
 use Rattle.cell_laws.proofs.Sums.{IsOnce, once_pairs, named_once, named_in, in_named, named_is_once, total, pick, sum_same, sum_plus, paired}
 
@@ -55,7 +56,7 @@ module _ (v : Vertices) (b : IsBoxed v) (live : List ℕ) (cell : ℕ → Tetrah
 
   one_partner : (s t r : Side) → IsIn every t → IsIn every r → pair s t ≡ true → pair s r ≡ true → t ≡ r
   one_partner s t r i j x y =
-      one_of_facet t r i j (turned_twice (facet_at_side t) (facet_at_side s) (facet_at_side r) (turned_back (facet_at_side s) (facet_at_side t) (turned_means (facet_at_side s) (facet_at_side t) x)) (turned_means (facet_at_side s) (facet_at_side r) y))
+      one_of_facet t r i j (turned_turned (facet_at_side t) (facet_at_side s) (facet_at_side r) (turned_back (facet_at_side s) (facet_at_side t) (turned_means (facet_at_side s) (facet_at_side t) x)) (turned_means (facet_at_side s) (facet_at_side r) y))
 
   pair_back : (s t : Side) → pair s t ≡ true → pair t s ≡ true
   pair_back s t e =

@@ -2,7 +2,7 @@
 -- in the cell behind the crossing. The way has a cell with that place: its cells have the stretches of the sight between entry and exit,
 -- and these stretches follow one another from the vertex to s. The place lies strictly in one cell alone, so this cell is on the way, and
 -- as a cell is entered through one facet at most, the crossing is the one by which the way comes in.
--- Stands on: SightSteps, Near (places just past a crossing), Rotations, and Flood (a place lies strictly in one cell).
+-- Stands on: SightSteps, SightTests, Near (places just past a crossing), and Flood (a place lies strictly in one cell).
 use Rattle.std.proofs.Common.{ℕ, ◌<◌, ◌≡◌, ◌≢◌, refl, ap, sym, subst, ◌∙◌, inl, inr, ⊎_elim, arith, ℤ, pos, neg_ℤ, ◌+ℤ◌, ◌-ℤ◌, ◌*ℤ◌, ◌≤ℤ◌, ◌<ℤ◌, unsigned_abs, List, [], ◌∷◌}
 use Rattle.std.proofs.lemmas.Int.{ints, by_lt_z}
 use Rattle.geo_sign.specs.Polynomial.{constant, difference, negation, product, sum, variable}
@@ -14,18 +14,17 @@ use Rattle.geo_sign.specs.Places.{IsLyingIn, IsStrictlyIn}
 use Rattle.cell_laws.specs.Lists.{IsIn}
 use Rattle.geo_sign.specs.NearPlaces.{mix}
 use Rattle.geo_sign.specs.Writings.{IsRewritten}
+use Rattle.geo_sign.proofs.Rewritings.{IsCellOf, rewritten_back, same_facets, same_strictly}
+use Rattle.geo_sign.proofs.Rotations.{crossed_rotated, rotated_back, side_turned}
 use Rattle.cell_laws.proofs.Crossings.{ends, entry_of, IsCrossed, IsEntry, left_exit, starts}
 use Rattle.cell_laws.proofs.Firsts.{IsExit, IsPast, lead_of, past_not_below}
 use Rattle.cell_laws.proofs.Flood.{holds_one, weak}
-use Rattle.cell_laws.proofs.Insert.{same_back}
-use Rattle.cell_laws.proofs.LinkedCells.{rotated_back}
 use Rattle.cell_laws.proofs.Near.{first_positive, first_zero, inward_mix, IsFree, IsTowards}
 use Rattle.cell_laws.proofs.Order.{factor_above, factor_none, mul_not_negative, mul_positive}
 use Rattle.cell_laws.proofs.Regions.{IsGeneric}
-use Rattle.cell_laws.proofs.Rotations.{crossed_rotated, facet_in, same_strictly}
-use Rattle.cell_laws.proofs.Sides.{beside_turned, inward}
+use Rattle.cell_laws.proofs.Sides.{inward}
+use Rattle.cell_laws.proofs.SightTests.{crossed_is, crossed_of}
 use Rattle.cell_laws.proofs.SightSteps.{all_inside, at_least, entry_past, entry_zero, IsWay, neg_above, one_entry, Passage, same_or_not, step_entry, towards_past}
-use Rattle.cell_laws.proofs.Ways.{IsCellOf}
 
 -- the list has a passage through facet l of x, up to the way of writing
 abbrev pub IsGiven : List Passage → Tetrahedron → ℕ → Type 0
@@ -55,7 +54,7 @@ not_inside v m p s cell x l c d h i =
     let same : IsRewritten x cell = holds_one v m x cell q d c (entry_in v p s x l h) i in
     let e = inward_mix v x l (v.at p) s (ends v s x l) (neg_ℤ (starts v p x l)) in
     let f = entry_zero (starts v p x) (ends v s x) l in
-    let g : pos 0 <ℤ inward v x l q = (same_strictly v cell x q (same_back x cell same) i).at l in
+    let g : pos 0 <ℤ inward v x l q = (same_strictly v q cell x (rewritten_back x cell same) i).at l in
     absurd (omega (arith, ints, e, f, g))
 
 moved_on : (i j b a p s : ℤ) → i *ℤ (b *ℤ p +ℤ a *ℤ s) ≡ b *ℤ (i *ℤ p +ℤ j *ℤ s) +ℤ (a *ℤ i -ℤ j *ℤ b) *ℤ s
@@ -156,8 +155,8 @@ same_entry v g p s t f u x m l cu cx bm bl eu cr h =
     let px = past_moved (starts v p x) (ends v s x) (ends v s x l) (neg_ℤ (starts v p x l)) b' a' ex.end eu.end h (entry_past v p s x l ex) in
     let ix = past_inside v p s x b' a' t (f.bounded x cx) px in
     let same : IsRewritten u x = holds_one v g u x q cu cx (weak v u q iu) ix in
-    let r = facet_in u x same l in
-    let e = entry_of v p s u r.0 r.1 cu.positive (crossed_rotated v p s (facet_of x l) (facet_of u r.0) (rotated_back (facet_of u r.0) (facet_of x l) r.2) cr) in
+    let r = same_facets u x same l in
+    let e = entry_of v p s u r.0 r.1 cu.positive (crossed_of v p s (facet_of u r.0) (crossed_rotated v p s (facet_of x l) (facet_of u r.0) (rotated_back (facet_of u r.0) (facet_of x l) r.2) ∙ crossed_is v p s (facet_of x l) cr)) in
     let k : r.0 ≡ m = one_entry (starts v p u) (ends v s u) r.0 m r.1 bm e eu in
     (same, subst (λ (n : ℕ). IsRotated (facet_of u n) (facet_of x l)) k r.2)
 
@@ -179,8 +178,8 @@ each_given v m p s t f x l cx bl cr cell (c ∷ cs) cv path i j hi past after =
     let step = path.0 in
     let entry = step_entry v p s cell c step in
     let exit = left_exit v p s cell step.leaving step.leaving_below cv.positive step.left in
-    let y = beside_turned v (facet_of cell step.leaving) (facet_of c.cell c.at) (rational (v.at p)) step.turned in
-    let z = beside_turned v (facet_of cell step.leaving) (facet_of c.cell c.at) s step.turned in
+    let y = side_turned v (facet_of cell step.leaving) (facet_of c.cell c.at) (rational (v.at p)) step.turned in
+    let z = side_turned v (facet_of cell step.leaving) (facet_of c.cell c.at) s step.turned in
     let b' : ℤ = ends v s c.cell c.at in let a' : ℤ = neg_ℤ (starts v p c.cell c.at) in
     three_ways (a *ℤ b') (a' *ℤ b)
     (λ h.

@@ -17,8 +17,8 @@ use Rattle.geo_sign.specs.Vertices.{Has, Vertices}
 use Rattle.geo_sign.specs.Boxes.{IsBoxed}
 use Rattle.cell_laws.specs.CellLaws.{six}
 use Rattle.cell_laws.specs.Lists.{IsIn}
+use Rattle.geo_sign.proofs.Rewritings.{IsCellOf, orientation_at, power_at}
 use Rattle.cell_laws.proofs.Heights.{power_tied, tied}
-use Rattle.cell_laws.proofs.Ways.{IsCellOf, orientation_at, power_at}
 use Rattle.cell_laws.proofs.Wrap.{above_true, and_left, and_right}
 
 -- each power is a number of units, and the power of the tie terms

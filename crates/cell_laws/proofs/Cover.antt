@@ -20,12 +20,13 @@ use Rattle.geo_sign.specs.Places.{IsLyingIn}
 use Rattle.cell_laws.specs.Lifts.{lift_of}
 use Rattle.cell_laws.specs.Lists.{IsFull, IsIn, IsJoined}
 use Rattle.geo_sign.specs.Writings.{IsVertexOf, IsRewritten}
+use Rattle.geo_sign.proofs.Rewritings.{IsCellOf, orientation_at, power_at, same_cell, same_orientation}
 use Rattle.cell_laws.proofs.Best.{best, IsBest}
 use Rattle.cell_laws.proofs.Fan.{across_above}
 use Rattle.cell_laws.proofs.Flood.{move}
 use Rattle.cell_laws.proofs.Order.{IsLater, neg_left, walk_step}
 use Rattle.cell_laws.proofs.Regions.{IsConvex, IsGeneric, IsOuter}
-use Rattle.cell_laws.proofs.Ways.{beside, IsCellOf, lying, orientation_at, power_at, same_cell, same_lift, same_orientation}
+use Rattle.cell_laws.proofs.Ways.{beside, lying, same_lift}
 use Rattle.cell_laws.proofs.Wrap.{across, below, below_has}
 
 highest :

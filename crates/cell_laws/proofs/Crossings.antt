@@ -12,10 +12,12 @@ use Rattle.geo_sign.proofs.Written.{coordinates, orientation', RationalSymbols, 
 use Rattle.geo_sign.specs.Sights.{side_of}
 use Rattle.geo_sign.specs.Tetrahedron.{DirectedFacet, facet, facet_of, IsTurned, Tetrahedron}
 use Rattle.geo_sign.specs.Vertices.{Vertices}
+use Rattle.geo_sign.proofs.Exchanges.{turned_side}
+use Rattle.geo_sign.proofs.Rewritings.{orientation_at}
+use Rattle.geo_sign.proofs.Rotations.{side_turned}
 use Rattle.cell_laws.proofs.Firsts.{IsExit, lead_of}
 use Rattle.cell_laws.proofs.Order.{factor_below, mul_below, mul_positive}
-use Rattle.cell_laws.proofs.Sides.{beside_turned, inward, turned_side}
-use Rattle.cell_laws.proofs.Ways.{orientation_at}
+use Rattle.cell_laws.proofs.Sides.{inward}
 
 -- the sides of a vertex, and of the scanner's place, of a cell's facets
 abbrev pub starts : Vertices → ℕ → Tetrahedron → ℕ → ℤ
@@ -49,8 +51,8 @@ pub left_turned :
 left_turned v p s f g (inl e) h =
     let x = h.ahead in
     let y = h.behind in
-    let t = beside_turned v f (facet f.a f.c f.b) s (inl refl) in
-    let u = beside_turned v f (facet f.a f.c f.b) (rational (v.at p)) (inl refl) in
+    let t = side_turned v f (facet f.a f.c f.b) s (inl refl) in
+    let u = side_turned v f (facet f.a f.c f.b) (rational (v.at p)) (inl refl) in
     subst (λ (f : DirectedFacet). IsCrossed v p s f) (sym e)
     (record {
       ahead = omega (arith, ints, t, x);
@@ -62,8 +64,8 @@ left_turned v p s f g (inl e) h =
 left_turned v p s f g (inr (inl e)) h =
     let x = h.ahead in
     let y = h.behind in
-    let t = beside_turned v f (facet f.c f.b f.a) s (inr (inl refl)) in
-    let u = beside_turned v f (facet f.c f.b f.a) (rational (v.at p)) (inr (inl refl)) in
+    let t = side_turned v f (facet f.c f.b f.a) s (inr (inl refl)) in
+    let u = side_turned v f (facet f.c f.b f.a) (rational (v.at p)) (inr (inl refl)) in
     subst (λ (f : DirectedFacet). IsCrossed v p s f) (sym e)
     (record {
       ahead = omega (arith, ints, t, x);
@@ -75,8 +77,8 @@ left_turned v p s f g (inr (inl e)) h =
 left_turned v p s f g (inr (inr e)) h =
     let x = h.ahead in
     let y = h.behind in
-    let t = beside_turned v f (facet f.b f.a f.c) s (inr (inr refl)) in
-    let u = beside_turned v f (facet f.b f.a f.c) (rational (v.at p)) (inr (inr refl)) in
+    let t = side_turned v f (facet f.b f.a f.c) s (inr (inr refl)) in
+    let u = side_turned v f (facet f.b f.a f.c) (rational (v.at p)) (inr (inr refl)) in
     subst (λ (f : DirectedFacet). IsCrossed v p s f) (sym e)
     (record {
       ahead = omega (arith, ints, t, x);

@@ -13,6 +13,7 @@ use Rattle.geo_sign.specs.Tetrahedron.{Tetrahedron, DirectedFacet, facet, facet_
 use Rattle.cell_laws.specs.ClosedLaws.{one_edge, edges_of}
 use Rattle.cell_laws.specs.Links.{Side}
 use Rattle.cell_laws.specs.Lists.{IsIn, one_if}
+use Rattle.geo_sign.proofs.Among.{same_itself, same_means}
 use Rattle.cell_laws.proofs.Sums.{IsOnce}
 
 -- ---- edges
@@ -105,16 +106,8 @@ sides_once (x ∷ xs) o = (
     later k h = o.0 (side_listed xs (side_at x k) h).0
 
 -- ---- the turned facet, and the same side, as tests
-same_means : (f g : DirectedFacet) → is_same_facet f g ≡ true → g ≡ f
-same_means f g e =
-    let x = and_parts (eqb f.a g.a && eqb f.b g.b) (eqb f.c g.c) e in
-    let y = and_parts (eqb f.a g.a) (eqb f.b g.b) x.0 in
-    sym (ap (λ n. facet n f.b f.c) (eqb-true f.a g.a y.0) ∙ ap (λ n. facet g.a n f.c) (eqb-true f.b g.b y.1) ∙ ap (λ n. facet g.a g.b n) (eqb-true f.c g.c x.1))
-
 means_same : (f g : DirectedFacet) → g ≡ f → is_same_facet f g ≡ true
-means_same f g e =
-    subst (λ h. is_same_facet f h ≡ true) (sym e)
-    (and_from (eqb f.a f.a && eqb f.b f.b) (eqb f.c f.c) (and_from (eqb f.a f.a) (eqb f.b f.b) (eq-eqb f.a f.a refl) (eq-eqb f.b f.b refl)) (eq-eqb f.c f.c refl))
+means_same f g e = subst (λ h. is_same_facet f h ≡ true) (sym e) (same_itself f)
 
 abbrev pub is_turned : DirectedFacet → DirectedFacet → Bool
 is_turned f g =
@@ -126,14 +119,14 @@ turned_means f g e = first (is_same_facet (facet f.a f.c f.b) g) refl e
     second :
         (b : Bool) → is_same_facet (facet f.c f.b f.a) g ≡ b → cond b true (is_same_facet (facet f.b f.a f.c) g) ≡ true →
         IsTurned f g
-    second true i h = inr (inl (same_means (facet f.c f.b f.a) g i))
-    second false i h = inr (inr (same_means (facet f.b f.a f.c) g h))
+    second true i h = inr (inl (sym (same_means (facet f.c f.b f.a) g i)))
+    second false i h = inr (inr (sym (same_means (facet f.b f.a f.c) g h)))
 
     first :
         (b : Bool) → is_same_facet (facet f.a f.c f.b) g ≡ b →
         cond b true (cond (is_same_facet (facet f.c f.b f.a) g) true (is_same_facet (facet f.b f.a f.c) g)) ≡ true →
         IsTurned f g
-    first true i h = inl (same_means (facet f.a f.c f.b) g i)
+    first true i h = inl (sym (same_means (facet f.a f.c f.b) g i))
     first false i h = second (is_same_facet (facet f.c f.b f.a) g) refl h
 
 pub means_turned : (f g : DirectedFacet) → IsTurned f g → is_turned f g ≡ true

@@ -10,7 +10,8 @@ use Rattle.cell_laws.specs.Edges.{AreEdges, HaveEdge, IsFanList}
 use Rattle.cell_laws.specs.Fans.{IsFan}
 use Rattle.cell_laws.specs.InsertionLaws.{IsFanOf, SideLaw}
 use Rattle.geo_sign.specs.Writings.{IsRewritten, spin}
-use Rattle.cell_laws.proofs.LinkedCells.{by_sides, facet_of_same, facet_same, from_facet, rotated_after, rotated_back}
+use Rattle.geo_sign.proofs.Rotations.{rotated_after, rotated_back}
+use Rattle.cell_laws.proofs.LinkedCells.{by_sides, facet_of_same, facet_same, from_facet}
 
 -- x y z is u v w, up to rotation
 abbrev pub IsTurn : (x y z u v w : ℕ) → Type 0

@@ -3,6 +3,7 @@
 use Rattle.std.proofs.Common.{ℕ, ◌≡◌, ◌<◌, ◌+◌, ◌*◌, refl, ap, sym, subst, ◌∙◌, arith, true, cond, ltb, eqb, unsigned_abs, int_lt, pos}
 use Rattle.std.proofs.lemmas.Bool.{eqb-true, ltb-true}
 use Rattle.geo_sign.specs.Point.{corner_point, IsWithin, Point, point}
+use Rattle.geo_sign.specs.declared.point.TheConstants.{DATA_LIMIT}
 use Rattle.geo_sign.specs.Tie.{height}
 use Rattle.geo_sign.specs.Vertices.{Vertices, Has}
 use Rattle.geo_sign.specs.Boxes.{IsBoxed, IsNew}
@@ -31,7 +32,7 @@ example_boxed =
     record {
       corner_in = λ k h. (omega arith, first_eight k h);
       corner_at = λ k h. ap (λ b. cond b (corner_point k) (point (pos 0) (pos 0) (pos 0))) (first_eight k h);
-      data_at = λ u h l. (let e : 8 ≡ u = omega arith in subst (λ i. IsWithin 2097151 (at i)) e (record { x_within = omega arith; y_within = omega arith; z_within = omega arith }));
+      data_at = λ u h l. (let e : 8 ≡ u = omega arith in subst (λ i. IsWithin DATA_LIMIT (at i)) e (record { x_within = omega arith; y_within = omega arith; z_within = omega arith }));
       apart = λ u w h l e. sym (coded u h) ∙ ap code e ∙ coded w l;
       tied = λ u. refl;
     }

@@ -2,7 +2,7 @@
 -- Stands on: Ways.
 use Rattle.geo_sign.specs.Tetrahedron.{Tetrahedron, tetrahedron}
 use Rattle.geo_sign.specs.Writings.{IsRewritten, spin, swap}
-use Rattle.cell_laws.proofs.Ways.{carry_same}
+use Rattle.geo_sign.proofs.Rewritings.{carry_rewritten}
 
 -- of the four facets, each with the vertex opposite to it
 pub record OnFacets (P : Tetrahedron → Type 0) (t : Tetrahedron) : Type 0 where
@@ -25,5 +25,5 @@ pub by_facets :
     (P : Tetrahedron → Type 0) → ((t : Tetrahedron) → P t → P (spin t)) → (q r : Tetrahedron) → IsRewritten q r → OnFacets P q →
     P r
 by_facets P f q r e h =
-    let k : OnFacets P r = carry_same (OnFacets P) (spin_facets P f) (swap_facets P f) q r e h in
+    let k : OnFacets P r = carry_rewritten (OnFacets P) (spin_facets P f) (swap_facets P f) q r e h in
     k.opposite_d

@@ -7,13 +7,16 @@ use Rattle.std.proofs.Common.{ℕ, ◌≡◌, ◌≢◌, ◌<◌, refl, ap, sym,
 use Rattle.std.proofs.lemmas.Bool.{eqb-true, eqb-false}
 use Rattle.std.proofs.lemmas.Int.{ints, by_lt_z}
 use Rattle.geo_sign.specs.Cells.{IsCell}
+use Rattle.geo_sign.specs.Tetrahedron.{tetrahedron}
 use Rattle.geo_sign.specs.Vertices.{Has, orientation_of, power_of, Vertices}
 use Rattle.geo_sign.specs.Boxes.{with_vertex}
 use Rattle.cell_laws.specs.Fans.{IsFan}
+use Rattle.geo_sign.proofs.Exchanges.{exchanged_power, flat_b, flat_c, turned_orientation, turned_power}
+use Rattle.geo_sign.proofs.Rewritings.{spin_cell, swap_cell}
 use Rattle.cell_laws.proofs.Conflicts.{fan_faces, new_clear_before, new_clear_behind}
 use Rattle.cell_laws.proofs.Regions.{IsGeneric, IsInner, IsOuter}
 use Rattle.cell_laws.proofs.Wrap.{above_not_zero, across, before_not, one_over, outside_above, wrap}
-use Rattle.cell_laws.proofs.Writing.{turned_orientation, turned_power, flat_b, flat_c, same_side, spin_cell, swap_cell, exchanged_power}
+use Rattle.cell_laws.proofs.Identities.{same_side}
 
 -- ---- which vertices are in
 pub stays : (v : Vertices) (p u : ℕ) → Has v u → Has (with_vertex v p) u
@@ -148,17 +151,17 @@ fan_next v p g i f h a b c k =
     let l = i.strict a p b c (before v p c t.has_c (λ e. absurd (let m = t.positive in let z = flat_c (v.at a) (v.at b) (v.at c) in let r : pos 0 <ℤ orientation_of v a b c c = subst (λ x. pos 0 <ℤ orientation_of v a b c x) (sym e) m in omega (arith, ints, z, r)))) t'.positive (λ u y. o u (stays v p u y)) in
     let z = flat_b (v.at a) (v.at p) (v.at b) in
     absurd (omega (arith, ints, l, z)))
-    (λ (z : (e : ℕ) × IsCell (with_vertex v p) a b p e). (z.0, cell_fan v p g i f h b a z.0 (swap_cell (with_vertex v p) a b p z.0 z.1)))
+    (λ (z : (e : ℕ) × IsCell (with_vertex v p) a b p e). (z.0, cell_fan v p g i f h b a z.0 (swap_cell (with_vertex v p) (tetrahedron a b p z.0) z.1)))
     (across (with_vertex v p) a p b c t')
   where
     turn_cell : (v : Vertices) (a b c p : ℕ) → IsCell v a b c p → IsCell v a p b c
-    turn_cell v a b c p t = spin_cell v b a p c (swap_cell v a b c p t)
+    turn_cell v a b c p t = spin_cell v (tetrahedron b a p c) (swap_cell v (tetrahedron a b c p) t)
 
 -- and each directed edge is in one fan facet
 pub fan_once :
     (v : Vertices) (p : ℕ) → IsGeneric v → IsInner v p → p < v.count → (a b c d : ℕ) → IsFan v p a b c → IsFan v p a b d → c ≡ d
 fan_once v p g i h a b c d k l =
-    one_over (with_vertex v p) g b a p c d (swap_cell (with_vertex v p) a b c p (fan_cell v p g i h a b c k)) (swap_cell (with_vertex v p) a b d p (fan_cell v p g i h a b d l))
+    one_over (with_vertex v p) g b a p c d (swap_cell (with_vertex v p) (tetrahedron a b c p) (fan_cell v p g i h a b c k)) (swap_cell (with_vertex v p) (tetrahedron a b d p) (fan_cell v p g i h a b d l))
 
 -- the cells without p are those with which it isn't in conflict
 pub stays_cell :

@@ -18,13 +18,14 @@ use Rattle.geo_sign.specs.Boxes.{IsInConflict}
 use Rattle.cell_laws.specs.Lifts.{lift_of}
 use Rattle.cell_laws.specs.Lists.{IsClosed, IsIn, IsListing}
 use Rattle.geo_sign.specs.Writings.{IsVertexOf, IsRewritten}
+use Rattle.geo_sign.proofs.Rewritings.{IsCellOf, orientation_at, power_at, same_cell, same_orientation, same_power}
 use Rattle.cell_laws.proofs.Best.{best, IsBest}
 use Rattle.cell_laws.proofs.Conflicts.{conflict_across}
 use Rattle.cell_laws.proofs.Fan.{across_above}
 use Rattle.cell_laws.proofs.Identities.{envelope}
 use Rattle.cell_laws.proofs.Order.{IsLater, mul_not_negative, mul_positive, neg_left, walk_step}
 use Rattle.cell_laws.proofs.Regions.{IsGeneric, IsGoal, IsOuter}
-use Rattle.cell_laws.proofs.Ways.{beside, IsCellOf, orientation_at, power_at, same_cell, same_tetrahedron, same_lift, same_orientation, same_power, strictly}
+use Rattle.cell_laws.proofs.Ways.{beside, same_tetrahedron, same_lift, strictly}
 use Rattle.cell_laws.proofs.Wrap.{across, and_left, and_right}
 
 pub below_true : (z : ℤ) → int_lt z (pos 0) ≡ true → z <ℤ pos 0

@@ -9,6 +9,7 @@ use Rattle.geo_sign.specs.Polynomial.{difference, Polynomial, product, variable}
 use Rattle.geo_sign.proofs.Ring.{ring}
 use Rattle.geo_sign.specs.Orientation.{orientation}
 use Rattle.geo_sign.specs.Point.{IsWithin, origin, Point, point, wall}
+use Rattle.geo_sign.specs.declared.point.TheConstants.{BOX_LIMIT}
 use Rattle.geo_sign.specs.Rational.{displaced, side}
 use Rattle.geo_sign.proofs.Digits.{side_on_line}
 use Rattle.geo_sign.proofs.Identities.{side_digits}
@@ -65,17 +66,17 @@ goal v x p h l =
         not_behind (orientation_of v a b c p) n.x n.y n.z w.x_within w.y_within w.z_within (subst (λ t. t <ℤ pos 0) (digits (v.at a) (v.at b) (v.at c) (v.at p)) m)
 
 -- ---- a facet on a wall
-pub corner_edge : (k bit : ℕ) → (wall k bit ≡ pos 8388608) ⊎ (wall k bit ≡ neg_ℤ (pos 8388608))
+pub corner_edge : (k bit : ℕ) → (wall k bit ≡ pos BOX_LIMIT) ⊎ (wall k bit ≡ neg_ℤ (pos BOX_LIMIT))
 corner_edge k bit = pick (bit_and k bit == 0)
   where
     pick :
-        (b : Bool) → (cond b (neg_ℤ (pos 8388608)) (pos 8388608) ≡ pos 8388608) ⊎
-        (cond b (neg_ℤ (pos 8388608)) (pos 8388608) ≡ neg_ℤ (pos 8388608))
+        (b : Bool) → (cond b (neg_ℤ (pos BOX_LIMIT)) (pos BOX_LIMIT) ≡ pos BOX_LIMIT) ⊎
+        (cond b (neg_ℤ (pos BOX_LIMIT)) (pos BOX_LIMIT) ≡ neg_ℤ (pos BOX_LIMIT))
     pick true = inr refl
     pick false = inl refl
 
 wall_side :
-    (n e d u : ℤ) → (e ≡ pos 8388608) ⊎ (e ≡ neg_ℤ (pos 8388608)) → unsigned_abs d ≤ 8388608 → unsigned_abs u ≤ 8388608 →
+    (n e d u : ℤ) → (e ≡ pos BOX_LIMIT) ⊎ (e ≡ neg_ℤ (pos BOX_LIMIT)) → unsigned_abs d ≤ BOX_LIMIT → unsigned_abs u ≤ BOX_LIMIT →
     pos 0 <ℤ (n *ℤ (d -ℤ e)) → pos 0 ≤ℤ (n *ℤ (u -ℤ e))
 wall_side n e d u (inl q) h k m =
     by_lt_z n (pos 0)
@@ -142,20 +143,20 @@ flat_z a b c u e f = ap₂ (λ x y. orientation a (point b.x b.y x) (point c.x c
 pub wall_outer : (v : Vertices) → IsBoxed v → (a b c d : ℕ) → IsCell v a b c d → IsWall v (facet a b c) → IsOuter v a b c
 wall_outer v x a b c d k w u h = pick w.agree
   where
-    wd : IsWithin 8388608 (v.at d)
+    wd : IsWithin BOX_LIMIT (v.at d)
     wd = vertex_within v x d k.has_d.0
 
-    wu : IsWithin 8388608 (v.at u)
+    wu : IsWithin BOX_LIMIT (v.at u)
     wu = vertex_within v x u h.0
 
-    edge_x : ((v.at a).x ≡ pos 8388608) ⊎ ((v.at a).x ≡ neg_ℤ (pos 8388608))
-    edge_x = subst (λ (p : Point). (p.x ≡ pos 8388608) ⊎ (p.x ≡ neg_ℤ (pos 8388608))) (sym (x.corner_at a w.first)) (corner_edge a 1)
+    edge_x : ((v.at a).x ≡ pos BOX_LIMIT) ⊎ ((v.at a).x ≡ neg_ℤ (pos BOX_LIMIT))
+    edge_x = subst (λ (p : Point). (p.x ≡ pos BOX_LIMIT) ⊎ (p.x ≡ neg_ℤ (pos BOX_LIMIT))) (sym (x.corner_at a w.first)) (corner_edge a 1)
 
-    edge_y : ((v.at a).y ≡ pos 8388608) ⊎ ((v.at a).y ≡ neg_ℤ (pos 8388608))
-    edge_y = subst (λ (p : Point). (p.y ≡ pos 8388608) ⊎ (p.y ≡ neg_ℤ (pos 8388608))) (sym (x.corner_at a w.first)) (corner_edge a 2)
+    edge_y : ((v.at a).y ≡ pos BOX_LIMIT) ⊎ ((v.at a).y ≡ neg_ℤ (pos BOX_LIMIT))
+    edge_y = subst (λ (p : Point). (p.y ≡ pos BOX_LIMIT) ⊎ (p.y ≡ neg_ℤ (pos BOX_LIMIT))) (sym (x.corner_at a w.first)) (corner_edge a 2)
 
-    edge_z : ((v.at a).z ≡ pos 8388608) ⊎ ((v.at a).z ≡ neg_ℤ (pos 8388608))
-    edge_z = subst (λ (p : Point). (p.z ≡ pos 8388608) ⊎ (p.z ≡ neg_ℤ (pos 8388608))) (sym (x.corner_at a w.first)) (corner_edge a 4)
+    edge_z : ((v.at a).z ≡ pos BOX_LIMIT) ⊎ ((v.at a).z ≡ neg_ℤ (pos BOX_LIMIT))
+    edge_z = subst (λ (p : Point). (p.z ≡ pos BOX_LIMIT) ⊎ (p.z ≡ neg_ℤ (pos BOX_LIMIT))) (sym (x.corner_at a w.first)) (corner_edge a 4)
 
     pick :
         (((v.at a).x ≡ (v.at b).x) × ((v.at a).x ≡ (v.at c).x)) ⊎

@@ -9,6 +9,7 @@ use Rattle.geo_sign.specs.Polynomial.{difference, negation, product, sum, variab
 use Rattle.geo_sign.proofs.Ring.{ring}
 use Rattle.geo_sign.specs.Orientation.{orientation}
 use Rattle.geo_sign.specs.Point.{cross, IsWithin, Point, point, square, step}
+use Rattle.geo_sign.specs.declared.point.TheConstants.{BOX_LIMIT}
 use Rattle.geo_sign.specs.Power.{plain_power, power}
 use Rattle.geo_sign.specs.Rational.{rational}
 use Rattle.geo_sign.specs.Signs.{first_sign, sign_of}
@@ -24,17 +25,17 @@ use Rattle.geo_sign.proofs.Ties.{decided, five_kept}
 use Rattle.geo_sign.specs.Boxes.{IsBoxed, IsTied}
 use Rattle.geo_sign.specs.Places.{IsLyingIn}
 use Rattle.geo_sign.specs.Writings.{IsVertexOf}
+use Rattle.geo_sign.proofs.CellRows.{distinct}
 use Rattle.cell_laws.proofs.Box.{factor_is_zero, vertex_within}
 use Rattle.cell_laws.proofs.Cover.{point_side}
 use Rattle.cell_laws.proofs.Insert.{IsNoneOf, of_or_not}
 use Rattle.cell_laws.proofs.Order.{mul_not_negative, mul_positive}
 use Rattle.cell_laws.proofs.Regions.{IsConvex, IsGeneric}
-use Rattle.cell_laws.proofs.Ways.{distinct}
 
 -- ---- how large a normal is
-pub step_within : (a b : Point) → IsWithin 8388608 a → IsWithin 8388608 b → IsWithin (2 ^ 24) (step a b)
+pub step_within : (a b : Point) → IsWithin BOX_LIMIT a → IsWithin BOX_LIMIT b → IsWithin (2 ^ 24) (step a b)
 step_within a b h k =
-    record { x_within = abs_sub b.x a.x 8388608 8388608 k.x_within h.x_within; y_within = abs_sub b.y a.y 8388608 8388608 k.y_within h.y_within; z_within = abs_sub b.z a.z 8388608 8388608 k.z_within h.z_within }
+    record { x_within = abs_sub b.x a.x BOX_LIMIT BOX_LIMIT k.x_within h.x_within; y_within = abs_sub b.y a.y BOX_LIMIT BOX_LIMIT k.y_within h.y_within; z_within = abs_sub b.z a.z BOX_LIMIT BOX_LIMIT k.z_within h.z_within }
 
 minor :
     (a b c d : ℤ) → unsigned_abs a ≤ 2 ^ 24 → unsigned_abs b ≤ 2 ^ 24 → unsigned_abs c ≤ 2 ^ 24 → unsigned_abs d ≤ 2 ^ 24 →
@@ -43,7 +44,7 @@ minor a b c d h k l m =
     abs_sub (a *ℤ b) (c *ℤ d) (2 ^ 48) (2 ^ 48) (abs_mul a b (2 ^ 24) (2 ^ 24) h k) (abs_mul c d (2 ^ 24) (2 ^ 24) l m)
 
 pub normal_within :
-    (a b c : Point) → IsWithin 8388608 a → IsWithin 8388608 b → IsWithin 8388608 c →
+    (a b c : Point) → IsWithin BOX_LIMIT a → IsWithin BOX_LIMIT b → IsWithin BOX_LIMIT c →
     IsWithin (2 ^ 49) (cross (step a b) (step a c))
 normal_within a b c h k l =
     let u = step a b in let v = step a c in

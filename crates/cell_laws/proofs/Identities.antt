@@ -3,6 +3,7 @@
 --   three_terms    the powers at two cells across a facet
 --   three_lifts    the planes of two such cells over a place
 --   envelope       the planes of any two cells over a place
+--   same_side      the powers at two cells on one side of a facet
 --
 -- Stands on: geo_sign's words as polynomials.
 use Rattle.std.proofs.Common.{◌≡◌, ℤ, List, [], ◌∷◌, ◌+ℤ◌, ◌-ℤ◌, ◌*ℤ◌}
@@ -88,3 +89,23 @@ envelope a b c d e f g h q ha hb hc hd he hf hg hh =
     ring xs (product (orientation' A B C D) (lift' E F G H HE HF HG HH Q))
     (sum (product (orientation' E F G H) (lift' A B C D HA HB HC HD Q))
     (sum (sum (sum (product (power' A B C D E HA HB HC HD HE) (side' F H G Q)) (product (power' A B C D F HA HB HC HD HF) (side' E G H Q))) (product (power' A B C D G HA HB HC HD HG) (side' E H F Q))) (product (power' A B C D H HA HB HC HD HH) (side' E F G Q)))) tt
+
+-- two cells on one side of a facet
+pub same_side : (a b c d p u : Point) (ha hb hc hd hp hu : ℤ) →
+    orientation a b c p *ℤ power a b c d u ha hb hc hd hu ≡ orientation a b c d *ℤ power a b c p u ha hb hc hp hu -ℤ power a b c p d ha hb hc hp hd *ℤ orientation a b c u
+unfolding orientation power
+same_side a b c d p u ha hb hc hd hp hu =
+    let A : Symbols = symbols 0 in
+    let B : Symbols = symbols 3 in
+    let C : Symbols = symbols 6 in
+    let D : Symbols = symbols 9 in
+    let P : Symbols = symbols 12 in
+    let U : Symbols = symbols 15 in
+    let HA : Polynomial = variable 18 in
+    let HB : Polynomial = variable 19 in
+    let HC : Polynomial = variable 20 in
+    let HD : Polynomial = variable 21 in
+    let HP : Polynomial = variable 22 in
+    let HU : Polynomial = variable 23 in
+    ring (coordinates a (coordinates b (coordinates c (coordinates d (coordinates p (coordinates u (ha ∷ hb ∷ hc ∷ hd ∷ hp ∷ hu ∷ []))))))) (product (orientation' A B C P) (power' A B C D U HA HB HC HD HU))
+    (difference (product (orientation' A B C D) (power' A B C P U HA HB HC HP HU)) (product (power' A B C P D HA HB HC HP HD) (orientation' A B C U))) tt

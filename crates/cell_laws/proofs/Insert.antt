@@ -1,6 +1,6 @@
 -- The cells with one vertex more: those that stay and those over the fan.
 -- Stands on: Fan and Ways.
-use Rattle.std.proofs.Common.{ℕ, ◌≡◌, ◌≢◌, ◌<◌, refl, ap, sym, subst, ◌∙◌, ◌⊎◌, inl, inr, ⊎_elim, Bool, true, false, eqb, pos, ◌≤ℤ◌, List, [], ◌∷◌, ◌++◌}
+use Rattle.std.proofs.Common.{ℕ, ◌≡◌, ◌≢◌, ◌<◌, refl, ap, sym, subst, ◌⊎◌, inl, inr, ⊎_elim, Bool, true, false, eqb, pos, ◌≤ℤ◌, List, [], ◌∷◌}
 use Rattle.std.proofs.lemmas.Bool.{eqb-true, eqb-false}
 use Rattle.geo_sign.specs.Tetrahedron.{Tetrahedron, tetrahedron}
 use Rattle.geo_sign.specs.Vertices.{Vertices}
@@ -8,16 +8,10 @@ use Rattle.geo_sign.specs.Boxes.{IsClearOf, with_vertex}
 use Rattle.cell_laws.specs.Fans.{IsFan}
 use Rattle.cell_laws.specs.Lists.{AreCells, IsFull, IsIn, IsMade, IsReplaced}
 use Rattle.geo_sign.specs.Writings.{IsVertexOf, IsRewritten, spin, swap}
+use Rattle.geo_sign.proofs.CellRows.{Led, first}
+use Rattle.geo_sign.proofs.Rewritings.{IsCellOf, rewritten_after, rewritten_back, same_cell, same_power}
 use Rattle.cell_laws.proofs.Fan.{cell_fan, fan_cell, stays_cell, was_cell}
 use Rattle.cell_laws.proofs.Regions.{IsGeneric, IsInner}
-use Rattle.cell_laws.proofs.Ways.{carry_same, first, IsCellOf, Led, moved_append, same_after, same_cell, same_power}
-
-pub same_back : (q r : Tetrahedron) → IsRewritten q r → IsRewritten r q
-same_back q r e =
-    carry_same (λ t. IsRewritten t q)
-    (λ t h. (h.0 ++ (true ∷ true ∷ []), moved_append h.0 (true ∷ true ∷ []) (spin t) ∙ h.1))
-    (λ t h. (h.0 ++ (false ∷ []), moved_append h.0 (false ∷ []) (swap t) ∙ h.1))
-    q r e ([], refl)
 
 number_or_not : (u a : ℕ) → (u ≡ a) ⊎ (u ≢ a)
 number_or_not u a = pick (eqb u a) refl
@@ -41,7 +35,7 @@ of_or_not q u =
 pub last : (q : Tetrahedron) (u : ℕ) → IsVertexOf q u → (r : Tetrahedron) × IsRewritten q r × (r.d ≡ u)
 last q u h =
     let x : Led q u = first q u h in
-    (swap (spin (spin (swap x.0))), same_after q x.0 (swap (spin (spin (swap x.0)))) x.1 (false ∷ true ∷ true ∷ false ∷ [], refl), x.2)
+    (swap (spin (spin (swap x.0))), rewritten_after q x.0 (swap (spin (spin (swap x.0)))) x.1 (false ∷ true ∷ true ∷ false ∷ [], refl), x.2)
 
 -- cells that were made so are cells
 pub made_cells :
@@ -65,7 +59,7 @@ inserted {X} v p g i f h live cell live' cell' full re =
         let w = was_cell v p h q.a q.b q.c q.d k n.a n.b n.c n.d in
         let x = full.all q.a q.b q.c q.d w.0 in
         let y = re.stay x.0 x.1 (subst (λ t. pos 0 ≤ℤ t) (same_power v p (cell x.0) q x.2) w.1) in
-        (y.0, y.1, same_after (cell' y.0) (cell x.0) q y.2 x.2)
+        (y.0, y.1, rewritten_after (cell' y.0) (cell x.0) q y.2 x.2)
 
     new : (q : Tetrahedron) → IsCellOf (with_vertex v p) q → IsVertexOf q p → (y : X) × IsIn live' y × IsRewritten (cell' y) q
     new q k o =
@@ -75,7 +69,7 @@ inserted {X} v p g i f h live cell live' cell' full re =
         let w : IsRewritten q (tetrahedron t.a t.b t.c p) = subst (λ x. IsRewritten q x) e r.1 in
         let fan = cell_fan v p g i f h t.a t.b t.c (same_cell (with_vertex v p) q (tetrahedron t.a t.b t.c p) w k) in
         let y = re.come t.a t.b t.c fan in
-        (y.0, y.1, same_after (cell' y.0) (tetrahedron t.a t.b t.c p) q y.2 (same_back q (tetrahedron t.a t.b t.c p) w))
+        (y.0, y.1, rewritten_after (cell' y.0) (tetrahedron t.a t.b t.c p) q y.2 (rewritten_back q (tetrahedron t.a t.b t.c p) w))
 
     all :
         (q : Tetrahedron) → IsCellOf (with_vertex v p) q → IsVertexOf q p ⊎ IsNoneOf q p →

@@ -6,6 +6,7 @@ use Rattle.geo_sign.specs.Polynomial.{difference, product, sum, variable}
 use Rattle.geo_sign.proofs.Ring.{ring}
 use Rattle.geo_sign.specs.Orientation.{orientation}
 use Rattle.geo_sign.specs.Point.{Point}
+use Rattle.geo_sign.specs.declared.point.TheConstants.{BOX_LIMIT}
 use Rattle.geo_sign.specs.Rational.{RationalPoint, side}
 use Rattle.geo_sign.proofs.Written.{coordinates, cross', orientation', RationalSymbols, side', step', Symbols, symbols}
 use Rattle.geo_sign.specs.Vertices.{Vertices}
@@ -15,12 +16,12 @@ use Rattle.cell_laws.proofs.Box.{both_negative, edge, facet_normal, far, far_bel
 use Rattle.cell_laws.proofs.Order.{mul_not_negative}
 use Rattle.cell_laws.proofs.Regions.{IsOuter}
 
-axis_over : (n p w : ℤ) → pos 0 <ℤ w → unsigned_abs p ≤ 8388608 * unsigned_abs w → pos 0 ≤ℤ (n *ℤ (p -ℤ low n *ℤ w))
+axis_over : (n p w : ℤ) → pos 0 <ℤ w → unsigned_abs p ≤ BOX_LIMIT * unsigned_abs w → pos 0 ≤ℤ (n *ℤ (p -ℤ low n *ℤ w))
 axis_over n p w o h = pick (int_lt n (pos 0)) refl
   where
     pick : (b : Bool) → int_lt n (pos 0) ≡ b → pos 0 ≤ℤ (n *ℤ (p -ℤ edge b *ℤ w))
-    pick true e = both_negative n (p -ℤ pos 8388608 *ℤ w) (let m = test_below n e in omega (arith, ints, m)) (omega (arith, ints))
-    pick false e = mul_not_negative n (p -ℤ neg_ℤ (pos 8388608) *ℤ w) (test_above n e) (omega (arith, ints))
+    pick true e = both_negative n (p -ℤ pos BOX_LIMIT *ℤ w) (let m = test_below n e in omega (arith, ints, m)) (omega (arith, ints))
+    pick false e = mul_not_negative n (p -ℤ neg_ℤ (pos BOX_LIMIT) *ℤ w) (test_above n e) (omega (arith, ints))
 
 side_shift :
     (a b c w : Point) (q : RationalPoint) → side a b c q ≡

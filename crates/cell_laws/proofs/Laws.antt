@@ -8,12 +8,13 @@ use Rattle.geo_sign.specs.Tetrahedron.{DirectedFacet, facet_of, Tetrahedron, tet
 use Rattle.geo_sign.specs.Vertices.{IsWall, Vertices}
 use Rattle.geo_sign.specs.Boxes.{IsBoxed, with_vertex}
 use Rattle.geo_sign.specs.Places.{IsInBox, IsLyingIn}
-use Rattle.cell_laws.specs.CellLaws.{AcrossLaw, ConvexLaw, EnvelopeLaw, GenericLaw, JoinedLaw, OneLaw, WritingLaw}
+use Rattle.cell_laws.specs.CellLaws.{AcrossLaw, ConvexLaw, EnvelopeLaw, GenericLaw, JoinedLaw, OneLaw}
 use Rattle.cell_laws.specs.InsertionLaws.{EdgeLaw, FanLaw, FloodLaw, InsertLaw, StayLaw, VertexLaw}
 use Rattle.cell_laws.specs.LinkLaws.{CavityLaw, FloodedLaw, FoundLaw, LinkedLaw, ReplaceLaw, RimLaw, WallLaw}
 use Rattle.cell_laws.specs.Links.{IsBackAt}
 use Rattle.cell_laws.specs.Lists.{IsListing}
 use Rattle.geo_sign.specs.Writings.{IsVertexOf}
+use Rattle.geo_sign.proofs.Rewritings.{power_at, same_cell}
 use Rattle.cell_laws.proofs.Box.{data_inner, outer_wall}
 use Rattle.cell_laws.proofs.Closed.{closed_full, outer_none}
 use Rattle.cell_laws.proofs.Cover.{each_place}
@@ -27,7 +28,6 @@ use Rattle.cell_laws.proofs.Inside.{box_inside}
 use Rattle.cell_laws.proofs.LinkedCells.{back_same, facet_same, fan_link, flooded_closed, from_facet, link_fan, linked_listing}
 use Rattle.cell_laws.proofs.Regions.{IsInner, IsOuter}
 use Rattle.cell_laws.proofs.Rim.{fan_some, fan_spin, vertex_kept}
-use Rattle.cell_laws.proofs.Ways.{power_at, same_cell, same_orientation, same_power}
 use Rattle.cell_laws.proofs.Wrap.{across, one_over}
 
 pub generic_law : GenericLaw
@@ -35,9 +35,6 @@ generic_law v x a b c d u ha hb hc hd hu o e = tied_generic v x a b c d u ha hb 
 
 pub convex_law : ConvexLaw
 convex_law v x t u ha hb hc hd hu o l k = tied_convex v x t u ha hb hc hd hu o l k
-
-pub writing_law : WritingLaw
-writing_law v t r w = record { cell = same_cell v t r w; orientation = same_orientation v t r w; power = λ p. same_power v p t r w }
 
 pub envelope_law : EnvelopeLaw
 envelope_law v t r q ht hr l = above v t r q ht hr l

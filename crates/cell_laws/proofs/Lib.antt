@@ -3,7 +3,6 @@ pub mod Order
 pub mod Conflicts
 pub mod Regions
 pub mod Best
-pub mod Writing
 pub mod Wrap
 pub mod Fan
 pub mod Ways
@@ -29,7 +28,6 @@ pub mod Near
 pub mod Firsts
 pub mod Crossings
 pub mod Spread
-pub mod Rotations
 pub mod SightSteps
 pub mod Complete
 pub mod Scanners
@@ -42,7 +40,6 @@ pub mod Renewal
 pub mod BoxLinks
 pub mod ExampleInserted
 pub mod Stored
-pub mod CellRows
 pub mod RimSides
 pub mod NamedBack
 pub mod TieSigns

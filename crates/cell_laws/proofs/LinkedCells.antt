@@ -13,15 +13,15 @@ use Rattle.cell_laws.specs.Fans.{IsFan}
 use Rattle.cell_laws.specs.Links.{IsBackAt, IsFanAt, IsFlooded, IsLinked, IsRim}
 use Rattle.cell_laws.specs.Lists.{IsClosed, IsFull, IsIn, IsListing}
 use Rattle.geo_sign.specs.Writings.{IsRewritten, spin}
+use Rattle.geo_sign.proofs.Exchanges.{spin_orientation}
+use Rattle.geo_sign.proofs.Rewritings.{IsCellOf, rewritten_after, rewritten_back, same_cell, same_power}
+use Rattle.geo_sign.proofs.Rotations.{rotated_after, rotated_back}
 use Rattle.cell_laws.proofs.Closed.{closed_full, linked_joined, outer_none}
 use Rattle.cell_laws.proofs.Facets.{by_facets}
 use Rattle.cell_laws.proofs.Goal.{wall_outer}
-use Rattle.cell_laws.proofs.Insert.{same_back}
 use Rattle.cell_laws.proofs.Regions.{IsGeneric, IsOuter}
 use Rattle.cell_laws.proofs.Rim.{fan_spin}
-use Rattle.cell_laws.proofs.Ways.{IsCellOf, same_after, same_cell, same_power}
 use Rattle.cell_laws.proofs.Wrap.{one_over}
-use Rattle.cell_laws.proofs.Writing.{spin_orientation}
 
 -- a tetrahedron written from its facet k on
 abbrev pub from_facet : Tetrahedron → ℕ → Tetrahedron
@@ -48,7 +48,7 @@ pub back_same :
     (e : ℕ) × IsRewritten (v y) (tetrahedron f.a f.c f.b e)
 back_same live v f y h =
     let e = vertex_of (v y) h.side in
-    (e, same_after (v y) (from_facet (v y) h.side) (tetrahedron f.a f.c f.b e) (facet_same (v y) h.side) (turned_same f (facet_of (v y) h.side) e h.turned))
+    (e, rewritten_after (v y) (from_facet (v y) h.side) (tetrahedron f.a f.c f.b e) (facet_same (v y) h.side) (turned_same f (facet_of (v y) h.side) e h.turned))
 
 -- what holds at each side holds of each way to write the cell
 pub by_sides :
@@ -58,23 +58,6 @@ by_sides P f q r e h =
     by_facets P f q r e (record { opposite_a = h 0 (omega arith); opposite_b = h 1 (omega arith); opposite_c = h 2 (omega arith); opposite_d = h 3 (omega arith) })
 
 -- ---- the ways to write a cell are its facets with the vertices opposite, each in three rotations
-abbrev round : DirectedFacet → DirectedFacet
-round f = facet f.b f.c f.a
-
-pub rotated_back : (f g : DirectedFacet) → IsRotated f g → IsRotated g f
-rotated_back f g (inl e) = inl (sym e)
-rotated_back f g (inr (inl e)) = inr (inr (sym (ap (λ (x : DirectedFacet). round (round x)) e)))
-rotated_back f g (inr (inr e)) = inr (inl (sym (ap (λ (x : DirectedFacet). round x) e)))
-
-pub rotated_after : (f g h : DirectedFacet) → IsRotated f g → IsRotated g h → IsRotated f h
-rotated_after f g h (inl e) k = subst (λ (x : DirectedFacet). IsRotated x h) e k
-rotated_after f g h (inr (inl e)) (inl k) = inr (inl (k ∙ e))
-rotated_after f g h (inr (inl e)) (inr (inl k)) = inr (inr (k ∙ ap (λ (x : DirectedFacet). round x) e))
-rotated_after f g h (inr (inl e)) (inr (inr k)) = inl (k ∙ ap (λ (x : DirectedFacet). round (round x)) e)
-rotated_after f g h (inr (inr e)) (inl k) = inr (inr (k ∙ e))
-rotated_after f g h (inr (inr e)) (inr (inl k)) = inl (k ∙ ap (λ (x : DirectedFacet). round x) e)
-rotated_after f g h (inr (inr e)) (inr (inr k)) = inr (inl (k ∙ ap (λ (x : DirectedFacet). round (round x)) e))
-
 -- r is one of q's facets with the vertex opposite to it
 abbrev pub IsFacetOf : Tetrahedron → Tetrahedron → Type 0
 IsFacetOf q r = (k : ℕ) × (k < 4) × IsRotated (facet_of q k) (facet r.a r.b r.c) × (r.d ≡ vertex_of q k)
@@ -91,7 +74,7 @@ rotated_same f g e (inr (inr h)) = (true ∷ true ∷ [], ap (λ (x : DirectedFa
 pub facet_of_same : (q r : Tetrahedron) → IsFacetOf q r → IsRewritten q r
 facet_of_same q r h =
     let k = h.0 in
-    let w : IsRewritten q (under (facet r.a r.b r.c) (vertex_of q k)) = same_after q (from_facet q k) (under (facet r.a r.b r.c) (vertex_of q k)) (facet_same q k) (rotated_same (facet_of q k) (facet r.a r.b r.c) (vertex_of q k) h.2) in
+    let w : IsRewritten q (under (facet r.a r.b r.c) (vertex_of q k)) = rewritten_after q (from_facet q k) (under (facet r.a r.b r.c) (vertex_of q k)) (facet_same q k) (rotated_same (facet_of q k) (facet r.a r.b r.c) (vertex_of q k) h.2) in
     subst (λ e. IsRewritten q (tetrahedron r.a r.b r.c e)) (sym h.3) w
 
 -- cells that are written with one facet first are one
@@ -232,4 +215,4 @@ pub once_apart :
     (x y : X) (a b c d e : ℕ) → IsIn live x → IsIn live y → IsRewritten (cell x) (tetrahedron a b c d) → IsRewritten (cell y) (tetrahedron a b c e) → x ≡ y
 once_apart v g live cell cells once x y a b c d e i j w w' =
     let same : d ≡ e = one_over v g a b c d e (same_cell v (cell x) (tetrahedron a b c d) w (cells x i)) (same_cell v (cell y) (tetrahedron a b c e) w' (cells y j)) in
-    once x y i j (same_after (cell x) (tetrahedron a b c e) (cell y) (subst (λ t. IsRewritten (cell x) (tetrahedron a b c t)) same w) (same_back (cell y) (tetrahedron a b c e) w'))
+    once x y i j (rewritten_after (cell x) (tetrahedron a b c e) (cell y) (subst (λ t. IsRewritten (cell x) (tetrahedron a b c t)) same w) (rewritten_back (cell y) (tetrahedron a b c e) w'))

@@ -1,29 +1,14 @@
 -- Neighbours name each other across the same facet.
 -- Stands on: LinkedCells and Laws (no neighbour exactly across a wall).
-use Rattle.std.proofs.Common.{ℕ, ◌≡◌, refl, ap, sym, ◌∙◌, inl, inr, Option, Some, None}
-use Rattle.geo_sign.specs.Tetrahedron.{tetrahedron, DirectedFacet, facet, facet_of, IsTurned, IsRotated}
+use Rattle.std.proofs.Common.{ℕ, ◌≡◌, refl, ap, sym, ◌∙◌, Option, Some, None}
+use Rattle.geo_sign.specs.Tetrahedron.{tetrahedron, facet_of, IsRotated}
 use Rattle.cell_laws.specs.LinkLaws.{BackLaw}
 use Rattle.cell_laws.specs.Links.{IsBackAt}
+use Rattle.geo_sign.proofs.Rewritings.{same_cell}
+use Rattle.geo_sign.proofs.Rotations.{turned_back, turned_turned}
 use Rattle.cell_laws.proofs.Closed.{outer_none}
 use Rattle.cell_laws.proofs.Goal.{wall_outer}
 use Rattle.cell_laws.proofs.LinkedCells.{back_same, facet_same, from_facet}
-use Rattle.cell_laws.proofs.Ways.{same_cell}
-
-pub turned_back : (f g : DirectedFacet) → IsTurned f g → IsTurned g f
-turned_back f g (inl e) = inl (sym (ap (λ (x : DirectedFacet). facet x.a x.c x.b) e))
-turned_back f g (inr (inl e)) = inr (inl (sym (ap (λ (x : DirectedFacet). facet x.c x.b x.a) e)))
-turned_back f g (inr (inr e)) = inr (inr (sym (ap (λ (x : DirectedFacet). facet x.b x.a x.c) e)))
-
-pub turned_twice : (f g h : DirectedFacet) → IsTurned f g → IsTurned g h → IsRotated f h
-turned_twice f g h (inl e) (inl k) = inl (k ∙ ap (λ (x : DirectedFacet). facet x.a x.c x.b) e)
-turned_twice f g h (inr (inl e)) (inl k) = inr (inr (k ∙ ap (λ (x : DirectedFacet). facet x.a x.c x.b) e))
-turned_twice f g h (inr (inr e)) (inl k) = inr (inl (k ∙ ap (λ (x : DirectedFacet). facet x.a x.c x.b) e))
-turned_twice f g h (inl e) (inr (inl k)) = inr (inl (k ∙ ap (λ (x : DirectedFacet). facet x.c x.b x.a) e))
-turned_twice f g h (inr (inl e)) (inr (inl k)) = inl (k ∙ ap (λ (x : DirectedFacet). facet x.c x.b x.a) e)
-turned_twice f g h (inr (inr e)) (inr (inl k)) = inr (inr (k ∙ ap (λ (x : DirectedFacet). facet x.c x.b x.a) e))
-turned_twice f g h (inl e) (inr (inr k)) = inr (inr (k ∙ ap (λ (x : DirectedFacet). facet x.b x.a x.c) e))
-turned_twice f g h (inr (inl e)) (inr (inr k)) = inr (inl (k ∙ ap (λ (x : DirectedFacet). facet x.b x.a x.c) e))
-turned_twice f g h (inr (inr e)) (inr (inr k)) = inl (k ∙ ap (λ (x : DirectedFacet). facet x.b x.a x.c) e)
 
 pub back_law : BackLaw
 back_law v b live cell next l cells x k y i m e =
@@ -40,6 +25,6 @@ back_law v b live cell next l cells x k y i m e =
         absurd (outer_none v t.a t.b t.c z.0 o (same_cell v (cell x) (tetrahedron t.a t.c t.b z.0) z.1 (cells x i)))
     by (Some w) f =
         let s : IsBackAt live cell (facet_of (cell y) r.side) w = l.back y r.side w r.listed r.in_range f in
-        let q : IsRotated (facet_of (cell x) k) (facet_of (cell w) s.side) = turned_twice (facet_of (cell x) k) (facet_of (cell y) r.side) (facet_of (cell w) s.side) r.turned s.turned in
+        let q : IsRotated (facet_of (cell x) k) (facet_of (cell w) s.side) = turned_turned (facet_of (cell x) k) (facet_of (cell y) r.side) (facet_of (cell w) s.side) r.turned s.turned in
         let same : x ≡ w = l.apart x w k s.side i s.listed m s.in_range q in
         f ∙ ap Some (sym same)

@@ -16,12 +16,12 @@ use Rattle.geo_sign.specs.Vertices.{Has, Vertices}
 use Rattle.geo_sign.specs.Places.{IsLyingIn, IsStrictlyIn}
 use Rattle.geo_sign.specs.NearPlaces.{mix, near}
 use Rattle.geo_sign.specs.Writings.{IsVertexOf, IsRewritten}
+use Rattle.geo_sign.proofs.Rewritings.{IsCellOf, orientation_at}
 use Rattle.cell_laws.proofs.Cover.{lies_of}
 use Rattle.cell_laws.proofs.Flood.{holds_one, weak}
 use Rattle.cell_laws.proofs.Regions.{IsConvex, IsGeneric}
 use Rattle.geo_sign.specs.Edges.{HasVertex}
 use Rattle.cell_laws.proofs.Sides.{inward, on_facet, opposite, opposite_or_on}
-use Rattle.cell_laws.proofs.Ways.{IsCellOf, orientation_at}
 
 pub side_mix :
     (a b c p : Point) (s : RationalPoint) (i j : ℤ) →

@@ -16,8 +16,8 @@ use Rattle.cell_laws.specs.Links.{IsLinked, IsBackAt}
 use Rattle.cell_laws.specs.Lists.{IsIn}
 use Rattle.cell_laws.specs.Replacements.{IsRimFacet, IsRimList, IsRenewed, IsRelinked}
 use Rattle.geo_sign.specs.Writings.{IsVertexOf}
+use Rattle.geo_sign.proofs.Rotations.{rotated_after, rotated_back, rotated_turned}
 use Rattle.cell_laws.proofs.Edges.{edges_turned, side_edge}
-use Rattle.cell_laws.proofs.LinkedCells.{rotated_after, rotated_back}
 use Rattle.cell_laws.proofs.RimLists.{rotated_vertex}
 
 -- ---- the links
@@ -56,17 +56,7 @@ back_at :
 back_at live cell f g t y side e h i m r =
     record { listed = i; side = side; in_range = m; turned = subst (λ (x : DirectedFacet). IsTurned x (facet_of (cell y) side)) (sym e) (subst (λ (u : Tetrahedron). IsTurned f (facet_of u side)) (sym h) r) }
 
--- a facet that is turned is turned however the other is written
-turned_rotated : (f g h : DirectedFacet) → IsRotated f g → IsTurned f h → IsTurned g h
-turned_rotated f g h (inl e) k = subst (λ (x : DirectedFacet). IsTurned x h) (sym e) k
-turned_rotated f g h (inr (inl e)) (inl k) = inr (inl (k ∙ ap (λ (x : DirectedFacet). facet x.c x.b x.a) (sym e)))
-turned_rotated f g h (inr (inl e)) (inr (inl k)) = inr (inr (k ∙ ap (λ (x : DirectedFacet). facet x.b x.a x.c) (sym e)))
-turned_rotated f g h (inr (inl e)) (inr (inr k)) = inl (k ∙ ap (λ (x : DirectedFacet). facet x.a x.c x.b) (sym e))
-turned_rotated f g h (inr (inr e)) (inl k) = inr (inr (k ∙ ap (λ (x : DirectedFacet). facet x.b x.a x.c) (sym e)))
-turned_rotated f g h (inr (inr e)) (inr (inl k)) = inl (k ∙ ap (λ (x : DirectedFacet). facet x.a x.c x.b) (sym e))
-turned_rotated f g h (inr (inr e)) (inr (inr k)) = inr (inl (k ∙ ap (λ (x : DirectedFacet). facet x.c x.b x.a) (sym e)))
-
--- and so is one on a wall
+-- a facet on a wall is so however it is written
 wall_round : (v : Vertices) (f : DirectedFacet) → IsWall v f → IsWall v (facet f.b f.c f.a)
 wall_round v f w =
     record {
@@ -146,7 +136,7 @@ module _ (v : Vertices) (p : ℕ) (live : List ℕ) (cell : ℕ → Tetrahedron)
           let same : z.0 ≡ y = some_same z.0 y (sym z.1 ∙ o) in
           let free : removed y ≡ false = subst (λ (w : ℕ). removed w ≡ false) same z.2 in
           let b : IsBackAt live cell (facet_of (cell rim.at) rim.side) y = r.linked.back rim.at rim.side y rim.listed rim.in_range (rim.across ∙ o) in
-          let turned : IsTurned (fan i) (facet_of (cell y) b.side) = turned_rotated (facet_of (cell rim.at) rim.side) (fan i) (facet_of (cell y) b.side) rim.rotated b.turned in
+          let turned : IsTurned (fan i) (facet_of (cell y) b.side) = rotated_turned (fan i) (facet_of (cell rim.at) rim.side) (facet_of (cell y) b.side) (rotated_back (facet_of (cell rim.at) rim.side) (fan i) rim.rotated) b.turned in
           back_at live' cell' (fan i) (facet_of (cell' (fresh i)) 3) (cell y) y b.side f (old_cell y (b.listed, free)) (r.names.kept y b.listed free) b.in_range turned
 
   inner_back : (i k y : ℕ) → i < n → k < 3 → next' (fresh i) k ≡ Some y → IsBackAt live' cell' (facet_of (cell' (fresh i)) k) y

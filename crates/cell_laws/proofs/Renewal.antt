@@ -8,6 +8,7 @@ use Rattle.cell_laws.specs.LinkLaws.{RenewLaw, AreRims}
 use Rattle.cell_laws.specs.Links.{IsLinked}
 use Rattle.cell_laws.specs.Lists.{IsIn, AreCells, IsMade}
 use Rattle.geo_sign.specs.Writings.{IsVertexOf}
+use Rattle.geo_sign.proofs.Rewritings.{IsCellOf}
 use Rattle.cell_laws.proofs.Box.{data_inner}
 use Rattle.cell_laws.proofs.Fan.{not_in}
 use Rattle.cell_laws.proofs.Heights.{tied_generic}
@@ -17,7 +18,6 @@ use Rattle.cell_laws.proofs.LinkedCells.{linked_listing}
 use Rattle.cell_laws.proofs.Regions.{IsGeneric}
 use Rattle.cell_laws.proofs.Relinking.{relink_law}
 use Rattle.cell_laws.proofs.RimLists.{rim_list_law}
-use Rattle.cell_laws.proofs.Ways.{IsCellOf}
 
 -- a vertex that is not in is none of a cell's
 absent : (v : Vertices) (p : ℕ) → IsNew v p → (t : Tetrahedron) → IsCellOf v t → ¬ IsVertexOf t p

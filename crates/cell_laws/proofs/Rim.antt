@@ -19,6 +19,7 @@ use Rattle.geo_sign.specs.Boxes.{with_vertex}
 use Rattle.cell_laws.specs.Fans.{IsFan}
 use Rattle.cell_laws.specs.Lifts.{lift_of}
 use Rattle.geo_sign.specs.Writings.{IsVertexOf, IsRewritten}
+use Rattle.geo_sign.proofs.Rewritings.{IsCellOf, orientation_at, power_at, same_cell, same_orientation, same_power, same_vertex, spin_cell}
 use Rattle.cell_laws.proofs.Best.{best, IsBest}
 use Rattle.cell_laws.proofs.Cover.{Certified, certified, certified_full, each_vertex}
 use Rattle.cell_laws.proofs.Fan.{across_above, cell_fan, fan_cell, stays, was_cell}
@@ -27,16 +28,15 @@ use Rattle.cell_laws.proofs.Identities.{three_lifts}
 use Rattle.cell_laws.proofs.Insert.{IsNoneOf, last, of_or_not}
 use Rattle.cell_laws.proofs.Order.{mul_positive}
 use Rattle.cell_laws.proofs.Regions.{IsConvex, IsGeneric, IsInner}
-use Rattle.cell_laws.proofs.Ways.{beside, IsCellOf, orientation_at, power_at, same_cell, same_lift, same_of, same_orientation, same_power}
-use Rattle.cell_laws.proofs.Writing.{spin_cell}
+use Rattle.cell_laws.proofs.Ways.{beside, same_lift}
 
 pub fan_spin : (v : Vertices) (p a b c : ℕ) → IsFan v p a b c → IsFan v p b c a
 fan_spin v p a b c f =
-    record { apex = f.apex; cell = spin_cell v a b c f.apex f.cell; conflict = subst (λ t. t <ℤ pos 0) (sym (same_power v p (tetrahedron a b c f.apex) (tetrahedron b c a f.apex) (true ∷ [], refl))) f.conflict; outside = outside }
+    record { apex = f.apex; cell = spin_cell v (tetrahedron a b c f.apex) f.cell; conflict = subst (λ t. t <ℤ pos 0) (sym (same_power v p (tetrahedron a b c f.apex) (tetrahedron b c a f.apex) (true ∷ [], refl))) f.conflict; outside = outside }
   where
     outside : (e : ℕ) → IsCell v b a c e → pos 0 ≤ℤ power_of v b a c e p
     outside e k =
-        let m = f.outside e (spin_cell v b a c e k) in
+        let m = f.outside e (spin_cell v (tetrahedron b a c e) k) in
         subst (λ t. pos 0 ≤ℤ t) (same_power v p (tetrahedron b a c e) (tetrahedron a c b e) (true ∷ [], refl)) m
 
 -- the sides sum to the cell
@@ -139,7 +139,7 @@ vertex_kept v g m p i f h a b c d k n u w =
     pick r j o (inl q) =
         let x = last r p q in
         let l = same_cell (with_vertex v p) r x.0 x.1 j in
-        inl (x.0.a, x.0.b, x.0.c, cell_fan v p g i f h x.0.a x.0.b x.0.c (subst (λ y. IsCell (with_vertex v p) x.0.a x.0.b x.0.c y) x.2 l), rest x.0 x.2 (same_of u r x.0 x.1 o))
+        inl (x.0.a, x.0.b, x.0.c, cell_fan v p g i f h x.0.a x.0.b x.0.c (subst (λ y. IsCell (with_vertex v p) x.0.a x.0.b x.0.c y) x.2 l), rest x.0 x.2 (same_vertex u r x.0 x.1 o))
     pick r j o (inr q) =
         let x = was_cell v p h r.a r.b r.c r.d j q.a q.b q.c q.d in
         inr (r, x.0, o, x.1)

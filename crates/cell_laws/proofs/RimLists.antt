@@ -14,15 +14,15 @@ use Rattle.cell_laws.specs.Links.{IsLinked, IsRim, IsFanAt}
 use Rattle.cell_laws.specs.Lists.{IsIn, AreCells, IsFull}
 use Rattle.cell_laws.specs.Replacements.{IsOutside, IsAtRim, IsRimFacet, IsRimList}
 use Rattle.geo_sign.specs.Writings.{IsVertexOf, IsRewritten}
+use Rattle.geo_sign.proofs.CellRows.{distinct}
+use Rattle.geo_sign.proofs.Rewritings.{IsCellOf, orientation_at, rewritten_after, rewritten_back, same_cell, same_power, same_vertex}
+use Rattle.geo_sign.proofs.Rotations.{rotated_after, rotated_back, side_rotated}
 use Rattle.cell_laws.proofs.Edges.{fan_edges}
 use Rattle.cell_laws.proofs.Heights.{tied_generic}
-use Rattle.cell_laws.proofs.Insert.{same_back}
 use Rattle.cell_laws.proofs.Laws.{fan_law, linked_law, rim_law, vertex_law}
-use Rattle.cell_laws.proofs.LinkedCells.{facet_of_same, facet_same, fan_rotated, from_facet, rotated_after, rotated_back}
-use Rattle.cell_laws.proofs.Rotations.{side_rotated}
+use Rattle.cell_laws.proofs.LinkedCells.{facet_of_same, facet_same, fan_rotated, from_facet}
 use Rattle.geo_sign.specs.Edges.{HasVertex}
 use Rattle.cell_laws.proofs.Sides.{opposite, on_facet, opposite_or_on}
-use Rattle.cell_laws.proofs.Ways.{IsCellOf, orientation_at, distinct, same_after, same_cell, same_of, same_power}
 use Rattle.cell_laws.proofs.Wrap.{one_over}
 
 -- ---- a cell's facets are different
@@ -74,7 +74,7 @@ one_facet v b t r ht hr j k hj hk q =
     let e = vertex_of r k in
     let w : IsRewritten r (tetrahedron f.a f.b f.c e) = facet_of_same r (tetrahedron f.a f.b f.c e) (k, hk, rotated_back f (facet_of r k) q, refl) in
     let d : vertex_of t j ≡ e = one_over v (tied_generic v b) f.a f.b f.c (vertex_of t j) e (same_cell v t (from_facet t j) (facet_same t j) ht) (same_cell v r (tetrahedron f.a f.b f.c e) w hr) in
-    same_after t (tetrahedron f.a f.b f.c e) r (subst (λ (n : ℕ). IsRewritten t (tetrahedron f.a f.b f.c n)) d (facet_same t j)) (same_back r (tetrahedron f.a f.b f.c e) w)
+    rewritten_after t (tetrahedron f.a f.b f.c e) r (subst (λ (n : ℕ). IsRewritten t (tetrahedron f.a f.b f.c n)) d (facet_same t j)) (rewritten_back r (tetrahedron f.a f.b f.c e) w)
 
 pub facet_law : FacetLaw
 facet_law v b t r ht hr = record { cell = one_facet v b t r ht hr; side = λ j k hj hk q. one_side v t j k hj hk ht.positive q }
@@ -149,7 +149,7 @@ module _ (v : Vertices) (b : IsBoxed v) (p : ℕ) (new : IsNew v p) (live : List
       let q : ((i : ℕ) × (i < n) × HasVertex (fan i) u) ⊎ ((x : ℕ) × IsIn live x × (removed x ≡ false) × IsVertexOf (cell x) u) = inl (y.0, y.1, w) in q)
       (λ (z : (t : Tetrahedron) × IsCellOf v t × IsVertexOf t u × IsClearOf v p t).
       let y = full.all z.0.a z.0.b z.0.c z.0.d z.1 in
-      let w : IsVertexOf (cell y.0) u = same_of u z.0 (cell y.0) (same_back (cell y.0) z.0 y.2) z.2 in
+      let w : IsVertexOf (cell y.0) u = same_vertex u z.0 (cell y.0) (rewritten_back (cell y.0) z.0 y.2) z.2 in
       let clear : IsClearOf v p (cell y.0) = subst (λ (e : ℤ). pos 0 ≤ℤ e) (same_power v p (cell y.0) z.0 y.2) z.3 in
       let q : ((i : ℕ) × (i < n) × HasVertex (fan i) u) ⊎ ((x : ℕ) × IsIn live x × (removed x ≡ false) × IsVertexOf (cell x) u) = inr (y.0, y.1, free y.0 y.1 clear (removed y.0) refl, w) in q)
       (vertex_law v b p new t.a t.b t.c t.d (cells x i) conflict u h)

@@ -16,14 +16,12 @@ use Rattle.geo_sign.specs.Writings.{IsRewritten}
 use Rattle.cell_laws.specs.Lists.{IsListing}
 use Rattle.cell_laws.specs.RowLaws.{RowSightLaw}
 use Rattle.cell_laws.specs.WalkLaws.{HasScannerCell, HasSightCells}
-use Rattle.cell_laws.proofs.Insert.{same_back}
+use Rattle.geo_sign.proofs.Rewritings.{IsCellOf, rewritten_back, same_lying}
 use Rattle.cell_laws.proofs.RisingRows.{list_law, rising_pairs}
 use Rattle.cell_laws.proofs.Scanners.{near_law}
 use Rattle.cell_laws.proofs.SightLaws.{scanner_law, vertex_sight_law}
 use Rattle.cell_laws.proofs.SomeCell.{place_law}
 use Rattle.cell_laws.proofs.Sums.{once_pairs, only_one, total, pick}
-use Rattle.cell_laws.proofs.Rotations.{same_lying}
-use Rattle.cell_laws.proofs.Ways.{IsCellOf}
 
 counted : {X : Type 0} (test : X → Bool) (xs : List X) → count_by test xs ≡ total (λ x. pick 1 (test x)) xs
 counted test [] = refl
@@ -39,7 +37,7 @@ one_passes :
 one_passes v b rows h test q inside passes one =
     let z = place_law v b q inside in
     let w = list.full.all z.0.a z.0.b z.0.c z.0.d z.1 in
-    let has : test (written v w.0) ≡ true = passes (written v w.0) (list.full.cells w.0 w.1) (same_lying v z.0 (written v w.0) q (same_back (written v w.0) z.0 w.2) z.2) in
+    let has : test (written v w.0) ≡ true = passes (written v w.0) (list.full.cells w.0 w.1) (same_lying v q z.0 (written v w.0) (rewritten_back (written v w.0) z.0 w.2) z.2) in
     counted (λ x. test (written v x)) rows
     ∙ only_one (λ x. 1) (λ x. test (written v x)) rows w.0 (once_pairs rows (rising_pairs rows h.rising)) w.1 has
     (λ x i t. list.once x w.0 i w.1 (one (written v x) (written v w.0) (list.full.cells x i) (list.full.cells w.0 w.1) t has))

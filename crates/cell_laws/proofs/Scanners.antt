@@ -9,6 +9,7 @@ use Rattle.geo_sign.specs.Polynomial.{constant, negation, product, sum, variable
 use Rattle.geo_sign.proofs.Ring.{ring}
 use Rattle.geo_sign.specs.Signs.{sign_of, first_sign, opposite_sign}
 use Rattle.geo_sign.specs.Point.{Point, IsWithin, cross, dot, step}
+use Rattle.geo_sign.specs.declared.point.TheConstants.{BOX_LIMIT, DATA_LIMIT}
 use Rattle.geo_sign.specs.Orientation.{orientation}
 use Rattle.geo_sign.specs.Rational.{RationalPoint, displaced, rational, side}
 use Rattle.geo_sign.proofs.Bounds.{abs_add, abs_mul}
@@ -42,7 +43,7 @@ dot_within n v h k =
     (abs_mul n.z v.z (2 ^ 49) (2 ^ 24) h.z_within k.z_within)
 
 pub scanner_bounded :
-    (a b c s : Point) → IsWithin 8388608 a → IsWithin 8388608 b → IsWithin 8388608 c → IsWithin 8388608 s →
+    (a b c s : Point) → IsWithin BOX_LIMIT a → IsWithin BOX_LIMIT b → IsWithin BOX_LIMIT c → IsWithin BOX_LIMIT s →
     unsigned_abs (side a b c (displaced s)) < weight
 scanner_bounded a b c s h i j k =
     let n : Point = cross (step a b) (step a c) in
@@ -75,7 +76,7 @@ scanner_spread v x s =
 neg_none : (z : ℤ) → neg_ℤ z ≡ pos 0 → z ≡ pos 0
 neg_none z h = omega (arith, ints)
 
-pub scanner_free : (v : Vertices) → IsBoxed v → (s : Point) → IsWithin 8388608 s → IsFree v (displaced s) weight
+pub scanner_free : (v : Vertices) → IsBoxed v → (s : Point) → IsWithin BOX_LIMIT s → IsFree v (displaced s) weight
 scanner_free v x s h =
     record {
       apart = λ t c. ends_apart v (displaced s) t (scanner_spread v x s) c;
@@ -93,18 +94,18 @@ reversed_free v q t h =
     }
 
 -- ---- these places are in the box
-pub scanner_in_box : (s : Point) → IsWithin 2097151 s → IsInBox (displaced s)
+pub scanner_in_box : (s : Point) → IsWithin DATA_LIMIT s → IsInBox (displaced s)
 scanner_in_box s h =
     let hx = h.x_within in let hy = h.y_within in let hz = h.z_within in
     record { over_positive = omega (arith, ints); x_within = omega (arith, ints, hx); y_within = omega (arith, ints, hy); z_within = omega (arith, ints, hz) }
 
-near_in_box : (p s : Point) → IsWithin 2097151 p → IsWithin 2097151 s → IsInBox (towards_place p s)
+near_in_box : (p s : Point) → IsWithin DATA_LIMIT p → IsWithin DATA_LIMIT s → IsInBox (towards_place p s)
 near_in_box p s g h =
     let hx = h.x_within in let hy = h.y_within in let hz = h.z_within in
     let gx = g.x_within in let gy = g.y_within in let gz = g.z_within in
     record { over_positive = omega (arith, ints); x_within = omega (arith, ints, hx, gx); y_within = omega (arith, ints, hy, gy); z_within = omega (arith, ints, hz, gz) }
 
-away_in_box : (p s : Point) → IsWithin 2097151 p → IsWithin 2097151 s → IsInBox (behind_place p s)
+away_in_box : (p s : Point) → IsWithin DATA_LIMIT p → IsWithin DATA_LIMIT s → IsInBox (behind_place p s)
 away_in_box p s g h =
     let hx = h.x_within in let hy = h.y_within in let hz = h.z_within in
     let gx = g.x_within in let gy = g.y_within in let gz = g.z_within in
@@ -135,7 +136,7 @@ away_sign a b c p s h =
     below : (z : ℤ) → unsigned_abs z < weight → unsigned_abs (neg_ℤ z) < weight
     below z h = omega (arith, ints)
 
-pub in_box : (s : Point) → IsWithin 2097151 s → IsWithin 8388608 s
+pub in_box : (s : Point) → IsWithin DATA_LIMIT s → IsWithin BOX_LIMIT s
 in_box s h =
     let hx = h.x_within in
     let hy = h.y_within in

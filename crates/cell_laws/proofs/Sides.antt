@@ -4,43 +4,22 @@
 --   HasVertex f n     n is a vertex of the facet
 --
 -- Stands on: the definitions alone.
-use Rattle.std.proofs.Common.{ℕ, zero, suc, ◌≡◌, ap, ◌∙◌, inl, inr, ◌⊎◌, ℤ, pos, neg_ℤ, [], ◌∷◌}
+use Rattle.std.proofs.Common.{ℕ, zero, suc, ◌≡◌, ap, ◌∙◌, inl, inr, ◌⊎◌, ℤ, pos, []}
 use Rattle.geo_sign.specs.Edges.{HasVertex}
-use Rattle.geo_sign.specs.Polynomial.{constant, negation, variable}
+use Rattle.geo_sign.specs.Polynomial.{constant}
 use Rattle.geo_sign.proofs.Ring.{ring}
 use Rattle.geo_sign.specs.Orientation.{orientation}
 use Rattle.geo_sign.specs.Point.{Point}
 use Rattle.geo_sign.specs.Rational.{rational, RationalPoint, side}
 use Rattle.geo_sign.proofs.Written.{coordinates, orientation', side', symbols}
 use Rattle.geo_sign.specs.Sights.{side_of}
-use Rattle.geo_sign.specs.Tetrahedron.{DirectedFacet, facet_of, IsTurned, Tetrahedron, vertex_of}
+use Rattle.geo_sign.specs.Tetrahedron.{DirectedFacet, facet_of, Tetrahedron, vertex_of}
 use Rattle.geo_sign.specs.Vertices.{Vertices}
 use Rattle.geo_sign.specs.Writings.{IsVertexOf}
-use Rattle.cell_laws.proofs.Ways.{orientation_at}
+use Rattle.geo_sign.proofs.Rewritings.{orientation_at}
 
 abbrev pub inward : Vertices → Tetrahedron → ℕ → RationalPoint → ℤ
 inward v cell k q = side_of v (facet_of cell k) q
-
--- ---- the sides of a facet and of the turned one
-pub turned_side : (a b c : Point) (q : RationalPoint) → side a c b q ≡ neg_ℤ (side a b c q)
-unfolding side
-turned_side a b c q =
-    ring (coordinates a (coordinates b (coordinates c (coordinates q.at (q.over ∷ []))))) (side' (symbols 0) (symbols 6) (symbols 3) (record { at = symbols 9; over = variable 12 })) (negation (side' (symbols 0) (symbols 3) (symbols 6) (record { at = symbols 9; over = variable 12 }))) tt
-
-turned_side_second : (a b c : Point) (q : RationalPoint) → side c b a q ≡ neg_ℤ (side a b c q)
-unfolding side
-turned_side_second a b c q =
-    ring (coordinates a (coordinates b (coordinates c (coordinates q.at (q.over ∷ []))))) (side' (symbols 6) (symbols 3) (symbols 0) (record { at = symbols 9; over = variable 12 })) (negation (side' (symbols 0) (symbols 3) (symbols 6) (record { at = symbols 9; over = variable 12 }))) tt
-
-turned_side_third : (a b c : Point) (q : RationalPoint) → side b a c q ≡ neg_ℤ (side a b c q)
-unfolding side
-turned_side_third a b c q =
-    ring (coordinates a (coordinates b (coordinates c (coordinates q.at (q.over ∷ []))))) (side' (symbols 3) (symbols 0) (symbols 6) (record { at = symbols 9; over = variable 12 })) (negation (side' (symbols 0) (symbols 3) (symbols 6) (record { at = symbols 9; over = variable 12 }))) tt
-
-pub beside_turned : (v : Vertices) (f g : DirectedFacet) (q : RationalPoint) → IsTurned f g → side_of v g q ≡ neg_ℤ (side_of v f q)
-beside_turned v f g q (inl e) = ap (λ h. side_of v h q) e ∙ turned_side (v.at f.a) (v.at f.b) (v.at f.c) q
-beside_turned v f g q (inr (inl e)) = ap (λ h. side_of v h q) e ∙ turned_side_second (v.at f.a) (v.at f.b) (v.at f.c) q
-beside_turned v f g q (inr (inr e)) = ap (λ h. side_of v h q) e ∙ turned_side_third (v.at f.a) (v.at f.b) (v.at f.c) q
 
 -- ---- a cell's own vertices lie in it
 at_first : (a b c : Point) → side a b c (rational a) ≡ pos 0

@@ -13,7 +13,10 @@ use Rattle.cell_laws.specs.Lifts.{is_higher}
 use Rattle.cell_laws.specs.Lists.{IsIn, AreCells, count}
 use Rattle.geo_sign.specs.NearPlaces.{reversed, weight, towards_place, behind_place}
 use Rattle.cell_laws.specs.Paths.{IsOnSight}
-use Rattle.cell_laws.specs.WalkLaws.{StepLaw, ScannerLaw, VertexSightLaw, SightLaw, TurnLaw}
+use Rattle.cell_laws.specs.WalkLaws.{StepLaw, ScannerLaw, VertexSightLaw, SightLaw}
+use Rattle.geo_sign.proofs.Exchanges.{turned_side}
+use Rattle.geo_sign.proofs.Rewritings.{IsCellOf, same_cell}
+use Rattle.geo_sign.proofs.Rotations.{side_turned}
 use Rattle.cell_laws.proofs.SomeCell.{place_law}
 use Rattle.cell_laws.proofs.Crossings.{IsCrossed, IsLeft, left_turned, entry_of, exit_left, left_exit, starts, ends}
 use Rattle.cell_laws.proofs.Spread.{ends_apart, leads_apart}
@@ -25,13 +28,11 @@ use Rattle.cell_laws.proofs.Inside.{box_inside}
 use Rattle.cell_laws.proofs.LinkedCells.{facet_same, back_same, from_facet}
 use Rattle.cell_laws.proofs.Near.{IsFree, near_towards, one_towards}
 use Rattle.cell_laws.proofs.Regions.{IsGeneric, IsConvex}
-use Rattle.cell_laws.proofs.Rotations.{crossed_rotated}
 use Rattle.cell_laws.proofs.Scanners.{scanner_free, reversed_free, scanner_spread, scanner_in_box, near_law, in_box}
-use Rattle.cell_laws.proofs.Sides.{beside_turned, turned_side, inward}
+use Rattle.cell_laws.proofs.Sides.{inward}
 use Rattle.cell_laws.proofs.SightSteps.{all_inside, towards_past, entry_past, neg_above, at_least, one_exit, one_entry}
 use Rattle.cell_laws.proofs.SightTests.{crossed_of, crossed_is, strictly_of, strictly_is, towards_of, towards_is, behind_is}
 use Rattle.cell_laws.proofs.Walk.{walk_falls}
-use Rattle.cell_laws.proofs.Ways.{IsCellOf, same_cell}
 
 -- ---- a walk over linked cells
 -- a facet of a linked cell that a place of the box is behind has a cell across
@@ -144,7 +145,7 @@ pub left_of : (v : Vertices) (p : ℕ) (s : RationalPoint) (f : DirectedFacet) �
 left_of v p s f h =
     let c : IsCrossed v p s (turned f) = crossed_of v p s (turned f) h in
     let x = c.ahead in let y = c.behind in let i = c.ab in let j = c.bc in let k = c.ca in
-    let t = beside_turned v f (turned f) s (inl refl) in let u = beside_turned v f (turned f) (rational (v.at p)) (inl refl) in
+    let t = side_turned v f (turned f) s (inl refl) in let u = side_turned v f (turned f) (rational (v.at p)) (inl refl) in
     let ti = turned_side (v.at p) (v.at f.c) (v.at f.a) s in
     let tj = turned_side (v.at p) (v.at f.b) (v.at f.c) s in
     let tk = turned_side (v.at p) (v.at f.a) (v.at f.b) s in
@@ -152,9 +153,6 @@ left_of v p s f h =
 
 pub left_is : (v : Vertices) (p : ℕ) (s : RationalPoint) (f : DirectedFacet) → IsLeft v p s f → is_crossed v p s (turned f) ≡ true
 left_is v p s f h = crossed_is v p s (turned f) (left_turned v p s f (turned f) (inl refl) h)
-
-pub turn_law : TurnLaw
-turn_law v p s f g r h = crossed_is v p s g (crossed_rotated v p s f g r (crossed_of v p s f h))
 
 pub sight_law : SightLaw
 sight_law v b p hp s h t c =

@@ -4,6 +4,7 @@ use Rattle.std.proofs.Common.{ℕ, zero, suc, ◌<◌, ◌≡◌, refl, ap, ap�
 use Rattle.std.proofs.lemmas.Bool.{eqb-true}
 use Rattle.std.proofs.lemmas.Int.{ints}
 use Rattle.geo_sign.specs.Point.{Point, IsWithin}
+use Rattle.geo_sign.specs.declared.point.TheConstants.{DATA_LIMIT}
 use Rattle.geo_sign.specs.Rational.{RationalPoint, displaced}
 use Rattle.geo_sign.specs.Tetrahedron.{Tetrahedron, DirectedFacet, facet_of, turned}
 use Rattle.geo_sign.specs.Vertices.{Vertices, Has}
@@ -54,7 +55,7 @@ record AreGiven (v : Vertices) (live : List ℕ) (cell : ℕ → Tetrahedron) (n
   linked : IsLinked v live cell next
   cells : AreCells v live cell
   has : Has v p
-  within : IsWithin 2097151 s
+  within : IsWithin DATA_LIMIT s
 
 passed :
     (v : Vertices) (live : List ℕ) (cell : ℕ → Tetrahedron) (next : ℕ → ℕ → Option ℕ) (p : ℕ) (s : Point) →

@@ -19,13 +19,14 @@ use Rattle.geo_sign.specs.Tetrahedron.{facet_of, IsTurned, Tetrahedron, vertex_o
 use Rattle.geo_sign.specs.Vertices.{Vertices}
 use Rattle.geo_sign.specs.Places.{IsStrictlyIn}
 use Rattle.cell_laws.specs.Lists.{IsIn}
+use Rattle.geo_sign.proofs.Rewritings.{IsCellOf, orientation_at}
+use Rattle.geo_sign.proofs.Rotations.{side_turned}
 use Rattle.cell_laws.proofs.Crossings.{ends, entry_of, IsCrossed, IsEntry, IsLeft, left_exit, left_turned, starts}
 use Rattle.cell_laws.proofs.Firsts.{IsAhead, IsExit, IsPast, lead_of}
 use Rattle.cell_laws.proofs.Near.{IsTowards}
 use Rattle.cell_laws.proofs.Order.{IsLater, later_trans}
 use Rattle.geo_sign.specs.Edges.{HasVertex}
-use Rattle.cell_laws.proofs.Sides.{beside_turned, inward, on_facet, opposite, opposite_or_on}
-use Rattle.cell_laws.proofs.Ways.{IsCellOf, orientation_at}
+use Rattle.cell_laws.proofs.Sides.{inward, on_facet, opposite, opposite_or_on}
 
 -- a facet that is crossed: the cell on its inner side, and its index there
 pub record Passage : Type 0 where
@@ -167,8 +168,8 @@ next_nearer v p s c d i b e h =
     let a = e.end in let z = x.end in
     let n : c.at ≢ h.leaving = λ y. absurd (let g : S c.at ≡ S h.leaving = ap S y in omega (arith, ints, a, z, g)) in
     let l = x.others c.at b n in
-    let t = beside_turned v (facet_of c.cell h.leaving) (facet_of d.cell d.at) (rational (v.at p)) h.turned in
-    let u = beside_turned v (facet_of c.cell h.leaving) (facet_of d.cell d.at) s h.turned in
+    let t = side_turned v (facet_of c.cell h.leaving) (facet_of d.cell d.at) (rational (v.at p)) h.turned in
+    let u = side_turned v (facet_of c.cell h.leaving) (facet_of d.cell d.at) s h.turned in
     let f : neg_ℤ (P c.at) *ℤ ends v s d.cell d.at ≡ P c.at *ℤ S h.leaving = ap (λ y. neg_ℤ (P c.at) *ℤ y) u ∙ double_neg (P c.at) (S h.leaving) in
     let g : neg_ℤ (starts v p d.cell d.at) *ℤ S c.at ≡ P h.leaving *ℤ S c.at = ap (λ y. neg_ℤ y *ℤ S c.at) t ∙ ap (λ y. y *ℤ S c.at) (neg_twice (P h.leaving)) in
     record { is = omega (arith, ints, f, g, l) }

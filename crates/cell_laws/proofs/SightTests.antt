@@ -10,10 +10,10 @@ use Rattle.geo_sign.specs.Sights.{side_of, is_positive, is_negative, is_crossed,
 use Rattle.geo_sign.specs.Writings.{IsVertexOf}
 use Rattle.geo_sign.specs.Places.{IsStrictlyIn}
 use Rattle.geo_sign.specs.NearPlaces.{reversed}
+use Rattle.geo_sign.proofs.Rewritings.{IsCellOf, orientation_at}
 use Rattle.cell_laws.proofs.Wrap.{above_true, above_is, and_left, and_right}
 use Rattle.cell_laws.proofs.Fan.{same_number}
 use Rattle.cell_laws.proofs.Flood.{below_true, below_is}
-use Rattle.cell_laws.proofs.Ways.{IsCellOf, orientation_at}
 use Rattle.geo_sign.specs.Edges.{HasVertex}
 use Rattle.cell_laws.proofs.Sides.{inward, opposite, on_facet, opposite_or_on}
 use Rattle.cell_laws.proofs.Near.{IsTowards}

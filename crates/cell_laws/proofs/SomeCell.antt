@@ -10,9 +10,9 @@ use Rattle.geo_sign.specs.Vertices.{Vertices, Has}
 use Rattle.geo_sign.specs.Boxes.{IsBoxed, IsNew, with_vertex}
 use Rattle.geo_sign.specs.Places.{IsInBox}
 use Rattle.cell_laws.specs.CellLaws.{PlaceLaw, SomeLaw}
+use Rattle.geo_sign.proofs.Rewritings.{IsCellOf}
 use Rattle.cell_laws.proofs.BoxLinks.{box_law}
 use Rattle.cell_laws.proofs.Laws.{fan_law, found_law, placed}
-use Rattle.cell_laws.proofs.Ways.{IsCellOf}
 
 -- the vertices of which those below k are in, as they were
 abbrev front : ℕ → Vertices → Vertices

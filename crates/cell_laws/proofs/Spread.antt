@@ -9,10 +9,10 @@ use Rattle.geo_sign.specs.Rational.{rational, RationalPoint, side}
 use Rattle.geo_sign.proofs.Written.{coordinates, side', symbols}
 use Rattle.geo_sign.specs.Tetrahedron.{DirectedFacet, facet_of, Tetrahedron, vertex_of}
 use Rattle.geo_sign.specs.Vertices.{Vertices}
+use Rattle.geo_sign.proofs.Rewritings.{IsCellOf, orientation_at}
 use Rattle.cell_laws.proofs.Firsts.{lead_of}
 use Rattle.cell_laws.proofs.Order.{factor_none}
 use Rattle.cell_laws.proofs.Sides.{opposite}
-use Rattle.cell_laws.proofs.Ways.{IsCellOf, orientation_at}
 use Rattle.cell_laws.proofs.Crossings.{starts, ends, edge_ab, edge_bc, edge_ca, first_of, second_of, third_of, other_index}
 
 -- ---- s lies on the plane of three vertices only where these lie on a line

@@ -1,20 +1,22 @@
 -- The vertices of a store, its list of names, and the power by the tie rule.
--- Stands on: Heights, Goal and Corners (computed lists).
-use Rattle.std.proofs.Common.{ℕ, zero, suc, ◌+◌, ◌*◌, ◌<◌, ◌≤◌, ◌≡◌, ◌≢◌, refl, ap, sym, subst, ◌∙◌, ◌⊎◌, inl, inr, ⊎_elim, arith, Bool, true, false, eqb, ◌||◌, int_lt, pos, List, [], ◌∷◌, Option, length, get_or, set, All, AllPairs, Contains}
+-- Stands on: Heights, Goal, Corners (computed lists) and RisingRows (what is in a list).
+use Rattle.std.proofs.Common.{ℕ, zero, suc, ◌+◌, ◌*◌, ◌<◌, ◌≤◌, ◌≡◌, ◌≢◌, refl, ap, sym, subst, ◌∙◌, ◌⊎◌, inl, inr, ⊎_elim, arith, Bool, true, false, eqb, ◌||◌, int_lt, pos, List, Option, length, get_or, set, All, AllPairs}
 use Rattle.std.proofs.lemmas.Bool.{cases_lt, eqb-true, eqb-false}
 use Rattle.std.proofs.lemmas.Int.{ints}
 use Rattle.std.proofs.lemmas.List.{get_or-set_same, get_or-set_other}
 use Rattle.geo_sign.specs.Point.{Point, IsWithin, corner_point, origin}
+use Rattle.geo_sign.specs.declared.point.TheConstants.{DATA_LIMIT}
 use Rattle.geo_sign.specs.Tetrahedron.{Tetrahedron}
 use Rattle.geo_sign.specs.Vertices.{Vertices, point_of, vertices_of}
 use Rattle.geo_sign.specs.Cells.{IsCell}
 use Rattle.cell_laws.specs.LinkLaws.{AreAllCells}
-use Rattle.cell_laws.specs.Lists.{AreCells, IsIn, one_if}
+use Rattle.cell_laws.specs.Lists.{AreCells, one_if}
 use Rattle.geo_sign.specs.Boxes.{inserted_vertices}
 use Rattle.cell_laws.specs.StoredLaws.{AllLaw, StoredLaw, TiedLaw, ListedLaw}
 use Rattle.cell_laws.proofs.Corners.{all_below_at}
 use Rattle.cell_laws.proofs.Goal.{corner_edge}
 use Rattle.cell_laws.proofs.Heights.{power_tied}
+use Rattle.cell_laws.proofs.RisingRows.{listed, is_listed}
 
 -- ---- where the vertices are
 at_corner : (points : List Point) (k : ℕ) → k < 8 → point_of points k ≡ corner_point k
@@ -43,12 +45,12 @@ at_point points (suc zero) h = absurd (omega (arith, h))
 at_point points zero h = absurd (omega (arith, h))
 
 data_within :
-    (points : List Point) → All (IsWithin 2097151) points → (u : ℕ) → 8 ≤ u → u < 8 + length points →
-    IsWithin 2097151 (point_of points u)
+    (points : List Point) → All (IsWithin DATA_LIMIT) points → (u : ℕ) → 8 ≤ u → u < 8 + length points →
+    IsWithin DATA_LIMIT (point_of points u)
 data_within points w u h l =
     let z = at_point points u h in
     let e = z.1 in
-    subst (λ (p : Point). IsWithin 2097151 p) (sym z.2) (w z.0 origin (omega (arith, e, l)))
+    subst (λ (p : Point). IsWithin DATA_LIMIT p) (sym z.2) (w z.0 origin (omega (arith, e, l)))
 
 -- ---- no two are at one point
 -- the number of a corner, from its point
@@ -58,18 +60,18 @@ number p = one_if (int_lt (pos 0) p.x) + 2 * one_if (int_lt (pos 0) p.y) + 4 * o
 numbered : (k : ℕ) → k < 8 → number (corner_point k) ≡ k
 numbered k h = eqb-true (number (corner_point k)) k (all_below_at 8 (λ i. eqb (number (corner_point i)) i) k refl h)
 
-corner_outside : (k : ℕ) → IsWithin 2097151 (corner_point k) → ⊥
+corner_outside : (k : ℕ) → IsWithin DATA_LIMIT (corner_point k) → ⊥
 corner_outside k w =
     ⊎_elim (λ e. absurd (let h = w.x_within in omega (arith, ints, h, e))) (λ e. absurd (let h = w.x_within in omega (arith, ints, h, e))) (corner_edge k 1)
 
 apart :
-    (points : List Point) → All (IsWithin 2097151) points → AllPairs (λ p q. p ≢ q) points → (u w : ℕ) → u < 8 + length points →
+    (points : List Point) → All (IsWithin DATA_LIMIT) points → AllPairs (λ p q. p ≢ q) points → (u w : ℕ) → u < 8 + length points →
     w < 8 + length points → point_of points u ≡ point_of points w → u ≡ w
 apart points all distinct u w hu hw e = by (cases_lt u 8) (cases_lt w 8)
   where
     mixed : (k i : ℕ) → k < 8 → 8 ≤ i → i < 8 + length points → point_of points k ≡ point_of points i → ⊥
     mixed k i h l m f =
-        corner_outside k (subst (λ (p : Point). IsWithin 2097151 p) (sym f ∙ at_corner points k h) (data_within points all i l m))
+        corner_outside k (subst (λ (p : Point). IsWithin DATA_LIMIT p) (sym f ∙ at_corner points k h) (data_within points all i l m))
 
     later : (i j : ℕ) → i < j → j < length points → get_or points i origin ≡ get_or points j origin → ⊥
     later i j h l f = distinct i j origin h l f
@@ -175,15 +177,5 @@ pub tied_law : TiedLaw
 tied_law v t a b c d p = power_tied v t a b c d p
 
 -- ---- lists of names
-in_of : (xs : List ℕ) (x : ℕ) → IsIn xs x → Contains xs x
-in_of [] x h = absurd h
-in_of (y ∷ ys) x (inl e) = (0, omega arith, e)
-in_of (y ∷ ys) x (inr h) = let z = in_of ys x h in let l = z.1 in (suc z.0, omega (arith, l), z.2)
-
-of_in : (xs : List ℕ) (x k : ℕ) → k < length xs → get_or xs k x ≡ x → IsIn xs x
-of_in [] x k h e = absurd (omega (arith, h))
-of_in (y ∷ ys) x zero h e = inl e
-of_in (y ∷ ys) x (suc k) h e = inr (of_in ys x k (omega (arith, h)) e)
-
 pub listed_law : ListedLaw
-listed_law xs x = (in_of xs x, λ c. of_in xs x c.0 c.1 c.2)
+listed_law xs x = (listed xs x, is_listed xs x)

@@ -11,11 +11,12 @@ use Rattle.geo_sign.specs.Vertices.{orientation_of, Vertices}
 use Rattle.cell_laws.specs.Lifts.{is_higher, lift_of}
 use Rattle.cell_laws.specs.Lists.{count, IsIn, one_if}
 use Rattle.geo_sign.specs.Writings.{IsRewritten}
+use Rattle.geo_sign.proofs.Rewritings.{IsCellOf, orientation_at, same_cell, same_orientation}
 use Rattle.cell_laws.proofs.Fan.{across_above}
 use Rattle.cell_laws.proofs.Flood.{move}
 use Rattle.cell_laws.proofs.Order.{IsLater, later_trans, walk_step}
 use Rattle.cell_laws.proofs.Regions.{IsGeneric}
-use Rattle.cell_laws.proofs.Ways.{beside, IsCellOf, orientation_at, same_cell, same_lift, same_orientation}
+use Rattle.cell_laws.proofs.Ways.{beside, same_lift}
 
 one_le : (a b : Bool) → (a ≡ true → b ≡ true) → one_if a ≤ one_if b
 one_le true b h = subst (λ t. 1 ≤ one_if t) (sym (h refl)) (omega arith)

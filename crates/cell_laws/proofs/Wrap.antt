@@ -10,11 +10,11 @@ use lib.IntN.{*ℤ_comm}
 use Rattle.geo_sign.specs.Cells.{IsCell}
 use Rattle.geo_sign.specs.Vertices.{Has, orientation_of, power_of, Vertices}
 use Rattle.cell_laws.specs.Lists.{IsIn}
+use Rattle.geo_sign.proofs.Exchanges.{exchanged_power, flat_a, flat_b, flat_c, turned_orientation}
 use Rattle.cell_laws.proofs.Best.{best, Found, IsBest}
 use Rattle.cell_laws.proofs.Identities.{three_terms}
 use Rattle.cell_laws.proofs.Order.{mul_below, mul_not_above, mul_not_negative, neg_right}
 use Rattle.cell_laws.proofs.Regions.{IsGeneric, IsOuter}
-use Rattle.cell_laws.proofs.Writing.{turned_orientation, flat_a, flat_b, flat_c, exchanged_power}
 
 -- ---- numbers below n
 abbrev pub below : ℕ → List ℕ

@@ -3,8 +3,6 @@
 --   ThreeTermsLaw     the powers at two tetrahedra across a facet
 --   GenericLaw        the power is zero at a tetrahedron's own vertices alone
 --   ConvexLaw         a vertex that lies in a tetrahedron is in conflict with it or one of its own
---   IsWrittenAnew     the same cell, orientation and powers
---   WritingLaw        a cell written anew is so
 --   EnvelopeLaw       over a place, the cell that has it is the highest
 --   HasOneAcross      exactly one vertex makes a cell across a facet
 --   AcrossLaw         each facet of a cell is on a wall, or has exactly one cell across it
@@ -48,15 +46,6 @@ ConvexLaw =
     (v : Vertices) → IsBoxed v → (t : Tetrahedron) (u : ℕ) → t.a < v.count → t.b < v.count → t.c < v.count → t.d < v.count →
     u < v.count → pos 0 <ℤ orientation_of v t.a t.b t.c t.d → IsLyingIn v t (rational (v.at u)) →
     pos 0 ≤ℤ power_of v t.a t.b t.c t.d u → IsVertexOf t u
-
--- the same cell; this needs nothing of the vertices
-pub record IsWrittenAnew (v : Vertices) (t r : Tetrahedron) : Type 0 where
-  pub cell : IsCell v t.a t.b t.c t.d → IsCell v r.a r.b r.c r.d
-  pub orientation : orientation_of v r.a r.b r.c r.d ≡ orientation_of v t.a t.b t.c t.d
-  pub power : (p : ℕ) → power_of v r.a r.b r.c r.d p ≡ power_of v t.a t.b t.c t.d p
-
-abbrev pub WritingLaw : Type 0
-WritingLaw = (v : Vertices) (t r : Tetrahedron) → IsRewritten t r → IsWrittenAnew v t r
 
 -- the heights of two planes at q, each times the other cell's orientation; this needs nothing of the vertices
 abbrev pub EnvelopeLaw : Type 0

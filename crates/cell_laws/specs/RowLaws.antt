@@ -6,6 +6,7 @@
 --   RowSightLaw      each list of all cells has these
 use Rattle.std.specs.Prelude.{ℕ, ◌≤◌, ◌≡◌, List, count_by}
 use Rattle.geo_sign.specs.Point.{Point, IsWithin}
+use Rattle.geo_sign.specs.declared.point.TheConstants.{DATA_LIMIT}
 use Rattle.geo_sign.specs.Rational.{displaced}
 use Rattle.geo_sign.specs.Vertices.{Vertices, Has}
 use Rattle.geo_sign.specs.Cells.{IsCellList, written}
@@ -24,5 +25,5 @@ pub record HasOneEach (v : Vertices) (rows : List (List ℕ)) (s : Point) : Type
 
 abbrev pub RowSightLaw : Type 0
 RowSightLaw =
-    (v : Vertices) → IsBoxed v → (rows : List (List ℕ)) → IsCellList v rows → (s : Point) → IsWithin 2097151 s →
+    (v : Vertices) → IsBoxed v → (rows : List (List ℕ)) → IsCellList v rows → (s : Point) → IsWithin DATA_LIMIT s →
     HasOneEach v rows s

@@ -4,25 +4,27 @@
 --   StoredLaw                        they are vertices of the box; a flag set is a vertex more; with all flags set they are all vertices
 --   TiedLaw                          the power of vertices is that of numbered points by the tie rule
 --   ListedLaw                        what is in a list of names is contained in it
---   RowLaw                           each cell has one row of rising numbers, and each row of a cell is that of one name
-use Rattle.std.specs.Prelude.{ℕ, ◌<◌, ◌≡◌, ◌≢◌, ◌⊎◌, ◌↔◌, ◌+◌, Bool, true, false, Option, List, length, get_or, set, All, AllPairs, Contains}
+--   AreRows                          each name has one row of rising numbers, that of a cell, and each row of a cell is that of one name
+--   RowLaw                           names that stand for all cells are so
+use Rattle.std.specs.Prelude.{ℕ, ◌<◌, ◌≡◌, ◌≢◌, ◌↔◌, ◌+◌, Bool, true, false, Option, List, length, get_or, set, All, AllPairs, Contains}
 use Rattle.geo_sign.specs.Boxes.{inserted_vertices, IsBoxed, IsTied, with_vertex}
 use Rattle.geo_sign.specs.Point.{Point, IsWithin}
-use Rattle.geo_sign.specs.Tetrahedron.{Tetrahedron, tetrahedron}
+use Rattle.geo_sign.specs.declared.point.TheConstants.{DATA_LIMIT}
+use Rattle.geo_sign.specs.Tetrahedron.{Tetrahedron}
 use Rattle.geo_sign.specs.Tie.{tied_power}
 use Rattle.geo_sign.specs.Vertices.{Vertices, power_of, vertices_of}
-use Rattle.geo_sign.specs.Cells.{IsCell, FormCell}
+use Rattle.geo_sign.specs.Cells.{IsCell, IsRisingCell}
 use Rattle.cell_laws.specs.LinkLaws.{AreAllCells}
 use Rattle.cell_laws.specs.Lists.{IsIn, IsListing}
-use Rattle.geo_sign.specs.Writings.{IsRewritten}
+use Rattle.geo_sign.specs.RowLaws.{IsOneRow, IsRowOf}
 
 -- the box's corners and distinct data points, all in
 abbrev pub AllLaw : Type 0
-AllLaw = (points : List Point) → All (IsWithin 2097151) points → AllPairs (λ p q. p ≢ q) points → IsBoxed (vertices_of points)
+AllLaw = (points : List Point) → All (IsWithin DATA_LIMIT) points → AllPairs (λ p q. p ≢ q) points → IsBoxed (vertices_of points)
 
 pub record AreStored (points : List Point) (flags : List Bool) : Type 0 where
   pub boxed :
-      All (IsWithin 2097151) points → AllPairs (λ p q. p ≢ q) points → ((k : ℕ) → k < 8 → get_or flags k false ≡ true) →
+      All (IsWithin DATA_LIMIT) points → AllPairs (λ p q. p ≢ q) points → ((k : ℕ) → k < 8 → get_or flags k false ≡ true) →
       IsBoxed (inserted_vertices points flags)
   pub one_more :
       (p : ℕ) → p < length flags → inserted_vertices points (set flags p true) ≡ with_vertex (inserted_vertices points flags) p
@@ -46,27 +48,11 @@ TiedLaw =
 abbrev pub ListedLaw : Type 0
 ListedLaw = (xs : List ℕ) (x : ℕ) → IsIn xs x ↔ Contains xs x
 
--- the cell t is written with its numbers rising, or with the last two exchanged
-abbrev pub HasRow : (t : Tetrahedron) (a b c d : ℕ) → Type 0
-HasRow t a b c d = IsRewritten t (tetrahedron a b c d) ⊎ IsRewritten t (tetrahedron a b d c)
-
-pub record IsRowOf (v : Vertices) (t : Tetrahedron) : Type 0 where
-  pub a : ℕ
-  pub b : ℕ
-  pub c : ℕ
-  pub d : ℕ
-  pub a_below : a < b
-  pub b_below : b < c
-  pub c_below : c < d
-  pub cell : FormCell v a b c d
-  pub row : HasRow t a b c d
-
+-- names and rows stand for each other
 pub record AreRows (v : Vertices) (live : List ℕ) (cell : ℕ → Tetrahedron) : Type 0 where
-  pub row : (x : ℕ) → IsIn live x → IsRowOf v (cell x)
-  pub name : (a b c d : ℕ) → FormCell v a b c d → (x : ℕ) × IsIn live x × HasRow (cell x) a b c d
-  pub one :
-      (a b c d x y : ℕ) → a < b → b < c → c < d → IsIn live x → IsIn live y → HasRow (cell x) a b c d →
-      HasRow (cell y) a b c d → x ≡ y
+  pub row : (x : ℕ) → IsIn live x → (row : List ℕ) × IsOneRow (cell x) row × IsRisingCell v row
+  pub name : (row : List ℕ) → IsRisingCell v row → (x : ℕ) × IsIn live x × IsRowOf (cell x) row
+  pub one : (row : List ℕ) (x y : ℕ) → IsIn live x → IsIn live y → IsRowOf (cell x) row → IsRowOf (cell y) row → x ≡ y
 
 abbrev pub RowLaw : Type 0
 RowLaw = (v : Vertices) (live : List ℕ) (cell : ℕ → Tetrahedron) → IsListing v live cell → AreRows v live cell

@@ -7,14 +7,14 @@
 --   ScannerLaw    each scanner has one cell
 --   VertexSightLaw   each sight has one cell towards its scanner, and one behind
 --   SightLaw      a cell on a sight is left through one facet, or is the scanner's
---   TurnLaw       whether a facet is crossed does not depend on its first vertex
 --   PathLaw       the way of a sight over linked cells: there is one, and it has each crossed facet once, the nearer first
 use Rattle.std.specs.Prelude.{ℕ, ◌<◌, ◌≤◌, ◌≡◌, ◌⊎◌, true, pos, ◌<ℤ◌, Option, Some, List}
 use Rattle.geo_sign.specs.Point.{Point, IsWithin}
+use Rattle.geo_sign.specs.declared.point.TheConstants.{BOX_LIMIT, DATA_LIMIT}
 use Rattle.geo_sign.specs.Orientation.{orientation, IsOnLine}
 use Rattle.geo_sign.specs.Rational.{RationalPoint, displaced, side}
 use Rattle.geo_sign.specs.Signs.{sign_of, first_sign, opposite_sign}
-use Rattle.geo_sign.specs.Tetrahedron.{Tetrahedron, DirectedFacet, facet_of, IsRotated, turned}
+use Rattle.geo_sign.specs.Tetrahedron.{Tetrahedron, facet_of, turned}
 use Rattle.geo_sign.specs.Vertices.{Vertices, Has}
 use Rattle.geo_sign.specs.Cells.{IsCell}
 use Rattle.geo_sign.specs.Sights.{side_of, is_crossed, is_towards, is_behind, is_cell_of}
@@ -49,18 +49,18 @@ pub record AreNear (p s : Point) : Type 0 where
   pub behind_in_box : IsInBox (behind_place p s)
   pub scanner_in_box : IsInBox (displaced s)
   pub towards_sign :
-      (a b c : Point) → IsWithin 8388608 a → IsWithin 8388608 b → IsWithin 8388608 c →
+      (a b c : Point) → IsWithin BOX_LIMIT a → IsWithin BOX_LIMIT b → IsWithin BOX_LIMIT c →
       sign_of (side a b c (towards_place p s)) ≡ first_sign (sign_of (orientation a b c p)) (sign_of (side a b c (displaced s)))
   pub behind_sign :
-      (a b c : Point) → IsWithin 8388608 a → IsWithin 8388608 b → IsWithin 8388608 c → sign_of (side a b c (behind_place p s)) ≡
+      (a b c : Point) → IsWithin BOX_LIMIT a → IsWithin BOX_LIMIT b → IsWithin BOX_LIMIT c → sign_of (side a b c (behind_place p s)) ≡
       first_sign (sign_of (orientation a b c p)) (opposite_sign (sign_of (side a b c (displaced s))))
 
 abbrev pub NearLaw : Type 0
-NearLaw = (p s : Point) → IsWithin 2097151 p → IsWithin 2097151 s → AreNear p s
+NearLaw = (p s : Point) → IsWithin DATA_LIMIT p → IsWithin DATA_LIMIT s → AreNear p s
 
 abbrev pub SpreadLaw : Type 0
 SpreadLaw =
-    (a b c s : Point) → IsWithin 8388608 a → IsWithin 8388608 b → IsWithin 8388608 c → side a b c (displaced s) ≡ pos 0 →
+    (a b c s : Point) → IsWithin BOX_LIMIT a → IsWithin BOX_LIMIT b → IsWithin BOX_LIMIT c → side a b c (displaced s) ≡ pos 0 →
     IsOnLine a b c
 
 -- ---- the cells of a scanner and of a sight
@@ -73,7 +73,7 @@ pub record HasScannerCell (v : Vertices) (s : Point) : Type 0 where
   pub some : (t : Tetrahedron) × IsCell v t.a t.b t.c t.d × (is_cell_of v (displaced s) t ≡ true)
 
 abbrev pub ScannerLaw : Type 0
-ScannerLaw = (v : Vertices) → IsBoxed v → (s : Point) → IsWithin 2097151 s → HasScannerCell v s
+ScannerLaw = (v : Vertices) → IsBoxed v → (s : Point) → IsWithin DATA_LIMIT s → HasScannerCell v s
 
 -- the cell that holds the place near p is the one towards the scanner, or behind the sight, and no other is
 pub record HasSightCells (v : Vertices) (p : ℕ) (s : Point) : Type 0 where
@@ -95,7 +95,7 @@ pub record HasSightCells (v : Vertices) (p : ℕ) (s : Point) : Type 0 where
       ((t : Tetrahedron) × IsCell v t.a t.b t.c t.d × (is_behind v p (displaced s) t ≡ true))
 
 abbrev pub VertexSightLaw : Type 0
-VertexSightLaw = (v : Vertices) → IsBoxed v → (p : ℕ) → Has v p → (s : Point) → IsWithin 2097151 s → HasSightCells v p s
+VertexSightLaw = (v : Vertices) → IsBoxed v → (p : ℕ) → Has v p → (s : Point) → IsWithin DATA_LIMIT s → HasSightCells v p s
 
 -- ---- along a sight
 pub record IsPassed (v : Vertices) (p : ℕ) (s : RationalPoint) (t : Tetrahedron) : Type 0 where
@@ -110,14 +110,8 @@ pub record IsPassed (v : Vertices) (p : ℕ) (s : RationalPoint) (t : Tetrahedro
 
 abbrev pub SightLaw : Type 0
 SightLaw =
-    (v : Vertices) → IsBoxed v → (p : ℕ) → Has v p → (s : Point) → IsWithin 2097151 s → (t : Tetrahedron) →
+    (v : Vertices) → IsBoxed v → (p : ℕ) → Has v p → (s : Point) → IsWithin DATA_LIMIT s → (t : Tetrahedron) →
     IsCell v t.a t.b t.c t.d → IsPassed v p (displaced s) t
-
--- this needs nothing of the vertices
-abbrev pub TurnLaw : Type 0
-TurnLaw =
-    (v : Vertices) (p : ℕ) (s : RationalPoint) (f g : DirectedFacet) → IsRotated f g → is_crossed v p s f ≡ true →
-    is_crossed v p s g ≡ true
 
 pub record HasPaths (v : Vertices) (live : List ℕ) (cell : ℕ → Tetrahedron) (next : ℕ → ℕ → Option ℕ) (p : ℕ)
     (s : RationalPoint) : Type 0 where
@@ -139,5 +133,5 @@ pub record HasPaths (v : Vertices) (live : List ℕ) (cell : ℕ → Tetrahedron
 abbrev pub PathLaw : Type 0
 PathLaw =
     (v : Vertices) → IsBoxed v → (live : List ℕ) (cell : ℕ → Tetrahedron) (next : ℕ → ℕ → Option ℕ) →
-    IsLinked v live cell next → AreCells v live cell → (p : ℕ) → Has v p → (s : Point) → IsWithin 2097151 s →
+    IsLinked v live cell next → AreCells v live cell → (p : ℕ) → Has v p → (s : Point) → IsWithin DATA_LIMIT s →
     HasPaths v live cell next p (displaced s)

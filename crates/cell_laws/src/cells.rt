@@ -2,7 +2,7 @@
 //! tie rule. They suppose only the corners of the box in their places and in, other vertices at distinct data points, and the heights
 //! of the tie rule (`IsBoxed`).
 
-ghost use Rattle.cell_laws.specs.CellLaws.{ThreeTermsLaw, GenericLaw, ConvexLaw, WritingLaw, EnvelopeLaw, AcrossLaw, FacetLaw, SomeLaw, PlaceLaw, OneLaw, JoinedLaw, CornerLaw};
+ghost use Rattle.cell_laws.specs.CellLaws.{ThreeTermsLaw, GenericLaw, ConvexLaw, EnvelopeLaw, AcrossLaw, FacetLaw, SomeLaw, PlaceLaw, OneLaw, JoinedLaw, CornerLaw};
 ghost use Rattle.cell_laws.specs.TieLaws.{TieLaw};
 
 /// The powers of a fifth vertex at two tetrahedra across a facet, each times the other's orientation, differ by the power of the one
@@ -28,11 +28,6 @@ pub fn generic_law()
 /// heights keep that.
 pub fn convex_law()
     ensures { ConvexLaw }
-{}
-
-/// The twelve ways to write a tetrahedron positively are one cell, with the same orientation and the same powers.
-pub fn writing_law()
-    ensures { WritingLaw }
 {}
 
 /// The lifted cells are an upper envelope: over a place, the plane of the cell that has the place is at least as high as that of each

@@ -24,7 +24,7 @@ mod walks;
 
 pub use cells::{
     across_law, convex_law, corner_law, envelope_law, facet_law, generic_law, joined_law, one_law,
-    place_law, some_law, three_terms_law, tie_law, writing_law,
+    place_law, some_law, three_terms_law, tie_law,
 };
 pub use examples::{example_law, inserted_law};
 pub use insertion::{edge_law, fan_law, flood_law, insert_law, side_law, stay_law, vertex_law};
@@ -34,6 +34,6 @@ pub use links::{
 };
 pub use stores::{all_law, list_law, listed_law, row_law, stored_law, tied_law};
 pub use walks::{
-    near_law, path_law, row_sight_law, scanner_law, sight_law, spread_law, step_law, turn_law,
+    near_law, path_law, row_sight_law, scanner_law, sight_law, spread_law, step_law,
     vertex_sight_law,
 };

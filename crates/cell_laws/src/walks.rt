@@ -2,7 +2,7 @@
 //! vertex; a walk along it begins at the vertex.
 
 ghost use Rattle.cell_laws.specs.RowLaws.{RowSightLaw};
-ghost use Rattle.cell_laws.specs.WalkLaws.{StepLaw, NearLaw, SpreadLaw, ScannerLaw, VertexSightLaw, SightLaw, TurnLaw, PathLaw};
+ghost use Rattle.cell_laws.specs.WalkLaws.{StepLaw, NearLaw, SpreadLaw, ScannerLaw, VertexSightLaw, SightLaw, PathLaw};
 
 /// A visibility walk ends (Devillers, Pion and Teillaud 2001): a step of it goes across any facet that has the goal behind it. For a
 /// place of the box there is a cell across, fewer cells are higher over the goal than that one, and where no facet has the goal
@@ -42,11 +42,6 @@ pub fn row_sight_law()
 /// passes an edge or a vertex.
 pub fn sight_law()
     ensures { SightLaw }
-{}
-
-/// Whether a directed facet is crossed does not depend on its first vertex. This needs nothing of the vertices.
-pub fn turn_law()
-    ensures { TurnLaw }
 {}
 
 /// The way of a sight over linked cells, from the cell towards the scanner at its vertex to the scanner's cell: there is one, its

@@ -2,6 +2,7 @@
 
 ghost use Rattle.std.specs.Prelude.{◌<◌, ℕ, IsTrue, length, get_or};
 ghost use Rattle.geo_sign.specs.Point.{origin, IsWithin};
+ghost use Rattle.geo_sign.specs.declared.point.TheConstants.{DATA_LIMIT};
 
 use crate::{in_rounds, order};
 use geo_sign::Point;
@@ -10,7 +11,7 @@ use std::test::Fail;
 
 /// Whether all are data points.
 fn are_data(points: &[Point]) -> bool
-    ensures { IsTrue result → (k : ℕ) → k < length points.now → IsWithin 2097151 (get_or points.now k origin) }
+    ensures { IsTrue result → (k : ℕ) → k < length points.now → IsWithin DATA_LIMIT (get_or points.now k origin) }
 {
     for i in 0..points.len() {
         let p = points[i];

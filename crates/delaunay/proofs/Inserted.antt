@@ -8,6 +8,7 @@ use Rattle.std.proofs.lemmas.Bool.{eqb-true, eqb-false}
 use Rattle.std.proofs.lemmas.Int.{by_lt_z}
 use Rattle.std.proofs.lemmas.List.{get_or-set_same, get_or-set_other}
 use Rattle.geo_sign.specs.Point.{Point, origin, IsWithin}
+use Rattle.geo_sign.specs.declared.point.TheConstants.{DATA_LIMIT}
 use Rattle.geo_sign.specs.Tetrahedron.{Tetrahedron, vertex_of}
 use Rattle.geo_sign.specs.Vertices.{Vertices, power_of}
 use Rattle.geo_sign.specs.Cells.{IsCell}
@@ -35,8 +36,8 @@ pub replaced : (s t u : Store) (p : ℕ) (cells : List ℕ) (fan : List Facet) �
 replaced s t u p cells fan e f g h r = subst (λ (z : Store). IsReplaced z u cells fan p) (sym (renewed s t e f g h)) r
 
 -- the point of a vertex that is not inserted is a data point
-pub is_data : (s : Store) (p : ℕ) (q : Point) → q ≡ get_or s.points p origin → IsStore s → p < length s.points → slice_index_or s.inserted p false ≡ false → IsWithin 2097151 q
-is_data s p q e store below out = subst (λ (z : Point). IsWithin 2097151 z) (sym e) (store.vertices.boxed.data_at p (new_vertex s p store below out).above below)
+pub is_data : (s : Store) (p : ℕ) (q : Point) → q ≡ get_or s.points p origin → IsStore s → p < length s.points → slice_index_or s.inserted p false ≡ false → IsWithin DATA_LIMIT q
+is_data s p q e store below out = subst (λ (z : Point). IsWithin DATA_LIMIT z) (sym e) (store.vertices.boxed.data_at p (new_vertex s p store below out).above below)
 
 -- ---- one vertex more
 

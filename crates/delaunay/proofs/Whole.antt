@@ -3,33 +3,20 @@
 -- By the law of linked cells, Delaunay cells that are linked to each other on all sides but the walls are all there are, each once
 -- (`listing`). The laws of places then give that each place lies in one of them, and that two that have a place in common, strictly
 -- inside one of them, are the same. What is across a facet the store keeps.
-use Rattle.std.proofs.Common.{ℕ, ◌≡◌, ◌<◌, Option, Some, None, refl, sym, ◌∙◌, ◌⊎◌, inl, inr, subst, pos, ◌≤ℤ◌}
-use Rattle.geo_sign.specs.Rational.{RationalPoint}
-use Rattle.geo_sign.specs.Tetrahedron.{Tetrahedron, tetrahedron, facet_of}
-use Rattle.geo_sign.specs.Vertices.{Vertices, IsWall}
+use Rattle.std.proofs.Common.{ℕ, ◌≡◌, ◌<◌, Option, Some, None, refl, sym, ◌∙◌, ◌⊎◌, inl, inr}
+use Rattle.geo_sign.specs.Tetrahedron.{tetrahedron, facet_of}
+use Rattle.geo_sign.specs.Vertices.{IsWall}
 use Rattle.geo_sign.specs.Cells.{IsCell}
 use Rattle.tetra_store.specs.Links.{links_of, IsLive, IsOnlyAcross}
 use Rattle.tetra_store.specs.Store.{Store, IsStore, vertices_of}
 use Rattle.tetra_store.specs.Delaunay.{IsDelaunay}
 use Rattle.tetra_store.proofs.Observed.{only_at}
-use Rattle.geo_sign.specs.Writings.{IsRewritten}
-use Rattle.geo_sign.specs.Places.{IsLyingIn}
 use Rattle.cell_laws.specs.Lists.{IsListing}
+use Rattle.geo_sign.proofs.Rewritings.{rewritten_back, same_lying, same_vertex}
 use Rattle.cell_laws.proofs.Laws.{linked_law, one_law}
 use Rattle.cell_laws.proofs.SomeCell.{place_law}
-use Rattle.cell_laws.proofs.Ways.{same_of}
-use Rattle.cell_laws.proofs.Insert.{same_back}
-use Rattle.cell_laws.proofs.Rotations.{facet_in, side_rotated}
 use Rattle.cavity.proofs.Stores.{names, in_names, of_names, boxed, linked}
 use Rattle.delaunay.specs.Partition.{IsPartition}
-
-same_lying : (v : Vertices) (q r : Tetrahedron) (p : RationalPoint) → IsRewritten q r → IsLyingIn v q p → IsLyingIn v r p
-same_lying v q r p w h =
-    record {
-      at = λ k.
-          (let f = facet_in q r w k in
-          subst (λ z. pos 0 ≤ℤ z) (sym (side_rotated v (facet_of q f.0) (facet_of r k) p f.2)) (h.at f.0));
-    }
 
 abbrev pub AreLiveCells : Store → Type 0
 AreLiveCells s = (id : ℕ) → IsLive (links_of s.slots) id → IsCell (vertices_of s) ((links_of s.slots).at id).a ((links_of s.slots).at id).b ((links_of s.slots).at id).c ((links_of s.slots).at id).d
@@ -46,14 +33,14 @@ whole s x store_is live h =
       all = λ a b c d k.
           let z = list.full.all a b c d k in
           let t = (links_of s.slots).at z.0 in
-          let w = same_back t (tetrahedron a b c d) z.2 in
+          let w = rewritten_back t (tetrahedron a b c d) z.2 in
           record {
             cell = z.0;
             live = of_names s.slots z.0 z.1;
-            has_a = same_of a (tetrahedron a b c d) t w (inl refl);
-            has_b = same_of b (tetrahedron a b c d) t w (inr (inl refl));
-            has_c = same_of c (tetrahedron a b c d) t w (inr (inr (inl refl)));
-            has_d = same_of d (tetrahedron a b c d) t w (inr (inr (inr refl)));
+            has_a = same_vertex a (tetrahedron a b c d) t w (inl refl);
+            has_b = same_vertex b (tetrahedron a b c d) t w (inr (inl refl));
+            has_c = same_vertex c (tetrahedron a b c d) t w (inr (inr (inl refl)));
+            has_d = same_vertex d (tetrahedron a b c d) t w (inr (inr (inr refl)));
           };
     }
 
@@ -76,7 +63,7 @@ partition s x store_is live h =
       covered = λ q inside.
           let z = place_law v (boxed s store_is) q inside in
           let w = list.full.all z.0.a z.0.b z.0.c z.0.d z.1 in
-          (w.0, of_names s.slots w.0 w.1, same_lying v z.0 (at w.0) q (same_back (at w.0) z.0 w.2) z.2);
+          (w.0, of_names s.slots w.0 w.1, same_lying v q z.0 (at w.0) (rewritten_back (at w.0) z.0 w.2) z.2);
       apart = λ a b q a_live b_live m n. list.once a b (in_names s.slots a a_live) (in_names s.slots b b_live) (one_law v (boxed s store_is) (at a) (at b) q (h a a_live) (h b b_live) m n);
       across = λ id k l m. across s id k ((links_of s.slots).next id k) refl store_is l m;
     }

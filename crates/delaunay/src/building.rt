@@ -2,7 +2,9 @@
 
 ghost use Rattle.std.specs.Prelude.{◌≡◌, ◌<◌, ◌≤◌, ◌++◌, ℕ, true, false, IfOk, length, get_or, slice_index_or};
 ghost use Rattle.geo_sign.specs.Point.{origin, IsWithin};
+ghost use Rattle.geo_sign.specs.declared.point.TheConstants.{DATA_LIMIT};
 ghost use Rattle.geo_sign.specs.Vertices.{corners, vertices_of as all_vertices_of};
+ghost use Rattle.tetra_store.specs.declared.boxed.TheConstants.{VERTEX_LIMIT};
 ghost use Rattle.tetra_store.specs.Links.{links_of};
 ghost use Rattle.tetra_store.specs.Store.{vertices_of};
 ghost use Rattle.tetra_store.specs.Delaunay.{IsDelaunay};
@@ -22,9 +24,9 @@ use tetra_store::Tetra;
 /// The points are inserted in rounds along a curve, so that each is near the one before it and few cells are made that do not last. The
 /// cells do not depend on that, and the time does. The only error is want of memory.
 pub fn build(alloc: Global, points: &[Point]) -> Result<Tetra, NoMemory>
-    requires within { (k : ℕ) → k < length points.now → IsWithin 2097151 (get_or points.now k origin) }
+    requires within { (k : ℕ) → k < length points.now → IsWithin DATA_LIMIT (get_or points.now k origin) }
     requires distinct { (j k : ℕ) → j < length points.now → k < length points.now → get_or points.now j origin ≡ get_or points.now k origin → j ≡ k }
-    requires few { length points.now ≤ 1048576 }
+    requires few { length points.now ≤ VERTEX_LIMIT }
     ensures points { IfOk result (λ t. t.points ≡ corners ++ points.now) }
     ensures inserted { IfOk result (λ t. (u : ℕ) → u < length t.points → slice_index_or t.inserted u false ≡ true) }
     ensures delaunay { IfOk result (λ t. IsDelaunay (vertices_of t) (links_of t.slots)) }
@@ -38,9 +40,9 @@ pub fn build(alloc: Global, points: &[Point]) -> Result<Tetra, NoMemory>
 
 /// The same, where the points are inserted in this order. Each walk begins at the cell that the insertion before it answered.
 fn build_in_order(alloc: Global, points: &[Point], order: &[u32]) -> Result<Tetra, NoMemory>
-    requires within { (k : ℕ) → k < length points.now → IsWithin 2097151 (get_or points.now k origin) }
+    requires within { (k : ℕ) → k < length points.now → IsWithin DATA_LIMIT (get_or points.now k origin) }
     requires distinct { (j k : ℕ) → j < length points.now → k < length points.now → get_or points.now j origin ≡ get_or points.now k origin → j ≡ k }
-    requires few { length points.now ≤ 1048576 }
+    requires few { length points.now ≤ VERTEX_LIMIT }
     requires order { IsOrder (length points.now) order.now }
     ensures points { IfOk result (λ t. t.points ≡ corners ++ points.now) }
     ensures inserted { IfOk result (λ t. (u : ℕ) → u < length t.points → slice_index_or t.inserted u false ≡ true) }

@@ -12,9 +12,11 @@ use Rattle.geo_sign.specs.Cells.{IsCell}
 use Rattle.geo_sign.specs.Sights.{side_of, is_crossed, is_towards, is_cell_of}
 use Rattle.geo_sign.specs.Tetrahedron.{Tetrahedron, DirectedFacet, facet_of, vertex_of, turned}
 use Rattle.geo_sign.specs.Vertices.{Vertices}
+use Rattle.geo_sign.proofs.Exchanges.{turned_side}
+use Rattle.geo_sign.proofs.Rotations.{side_turned}
 use Rattle.cell_laws.proofs.Crossings.{IsCrossed}
 use Rattle.geo_sign.specs.Edges.{HasVertex}
-use Rattle.cell_laws.proofs.Sides.{beside_turned, turned_side, opposite_or_on}
+use Rattle.cell_laws.proofs.Sides.{opposite_or_on}
 use Rattle.cell_laws.proofs.SightTests.{crossed_of, towards_of, strictly_of}
 use Rattle.cell_laws.proofs.SightLaws.{left_of}
 use Rattle.cell_laws.specs.Paths.{IsOnSight}
@@ -45,7 +47,7 @@ around m = (first_around m, second_around m, third_around m)
 -- it does not go out where it came in
 pub not_back : (v : Vertices) (p : ℕ) (s : RationalPoint) (f : DirectedFacet) → IsCrossed v p s f → IsCrossed v p s (turned f) → ⊥
 not_back v p s f h k =
-    let a = h.ahead in let b = k.ahead in let e = beside_turned v f (turned f) s (inl refl) in
+    let a = h.ahead in let b = k.ahead in let e = side_turned v f (turned f) s (inl refl) in
     absurd (omega (arith, ints, a, b, e))
 
 -- a side through which it goes out is one of the three, with what that says

@@ -8,6 +8,7 @@ use Rattle.flow_net.specs.declared.votes.Sight.{Sight}
 use Rattle.geo_sign.specs.Boxes.{IsBoxed}
 use Rattle.geo_sign.specs.Cells.{IsCellList, written}
 use Rattle.geo_sign.specs.Point.{Point, IsWithin, origin}
+use Rattle.geo_sign.specs.declared.point.TheConstants.{DATA_LIMIT}
 use Rattle.geo_sign.specs.Sights.{is_behind}
 use Rattle.geo_sign.specs.Vertices.{vertices_of}
 use Rattle.merge.specs.Merging.{distinct_points, index_among}
@@ -28,13 +29,13 @@ abbrev no_row : VertexRow
 no_row = record { point = origin; seen_by = 0 }
 
 -- the points of the rows are data points
-points_within : (rows : ScanRows) → IsScan rows → All (IsWithin 2097151) (row_points rows)
+points_within : (rows : ScanRows) → IsScan rows → All (IsWithin DATA_LIMIT) (row_points rows)
 points_within rows scan k d l =
     let m : k < length rows.vertices = omega (arith, l, length-map rows.vertices (λ (row : VertexRow). row.point)) in
-    subst (IsWithin 2097151) (sym (get_or-map (λ (row : VertexRow). row.point) rows.vertices k no_row d m)) (scan.vertices k no_row m).data_point
+    subst (IsWithin DATA_LIMIT) (sym (get_or-map (λ (row : VertexRow). row.point) rows.vertices k no_row d m)) (scan.vertices k no_row m).data_point
 
 boxed : (rows : ScanRows) → IsScan rows → IsBoxed (vertices_of (points_of rows))
-boxed rows scan = all_law (points_of rows) (keep (IsWithin 2097151) (row_points rows) (points_within rows scan)) (distinct (row_points rows))
+boxed rows scan = all_law (points_of rows) (keep (IsWithin DATA_LIMIT) (row_points rows) (points_within rows scan)) (distinct (row_points rows))
 
 -- the sight of a row has one cell behind it
 row_behind : (rows : ScanRows) (cells : List (List ℕ)) → IsScan rows → IsCellList (vertices_of (points_of rows)) cells → (k : ℕ) → k < length rows.vertices → (sight : Sight) → sight_of (points_of rows) (get_or rows.vertices k no_row) ≡ sight →

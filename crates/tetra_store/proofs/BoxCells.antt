@@ -7,6 +7,7 @@ use Rattle.std.proofs.Common.{ℕ, zero, suc, ◌≡◌, ◌≢◌, ◌<◌, ◌
 use Rattle.std.proofs.lemmas.Bool.{cases_lt, false≢true}
 use Rattle.std.proofs.lemmas.Int.{ints}
 use Rattle.geo_sign.specs.Point.{Point, origin, corner_point, IsWithin}
+use Rattle.geo_sign.specs.declared.point.TheConstants.{BOX_LIMIT}
 use Rattle.geo_sign.specs.Orientation.{orientation}
 use Rattle.geo_sign.specs.Power.{power, plain_power}
 use Rattle.geo_sign.specs.Signs.{sign_of, first_sign}
@@ -54,11 +55,11 @@ some_at (suc n) f h = elim (or_cases (some_of n f) (f n) h) [
 
 -- ---- corners
 
-wall_within : (b : Bool) → unsigned_abs (cond b (neg_ℤ (pos 8388608)) (pos 8388608)) ≤ 8388608
+wall_within : (b : Bool) → unsigned_abs (cond b (neg_ℤ (pos BOX_LIMIT)) (pos BOX_LIMIT)) ≤ BOX_LIMIT
 wall_within true = omega (arith, ints)
 wall_within false = omega (arith, ints)
 
-corner_within : (k : ℕ) → IsWithin 8388608 (corner_point k)
+corner_within : (k : ℕ) → IsWithin BOX_LIMIT (corner_point k)
 corner_within k = record { x_within = wall_within (bit_and k 1 == 0); y_within = wall_within (bit_and k 2 == 0); z_within = wall_within (bit_and k 4 == 0) }
 
 abbrev numbered : ℕ → ℕ × Point

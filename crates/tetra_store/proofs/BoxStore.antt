@@ -6,8 +6,10 @@ use Rattle.std.proofs.lemmas.Int.{ints}
 use Rattle.std.proofs.lemmas.Bool.Decides.{nat_tests}
 use Rattle.std.proofs.lemmas.List.{get_or-append_right}
 use Rattle.geo_sign.specs.Point.{Point, origin, corner_point, IsWithin}
+use Rattle.geo_sign.specs.declared.point.TheConstants.{BOX_LIMIT, DATA_LIMIT}
 use Rattle.geo_sign.specs.Tetrahedron.{Tetrahedron}
 use Rattle.geo_sign.specs.Vertices.{Has, corners}
+use Rattle.tetra_store.specs.declared.boxed.TheConstants.{VERTEX_LIMIT}
 use Rattle.tetra_store.specs.declared.link.Cell.{Cell}
 use Rattle.geo_sign.specs.Writings.{IsVertexOf}
 use Rattle.tetra_store.specs.Links.{links_of, IsLive}
@@ -38,7 +40,7 @@ count_all points = length-append corners points
 
 -- ---- apart
 
-side_same : (a b : Bool) → cond a (neg_ℤ (pos 8388608)) (pos 8388608) ≡ cond b (neg_ℤ (pos 8388608)) (pos 8388608) → same a b ≡ true
+side_same : (a b : Bool) → cond a (neg_ℤ (pos BOX_LIMIT)) (pos BOX_LIMIT) ≡ cond b (neg_ℤ (pos BOX_LIMIT)) (pos BOX_LIMIT) → same a b ≡ true
 side_same true true h = refl
 side_same true false h = absurd (omega (arith, ints))
 side_same false true h = absurd (omega (arith, ints))
@@ -57,27 +59,27 @@ corners_apart a b l m e =
     let t2 = implied (same (low 2 a) (low 2 b)) (not (same (low 4 a) (low 4 b)) || (a == b)) t1 y in
     eq_of a b (implied (same (low 4 a) (low 4 b)) (a == b) t2 z)
 
-far_off : (b : Bool) → 8388608 ≤ unsigned_abs (cond b (neg_ℤ (pos 8388608)) (pos 8388608))
+far_off : (b : Bool) → BOX_LIMIT ≤ unsigned_abs (cond b (neg_ℤ (pos BOX_LIMIT)) (pos BOX_LIMIT))
 far_off true = omega (arith, ints)
 far_off false = omega (arith, ints)
 
-not_data : (a : ℕ) (p : Point) → IsWithin 2097151 p → corner_point a ≡ p → ⊥
+not_data : (a : ℕ) (p : Point) → IsWithin DATA_LIMIT p → corner_point a ≡ p → ⊥
 not_data a p w e =
     let h = far_off (low 1 a) in
     let x : unsigned_abs (corner_point a).x ≡ unsigned_abs p.x = ap (λ (q : Point). unsigned_abs q.x) e in
     let l = w.x_within in
     omega arith
 
-module _ (points : List Point) (data_points : (k : ℕ) → k < length points → IsWithin 2097151 (get_or points k origin))
-    (distinct : (j k : ℕ) → j < length points → k < length points → get_or points j origin ≡ get_or points k origin → j ≡ k) (few : length points ≤ 1048576)
+module _ (points : List Point) (data_points : (k : ℕ) → k < length points → IsWithin DATA_LIMIT (get_or points k origin))
+    (distinct : (j k : ℕ) → j < length points → k < length points → get_or points j origin ≡ get_or points k origin → j ≡ k) (few : length points ≤ VERTEX_LIMIT)
     (flags : List Bool) (flags_are : (u : ℕ) → slice_index_or flags u false ≡ nat_lt u 8) where
   abbrev all : List Point
   all = corners ++ points
 
-  within_at : (u : ℕ) → 8 ≤ u → u < length all → IsWithin 2097151 (get_or all u origin)
+  within_at : (u : ℕ) → 8 ≤ u → u < length all → IsWithin DATA_LIMIT (get_or all u origin)
   within_at u l m =
       let n = count_all points in
-      subst (λ (p : Point). IsWithin 2097151 p) (sym (point_after points u l)) (data_points (u - 8) (omega arith))
+      subst (λ (p : Point). IsWithin DATA_LIMIT p) (sym (point_after points u l)) (data_points (u - 8) (omega arith))
 
   apart_at : (u w : ℕ) → u < length all → w < length all → get_or all u origin ≡ get_or all w origin → u ≡ w
   apart_at u w l m e =

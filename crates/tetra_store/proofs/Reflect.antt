@@ -4,6 +4,7 @@ use Rattle.std.proofs.lemmas.Bool.{cases_lt, eqb-true, eq-eqb, false≢true}
 use borrow.Author.Tests.{ltb-true}
 use Rattle.std.proofs.lemmas.Int.{ints}
 use Rattle.geo_sign.specs.Point.{Point, corner_point}
+use Rattle.geo_sign.specs.declared.point.TheConstants.{BOX_LIMIT}
 use Rattle.geo_sign.specs.Tetrahedron as geo
 use Rattle.geo_sign.specs.Tetrahedron.{facet, IsRotated, IsTurned}
 use Rattle.geo_sign.specs.Vertices.{Vertices, IsWall}
@@ -123,7 +124,7 @@ abbrev pub low : (bit k : ℕ) → Bool
 low bit k = bit_and k bit == 0
 
 abbrev side_of : Bool → ℤ
-side_of b = cond b (neg_ℤ (pos 8388608)) (pos 8388608)
+side_of b = cond b (neg_ℤ (pos BOX_LIMIT)) (pos BOX_LIMIT)
 
 side_same : (a b : Bool) → side_of a ≡ side_of b → same a b ≡ true
 side_same true true h = refl

@@ -8,12 +8,13 @@
 --   IsStore s                        what is true of each store
 --   room_of capacity count ..        how many cells fit
 --   store_from points ..             what a store is seen as, from its parts
-use Rattle.std.specs.Prelude.{ℕ, ◌≡◌, ◌≤◌, ◌-◌, ◌/◌, Bool, false, List, Option, length, get_or, slice_index, slice_index_or, min, if◌then◌else◌, nat_lt}
+use Rattle.std.specs.Prelude.{ℕ, ◌≡◌, ◌≤◌, ◌+◌, ◌-◌, ◌/◌, Bool, false, List, Option, length, get_or, slice_index, slice_index_or, min, if◌then◌else◌, nat_lt}
 use Rattle.geo_sign.specs.Point.{Point, origin}
 use Rattle.geo_sign.specs.Tie.{height}
 use Rattle.geo_sign.specs.Boxes.{IsBoxed}
 use Rattle.geo_sign.specs.Vertices.{Vertices, Has}
 use Rattle.slab.specs.Slab.{Slab, slab_len}
+use Rattle.tetra_store.specs.declared.boxed.TheConstants.{VERTEX_LIMIT}
 use Rattle.tetra_store.specs.declared.link.Cell.{Cell}
 use Rattle.geo_sign.specs.Writings.{IsVertexOf}
 use Rattle.tetra_store.specs.Links.{links_of, IsLive, IsLinked}
@@ -40,9 +41,9 @@ vertices_at points inserted =
 abbrev pub vertices_of : Store → Vertices
 vertices_of s = vertices_at s.points s.inserted
 
--- The corners of the box, inserted, and then distinct data points: 1,048,576 of them at most.
+-- The corners of the box, inserted, and then distinct data points: VERTEX_LIMIT of them at most.
 pub record AreVertices (points : List Point) (inserted : List Bool) : Type 0 where
-  pub few : length points ≤ 1048584
+  pub few : length points ≤ 8 + VERTEX_LIMIT
   pub boxed : IsBoxed (vertices_at points inserted)
 
 -- the kept cell of each inserted vertex is live and has it

@@ -5,6 +5,7 @@ ghost use Rattle.slab.specs.Slab.{ContainsKey};
 ghost use Rattle.geo_sign.specs.Point.{origin, IsWithin};
 ghost use Rattle.geo_sign.specs.declared.point.TheConstants.{DATA_LIMIT};
 ghost use Rattle.geo_sign.specs.Vertices.{corners};
+ghost use Rattle.tetra_store.specs.declared.boxed.TheConstants.{VERTEX_LIMIT};
 ghost use Rattle.tetra_store.specs.Links.{links_of, IsLive};
 ghost use Rattle.tetra_store.specs.Steps.{ArePut};
 ghost use Rattle.tetra_store.specs.Box.{box_row, box_number, box_keeper, box_cell, IsBoxStep, IsBoxLinked, AreBoxCells};
@@ -19,6 +20,9 @@ use crate::{CellId, NoMemory, Tetra};
 use geo_sign::{Point, corner};
 use slab::Slab;
 use std::alloc::{AllocError, Global};
+
+/// The most data points of a store, so that numbers of vertices and heights fit.
+pub const VERTEX_LIMIT: usize = 1_048_576;
 
 /// The vertices of the six cells.
 const ROWS: [[u32; 4]; 6] = [
@@ -150,11 +154,11 @@ impl Tetra {
     ghost use Rattle.tetra_store.specs.Store.{vertices_of};
 
     /// The store of the box with these points, of which none is inserted. Point i is vertex 8 + i. The cells are the Delaunay cells of
-    /// the corners. The points are distinct data points, 1,048,576 at most, so that numbers of vertices and heights fit.
+    /// the corners. The points are distinct data points, `VERTEX_LIMIT` at most.
     pub fn with_box(alloc: Global, points: &[Point]) -> Result<Tetra, NoMemory>
         requires within { (k : ℕ) → k < length points.now → IsWithin DATA_LIMIT (get_or points.now k origin) }
         requires distinct { (j k : ℕ) → j < length points.now → k < length points.now → get_or points.now j origin ≡ get_or points.now k origin → j ≡ k }
-        requires few { length points.now ≤ 1048576 }
+        requires few { length points.now ≤ VERTEX_LIMIT }
         ensures points { IfOk result (λ t. t.points ≡ corners ++ points.now) }
         ensures inserted { IfOk result (λ t. (u : ℕ) → slice_index_or t.inserted u false ≡ nat_lt u 8) }
         ensures cells { IfOk result (λ t. IsDelaunay (vertices_of t) (links_of t.slots)) }

@@ -27,6 +27,7 @@ mod store;
 #[cfg(test)]
 mod tests;
 
+pub use boxed::VERTEX_LIMIT;
 pub use cells::Cells;
 pub use fan::Facet;
 pub use id::CellId;

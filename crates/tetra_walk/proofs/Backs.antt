@@ -11,7 +11,8 @@ use Rattle.geo_sign.specs.Tetrahedron.{Tetrahedron, DirectedFacet, facet, facet_
 use Rattle.geo_sign.specs.Vertices.{Vertices}
 use Rattle.geo_sign.specs.Writings as writings
 use Rattle.geo_sign.specs.Edges.{HasVertex}
-use Rattle.cell_laws.proofs.Sides.{opposite, opposite_or_on, on_facet, beside_turned}
+use Rattle.geo_sign.proofs.Rotations.{side_turned}
+use Rattle.cell_laws.proofs.Sides.{opposite, opposite_or_on, on_facet}
 use Rattle.tetra_store.specs.Links.{Links, IsLive, IsBack, IsLinked}
 
 -- a facet has the vertices of its other direction
@@ -85,7 +86,7 @@ one_back v links l x k y m i hk e j hm f = by h
 
     none : writings.IsVertexOf t u → ⊥
     none own_u =
-        let s = beside_turned v (facet_of t k) (facet_of r b.side) (rational (v.at u)) b.turned in
+        let s = side_turned v (facet_of t k) (facet_of r b.side) (rational (v.at u)) b.turned in
         ⊎_elim
         (λ (q : u ≡ vertex_of t k).
         let o = opposite v t k in let p = l.positive x i in

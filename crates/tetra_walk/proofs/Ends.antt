@@ -17,8 +17,8 @@ use Rattle.geo_sign.specs.Places.{IsInBox, IsLyingIn}
 use Rattle.cell_laws.specs.Lifts.{is_higher}
 use Rattle.cell_laws.specs.Lists.{count}
 use Rattle.cell_laws.specs.WalkLaws.{IsWalk, HasScannerCell, HasSightCells}
+use Rattle.geo_sign.proofs.Rotations.{side_turned}
 use Rattle.cell_laws.proofs.Scanners.{near_law}
-use Rattle.cell_laws.proofs.Sides.{beside_turned}
 use Rattle.cell_laws.proofs.SightLaws.{step_law, scanner_law, vertex_sight_law}
 use Rattle.tetra_store.specs.declared.link.Cell.{Cell}
 use Rattle.tetra_store.specs.Links.{links_of, slot_at, vertices_in, next_in, tetrahedron_from, IsLive}
@@ -106,7 +106,7 @@ pub reached : (s : Store) → IsStore s → (q : RationalPoint) (id : ℕ) (c : 
 reached s i q id c k y d m e hk h f g hm n =
     let v = vertices_of s in let t = (links_of s.slots).at id in let r = (links_of s.slots).at y in
     let turned = one_back v (links_of s.slots) i.linked id k y m (live_is s.slots id c e) hk (next_is s.slots id k c e ∙ f) (live_is s.slots y d g) hm (next_is s.slots y m d g ∙ n) in
-    let z = beside_turned v (facet_of t k) (facet_of r m) q turned in
+    let z = side_turned v (facet_of t k) (facet_of r m) q turned in
     let b = behind_at s q id c k e h in
     record { loaded = g; before = λ _ w. (let x = behind_at s q y d m g w in absurd (omega (arith, ints, z, b, x))) }
 

@@ -1,4 +1,4 @@
-use Rattle.cell_laws.proofs.CellRows.{row_law}
+use Rattle.cell_laws.proofs.RisingRows.{row_law}
 use Rattle.cell_laws.proofs.stores.row_law.Goals as goal
 
 pub returns : goal.returns
