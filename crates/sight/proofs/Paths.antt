@@ -29,7 +29,7 @@ use Rattle.tetra_store.specs.declared.link.Cell.{Cell}
 use Rattle.tetra_store.specs.Links.{links_of, slot_at, IsLive, IsBack}
 use Rattle.tetra_store.specs.Store.{Store, vertices_of, IsStore}
 use Rattle.tetra_store.specs.Delaunay.{IsDelaunay}
-use Rattle.tetra_walk.specs.Stored.{with_number, live_below, live_of}
+use Rattle.tetra_store.specs.Stored.{with_number, live_below, live_of}
 use Rattle.tetra_walk.proofs.Backs.{one_back}
 use Rattle.tetra_walk.proofs.Bridge.{linked, cells, listed, live}
 use Rattle.tetra_walk.proofs.Ends.{walks}

@@ -14,7 +14,7 @@ use Rattle.cell_laws.proofs.SightLaws.{left_of}
 use Rattle.tetra_store.specs.declared.link.Cell.{Cell}
 use Rattle.tetra_store.specs.Links.{links_of, slot_at, tetrahedron_from, IsLive}
 use Rattle.tetra_store.specs.Store.{Store, vertices_of, IsStore}
-use Rattle.tetra_walk.specs.Stored.{live_of}
+use Rattle.tetra_store.specs.Stored.{live_of}
 use Rattle.tetra_walk.proofs.Bridge.{listed, live}
 use Rattle.tetra_walk.proofs.Ends.{walks, one_scanner_cell, at_is, live_is, next_is as next_is_at}
 use Rattle.sight.specs.Exits.{IsExit}

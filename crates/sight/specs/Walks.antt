@@ -29,7 +29,7 @@ use Rattle.geo_sign.specs.Tetrahedron.{facet_at}
 use Rattle.tetra_store.specs.Links.{Links, links_of, tetrahedron_from, IsLive}
 use Rattle.tetra_store.specs.Store.{Store, vertices_of}
 use Rattle.tetra_store.specs.Delaunay.{IsDelaunay}
-use Rattle.tetra_walk.specs.Stored.{live_of}
+use Rattle.tetra_store.specs.Stored.{live_of}
 use Rattle.sight.specs.declared.along.Crossing.{Crossing}
 use Rattle.sight.specs.Exits.{IsEntered}
 

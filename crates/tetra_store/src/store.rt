@@ -112,6 +112,29 @@ impl Tetra {
         self.kept[v as usize].id()
     }
 
+    /// A number above those of all cells, now and until the store has to grow, as for a list with an entry for each cell.
+    pub fn number_limit(&self) -> usize
+        ensures slots { length self.now.slots ≤ result }
+        ensures above { (id : ℕ) → IsLive (links_of self.now.slots) id → id < result }
+    {
+        self.cells.capacity()
+    }
+
+    /// Makes room for so many cells more than there are, so that the store is not copied while it grows by these. It gives `replace`
+    /// no room: `reserve` does, and takes no more memory for cells then. Points, cells and what is inserted stay in any case.
+    pub fn reserve_cells(&mut self, cells: usize) -> Result<(), NoMemory>
+        ensures points { self.new.points ≡ self.old.points }
+        ensures inserted { self.new.inserted ≡ self.old.inserted }
+        ensures slots { self.new.slots ≡ self.old.slots }
+        ensures kept { self.new.kept ≡ self.old.kept }
+    {
+        if cells > MOST_CELLS {
+            return Err(AllocError);
+        }
+        self.cells.reserve(cells)?;
+        Ok(())
+    }
+
     /// Makes room for so many cells, so that `replace` may put them in with no memory taken. Want of memory is answered too where
     /// numbers of cells would not fit 32 bits. Points, cells and what is inserted stay in any case.
     pub fn reserve(&mut self, cells: usize) -> Result<(), NoMemory>

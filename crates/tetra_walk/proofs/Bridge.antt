@@ -11,7 +11,7 @@ use Rattle.tetra_store.specs.declared.link.Cell.{Cell}
 use Rattle.tetra_store.specs.Links.{links_of, slot_at, IsLive}
 use Rattle.tetra_store.specs.Store.{Store, vertices_of, IsStore}
 use Rattle.tetra_store.specs.Delaunay.{IsDelaunay}
-use Rattle.tetra_walk.specs.Stored.{with_number, live_below, live_of}
+use Rattle.tetra_store.specs.Stored.{with_number, live_below, live_of}
 
 -- ---- the list of the live numbers
 head_in : (b : Bool) (n : ℕ) (rest : List ℕ) → b ≡ true → IsIn (with_number b n rest) n

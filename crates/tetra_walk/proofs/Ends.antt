@@ -27,7 +27,7 @@ use Rattle.tetra_store.specs.Delaunay.{IsDelaunay}
 use Rattle.tetra_walk.specs.declared.goal.Goal.{Goal}
 use Rattle.tetra_walk.specs.declared.goal.Goal.TheVariants.{Point, Scanner, Towards, Behind}
 use Rattle.tetra_walk.specs.Goals.{place_of, IsGoal}
-use Rattle.tetra_walk.specs.Stored.{live_of}
+use Rattle.tetra_store.specs.Stored.{live_of}
 use Rattle.tetra_walk.specs.Walks.{IsBehindSide, HasNamed}
 use Rattle.tetra_walk.proofs.Backs.{one_back}
 use Rattle.tetra_walk.proofs.Bridge.{listed, linked, cells, listing}

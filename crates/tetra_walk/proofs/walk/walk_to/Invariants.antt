@@ -3,7 +3,7 @@ use Rattle.cell_laws.specs.Lists.{count}
 use Rattle.tetra_store.specs.Links.{links_of}
 use Rattle.tetra_store.specs.Store.{vertices_of}
 use Rattle.tetra_walk.specs.Goals.{place_of}
-use Rattle.tetra_walk.specs.Stored.{live_of}
+use Rattle.tetra_store.specs.Stored.{live_of}
 use Rattle.tetra_walk.proofs.Ends.{IsReached}
 use Rattle.tetra_walk.proofs.walk.walk_to.Given as goal
 
