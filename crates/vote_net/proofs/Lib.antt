@@ -1,0 +1,9 @@
+pub mod CellRows
+pub mod CellSides
+pub mod Lists
+pub mod Entries
+pub mod Stored
+pub mod Keys
+pub mod Nodes
+pub mod Assembled
+pub mod CellCounts

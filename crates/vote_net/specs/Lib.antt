@@ -1,0 +1,6 @@
+pub mod CellRows
+pub mod Gathered
+pub mod Counts
+pub mod Tables
+pub mod CountLaws
+pub mod StoredCells

@@ -1,0 +1,22 @@
+//! The network of linked Delaunay cells: a node for each cell, an arc for each directed facet with a free cell across.
+//!
+//! What sights vote for is counted elsewhere, by the numbers that cells have in the store. Here the nodes and arcs are put in order and
+//! numbered. `rows` lists the cells, `sides` the facets, `tables` finds their numbers, `arcs` makes the arcs, and `network` the whole.
+#![tactic(auto)]
+
+mod arcs;
+mod cells;
+mod laws;
+mod network;
+mod rows;
+mod sides;
+mod tables;
+
+pub use cells::rising_cells;
+pub use laws::{cell_count_law, facet_count_law, stored_cells_law};
+pub use network::{Counted, assemble};
+pub use sides::{Side, sorted_cut};
+use std::alloc::AllocError;
+
+/// Want of memory: the one answer that any input may get.
+pub type NoMemory = AllocError;

@@ -1,0 +1,112 @@
+//! The network: a node for each cell, an arc for each directed facet with a free cell across.
+
+ghost use Rattle.std.specs.Prelude.{◌≡◌, ◌≤◌, ◌*◌, ◌^◌, IfOk, map, length, slice_index};
+ghost use Rattle.flow_net.specs.Nets.{flag_at};
+ghost use Rattle.flow_net.specs.declared.votes.TheConstants.{SIGHT_LIMIT};
+ghost use Rattle.visibility.specs.Scenes.{Scene};
+ghost use Rattle.visibility.specs.Networks.{IsNetworkOf};
+ghost use Rattle.vote_net.specs.Counts.{AreCellsOf, AreCrossings, AreBehind, AreFixed, AreIdsOf};
+ghost use Rattle.vote_net.specs.Tables.{id_of_row, facet_of_side};
+
+use crate::NoMemory;
+use crate::arcs::{arcs_of, votes};
+use crate::rows::{Row, cells_of, sorted_rows};
+use crate::sides::{Side, flag, sorted_sides};
+use crate::tables::entry;
+use flow_net::{Net, Sequence, Settings, Voted};
+use std::alloc::{AllocError, Global};
+use tetra_store::{CellId, Tetra};
+
+/// The network with the cell of each node.
+#[derive(Debug, Drop)]
+pub struct Counted {
+    /// The network.
+    pub voted: Voted,
+    /// The live cell that each node stands for.
+    pub ids: Vec<CellId>,
+}
+
+/// The numbers in the store of the cells of rows.
+fn ids_of(alloc: Global, rows: &[Row]) -> Result<Vec<CellId>, NoMemory>
+    ensures { IfOk result (λ v. v.items ≡ map id_of_row rows.now) }
+{
+    rows.iter().map(|row| row.id).collect(alloc)
+}
+
+/// The facets of sides, which are let go.
+fn facets_of(alloc: Global, sides: Vec<Side>) -> Result<Vec<[u32; 3]>, NoMemory>
+    ensures { IfOk result (λ v. v.items ≡ map facet_of_side sides.items) }
+{
+    let mut facets = Vec::with_capacity(alloc, sides.len())?;
+    for side in &sides {
+        facets.push(side.facet)?;
+    }
+    Ok(facets)
+}
+
+/// Which of the cells of rows are fixed.
+fn fixed_of(alloc: Global, rows: &[Row], fixed: &[bool]) -> Result<Vec<bool>, NoMemory>
+    ensures { IfOk result (λ v. v.items ≡ map (λ r. flag_at fixed.now (id_of_row r)) rows.now) }
+{
+    rows.iter().map(|row| flag(fixed, row.id)).collect(alloc)
+}
+
+/// The sinks of the cells of rows.
+fn sinks_of(
+    alloc: Global,
+    rows: &[Row],
+    behind: &[u32],
+    settings: Settings,
+) -> Result<Vec<u64>, NoMemory>
+    ensures { IfOk result (λ v. v.items ≡ map (λ r. settings.vote * slice_index behind.now (id_of_row r)) rows.now) }
+{
+    rows.iter()
+        .map(|row| votes(settings, entry(behind, row.id.number())))
+        .collect(alloc)
+}
+
+/// The network of a scene, whose cells are those of the store.
+///
+/// It is made from counts by the cells' numbers in the store: at 4 * id + side of `crossed` the sights that cross the directed facet of
+/// a side, at id of `behind` those that the cell is behind, and at id of `fixed` whether it has a corner or a scanner. Nodes are in the
+/// order of their cells' rising numbers, arcs in that of their facets from the least number on. The only error is want of memory, which
+/// also stands for 2^32 cells or facets and more.
+pub fn assemble(
+    alloc: Global,
+    t: &Tetra,
+    crossed: &[u32],
+    behind: &[u32],
+    fixed: &[bool],
+    settings: Settings,
+) -> Result<Counted, NoMemory>
+    ghost scene: { Scene }
+    requires cells { AreCellsOf scene t.now.slots }
+    requires few { scene.vertices.count ≤ 2 ^ 32 }
+    requires few_sights { length scene.sights ≤ SIGHT_LIMIT }
+    requires settings { scene.settings ≡ settings }
+    requires crossed { AreCrossings scene t.now.slots crossed.now }
+    requires behind { AreBehind scene t.now.slots behind.now }
+    requires fixed { AreFixed scene t.now.slots fixed.now }
+    ensures network { IfOk result (λ counted. IsNetworkOf scene counted.voted) }
+    ensures ids { IfOk result (λ counted. AreIdsOf t.now.slots counted.voted.cells counted.ids.items) }
+{
+    let rows = sorted_rows(alloc, t)?;
+    let sides = sorted_sides(alloc, t, fixed, crossed.len())?;
+    if rows.len() > u32::MAX as usize || sides.len() > u32::MAX as usize {
+        return Err(AllocError);
+    }
+    let arcs = arcs_of(alloc, t, &rows, &sides, crossed, fixed, settings)?;
+    let facets = facets_of(alloc, sides)?;
+    let net = Net::new(
+        Sequence::from(fixed_of(alloc, &rows, fixed)?),
+        Sequence::from(sinks_of(alloc, &rows, behind, settings)?),
+        Sequence::from(arcs),
+    );
+    let voted = Voted {
+        net,
+        cells: Sequence::from(cells_of(alloc, &rows)?),
+        facets: Sequence::from(facets),
+    };
+    let ids = ids_of(alloc, &rows)?;
+    Ok(Counted { voted, ids })
+}

@@ -1,0 +1,97 @@
+//! The live cells by their rising numbers.
+
+ghost use Rattle.std.specs.Prelude.{◌≡◌, IfOk, map};
+ghost use Rattle.std.specs.List.Sorted.{IsPermutation, IsNonDecreasingBy};
+ghost use Rattle.slab.specs.Slab.{entries_from};
+ghost use Rattle.tetra_store.specs.Links.{tetrahedron_from};
+ghost use Rattle.vote_net.specs.CellRows.{low, high, risen, row_from};
+ghost use Rattle.vote_net.specs.Gathered.{row_at, row_key, key_of_row};
+ghost use Rattle.vote_net.specs.Tables.{cell_of_row};
+
+use crate::NoMemory;
+use std::alloc::Global;
+use tetra_store::{CellId, Tetra};
+
+/// A live cell, with its numbers rising.
+#[derive(Clone, Copy)]
+pub(crate) struct Row {
+    pub(crate) cell: [u32; 4],
+    pub(crate) id: CellId,
+}
+
+impl Row {
+    /// A number by which rows are sorted.
+    fn key(&self) -> u128
+        ensures { result ≡ row_key self.now.cell }
+    {
+        let [a, b, c, d] = self.cell;
+        let first = u64::from(a) * 4_294_967_296 + u64::from(b);
+        let last = u64::from(c) * 4_294_967_296 + u64::from(d);
+        u128::from(first) * 18_446_744_073_709_551_616 + u128::from(last)
+    }
+}
+
+/// Two numbers in order.
+fn in_order(x: u32, y: u32) -> (u32, u32)
+    ensures low { result.0 ≡ low x y }
+    ensures high { result.1 ≡ high x y }
+{
+    if y < x { (y, x) } else { (x, y) }
+}
+
+/// Four numbers in order.
+#[tactic(auto, unfolding(crate::specs::CellRows::risen))]
+fn rising(v: [u32; 4]) -> [u32; 4]
+    ensures { result ≡ row_from (risen (tetrahedron_from v)) }
+{
+    let (a, b) = in_order(v[0], v[1]);
+    let (c, d) = in_order(v[2], v[3]);
+    let (a, c) = in_order(a, c);
+    let (b, d) = in_order(b, d);
+    let (b, c) = in_order(b, c);
+    [a, b, c, d]
+}
+
+/// The live cells, by rising id.
+fn rows(alloc: Global, t: &Tetra) -> Result<Vec<Row>, NoMemory>
+    ensures { IfOk result (λ rows. rows.items ≡ map row_at (entries_from 0 t.now.slots)) }
+{
+    let mut rows = Vec::with_capacity(alloc, t.number_limit())?;
+    let mut cells = t.cells();
+    while let Some((id, cell)) = cells.next() {
+        rows.push(Row {
+            cell: rising(cell.v),
+            id,
+        })?;
+    }
+    Ok(rows)
+}
+
+/// Puts rows in the order of their numbers.
+fn sort_rows(rows: &mut [Row])
+    ensures moved { IsPermutation rows.old rows.new }
+    ensures sorted { IsNonDecreasingBy key_of_row rows.new }
+{
+    rows.sort_unstable_by_key(|row| row.key());
+}
+
+/// The live cells in the order of their numbers.
+pub(crate) fn sorted_rows(alloc: Global, t: &Tetra) -> Result<Vec<Row>, NoMemory>
+    ensures moved { IfOk result (λ rows. IsPermutation (map row_at (entries_from 0 t.now.slots)) rows.items) }
+    ensures sorted { IfOk result (λ rows. IsNonDecreasingBy key_of_row rows.items) }
+{
+    let mut rows = rows(alloc, t)?;
+    sort_rows(&mut rows);
+    Ok(rows)
+}
+
+/// The numbers of the cells of rows.
+pub(crate) fn cells_of(alloc: Global, rows: &[Row]) -> Result<Vec<[u32; 4]>, NoMemory>
+    ensures { IfOk result (λ v. v.items ≡ map cell_of_row rows.now) }
+{
+    let mut cells = Vec::with_capacity(alloc, rows.len())?;
+    for row in rows {
+        cells.push(row.cell)?;
+    }
+    Ok(cells)
+}
