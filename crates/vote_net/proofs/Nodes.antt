@@ -109,7 +109,7 @@ module _ (s : Scene) (slots : List (Option Cell)) (fixed : List Bool) (cells : A
   is_row : (x : ℕ) → IsLive (links_of slots) x → IsRowOf (cell x) (row_of slots x)
   is_row x h = risen_row s.vertices (cell x) (positive x h)
 
-  rising_row : (x : ℕ) → IsLive (links_of slots) x → IsRisingCell s.vertices (row_of slots x)
+  pub rising_row : (x : ℕ) → IsLive (links_of slots) x → IsRisingCell s.vertices (row_of slots x)
   rising_row x h = cells_are_rows.row s.vertices (cell x) (row_of slots x) (cells.cells x (listed slots x h)) (is_row x h)
 
   small_at : (x : ℕ) → IsLive (links_of slots) x → AreSmall (risen (cell x))
@@ -123,7 +123,7 @@ module _ (s : Scene) (slots : List (Option Cell)) (fixed : List Bool) (cells : A
       by (inr k) = let a = k.has_a.0 in let b = k.has_b.0 in let c = k.has_c.0 in let d = k.has_d.0 in record { a = omega (arith, a, few); b = omega (arith, b, few); c = omega (arith, d, few); d = omega (arith, c, few) }
 
   -- rows that are equal are those of one cell
-  one_id : (x y : ℕ) → IsLive (links_of slots) x → IsLive (links_of slots) y → row_of slots x ≡ row_of slots y → x ≡ y
+  pub one_id : (x y : ℕ) → IsLive (links_of slots) x → IsLive (links_of slots) y → row_of slots x ≡ row_of slots y → x ≡ y
   one_id x y hx hy e =
       (row_law s.vertices (live_of slots) cell cells.listing).one (row_of slots x) x y (listed slots x hx) (listed slots y hy) (is_row x hx) (subst (IsRowOf (cell y)) (sym e) (is_row y hy))
 
