@@ -2,13 +2,11 @@
 -- an inside cell with a corner, since no fixed cell is inside. A facet has the same edges from its least number on. Renumbering
 -- keeps it.
 use Rattle.std.proofs.Common.{ℕ, ◌+◌, ◌<◌, ◌≤◌, ◌≡◌, ◌≢◌, refl, sym, ap, ap₂, subst, ◌∙◌, inl, inr, arith, Bool, true, false, ◌||◌, nat_lt, not, zero, suc, Option, Some, List, [], ◌∷◌, ◌^◌, length, get_or, map, AllPairs, Contains}
-use Rattle.std.specs.List.{flat_map}
 use Rattle.std.specs.List.Sorted.{IsPermutation}
 use Rattle.std.proofs.lemmas.Bool.{ltb-false, or_parts}
 use Rattle.std.proofs.lemmas.List.{get_or-map, length-map}
 use Rattle.std.proofs.lemmas.List.Sorted.{Contains-permutation}
 use Rattle.std.proofs.lemmas.List.Sums.{sum_by-cons}
-use Rattle.slab.specs.Slab.{entries_from}
 use Rattle.flow_net.specs.Nets.{flag_at}
 use Rattle.geo_sign.specs.Tetrahedron.{Tetrahedron, DirectedFacet, facet_of, facet_at, vertex_of, IsRotated}
 use Rattle.cell_laws.specs.ClosedLaws.{edges_of, edge_count, facets_at, HasNoCorner, IsCutList, one_edge}
@@ -28,7 +26,7 @@ use Rattle.tetra_store.specs.Stored.{live_of}
 use Rattle.vote_net.specs.declared.sides.Side.{Side}
 use Rattle.vote_net.specs.CellRows.{least_first, facet_row}
 use Rattle.vote_net.specs.Counts.{AreCellsOf, row_of}
-use Rattle.vote_net.specs.Gathered.{cut_at}
+use Rattle.vote_net.specs.Gathered.{all_cut}
 use Rattle.vote_net.specs.Tables.{facet_of_side}
 use Rattle.vote_net.proofs.CellCounts.{cell_count_law}
 use Rattle.vote_net.proofs.CellRows.{least_rotated}
@@ -47,11 +45,13 @@ named x = record { at = x.id; side = x.side }
 -- a rotated facet has the same edges
 edges_rotated : (u w : ℕ) (f g : DirectedFacet) → IsRotated f g → edges_of u w g ≡ edges_of u w f
 edges_rotated u w f g (inl e) = ap (edges_of u w) e
-edges_rotated u w f g (inr (inl e)) = ap (edges_of u w) e ∙ round (one_edge u w f.a f.b) (one_edge u w f.b f.c) (one_edge u w f.c f.a)
+edges_rotated u w f g (inr (inl e)) =
+    ap (edges_of u w) e ∙ round (one_edge u w f.a f.b) (one_edge u w f.b f.c) (one_edge u w f.c f.a)
   where
     round : (x y z : ℕ) → y + z + x ≡ x + y + z
     round x y z = omega arith
-edges_rotated u w f g (inr (inr e)) = ap (edges_of u w) e ∙ round (one_edge u w f.a f.b) (one_edge u w f.b f.c) (one_edge u w f.c f.a)
+edges_rotated u w f g (inr (inr e)) =
+    ap (edges_of u w) e ∙ round (one_edge u w f.a f.b) (one_edge u w f.b f.c) (one_edge u w f.c f.a)
   where
     round : (x y z : ℕ) → z + x + y ≡ x + y + z
     round x y z = omega arith
@@ -70,7 +70,7 @@ none_low t k h l =
     by (suc (suc zero)) l a b c d = c
     by (suc (suc (suc k))) l a b c d = d
 
-module _ (s : Scene) (slots : List (Option Cell)) (cells : AreCellsOf s slots) (few : s.vertices.count ≤ 2 ^ 32) (complex : Complex) (all : IsComplexOf s complex) (inside : List ℕ → Bool) (none : IsAdmissible s complex inside) (outside : List Bool) (flags : AreOutside slots inside outside) (sides : List Side) (moved : IsPermutation (flat_map (cut_at outside) (entries_from 0 slots)) sides) where
+module _ (s : Scene) (slots : List (Option Cell)) (cells : AreCellsOf s slots) (few : s.vertices.count ≤ 2 ^ 32) (complex : Complex) (all : IsComplexOf s complex) (inside : List ℕ → Bool) (none : IsAdmissible s complex inside) (outside : List Bool) (flags : AreOutside slots inside outside) (sides : List Side) (moved : IsPermutation (all_cut outside slots) sides) where
   abbrev cell : ℕ → Tetrahedron
   cell = (links_of slots).at
 
@@ -109,15 +109,17 @@ module _ (s : Scene) (slots : List (Option Cell)) (cells : AreCellsOf s slots) (
         listed = listed slots x.id q.live;
         in_range = q.in_range;
         out = cuts.outside_at s slots cells few complex all inside none outside flags sides moved x.id q.live a.1;
-        across = (q.other, q.next, cuts.inside_is s slots cells few complex all inside none outside flags sides moved q.other (live slots q.other b.listed) q.free);
+        across =
+            (q.other, q.next, cuts.inside_is s slots cells few complex all inside none outside flags sides moved q.other (live slots q.other b.listed) q.free);
       })
 
-  all_there : (r : laws.Side) (y : ℕ) → IsIn (live_of slots) r.at → r.side < 4 → inside_at r.at ≡ false → next r.at r.side ≡ Some y → inside_at y ≡ true → IsIn (map named sides) r
+  all_there : (r : laws.Side) (y : ℕ) → IsIn (live_of slots) r.at → r.side < 4 → inside_at r.at ≡ false
+      → next r.at r.side ≡ Some y → inside_at y ≡ true → IsIn (map named sides) r
   all_there r y i l out n within =
       let lx = live slots r.at i in
       let ly = live slots y (cells.linked.back r.at r.side y i l n).listed in
       let z = cut_there slots outside r.at r.side y l n (flags y ly ∙ ap not within) (flags r.at lx ∙ ap not out) in
-      let c = Contains-permutation (flat_map (cut_at outside) (entries_from 0 slots)) sides z.0 moved z.1 in
+      let c = Contains-permutation (all_cut outside slots) sides z.0 moved z.1 in
       let is : named z.0 ≡ r = ap₂ (λ (x k : ℕ). let side : laws.Side = record { at = x; side = k } in side) z.2 z.3 in
       rows.is_listed (map named sides) r (subst (Contains (map named sides)) is (map_gets named sides z.0 c))
 
@@ -131,7 +133,9 @@ module _ (s : Scene) (slots : List (Option Cell)) (cells : AreCellsOf s slots) (
       let same : named x ≡ named y = sym (get_or-map named sides i no_side d li) ∙ e ∙ get_or-map named sides j no_side d lj in
       let id : x.id ≡ y.id = ap (λ (r : laws.Side). r.at) same in
       let side : x.side ≡ y.side = ap (λ (r : laws.Side). r.side) same in
-      let k = cuts.apart s slots cells few complex all inside none outside flags sides moved i j no_side li lj (omega (arith, id, side)) in
+      let k =
+      cuts.apart s slots cells few complex all inside none outside flags sides moved i j no_side li lj
+      (omega (arith, id, side)) in
       absurd (omega (arith, l, k))
 
   cut_list : IsCutList (live_of slots) next inside_at (map named sides)
@@ -146,7 +150,8 @@ module _ (s : Scene) (slots : List (Option Cell)) (cells : AreCellsOf s slots) (
       }
 
   -- the facets of the sides have the edges that the cells' facets have
-  same_edges : (u w : ℕ) (xs : List Side) → ((x : Side) → Contains xs x → x.facet ≡ facet_row (cell x.id) x.side) → edge_count u w (map facet_at (map facet_of_side xs)) ≡ edge_count u w (facets_at cell (map named xs))
+  same_edges : (u w : ℕ) (xs : List Side) → ((x : Side) → Contains xs x → x.facet ≡ facet_row (cell x.id) x.side)
+      → edge_count u w (map facet_at (map facet_of_side xs)) ≡ edge_count u w (facets_at cell (map named xs))
   same_edges u w [] h = refl
   same_edges u w (x ∷ xs) h =
       let f : DirectedFacet = facet_of (cell x.id) x.side in
@@ -160,7 +165,8 @@ module _ (s : Scene) (slots : List (Option Cell)) (cells : AreCellsOf s slots) (
   closed_sides u w =
       let is = λ (x : Side) (c : Contains sides x). (side_at x c).0.is in
       same_edges u w sides is
-      ∙ closed_law s.vertices cells.boxed (live_of slots) cell next cells.linked cells.cells inside_at no_corner (map named sides) cut_list u w
+      ∙ closed_law s.vertices cells.boxed (live_of slots) cell next cells.linked cells.cells inside_at no_corner
+      (map named sides) cut_list u w
       ∙ sym (same_edges w u sides is)
 
 -- ---- faces
@@ -178,12 +184,15 @@ face_renamed number n (a ∷ b ∷ []) h = elim h [ ]
 face_renamed number n (a ∷ b ∷ c ∷ []) h = refl
 face_renamed number n (a ∷ b ∷ c ∷ d ∷ rest) h = elim h [ ]
 
-faces_renamed : (number : ℕ → ℕ) (n : ℕ) (faces : List (List ℕ)) → ((f : List ℕ) → Contains faces f → IsFace n f) → map facet_at (map (map number) faces) ≡ map (renamed number) (map facet_at faces)
+faces_renamed : (number : ℕ → ℕ) (n : ℕ) (faces : List (List ℕ)) → ((f : List ℕ) → Contains faces f → IsFace n f)
+    → map facet_at (map (map number) faces) ≡ map (renamed number) (map facet_at faces)
 faces_renamed number n [] h = refl
 faces_renamed number n (f ∷ fs) h =
-    ap₂ (λ (g : DirectedFacet) (gs : List DirectedFacet). g ∷ gs) (face_renamed number n f (h f (here f fs))) (faces_renamed number n fs (λ g c. h g (there f g fs c)))
+    ap₂ (λ (g : DirectedFacet) (gs : List DirectedFacet). g ∷ gs) (face_renamed number n f (h f (here f fs)))
+    (faces_renamed number n fs (λ g c. h g (there f g fs c)))
 
-pub mesh_closed : (n : ℕ) (points : List Point) (faces : List (List ℕ)) → IsFaceList n faces → IsClosed faces → IsClosed (mesh_of points faces).faces
+pub mesh_closed : (n : ℕ) (points : List Point) (faces : List (List ℕ)) → IsFaceList n faces → IsClosed faces
+    → IsClosed (mesh_of points faces).faces
 mesh_closed n points faces list closed i j =
     let number = new_number faces in
     let face = λ (f : List ℕ) (c : Contains faces f). subst (IsFace n) c.2 (list.each c.0 f c.1) in

@@ -25,9 +25,11 @@ total_map h k [] = refl
 total_map h k (x ∷ xs) = ap (λ (n : ℕ). h (k x) + n) (total_map h k xs)
 
 -- a double sum in the other order
-exchanged : {X Y : Type 0} (m : X → Y → ℕ) (xs : List X) (ys : List Y) → total (λ x. total (m x) ys) xs ≡ total (λ y. total (λ x. m x y) xs) ys
+exchanged : {X Y : Type 0} (m : X → Y → ℕ) (xs : List X) (ys : List Y)
+    → total (λ x. total (m x) ys) xs ≡ total (λ y. total (λ x. m x y) xs) ys
 exchanged m [] ys = sym (sum_zero ys)
-exchanged m (x ∷ xs) ys = ap (λ (n : ℕ). total (m x) ys + n) (exchanged m xs ys) ∙ sym (sum_plus (m x) (λ y. total (λ z. m z y) xs) ys)
+exchanged m (x ∷ xs) ys =
+    ap (λ (n : ℕ). total (m x) ys + n) (exchanged m xs ys) ∙ sym (sum_plus (m x) (λ y. total (λ z. m z y) xs) ys)
 
 times : {X : Type 0} (m : ℕ) (h : X → ℕ) (xs : List X) → total (λ x. m * h x) xs ≡ m * total h xs
 times m h [] = omega arith
@@ -84,14 +86,16 @@ pick_edge m u w a b = by (eqb a u) (eqb b w)
     by true false = omega arith
     by false d = omega arith
 
-pair_sum : (g : ℕ → ℕ → ℕ) (n a b : ℕ) → a < n → b < n → g a b ≡ total (λ u. total (λ w. g u w * one_edge u w a b) (below n)) (below n)
+pair_sum : (g : ℕ → ℕ → ℕ) (n a b : ℕ) → a < n → b < n → g a b ≡ total (λ u. total (λ w. g u w * one_edge u w a b) (below n))
+    (below n)
 pair_sum g n a b la lb =
     sym (one_number (λ u. g u b) a n la)
     ∙ sum_same (λ u. pick (g u b) (eqb a u)) (λ u. total (λ w. g u w * one_edge u w a b) (below n)) (below n)
     (λ u c.
     ap (λ (m : ℕ). pick m (eqb a u)) (sym (one_number (λ w. g u w) b n lb))
     ∙ pick_total (λ w. pick (g u w) (eqb b w)) (eqb a u) (below n)
-    ∙ sum_same (λ w. pick (pick (g u w) (eqb b w)) (eqb a u)) (λ w. g u w * one_edge u w a b) (below n) (λ w d. pick_edge (g u w) u w a b))
+    ∙ sum_same (λ w. pick (pick (g u w) (eqb b w)) (eqb a u)) (λ w. g u w * one_edge u w a b) (below n)
+    (λ w d. pick_edge (g u w) u w a b))
 
 -- what the three edges of a facet give
 weight : (ℕ → ℕ → ℕ) → DirectedFacet → ℕ
@@ -102,16 +106,20 @@ pub record IsBelow (n : ℕ) (f : DirectedFacet) : Type 0 where
   pub b : f.b < n
   pub c : f.c < n
 
-weight_sum : (g : ℕ → ℕ → ℕ) (n : ℕ) (f : DirectedFacet) → IsBelow n f → weight g f ≡ total (λ u. total (λ w. g u w * edges_of u w f) (below n)) (below n)
+weight_sum : (g : ℕ → ℕ → ℕ) (n : ℕ) (f : DirectedFacet) → IsBelow n f
+    → weight g f ≡ total (λ u. total (λ w. g u w * edges_of u w f) (below n)) (below n)
 unfolding weight
 weight_sum g n f h =
     let ab = λ (u w : ℕ). g u w * one_edge u w f.a f.b in
     let bc = λ (u w : ℕ). g u w * one_edge u w f.b f.c in
     let ca = λ (u w : ℕ). g u w * one_edge u w f.c f.a in
-    ap₂ (λ (x y : ℕ). x + y) (ap₂ (λ (x y : ℕ). x + y) (pair_sum g n f.a f.b h.a h.b) (pair_sum g n f.b f.c h.b h.c)) (pair_sum g n f.c f.a h.c h.a)
-    ∙ ap (λ (x : ℕ). x + total (λ u. total (ca u) (below n)) (below n)) (sym (sum_plus (λ u. total (ab u) (below n)) (λ u. total (bc u) (below n)) (below n)))
+    ap₂ (λ (x y : ℕ). x + y) (ap₂ (λ (x y : ℕ). x + y) (pair_sum g n f.a f.b h.a h.b) (pair_sum g n f.b f.c h.b h.c))
+    (pair_sum g n f.c f.a h.c h.a)
+    ∙ ap (λ (x : ℕ). x + total (λ u. total (ca u) (below n)) (below n))
+    (sym (sum_plus (λ u. total (ab u) (below n)) (λ u. total (bc u) (below n)) (below n)))
     ∙ sym (sum_plus (λ u. total (ab u) (below n) + total (bc u) (below n)) (λ u. total (ca u) (below n)) (below n))
-    ∙ sum_same (λ u. total (ab u) (below n) + total (bc u) (below n) + total (ca u) (below n)) (λ u. total (λ w. g u w * edges_of u w f) (below n)) (below n)
+    ∙ sum_same (λ u. total (ab u) (below n) + total (bc u) (below n) + total (ca u) (below n))
+    (λ u. total (λ w. g u w * edges_of u w f) (below n)) (below n)
     (λ u d.
     ap (λ (x : ℕ). x + total (ca u) (below n)) (sym (sum_plus (ab u) (bc u) (below n)))
     ∙ sym (sum_plus (λ w. ab u w + bc u w) (ca u) (below n))
@@ -125,18 +133,23 @@ weight_sum g n f h =
 weights : (g : ℕ → ℕ → ℕ) (n : ℕ) (facets : List DirectedFacet) → ((f : DirectedFacet) → IsIn facets f → IsBelow n f)
     → total (weight g) facets ≡ total (λ u. total (λ w. g u w * total (edges_of u w) facets) (below n)) (below n)
 weights g n facets h =
-    sum_same (weight g) (λ f. total (λ u. total (λ w. g u w * edges_of u w f) (below n)) (below n)) facets (λ f c. weight_sum g n f (h f c))
+    sum_same (weight g) (λ f. total (λ u. total (λ w. g u w * edges_of u w f) (below n)) (below n)) facets
+    (λ f c. weight_sum g n f (h f c))
     ∙ exchanged (λ f u. total (λ w. g u w * edges_of u w f) (below n)) facets (below n)
-    ∙ sum_same (λ u. total (λ f. total (λ w. g u w * edges_of u w f) (below n)) facets) (λ u. total (λ w. g u w * total (edges_of u w) facets) (below n)) (below n)
+    ∙ sum_same (λ u. total (λ f. total (λ w. g u w * edges_of u w f) (below n)) facets)
+    (λ u. total (λ w. g u w * total (edges_of u w) facets) (below n)) (below n)
     (λ u c.
     exchanged (λ f w. g u w * edges_of u w f) facets (below n)
-    ∙ sum_same (λ w. total (λ f. g u w * edges_of u w f) facets) (λ w. g u w * total (edges_of u w) facets) (below n) (λ w d. times (g u w) (edges_of u w) facets))
+    ∙ sum_same (λ w. total (λ f. g u w * edges_of u w f) facets) (λ w. g u w * total (edges_of u w) facets) (below n)
+    (λ w d. times (g u w) (edges_of u w) facets))
 
 even_weights : (g : ℕ → ℕ → ℕ) (n : ℕ) (facets : List DirectedFacet) → ((f : DirectedFacet) → IsIn facets f → IsBelow n f)
-    → ((u w : ℕ) → total (edges_of u w) facets ≡ total (edges_of w u) facets) → total (weight g) facets ≡ total (weight (λ u w. g w u)) facets
+    → ((u w : ℕ) → total (edges_of u w) facets ≡ total (edges_of w u) facets) → total (weight g) facets ≡ total
+    (weight (λ u w. g w u)) facets
 even_weights g n facets h even =
     weights g n facets h
-    ∙ sum_same (λ u. total (λ w. g u w * total (edges_of u w) facets) (below n)) (λ u. total (λ w. g u w * total (edges_of w u) facets) (below n)) (below n)
+    ∙ sum_same (λ u. total (λ w. g u w * total (edges_of u w) facets) (below n))
+    (λ u. total (λ w. g u w * total (edges_of w u) facets) (below n)) (below n)
     (λ u c. sum_same (λ w. g u w * total (edges_of u w) facets) (λ w. g u w * total (edges_of w u) facets) (below n) (λ w d. ap (λ (m : ℕ). g u w * m) (even u w)))
     ∙ exchanged (λ u w. g u w * total (edges_of w u) facets) (below n) (below n)
     ∙ sym (weights (λ u w. g w u) n facets h)
@@ -155,18 +168,23 @@ flip u w x y = ap one_if (and_swapped (eqb x u) (eqb y w))
     and_swapped false true = refl
     and_swapped false false = refl
 
-back : (number : ℕ → ℕ) (i j : ℕ) (f : DirectedFacet) → weight (λ a b. one_edge i j (number b) (number a)) f ≡ edges_of j i (renamed number f)
+back : (number : ℕ → ℕ) (i j : ℕ) (f : DirectedFacet)
+    → weight (λ a b. one_edge i j (number b) (number a)) f ≡ edges_of j i (renamed number f)
 unfolding weight
 back number i j f =
-    ap₂ (λ (x y : ℕ). x + y) (ap₂ (λ (x y : ℕ). x + y) (flip i j (number f.b) (number f.a)) (flip i j (number f.c) (number f.b))) (flip i j (number f.a) (number f.c))
+    ap₂ (λ (x y : ℕ). x + y) (ap₂ (λ (x y : ℕ). x + y) (flip i j (number f.b) (number f.a)) (flip i j (number f.c) (number f.b)))
+    (flip i j (number f.a) (number f.c))
 
 pub renumbered : (number : ℕ → ℕ) (n : ℕ) (facets : List DirectedFacet) → ((f : DirectedFacet) → IsIn facets f → IsBelow n f)
-    → ((u w : ℕ) → edge_count u w facets ≡ edge_count w u facets) → (i j : ℕ) → edge_count i j (map (renamed number) facets) ≡ edge_count j i (map (renamed number) facets)
+    → ((u w : ℕ) → edge_count u w facets ≡ edge_count w u facets) → (i j : ℕ) → edge_count i j
+    (map (renamed number) facets) ≡ edge_count j i (map (renamed number) facets)
 unfolding weight
 renumbered number n facets each even i j =
     total_is (edges_of i j) (map (renamed number) facets)
     ∙ total_map (edges_of i j) (renamed number) facets
-    ∙ even_weights (λ a b. one_edge i j (number a) (number b)) n facets each (λ u w. sym (total_is (edges_of u w) facets) ∙ even u w ∙ total_is (edges_of w u) facets)
-    ∙ sum_same (weight (λ a b. one_edge i j (number b) (number a))) (λ f. edges_of j i (renamed number f)) facets (λ f c. back number i j f)
+    ∙ even_weights (λ a b. one_edge i j (number a) (number b)) n facets each
+    (λ u w. sym (total_is (edges_of u w) facets) ∙ even u w ∙ total_is (edges_of w u) facets)
+    ∙ sum_same (weight (λ a b. one_edge i j (number b) (number a))) (λ f. edges_of j i (renamed number f)) facets
+    (λ f c. back number i j f)
     ∙ sym (total_map (edges_of j i) (renamed number) facets)
     ∙ sym (total_is (edges_of j i) (map (renamed number) facets))

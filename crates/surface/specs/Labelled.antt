@@ -5,9 +5,7 @@
 --   AreOutside slots inside outside     a live cell has a flag exactly where it is not inside
 --   IsSortedCut slots outside facets    the facets, sorted, of the sides of cells with a flag whose neighbor has none
 use Rattle.std.specs.Prelude.{ℕ, ◌≡◌, ◌<◌, Bool, not, List, Option, map, length, slice_index}
-use Rattle.std.specs.List.{flat_map}
 use Rattle.std.specs.List.Sorted.{IsPermutation, IsNonDecreasingBy}
-use Rattle.slab.specs.Slab.{entries_from}
 use Rattle.flow_net.specs.Nets.{flag_at}
 use Rattle.visibility.specs.Scenes.{Scene}
 use Rattle.visibility.specs.Complexes.{Complex}
@@ -15,7 +13,7 @@ use Rattle.tetra_store.specs.declared.link.Cell.{Cell}
 use Rattle.tetra_store.specs.Links.{links_of, IsLive}
 use Rattle.vote_net.specs.declared.sides.Side.{Side}
 use Rattle.vote_net.specs.Counts.{row_of}
-use Rattle.vote_net.specs.Gathered.{cut_at, key_of_side}
+use Rattle.vote_net.specs.Gathered.{key_of_side, all_cut}
 use Rattle.vote_net.specs.Tables.{facet_of_side}
 
 -- what is cut: all cells of a scene, and the facets that have a capacity
@@ -34,6 +32,6 @@ AreOutside slots inside outside = (id : ℕ) → IsLive (links_of slots) id → 
 -- in the order of their numbers
 pub record IsSortedCut (slots : List (Option Cell)) (outside : List Bool) (facets : List (List ℕ)) : Type 0 where
   pub sides : List Side
-  pub moved : IsPermutation (flat_map (cut_at outside) (entries_from 0 slots)) sides
+  pub moved : IsPermutation (all_cut outside slots) sides
   pub sorted : IsNonDecreasingBy key_of_side sides
   pub facets_are : facets ≡ map facet_of_side sides

@@ -22,7 +22,8 @@ use Rattle.vote_net.proofs.Stored.{listed}
 pub facet_count_law : FacetCountLaw
 unfolding crossings
 facet_count_law s f g r =
-    ap (λ (p : Sight → Bool). count_by p s.sights) (equal (λ (x : Sight). sym (crossed_rotated s.vertices x.vertex (scanner_point s.scanners x.scanner) f g r)))
+    ap (λ (p : Sight → Bool). count_by p s.sights)
+    (equal (λ (x : Sight). sym (crossed_rotated s.vertices x.vertex (scanner_point s.scanners x.scanner) f g r)))
 
 -- four tests in another order
 or_spun : (a b c d : Bool) → (b || c || a || d) ≡ (a || b || c || d)
@@ -54,6 +55,10 @@ cell_count_law s slots cells id h =
     let r : Tetrahedron = written s.vertices (row_of slots id) in
     let w : IsRewritten t r = risen_written s.vertices t (cells.cells id (listed slots id h)).positive in
     record {
-      before = ap (λ (p : Sight → Bool). count_by p s.sights) (equal (λ (x : Sight). same_behind s.vertices x.vertex (scanner_point s.scanners x.scanner) t r w));
-      fixed = ap₂ (λ (m n : Bool). m || n) (corner_same t r w) (ap (λ (p : Point → Bool). list_any p s.scanners) (equal (λ (q : Point). same_cell_of s.vertices (displaced q) t r w)));
+      before =
+          ap (λ (p : Sight → Bool). count_by p s.sights)
+          (equal (λ (x : Sight). same_behind s.vertices x.vertex (scanner_point s.scanners x.scanner) t r w));
+      fixed =
+          ap₂ (λ (m n : Bool). m || n) (corner_same t r w)
+          (ap (λ (p : Point → Bool). list_any p s.scanners) (equal (λ (q : Point). same_cell_of s.vertices (displaced q) t r w)));
     }

@@ -134,14 +134,20 @@ risen_ordered t =
     let one = in_order t.a t.b in let two = in_order t.c t.d in
     let three = in_order p r in let four = in_order q s in
     let five = in_order (low q s) (high p r) in
-    let lo_m2 : low p r ≤ low q s =
-    ⊎_elim (λ (e : low q s ≡ q). omega (arith, e, one.below, three.low_x)) (λ (e : low q s ≡ s). omega (arith, e, two.below, three.low_y)) four.low_is in
-    let m1_hi : high p r ≤ high q s =
-    ⊎_elim (λ (e : high p r ≡ p). omega (arith, e, one.below, four.high_x)) (λ (e : high p r ≡ r). omega (arith, e, two.below, four.high_y)) three.high_is in
+    let lows : low p r ≤ low q s =
+    ⊎_elim (λ (e : low q s ≡ q). omega (arith, e, one.below, three.low_x))
+    (λ (e : low q s ≡ s). omega (arith, e, two.below, three.low_y)) four.low_is in
+    let highs : high p r ≤ high q s =
+    ⊎_elim (λ (e : high p r ≡ p). omega (arith, e, one.below, four.high_x))
+    (λ (e : high p r ≡ r). omega (arith, e, two.below, four.high_y)) three.high_is in
     record {
-      a_below = ⊎_elim (λ (e : low (low q s) (high p r) ≡ low q s). omega (arith, e, lo_m2)) (λ (e : low (low q s) (high p r) ≡ high p r). omega (arith, e, three.below)) five.low_is;
+      a_below =
+          ⊎_elim (λ (e : low (low q s) (high p r) ≡ low q s). omega (arith, e, lows))
+          (λ (e : low (low q s) (high p r) ≡ high p r). omega (arith, e, three.below)) five.low_is;
       b_below = five.below;
-      c_below = ⊎_elim (λ (e : high (low q s) (high p r) ≡ low q s). omega (arith, e, four.below)) (λ (e : high (low q s) (high p r) ≡ high p r). omega (arith, e, m1_hi)) five.high_is;
+      c_below =
+          ⊎_elim (λ (e : high (low q s) (high p r) ≡ low q s). omega (arith, e, four.below))
+          (λ (e : high (low q s) (high p r) ≡ high p r). omega (arith, e, highs)) five.high_is;
     }
 
 strict : (r : Tetrahedron) → IsOrdered r → r.b ≢ r.a → r.c ≢ r.b → r.d ≢ r.c → IsRising r
@@ -196,7 +202,8 @@ least_of f g (inr (inl e)) h =
     let j : f.b < f.a = k.1 in
     by (nat_lt f.a f.b) (nat_lt f.a f.c) (nat_lt f.b f.c) (le-ltb f.a f.b (omega (arith, j))) (lt-ltb f.b f.c k.0) ∙ sym e
   where
-    by : (b c d : Bool) → b ≡ false → d ≡ true → cond (b && c) f (cond d (facet f.b f.c f.a) (facet f.c f.a f.b)) ≡ facet f.b f.c f.a
+    by : (b c d : Bool) → b ≡ false → d ≡ true
+        → cond (b && c) f (cond d (facet f.b f.c f.a) (facet f.c f.a f.b)) ≡ facet f.b f.c f.a
     by false c true x y = refl
     by false c false x y = absurd (cc)
     by true c d x y = absurd (cc)
@@ -204,9 +211,11 @@ least_of f g (inr (inr e)) h =
     let k : IsFirstLeast (facet f.c f.a f.b) = subst IsFirstLeast e h in
     let i : f.c < f.a = k.0 in
     let j : f.c < f.b = k.1 in
-    by (nat_lt f.a f.b) (nat_lt f.a f.c) (nat_lt f.b f.c) (le-ltb f.a f.c (omega (arith, i))) (le-ltb f.b f.c (omega (arith, j))) ∙ sym e
+    by (nat_lt f.a f.b) (nat_lt f.a f.c) (nat_lt f.b f.c) (le-ltb f.a f.c (omega (arith, i))) (le-ltb f.b f.c (omega (arith, j)))
+    ∙ sym e
   where
-    by : (b c d : Bool) → c ≡ false → d ≡ false → cond (b && c) f (cond d (facet f.b f.c f.a) (facet f.c f.a f.b)) ≡ facet f.c f.a f.b
+    by : (b c d : Bool) → c ≡ false → d ≡ false
+        → cond (b && c) f (cond d (facet f.b f.c f.a) (facet f.c f.a f.b)) ≡ facet f.c f.a f.b
     by true false false x y = refl
     by false false false x y = refl
     by b true d x y = absurd (cc)
@@ -221,7 +230,8 @@ record IsWrittenSide (v : Vertices) (t : Tetrahedron) (k : ℕ) : Type 0 where
   side : ℕ
   is : least_first (facet_of t k) ≡ facet_of (written v (row_from (risen t))) side
 
-row_facets : (v : Vertices) (t : Tetrahedron) (k : ℕ) → IsPositive v t → IsFirstLeast (facet_of (written v (row_from (risen t))) k)
+row_facets : (v : Vertices) (t : Tetrahedron) (k : ℕ) → IsPositive v t
+    → IsFirstLeast (facet_of (written v (row_from (risen t))) k)
 row_facets v t k h = written_facets v t (row_from (risen t)) (risen_row v t h) k
 
 written_side : (v : Vertices) (t : Tetrahedron) (k : ℕ) → IsPositive v t → IsWrittenSide v t k
@@ -233,7 +243,8 @@ written_side v t k h =
 pub side_least : (v : Vertices) (t : Tetrahedron) (k : ℕ) → IsPositive v t → IsFirstLeast (least_first (facet_of t k))
 side_least v t k h = let p : IsWrittenSide v t k = written_side v t k h in subst IsFirstLeast (sym p.is) (row_facets v t p.side h)
 
-pub row_has_side : (v : Vertices) (t : Tetrahedron) (k : ℕ) → IsPositive v t → has_facet v (row_from (risen t)) (least_first (facet_of t k)) ≡ true
+pub row_has_side : (v : Vertices) (t : Tetrahedron) (k : ℕ) → IsPositive v t → has_facet v (row_from (risen t))
+    (least_first (facet_of t k)) ≡ true
 row_has_side v t k h =
     let w : Tetrahedron = written v (row_from (risen t)) in
     let p : IsWrittenSide v t k = written_side v t k h in
@@ -243,7 +254,8 @@ row_has_side v t k h =
 abbrev pub IsSideOf : Tetrahedron → DirectedFacet → Type 0
 IsSideOf t f = (k : ℕ) × (k < 4) × (least_first (facet_of t k) ≡ f)
 
-pub row_side_is : (v : Vertices) (t : Tetrahedron) (f : DirectedFacet) → IsPositive v t → has_facet v (row_from (risen t)) f ≡ true → IsSideOf t f
+pub row_side_is : (v : Vertices) (t : Tetrahedron) (f : DirectedFacet) → IsPositive v t
+    → has_facet v (row_from (risen t)) f ≡ true → IsSideOf t f
 row_side_is v t f h e =
     let w : Tetrahedron = written v (row_from (risen t)) in
     let j = found w f e in

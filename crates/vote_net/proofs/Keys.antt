@@ -1,4 +1,5 @@
--- The numbers by which rows and facets are sorted keep their order.
+-- The numbers by which rows and facets are sorted keep their order: of two numbers with the last digits below the base, the first digits
+-- decide unless they are equal.
 use Rattle.std.proofs.Common.{ℕ, ◌+◌, ◌*◌, ◌<◌, ◌≤◌, ◌≡◌, ◌⊎◌, inl, inr, ⊎_elim, ap, ◌∙◌, arith}
 use Rattle.std.proofs.lemmas.Bool.{cases_lt}
 use Rattle.geo_sign.specs.Cells.{IsBefore}
@@ -17,7 +18,8 @@ small_pair x y z w hy hw h =
     (λ (l : z ≤ x). ⊎_elim (λ (m : z < x). absurd (omega (arith, h, m, hy, hw))) (λ (m : x ≤ z). let e : x ≡ z = omega (arith, l, m) in inr (e, omega (arith, e, h))) (cases_lt z x))
     (cases_lt x z)
 
-large_pair : (x y z w : ℕ) → y < 18446744073709551616 → w < 18446744073709551616 → x * 18446744073709551616 + y ≤ z * 18446744073709551616 + w → IsFirst x y z w
+large_pair : (x y z w : ℕ) → y < 18446744073709551616 → w < 18446744073709551616
+    → x * 18446744073709551616 + y ≤ z * 18446744073709551616 + w → IsFirst x y z w
 unfolding IsFirst
 large_pair x y z w hy hw h =
     ⊎_elim (λ (l : x < z). inl l)
@@ -30,7 +32,8 @@ pub record AreSmall (t : Tetrahedron) : Type 0 where
   pub c : t.c < 4294967296
   pub d : t.d < 4294967296
 
-pub rows_before : (t r : Tetrahedron) → AreSmall t → AreSmall r → row_key (row_from t) ≤ row_key (row_from r) → IsBefore (row_from t) (row_from r) ⊎ (row_from t ≡ row_from r)
+pub rows_before : (t r : Tetrahedron) → AreSmall t → AreSmall r → row_key (row_from t) ≤ row_key (row_from r)
+    → IsBefore (row_from t) (row_from r) ⊎ (row_from t ≡ row_from r)
 unfolding IsFirst
 rows_before t r ht hr h =
     let tb = ht.b in let tc = ht.c in let td = ht.d in let rb = hr.b in let rc = hr.c in let rd = hr.d in
@@ -60,7 +63,8 @@ pub record AreSmallOf (f : DirectedFacet) : Type 0 where
   pub b : f.b < 4294967296
   pub c : f.c < 4294967296
 
-pub facets_before : (f g : DirectedFacet) → AreSmallOf f → AreSmallOf g → facet_key (numbers_of f) ≤ facet_key (numbers_of g) → IsBefore (numbers_of f) (numbers_of g) ⊎ (f ≡ g)
+pub facets_before : (f g : DirectedFacet) → AreSmallOf f → AreSmallOf g → facet_key (numbers_of f) ≤ facet_key (numbers_of g)
+    → IsBefore (numbers_of f) (numbers_of g) ⊎ (f ≡ g)
 unfolding IsFirst
 facets_before f g hf hg h =
     let fb = hf.b in let fc = hf.c in let gb = hg.b in let gc = hg.c in

@@ -1,14 +1,14 @@
--- Sorted rows are the list of cells, sorted sides the list of facets with a capacity, and what the tables give are the arcs.
+-- Sorted rows are the list of cells, sorted sides the list of facets with a capacity, and what the tables give are the arcs. Rows and
+-- facets are apart, and keys keep their order, so both lists rise strictly. A cell is searched for by a facet that it alone has, so
+-- what the search finds is the index that the table of nodes has; and so for facets and the table of arcs.
 -- Stands on: CellRows, CellSides, Entries, Keys.
 use Rattle.std.proofs.Common.{ℕ, zero, suc, ◌+◌, ◌*◌, ◌<◌, ◌≤◌, ◌^◌, ◌≡◌, ◌≢◌, refl, sym, ap, subst, ◌∙◌, inl, inr, ⊎_elim, arith, Bool, true, false, true≢false, cond, Option, Some, None, List, [], length, get_or, map, AllPairs, Contains, unwrap_or}
-use Rattle.std.specs.List.{flat_map}
 use Rattle.std.specs.List.Sorted.{IsPermutation, IsNonDecreasingBy}
 use Rattle.std.proofs.lemmas.Bool.{false_from_ne_true}
 use Rattle.std.proofs.lemmas.List.{get_or-map, get_or_default, length-map, same_lists}
 use Rattle.std.proofs.lemmas.List.Elements.{Contains-get_or}
 use Rattle.std.proofs.lemmas.List.Sorted.{IsPermutation-sym, Contains-permutation}
 use Rattle.std.proofs.lemmas.List.Sums.{position_or_len_is}
-use Rattle.slab.specs.Slab.{entries_from}
 use Rattle.flow_net.specs.Nets.{flag_at}
 use Rattle.flow_net.specs.declared.Arc.{Arc}
 use Rattle.geo_sign.specs.Tetrahedron.{Tetrahedron, DirectedFacet, facet_of, facet_at, numbers_of, turned, is_same_facet, IsRotated}
@@ -27,7 +27,7 @@ use Rattle.vote_net.specs.declared.rows.Row.{Row}
 use Rattle.vote_net.specs.declared.sides.Side.{Side}
 use Rattle.vote_net.specs.CellRows.{least_first, risen, facet_row}
 use Rattle.vote_net.specs.Counts.{AreCellsOf, AreFixed, AreCrossings, row_of}
-use Rattle.vote_net.specs.Gathered.{row_at, open_at, row_key, facet_key, key_of_row, key_of_side}
+use Rattle.vote_net.specs.Gathered.{row_key, facet_key, key_of_row, key_of_side, all_rows, all_open}
 use Rattle.tetra_store.specs.Stored.{live_of}
 use Rattle.vote_net.specs.Tables.{id_of_row, cell_of_row, facet_of_side, number_of_side, AreApart, AreNumbered, side_with, other_of, arc_from}
 use Rattle.vote_net.proofs.CellRows.{IsSideOf, risen_row, row_has_side, least_rotated}
@@ -61,13 +61,17 @@ below_side n t (suc (suc zero)) a b c d = (a, d, b)
 below_side n t (suc (suc (suc k))) a b c d = (a, b, c)
 
 -- the side that the code finds
-side_with_is : (t : Tetrahedron) (f : DirectedFacet) (m : ℕ) → m < 4 → least_first (facet_of t m) ≡ f → ((k : ℕ) → k < 4 → least_first (facet_of t k) ≡ f → k ≡ m) → side_with t f ≡ m
+side_with_is : (t : Tetrahedron) (f : DirectedFacet) (m : ℕ) → m < 4 → least_first (facet_of t m) ≡ f
+    → ((k : ℕ) → k < 4 → least_first (facet_of t k) ≡ f → k ≡ m) → side_with t f ≡ m
 unfolding side_with
 side_with_is t f m l e one =
-    by (is_same_facet (least_first (facet_of t 0)) f) (is_same_facet (least_first (facet_of t 1)) f) (is_same_facet (least_first (facet_of t 2)) f) refl refl refl
+    by (is_same_facet (least_first (facet_of t 0)) f) (is_same_facet (least_first (facet_of t 1)) f)
+    (is_same_facet (least_first (facet_of t 2)) f) refl refl refl
   where
     itself : (k : ℕ) → k ≡ m → is_same_facet (least_first (facet_of t k)) f ≡ true
-    itself k h = subst (λ (g : DirectedFacet). is_same_facet (least_first (facet_of t k)) g ≡ true) (ap (λ (i : ℕ). least_first (facet_of t i)) h ∙ e) (is_same_itself (least_first (facet_of t k)))
+    itself k h =
+        subst (λ (g : DirectedFacet). is_same_facet (least_first (facet_of t k)) g ≡ true)
+        (ap (λ (i : ℕ). least_first (facet_of t i)) h ∙ e) (is_same_itself (least_first (facet_of t k)))
 
     found : (k : ℕ) → k < 4 → is_same_facet (least_first (facet_of t k)) f ≡ true → k ≡ m
     found k h i = one k h (same_facets (least_first (facet_of t k)) f i)
@@ -75,13 +79,16 @@ side_with_is t f m l e one =
     not_here : (k : ℕ) → is_same_facet (least_first (facet_of t k)) f ≡ false → k ≢ m
     not_here k i h = absurd (true≢false (sym (itself k h) ∙ i))
 
-    by : (a b c : Bool) → is_same_facet (least_first (facet_of t 0)) f ≡ a → is_same_facet (least_first (facet_of t 1)) f ≡ b → is_same_facet (least_first (facet_of t 2)) f ≡ c → cond a 0 (cond b 1 (cond c 2 3)) ≡ m
+    by : (a b c : Bool) → is_same_facet (least_first (facet_of t 0)) f ≡ a → is_same_facet (least_first (facet_of t 1)) f ≡ b
+        → is_same_facet (least_first (facet_of t 2)) f ≡ c → cond a 0 (cond b 1 (cond c 2 3)) ≡ m
     by true b c x y z = found 0 (omega arith) x
     by false true c x y z = found 1 (omega arith) y
     by false false true x y z = found 2 (omega arith) z
-    by false false false x y z = let n0 = not_here 0 x in let n1 = not_here 1 y in let n2 = not_here 2 z in omega (arith, l, n0, n1, n2)
+    by false false false x y z =
+        let n0 = not_here 0 x in let n1 = not_here 1 y in let n2 = not_here 2 z in omega (arith, l, n0, n1, n2)
 
-same_arc : {a b c d m n : ℕ} {o q : Option ℕ} → a ≡ b → c ≡ d → m ≡ n → o ≡ q → (let x : Arc = record { from = a; to = c; cap = m; pair = o } in x) ≡ record { from = b; to = d; cap = n; pair = q }
+same_arc : {a b c d m n : ℕ} {o q : Option ℕ} → a ≡ b → c ≡ d → m ≡ n → o ≡ q
+    → (let x : Arc = record { from = a; to = c; cap = m; pair = o } in x) ≡ record { from = b; to = d; cap = n; pair = q }
 same_arc e g h i = cc
 
 -- where an element is
@@ -119,33 +126,52 @@ module _ (s : Scene) (slots : List (Option Cell)) (fixed : List Bool) (cells : A
       r = risen (cell x)
 
       by : FormCell s.vertices r.a r.b r.c r.d → AreSmall r
-      by (inl k) = let a = k.has_a.0 in let b = k.has_b.0 in let c = k.has_c.0 in let d = k.has_d.0 in record { a = omega (arith, a, few); b = omega (arith, b, few); c = omega (arith, c, few); d = omega (arith, d, few) }
-      by (inr k) = let a = k.has_a.0 in let b = k.has_b.0 in let c = k.has_c.0 in let d = k.has_d.0 in record { a = omega (arith, a, few); b = omega (arith, b, few); c = omega (arith, d, few); d = omega (arith, c, few) }
+      by (inl k) =
+          let a = k.has_a.0 in
+          let b = k.has_b.0 in
+          let c = k.has_c.0 in
+          let d = k.has_d.0 in
+          record { a = omega (arith, a, few); b = omega (arith, b, few); c = omega (arith, c, few); d = omega (arith, d, few) }
+      by (inr k) =
+          let a = k.has_a.0 in
+          let b = k.has_b.0 in
+          let c = k.has_c.0 in
+          let d = k.has_d.0 in
+          record { a = omega (arith, a, few); b = omega (arith, b, few); c = omega (arith, d, few); d = omega (arith, c, few) }
 
   -- rows that are equal are those of one cell
   pub one_id : (x y : ℕ) → IsLive (links_of slots) x → IsLive (links_of slots) y → row_of slots x ≡ row_of slots y → x ≡ y
   one_id x y hx hy e =
-      (row_law s.vertices (live_of slots) cell cells.listing).one (row_of slots x) x y (listed slots x hx) (listed slots y hy) (is_row x hx) (subst (IsRowOf (cell y)) (sym e) (is_row y hy))
+      (row_law s.vertices (live_of slots) cell cells.listing).one (row_of slots x) x y (listed slots x hx) (listed slots y hy)
+      (is_row x hx) (subst (IsRowOf (cell y)) (sym e) (is_row y hy))
 
   -- ---- sorted sides
   module _ (sides : List Side) (side_at_is : (i : ℕ) (d : Side) → i < length sides → IsSideAt slots fixed (get_or sides i d)) (sides_are_apart : AreApart number_of_side sides) (sorted_sides : IsNonDecreasingBy key_of_side sides) where
     -- sides of one facet are one
-    pub one_index : (i j : ℕ) → i < length sides → j < length sides → facet_at (get_or sides i no_side).facet ≡ facet_at (get_or sides j no_side).facet → i ≡ j
+    pub one_index : (i j : ℕ) → i < length sides → j < length sides
+        → facet_at (get_or sides i no_side).facet ≡ facet_at (get_or sides j no_side).facet → i ≡ j
     one_index i j li lj e =
         let p = side_at_is i no_side li in
         let q = side_at_is j no_side lj in
         let x = get_or sides i no_side in
         let y = get_or sides j no_side in
-        let f : facet_at_side x.id x.side ≡ facet_at_side y.id y.side = sym (ap (λ (r : List ℕ). facet_at r) p.is) ∙ e ∙ ap (λ (r : List ℕ). facet_at r) q.is in
-        let id : x.id ≡ y.id = one_cell s.vertices (live_of slots) cell next cells x.id y.id x.side y.side (listed slots x.id p.live) (listed slots y.id q.live) p.in_range q.in_range f in
-        let side : x.side ≡ y.side = one_side_of s.vertices (live_of slots) cell next cells x.id x.side y.side (listed slots x.id p.live) p.in_range q.in_range (f ∙ ap (λ (n : ℕ). facet_at_side n y.side) (sym id)) in
+        let f : facet_at_side x.id x.side ≡ facet_at_side y.id y.side =
+        sym (ap (λ (r : List ℕ). facet_at r) p.is) ∙ e ∙ ap (λ (r : List ℕ). facet_at r) q.is in
+        let id : x.id ≡ y.id =
+        one_cell s.vertices (live_of slots) cell next cells x.id y.id x.side y.side (listed slots x.id p.live)
+        (listed slots y.id q.live) p.in_range q.in_range f in
+        let side : x.side ≡ y.side =
+        one_side_of s.vertices (live_of slots) cell next cells x.id x.side y.side (listed slots x.id p.live) p.in_range q.in_range
+        (f ∙ ap (λ (n : ℕ). facet_at_side n y.side) (sym id)) in
         sides_are_apart i j no_side li lj (omega (arith, id, side))
 
     small_facet : (x k : ℕ) → IsLive (links_of slots) x → AreSmallOf (facet_at_side x k)
     unfolding AreBelow
     small_facet x k h =
         let c = cells.cells x (listed slots x h) in
-        let p = below_rotated s.vertices.count (facet_of (cell x) k) (facet_at_side x k) (least_rotated (facet_of (cell x) k)) (below_side s.vertices.count (cell x) k c.has_a.0 c.has_b.0 c.has_c.0 c.has_d.0) in
+        let p =
+        below_rotated s.vertices.count (facet_of (cell x) k) (facet_at_side x k) (least_rotated (facet_of (cell x) k))
+        (below_side s.vertices.count (cell x) k c.has_a.0 c.has_b.0 c.has_c.0 c.has_d.0) in
         let b = p.1 in let d = p.2 in
         record { b = omega (arith, b, few); c = omega (arith, d, few) }
 
@@ -162,23 +188,28 @@ module _ (s : Scene) (slots : List (Option Cell)) (fixed : List Bool) (cells : A
         let p = side_at_is i no_side li in
         let q = side_at_is j no_side lj in
         let key : facet_key (facet_row (cell x.id) x.side) ≤ facet_key (facet_row (cell y.id) y.side) =
-        subst (λ (k : ℕ). k ≤ facet_key (facet_row (cell y.id) y.side)) (ap facet_key p.is) (subst (λ (k : ℕ). facet_key x.facet ≤ k) (ap facet_key q.is) (sorted_sides i j no_side (omega (arith, l)) lj)) in
-        subst (λ (a : List ℕ). IsBefore a (get_or (map facet_of_side sides) j d)) (sym (facet_there i d li ∙ p.is)) (subst (λ (b : List ℕ). IsBefore (facet_row (cell x.id) x.side) b) (sym (facet_there j d lj ∙ q.is))
+        subst (λ (k : ℕ). k ≤ facet_key (facet_row (cell y.id) y.side)) (ap facet_key p.is)
+        (subst (λ (k : ℕ). facet_key x.facet ≤ k) (ap facet_key q.is) (sorted_sides i j no_side (omega (arith, l)) lj)) in
+        subst (λ (a : List ℕ). IsBefore a (get_or (map facet_of_side sides) j d)) (sym (facet_there i d li ∙ p.is))
+        (subst (λ (b : List ℕ). IsBefore (facet_row (cell x.id) x.side) b) (sym (facet_there j d lj ∙ q.is))
         (⊎_elim (λ (h : IsBefore (facet_row (cell x.id) x.side) (facet_row (cell y.id) y.side)). h)
         (λ (e : facet_at_side x.id x.side ≡ facet_at_side y.id y.side).
-        let same : i ≡ j = one_index i j li lj (ap (λ (r : List ℕ). facet_at r) p.is ∙ e ∙ sym (ap (λ (r : List ℕ). facet_at r) q.is)) in
+        let same : i ≡ j =
+        one_index i j li lj (ap (λ (r : List ℕ). facet_at r) p.is ∙ e ∙ sym (ap (λ (r : List ℕ). facet_at r) q.is)) in
         absurd (omega (arith, l, same)))
         (facets_before (facet_at_side x.id x.side) (facet_at_side y.id y.side) (small_facet x.id x.side p.live) (small_facet y.id y.side q.live) key)))
 
-  module _ (rows : List Row) (moved : IsPermutation (map row_at (entries_from 0 slots)) rows) (sorted : IsNonDecreasingBy key_of_row rows) where
+  module _ (rows : List Row) (moved : IsPermutation (all_rows slots) rows) (sorted : IsNonDecreasingBy key_of_row rows) where
     abbrev pub complex_cells : List (List ℕ)
     complex_cells = map cell_of_row rows
 
     pub row_at_is : (i : ℕ) (d : Row) → i < length rows → IsRowAt slots (get_or rows i d)
-    row_at_is i d l = row_is slots (get_or rows i d) (Contains-permutation rows (map row_at (entries_from 0 slots)) (get_or rows i d) (IsPermutation-sym (map row_at (entries_from 0 slots)) rows moved) (Contains-get_or rows i d l))
+    row_at_is i d l =
+        row_is slots (get_or rows i d)
+        (Contains-permutation rows (all_rows slots) (get_or rows i d) (IsPermutation-sym (all_rows slots) rows moved) (Contains-get_or rows i d l))
 
     pub apart : AreApart id_of_row rows
-    apart = apart_permuted id_of_row (map row_at (entries_from 0 slots)) rows moved (rows_apart slots)
+    apart = apart_permuted id_of_row (all_rows slots) rows moved (rows_apart slots)
 
     -- the node of a cell
     pub record IsNode (x i : ℕ) : Type 0 where
@@ -188,7 +219,7 @@ module _ (s : Scene) (slots : List (Option Cell)) (fixed : List Bool) (cells : A
     pub node : (x : ℕ) → IsLive (links_of slots) x → (i : ℕ) × IsNode x i
     node x h =
         let t = row_there slots x h in
-        let p = at_index rows t.0 (Contains-permutation (map row_at (entries_from 0 slots)) rows t.0 moved t.1) in
+        let p = at_index rows t.0 (Contains-permutation (all_rows slots) rows t.0 moved t.1) in
         (p.0, record { below = p.1.below; is = λ d. ap id_of_row (p.1.is d) ∙ t.2 })
 
     row_here : (i : ℕ) → i < length rows → get_or complex_cells i [] ≡ row_of slots (get_or rows i no_row).id
@@ -206,8 +237,10 @@ module _ (s : Scene) (slots : List (Option Cell)) (fixed : List Bool) (cells : A
         let first : get_or complex_cells i d ≡ row_of slots x = get_or-map cell_of_row rows i no_row d li ∙ p.is in
         let second : get_or complex_cells j d ≡ row_of slots y = get_or-map cell_of_row rows j no_row d lj ∙ q.is in
         let key : row_key_of x ≤ row_key_of y =
-        subst (λ (k : ℕ). k ≤ row_key_of y) (ap row_key p.is) (subst (λ (k : ℕ). row_key (get_or rows i no_row).cell ≤ k) (ap row_key q.is) (sorted i j no_row (omega (arith, l)) lj)) in
-        subst (λ (a : List ℕ). IsBefore a (get_or complex_cells j d)) (sym first) (subst (λ (b : List ℕ). IsBefore (row_of slots x) b) (sym second)
+        subst (λ (k : ℕ). k ≤ row_key_of y) (ap row_key p.is)
+        (subst (λ (k : ℕ). row_key (get_or rows i no_row).cell ≤ k) (ap row_key q.is) (sorted i j no_row (omega (arith, l)) lj)) in
+        subst (λ (a : List ℕ). IsBefore a (get_or complex_cells j d)) (sym first)
+        (subst (λ (b : List ℕ). IsBefore (row_of slots x) b) (sym second)
         (⊎_elim (λ (h : IsBefore (row_of slots x) (row_of slots y)). h)
         (λ (e : row_of slots x ≡ row_of slots y). let same : i ≡ j = apart i j no_row li lj (one_id x y p.live q.live e) in absurd (omega (arith, l, same)))
         (rows_before (risen (cell x)) (risen (cell y)) (small_at x p.live) (small_at y q.live) key)))
@@ -220,7 +253,8 @@ module _ (s : Scene) (slots : List (Option Cell)) (fixed : List Bool) (cells : A
         let n = length-map rows cell_of_row in let l = h.1 in
         let k : h.0 < length rows = omega (arith, l, n) in
         let p = row_at_is h.0 no_row k in
-        subst (IsRisingCell s.vertices) (sym p.is ∙ sym (get_or-map cell_of_row rows h.0 no_row row k) ∙ h.2) (rising_row (get_or rows h.0 no_row).id p.live)
+        subst (IsRisingCell s.vertices) (sym p.is ∙ sym (get_or-map cell_of_row rows h.0 no_row row k) ∙ h.2)
+        (rising_row (get_or rows h.0 no_row).id p.live)
 
     pub row_in : (x : ℕ) → IsLive (links_of slots) x → Contains complex_cells (row_of slots x)
     row_in x h =
@@ -236,8 +270,9 @@ module _ (s : Scene) (slots : List (Option Cell)) (fixed : List Bool) (cells : A
     pub cell_list : IsCellList s.vertices complex_cells
     cell_list = record { rising = rises; cells = only_cells; all = all_cells }
 
-    -- the place of the cell that has a facet
-    pub index_is : (x k i : ℕ) → IsLive (links_of slots) x → k < 4 → IsNode x i → cell_index s.vertices complex_cells (facet_at_side x k) ≡ i
+    -- the index of the cell that has a facet
+    pub index_is : (x k i : ℕ) → IsLive (links_of slots) x → k < 4 → IsNode x i
+        → cell_index s.vertices complex_cells (facet_at_side x k) ≡ i
     index_is x k i h l n =
         let f : DirectedFacet = facet_at_side x k in
         let len = length-map rows cell_of_row in let b = n.below in
@@ -246,16 +281,21 @@ module _ (s : Scene) (slots : List (Option Cell)) (fixed : List Bool) (cells : A
         let bm : m < length rows = omega (arith, lm, b) in
         let y = (get_or rows m no_row).id in
         let p = row_at_is m no_row bm in
-        let t : IsSideOf (cell y) f = has_is s.vertices (live_of slots) cell next cells y f (listed slots y p.live) (ap (λ (row : List ℕ). has_facet s.vertices row f) (sym (row_here m bm)) ∙ e) in
-        let same : y ≡ x = one_cell s.vertices (live_of slots) cell next cells y x t.0 k (listed slots y p.live) (listed slots x h) t.1 l t.2 in
+        let t : IsSideOf (cell y) f =
+        has_is s.vertices (live_of slots) cell next cells y f (listed slots y p.live)
+        (ap (λ (row : List ℕ). has_facet s.vertices row f) (sym (row_here m bm)) ∙ e) in
+        let same : y ≡ x =
+        one_cell s.vertices (live_of slots) cell next cells y x t.0 k (listed slots y p.live) (listed slots x h) t.1 l t.2 in
         let back : m ≡ i = apart m i no_row bm b (same ∙ sym (n.is no_row)) in
         omega (arith, lm, back)))
         (λ _. ap (λ (row : List ℕ). has_facet s.vertices row f) (row_here i b ∙ ap (row_of slots) (n.is no_row)) ∙ row_has_side s.vertices (cell x) k (positive x h))
 
-    pub cell_is : (x k : ℕ) → IsLive (links_of slots) x → k < 4 → cell_of s.vertices complex_cells (facet_at_side x k) ≡ row_of slots x
+    pub cell_is : (x k : ℕ) → IsLive (links_of slots) x → k < 4
+        → cell_of s.vertices complex_cells (facet_at_side x k) ≡ row_of slots x
     cell_is x k h l =
         let p = node x h in
-        ap (λ (i : ℕ). get_or complex_cells i []) (index_is x k p.0 h l p.1) ∙ row_here p.0 p.1.below ∙ ap (row_of slots) (p.1.is no_row)
+        ap (λ (i : ℕ). get_or complex_cells i []) (index_is x k p.0 h l p.1) ∙ row_here p.0 p.1.below ∙ ap (row_of slots)
+        (p.1.is no_row)
 
     has_facet_of : (x k : ℕ) → IsLive (links_of slots) x → k < 4 → HasFacet s.vertices complex_cells (facet_at_side x k)
     has_facet_of x k h l =
@@ -273,13 +313,16 @@ module _ (s : Scene) (slots : List (Option Cell)) (fixed : List Bool) (cells : A
         (x, p.live, has_is s.vertices (live_of slots) cell next cells x f (listed slots x p.live) (ap (λ (row : List ℕ). has_facet s.vertices row f) at ∙ h.4))
 
     module _ (flags : AreFixed s slots fixed) where
-      fixed_is : (x k : ℕ) → IsLive (links_of slots) x → k < 4 → is_fixed s.vertices s.scanners (cell_of s.vertices complex_cells (facet_at_side x k)) ≡ flag_at fixed x
+      fixed_is : (x k : ℕ) → IsLive (links_of slots) x → k < 4
+          → is_fixed s.vertices s.scanners (cell_of s.vertices complex_cells (facet_at_side x k)) ≡ flag_at fixed x
       fixed_is x k h l = ap (is_fixed s.vertices s.scanners) (cell_is x k h l) ∙ sym (flags.at x h)
 
       capacity_of : (x : Side) → IsSideAt slots fixed x → HasCapacity s complex_cells x.facet
       capacity_of x p =
           let f : DirectedFacet = facet_at_side x.id x.side in
-          let b = across_has s.vertices (live_of slots) cell next cells x.id x.side p.other (listed slots x.id p.live) p.in_range p.next in
+          let b =
+          across_has s.vertices (live_of slots) cell next cells x.id x.side p.other
+          (listed slots x.id p.live) p.in_range p.next in
           let ly = live slots p.other b.0 in
           let t : IsSideOf (cell p.other) (turned f) = b.1 in
           subst (HasCapacity s complex_cells) (sym p.is)
@@ -287,33 +330,44 @@ module _ (s : Scene) (slots : List (Option Cell)) (fixed : List Bool) (cells : A
             three = refl;
             own = has_facet_of x.id x.side p.live p.in_range;
             across = subst (HasFacet s.vertices complex_cells) t.2 (has_facet_of p.other t.0 ly t.1);
-            free = subst (λ (g : DirectedFacet). is_fixed s.vertices s.scanners (cell_of s.vertices complex_cells g) ≡ false) t.2 (fixed_is p.other t.0 ly t.1 ∙ p.free);
+            free =
+                subst (λ (g : DirectedFacet). is_fixed s.vertices s.scanners (cell_of s.vertices complex_cells g) ≡ false) t.2
+                (fixed_is p.other t.0 ly t.1 ∙ p.free);
           })
 
       -- the side of a facet that has a capacity
-      side_of_capacity : (f : List ℕ) → HasCapacity s complex_cells f → (x : Side) × Contains (flat_map (open_at fixed) (entries_from 0 slots)) x × (x.facet ≡ f)
+      side_of_capacity : (f : List ℕ) → HasCapacity s complex_cells f
+          → (x : Side) × Contains (all_open fixed slots) x × (x.facet ≡ f)
       side_of_capacity f h =
           let x = owner (facet_at f) h.own in
           let y = owner (turned (facet_at f)) h.across in
           let k = x.2 in
           let m = y.2 in
-          let e : side_facet s.vertices (live_of slots) cell next cells y.0 m.0 ≡ turned (facet_at_side x.0 k.0) = m.2 ∙ ap (λ (g : DirectedFacet). turned g) (sym k.2) in
-          let n : next x.0 k.0 ≡ Some y.0 = has_across s.vertices (live_of slots) cell next cells x.0 k.0 y.0 m.0 (listed slots x.0 x.1) (listed slots y.0 y.1) k.1 m.1 e in
-          let free : flag_at fixed y.0 ≡ false = sym (fixed_is y.0 m.0 y.1 m.1) ∙ ap (λ (g : DirectedFacet). is_fixed s.vertices s.scanners (cell_of s.vertices complex_cells g)) m.2 ∙ h.free in
+          let e : side_facet s.vertices (live_of slots) cell next cells y.0 m.0 ≡ turned (facet_at_side x.0 k.0) =
+          m.2 ∙ ap (λ (g : DirectedFacet). turned g) (sym k.2) in
+          let n : next x.0 k.0 ≡ Some y.0 =
+          has_across s.vertices (live_of slots) cell next cells x.0 k.0 y.0 m.0 (listed slots x.0 x.1)
+          (listed slots y.0 y.1) k.1 m.1 e in
+          let free : flag_at fixed y.0 ≡ false =
+          sym (fixed_is y.0 m.0 y.1 m.1) ∙ ap
+          (λ (g : DirectedFacet). is_fixed s.vertices s.scanners (cell_of s.vertices complex_cells g)) m.2 ∙ h.free in
           let z = side_there slots fixed x.0 k.0 y.0 k.1 n free in
           let p = side_is slots fixed z.0 z.1 in
-          let at : facet_row (cell z.0.id) z.0.side ≡ facet_row (cell x.0) k.0 = ap (λ (i : ℕ). facet_row (cell i) z.0.side) z.2 ∙ ap (λ (i : ℕ). facet_row (cell x.0) i) z.3 in
+          let at : facet_row (cell z.0.id) z.0.side ≡ facet_row (cell x.0) k.0 =
+          ap (λ (i : ℕ). facet_row (cell i) z.0.side) z.2 ∙ ap (λ (i : ℕ). facet_row (cell x.0) i) z.3 in
           (z.0, z.1, p.is ∙ at ∙ ap (λ (g : DirectedFacet). numbers_of g) k.2 ∙ sym h.three)
 
-      module _ (sides : List Side) (moved_sides : IsPermutation (flat_map (open_at fixed) (entries_from 0 slots)) sides) (sorted_sides : IsNonDecreasingBy key_of_side sides) where
+      module _ (sides : List Side) (moved_sides : IsPermutation (all_open fixed slots) sides) (sorted_sides : IsNonDecreasingBy key_of_side sides) where
         abbrev pub complex_facets : List (List ℕ)
         complex_facets = map facet_of_side sides
 
         pub side_at_is : (i : ℕ) (d : Side) → i < length sides → IsSideAt slots fixed (get_or sides i d)
-        side_at_is i d l = side_is slots fixed (get_or sides i d) (Contains-permutation sides (flat_map (open_at fixed) (entries_from 0 slots)) (get_or sides i d) (IsPermutation-sym (flat_map (open_at fixed) (entries_from 0 slots)) sides moved_sides) (Contains-get_or sides i d l))
+        side_at_is i d l =
+            side_is slots fixed (get_or sides i d)
+            (Contains-permutation sides (all_open fixed slots) (get_or sides i d) (IsPermutation-sym (all_open fixed slots) sides moved_sides) (Contains-get_or sides i d l))
 
         pub sides_are_apart : AreApart number_of_side sides
-        sides_are_apart = apart_permuted number_of_side (flat_map (open_at fixed) (entries_from 0 slots)) sides moved_sides (sides_apart fixed slots)
+        sides_are_apart = apart_permuted number_of_side (all_open fixed slots) sides moved_sides (sides_apart fixed slots)
 
         facet_here : (i : ℕ) (d : List ℕ) → i < length sides → get_or complex_facets i d ≡ (get_or sides i no_side).facet
         facet_here i d l = get_or-map facet_of_side sides i no_side d l
@@ -322,11 +376,12 @@ module _ (s : Scene) (slots : List (Option Cell)) (fixed : List Bool) (cells : A
         only_facets f h =
             let n = length-map sides facet_of_side in let l = h.1 in
             let k : h.0 < length sides = omega (arith, l, n) in
-            subst (HasCapacity s complex_cells) (sym (facet_here h.0 f k) ∙ h.2) (capacity_of (get_or sides h.0 no_side) (side_at_is h.0 no_side k))
+            subst (HasCapacity s complex_cells) (sym (facet_here h.0 f k) ∙ h.2)
+            (capacity_of (get_or sides h.0 no_side) (side_at_is h.0 no_side k))
 
         -- where a side is
-        side_in : (x : Side) → Contains (flat_map (open_at fixed) (entries_from 0 slots)) x → (i : ℕ) × IsAt sides x i
-        side_in x h = at_index sides x (Contains-permutation (flat_map (open_at fixed) (entries_from 0 slots)) sides x moved_sides h)
+        side_in : (x : Side) → Contains (all_open fixed slots) x → (i : ℕ) × IsAt sides x i
+        side_in x h = at_index sides x (Contains-permutation (all_open fixed slots) sides x moved_sides h)
 
         all_facets : (f : List ℕ) → HasCapacity s complex_cells f → Contains complex_facets f
         all_facets f h =
@@ -336,7 +391,8 @@ module _ (s : Scene) (slots : List (Option Cell)) (fixed : List Bool) (cells : A
             (p.0, omega (arith, l, n), facet_here p.0 f l ∙ ap facet_of_side (p.1.is no_side) ∙ z.2)
 
         pub facet_list : IsFacetList s complex_cells complex_facets
-        facet_list = record { rising = facets_rise sides side_at_is sides_are_apart sorted_sides; only = only_facets; all = all_facets }
+        facet_list =
+            record { rising = facets_rise sides side_at_is sides_are_apart sorted_sides; only = only_facets; all = all_facets }
 
         abbrev pub complex : Complex
         complex = record { cells = complex_cells; facets = complex_facets }
@@ -351,19 +407,24 @@ module _ (s : Scene) (slots : List (Option Cell)) (fixed : List Bool) (cells : A
             position_or_len_is (λ numbers. is_same_facet (facet_at numbers) f) complex_facets j [] (omega (arith, l, n))
             (λ m lm. false_from_ne_true (is_same_facet (facet_at (get_or complex_facets m [])) f) (λ e.
             let bm : m < length sides = omega (arith, lm, l) in
-            let same : m ≡ j = one_index sides side_at_is sides_are_apart sorted_sides m j bm l (sym (ap (λ (r : List ℕ). facet_at r) (facet_here m [] bm)) ∙ same_facets (facet_at (get_or complex_facets m [])) f e) in
+            let same : m ≡ j =
+            one_index sides side_at_is sides_are_apart sorted_sides m j bm l
+            (sym (ap (λ (r : List ℕ). facet_at r) (facet_here m [] bm)) ∙ same_facets (facet_at (get_or complex_facets m [])) f e) in
             omega (arith, lm, same)))
             (λ _. subst (λ (r : List ℕ). is_same_facet (facet_at r) f ≡ true) (sym (facet_here j [] l)) (is_same_itself f))
 
         module _ (nodes numbers crossed : List ℕ) (are_nodes : AreNumbered id_of_row rows nodes) (are_numbers : AreNumbered number_of_side sides numbers) (counts : AreCrossings s slots crossed) where
-          node_number : (x k : ℕ) → IsLive (links_of slots) x → k < 4 → get_or nodes x 0 ≡ cell_index s.vertices complex_cells (facet_at_side x k)
+          node_number : (x k : ℕ) → IsLive (links_of slots) x → k < 4
+              → get_or nodes x 0 ≡ cell_index s.vertices complex_cells (facet_at_side x k)
           node_number x k h l =
               let p = node x h in
-              sym (ap (λ (n : ℕ). get_or nodes n 0) (p.1.is no_row)) ∙ are_nodes p.0 no_row p.1.below ∙ sym (index_is x k p.0 h l p.1)
+              sym (ap (λ (n : ℕ). get_or nodes n 0) (p.1.is no_row)) ∙ are_nodes p.0 no_row p.1.below ∙ sym
+              (index_is x k p.0 h l p.1)
 
           -- the reverse of an arc that leaves a free cell
           reverse_is : (x k y : ℕ) → IsLive (links_of slots) x → k < 4 → next x k ≡ Some y → flag_at fixed x ≡ false
-              → get_or numbers (4 * y + side_with (cell y) (turned (facet_at_side x k))) 0 ≡ facet_index complex_facets (turned (facet_at_side x k))
+              → get_or numbers (4 * y + side_with (cell y) (turned (facet_at_side x k))) 0 ≡ facet_index complex_facets
+              (turned (facet_at_side x k))
           reverse_is x k y h l n free =
               let f : DirectedFacet = facet_at_side x k in
               let b = across_has s.vertices (live_of slots) cell next cells x k y (listed slots x h) l n in
@@ -371,8 +432,12 @@ module _ (s : Scene) (slots : List (Option Cell)) (fixed : List Bool) (cells : A
               let m : ℕ = b.1.0 in
               let lm : m < 4 = b.1.1 in
               let e : facet_at_side y m ≡ turned f = b.1.2 in
-              let w : side_with (cell y) (turned f) ≡ m = side_with_is (cell y) (turned f) m lm e (λ i li g. one_side_of s.vertices (live_of slots) cell next cells y i m b.0 li lm (g ∙ sym e)) in
-              let back : next y m ≡ Some x = has_across s.vertices (live_of slots) cell next cells y m x k b.0 (listed slots x h) lm l (sym (ap (λ (g : DirectedFacet). turned g) e)) in
+              let w : side_with (cell y) (turned f) ≡ m =
+              side_with_is (cell y) (turned f) m lm e
+              (λ i li g. one_side_of s.vertices (live_of slots) cell next cells y i m b.0 li lm (g ∙ sym e)) in
+              let back : next y m ≡ Some x =
+              has_across s.vertices (live_of slots) cell next cells y m x k b.0 (listed slots x h) lm l
+              (sym (ap (λ (g : DirectedFacet). turned g) e)) in
               let z = side_there slots fixed y m x lm back free in
               let p = side_in z.0 z.1 in
               let j : ℕ = p.0 in
@@ -380,21 +445,29 @@ module _ (s : Scene) (slots : List (Option Cell)) (fixed : List Bool) (cells : A
               let id : (get_or sides j no_side).id ≡ y = ap (λ (q : Side). q.id) there ∙ z.2 in
               let side : (get_or sides j no_side).side ≡ m = ap (λ (q : Side). q.side) there ∙ z.3 in
               let facet_is : facet_at (get_or sides j no_side).facet ≡ turned f =
-              ap (λ (r : List ℕ). facet_at r) (side_at_is j no_side p.1.below).is ∙ ap (λ (i : ℕ). facet_at_side i (get_or sides j no_side).side) id ∙ ap (λ (i : ℕ). facet_at_side y i) side ∙ e in
-              let number_is : number_of_side (get_or sides j no_side) ≡ 4 * y + side_with (cell y) (turned f) = omega (arith, id, side, w) in
-              sym (ap (λ (i : ℕ). get_or numbers i 0) number_is) ∙ are_numbers j no_side p.1.below ∙ sym (ap (λ (g : DirectedFacet). facet_index complex_facets g) (sym facet_is) ∙ facet_index_is j p.1.below)
+              ap (λ (r : List ℕ). facet_at r) (side_at_is j no_side p.1.below).is ∙ ap
+              (λ (i : ℕ). facet_at_side i (get_or sides j no_side).side) id ∙ ap (λ (i : ℕ). facet_at_side y i) side ∙ e in
+              let number_is : number_of_side (get_or sides j no_side) ≡ 4 * y + side_with (cell y) (turned f) =
+              omega (arith, id, side, w) in
+              sym (ap (λ (i : ℕ). get_or numbers i 0) number_is) ∙ are_numbers j no_side p.1.below ∙ sym
+              (ap (λ (g : DirectedFacet). facet_index complex_facets g) (sym facet_is) ∙ facet_index_is j p.1.below)
 
-          arc_side : (x : Side) → IsSideAt slots fixed x → arc_from slots nodes numbers crossed fixed s.settings x ≡ arc_of s complex (facet_row (cell x.id) x.side)
+          arc_side : (x : Side) → IsSideAt slots fixed x
+              → arc_from slots nodes numbers crossed fixed s.settings x ≡ arc_of s complex (facet_row (cell x.id) x.side)
           unfolding arc_from arc_of
           arc_side x p =
               let f : DirectedFacet = facet_at_side x.id x.side in
-              let b = across_has s.vertices (live_of slots) cell next cells x.id x.side p.other (listed slots x.id p.live) p.in_range p.next in
+              let b =
+              across_has s.vertices (live_of slots) cell next cells x.id x.side p.other
+              (listed slots x.id p.live) p.in_range p.next in
               let ly = live slots p.other b.0 in
               let other : other_of slots x ≡ p.other = ap (λ (o : Option ℕ). unwrap_or o 0) p.next in
               let to : get_or nodes (other_of slots x) 0 ≡ cell_index s.vertices complex_cells (turned f) =
-              ap (λ (n : ℕ). get_or nodes n 0) other ∙ node_number p.other b.1.0 ly b.1.1 ∙ ap (λ (g : DirectedFacet). cell_index s.vertices complex_cells g) b.1.2 in
+              ap (λ (n : ℕ). get_or nodes n 0) other ∙ node_number p.other b.1.0 ly b.1.1 ∙ ap
+              (λ (g : DirectedFacet). cell_index s.vertices complex_cells g) b.1.2 in
               let cap : s.settings.vote * get_or crossed (number_of_side x) 0 + s.settings.smooth ≡ capacity s f =
-              ap (λ (n : ℕ). s.settings.vote * n + s.settings.smooth) (counts.at x.id x.side f p.live p.in_range (least_rotated (facet_of (cell x.id) x.side))) in
+              ap (λ (n : ℕ). s.settings.vote * n + s.settings.smooth)
+              (counts.at x.id x.side f p.live p.in_range (least_rotated (facet_of (cell x.id) x.side))) in
               let facet_is : facet_at x.facet ≡ f = ap (λ (r : List ℕ). facet_at r) p.is in
               let reverse : flag_at fixed x.id ≡ false → get_or numbers (4 * other_of slots x + side_with (cell (other_of slots x)) (turned (facet_at x.facet))) 0 ≡ facet_index complex_facets (turned f) =
               λ free. ap (λ (n : ℕ). get_or numbers (4 * n + side_with (cell n) (turned (facet_at x.facet))) 0) other
@@ -403,7 +476,8 @@ module _ (s : Scene) (slots : List (Option Cell)) (fixed : List Bool) (cells : A
               same_arc (node_number x.id x.side p.live p.in_range) to cap
               (pairs (flag_at fixed x.id) refl reverse ∙ ap (λ (c : Bool). cond c None (Some (facet_index complex_facets (turned f)))) (sym (fixed_is x.id x.side p.live p.in_range)))
             where
-              pairs : {m n : ℕ} (c : Bool) → flag_at fixed x.id ≡ c → (flag_at fixed x.id ≡ false → m ≡ n) → cond c None (Some m) ≡ cond c None (Some n)
+              pairs : {m n : ℕ} (c : Bool) → flag_at fixed x.id ≡ c → (flag_at fixed x.id ≡ false → m ≡ n)
+                  → cond c None (Some m) ≡ cond c None (Some n)
               pairs true e h = refl
               pairs false e h = ap Some (h e)
 
@@ -412,7 +486,8 @@ module _ (s : Scene) (slots : List (Option Cell)) (fixed : List Bool) (cells : A
               let n = length-map sides (arc_from slots nodes numbers crossed fixed s.settings) in
               let m = length-map complex_facets (arc_of s complex) in
               let k = length-map sides facet_of_side in
-              same_lists (map (arc_from slots nodes numbers crossed fixed s.settings) sides) (map (arc_of s complex) complex_facets) (n ∙ sym k ∙ sym m)
+              same_lists (map (arc_from slots nodes numbers crossed fixed s.settings) sides)
+              (map (arc_of s complex) complex_facets) (n ∙ sym k ∙ sym m)
               (λ i d l.
               let li : i < length sides = omega (arith, l, n) in
               let p = side_at_is i no_side li in

@@ -85,7 +85,8 @@ first_listed s k =
     let z = k.kept_cells 0 (k.vertices.boxed.corner_in 0 (omega arith)) in
     (_, listed s.slots _ z.0)
 
-all_cells : (s : Store) → IsStore s → IsDelaunay (vertices_of s) (links_of s.slots) → AreAllCells (vertices_of s) (live_of s.slots) (links_of s.slots).at (links_of s.slots).next
+all_cells : (s : Store) → IsStore s → IsDelaunay (vertices_of s) (links_of s.slots) → AreAllCells (vertices_of s)
+    (live_of s.slots) (links_of s.slots).at (links_of s.slots).next
 all_cells s k d =
     let z = first_listed s k in
     let cells : AreCells (vertices_of s) (live_of s.slots) (links_of s.slots).at = λ x h. d.cells x (live s.slots x h) in
@@ -93,19 +94,26 @@ all_cells s k d =
       boxed = k.vertices.boxed;
       linked = linked s k;
       cells = cells;
-      listing = linked_law (vertices_of s) k.vertices.boxed (live_of s.slots) (links_of s.slots).at (links_of s.slots).next (linked s k) cells z.0 z.1;
+      listing =
+          linked_law (vertices_of s) k.vertices.boxed (live_of s.slots) (links_of s.slots).at (links_of s.slots).next
+          (linked s k) cells z.0 z.1;
     }
 
 -- ---- the vertices of the store's points, all in
-vertices_are : (places : List Point) (points : List Point) (flags : List Bool) → places ≡ corners ++ points → vertices_at places flags ≡ inserted_vertices points flags
+vertices_are : (places : List Point) (points : List Point) (flags : List Bool) → places ≡ corners ++ points
+    → vertices_at places flags ≡ inserted_vertices points flags
 vertices_are places points flags e =
     ap (λ (ps : List Point). vertices_at ps flags) e
-    ∙ ap (λ (n : ℕ). let v : Vertices = record { at = point_of points; high = λ u. height n u (point_of points u); count = n; is_in = λ u. get_or flags u false } in v) (length-append corners points)
+    ∙ ap (λ (n : ℕ). let v : Vertices = record { at = point_of points; high = λ u. height n u (point_of points u); count = n; is_in = λ u. get_or flags u false } in v)
+    (length-append corners points)
 
-pub whole : (s : Store) (points : List Point) → IsStore s → s.points ≡ corners ++ points → IsDelaunay (vertices_of s) (links_of s.slots)
-    → ((u : ℕ) → u < length s.points → get_or s.inserted u false ≡ true) → AreAllCells (all.vertices_of points) (live_of s.slots) (links_of s.slots).at (links_of s.slots).next
+pub whole : (s : Store) (points : List Point) → IsStore s → s.points ≡ corners ++ points → IsDelaunay (vertices_of s)
+    (links_of s.slots)
+    → ((u : ℕ) → u < length s.points → get_or s.inserted u false ≡ true) → AreAllCells (all.vertices_of points) (live_of s.slots)
+    (links_of s.slots).at (links_of s.slots).next
 whole s points k e d inserted =
-    (stored_law points s.inserted).whole (λ u l. inserted u (let n = count in omega (arith, l, n))) (live_of s.slots) (links_of s.slots).at (links_of s.slots).next
+    (stored_law points s.inserted).whole (λ u l. inserted u (let n = count in omega (arith, l, n))) (live_of s.slots)
+    (links_of s.slots).at (links_of s.slots).next
     (subst (λ (v : Vertices). AreAllCells v (live_of s.slots) (links_of s.slots).at (links_of s.slots).next) (vertices_are s.points points s.inserted e) (all_cells s k d))
   where
     count : length s.points ≡ 8 + length points

@@ -1,10 +1,11 @@
 -- What is asked of the counts, and what is made of them. Counts are by the numbers that cells have in the store.
 --
---   row_of slots id        the rising numbers of the cell with a number
---   AreCrossings           the sights that cross the facet of each side
---   AreBehind              the sights that each cell is behind
---   AreFixed               which cells are fixed
---   AreIdsOf               the cells' numbers in the store, in the order of their rows
+--   AreCellsOf scene slots  the store has all cells of the scene
+--   row_of slots id         the four vertices of a live cell, in rising order
+--   AreCrossings            the sights that cross the facet of each side
+--   AreBehind               the sights that each cell is behind
+--   AreFixed                which cells are fixed
+--   AreIdsOf                the cells' numbers in the store, in the order of their rows
 use Rattle.std.specs.Prelude.{ℕ, ◌≡◌, ◌<◌, ◌≤◌, ◌+◌, ◌*◌, Bool, List, [], Option, length, slice_index, slice_index_or}
 use Rattle.geo_sign.specs.Tetrahedron.{DirectedFacet, facet_of, IsRotated}
 use Rattle.flow_net.specs.Nets.{flag_at}
@@ -20,18 +21,22 @@ use Rattle.tetra_store.specs.Stored.{live_of}
 abbrev pub AreCellsOf : Scene → List (Option Cell) → Type 0
 AreCellsOf s slots = AreAllCells s.vertices (live_of slots) (links_of slots).at (links_of slots).next
 
+-- of the cell with this number
 abbrev pub row_of : List (Option Cell) → ℕ → List ℕ
 row_of slots id = row_from (risen ((links_of slots).at id))
 
--- four counts a cell, at 4 * id + k the crossings of the facet of side k
+-- four counts a cell at least: at 4 * id + k the crossings of the facet of side k, from whatever vertex on it is written
 pub record AreCrossings (s : Scene) (slots : List (Option Cell)) (crossed : List ℕ) : Type 0 where
   pub count : 4 * length slots ≤ length crossed
-  pub at : (id k : ℕ) (f : DirectedFacet) → IsLive (links_of slots) id → k < 4 → IsRotated (facet_of ((links_of slots).at id) k) f → slice_index crossed (4 * id + k) ≡ crossings s f
+  pub at : (id k : ℕ) (f : DirectedFacet) → IsLive (links_of slots) id → k < 4 → IsRotated (facet_of ((links_of slots).at id) k) f
+      → slice_index crossed (4 * id + k) ≡ crossings s f
 
+-- a count a cell at least
 pub record AreBehind (s : Scene) (slots : List (Option Cell)) (behind : List ℕ) : Type 0 where
   pub count : length slots ≤ length behind
   pub at : (id : ℕ) → IsLive (links_of slots) id → slice_index behind id ≡ sights_before s (row_of slots id)
 
+-- a flag a cell at least
 pub record AreFixed (s : Scene) (slots : List (Option Cell)) (fixed : List Bool) : Type 0 where
   pub count : length slots ≤ length fixed
   pub at : (id : ℕ) → IsLive (links_of slots) id → flag_at fixed id ≡ is_fixed s.vertices s.scanners (row_of slots id)

@@ -1,4 +1,6 @@
--- A store whose cells are Delaunay and whose vertices are all inserted has the cells of each scene of its points.
+-- Stores that have all cells of a scene.
+--
+--   StoredCellsLaw     a store whose cells are Delaunay and whose vertices are all inserted has all cells of each scene of its points
 use Rattle.std.specs.Prelude.{ℕ, ◌≡◌, ◌<◌, ◌++◌, true, false, List, length, slice_index_or}
 use Rattle.geo_sign.specs.Point.{Point}
 use Rattle.geo_sign.specs.Vertices.{corners}
@@ -11,7 +13,10 @@ use Rattle.tetra_store.specs.Store as store
 use Rattle.tetra_store.specs.Store.{Store, IsStore}
 use Rattle.vote_net.specs.Counts.{AreCellsOf}
 
+-- whatever scanners, sights and settings the scene has
 abbrev pub StoredCellsLaw : Type 0
 StoredCellsLaw =
-    (s : Store) (points : List Point) → IsStore s → s.points ≡ corners ++ points → IsDelaunay (store.vertices_of s) (links_of s.slots) → ((u : ℕ) → u < length s.points → slice_index_or s.inserted u false ≡ true) →
-    (scanners : List Point) (sights : List Sight) (settings : Settings) → AreCellsOf (scene_of points scanners sights settings) s.slots
+    (s : Store) (points : List Point) → IsStore s → s.points ≡ corners ++ points → IsDelaunay (store.vertices_of s)
+    (links_of s.slots) → ((u : ℕ) → u < length s.points → slice_index_or s.inserted u false ≡ true) →
+    (scanners : List Point) (sights : List Sight) (settings : Settings) → AreCellsOf
+    (scene_of points scanners sights settings) s.slots

@@ -39,7 +39,8 @@ number_of_side x = 4 * x.id + x.side
 
 -- equal numbers are those of one element
 abbrev pub AreApart : {X : Type 0} → (X → ℕ) → List X → Type 0
-AreApart {X} f xs = (i j : ℕ) (d : X) → i < length xs → j < length xs → f (slice_index_or xs i d) ≡ f (slice_index_or xs j d) → i ≡ j
+AreApart {X} f xs =
+    (i j : ℕ) (d : X) → i < length xs → j < length xs → f (slice_index_or xs i d) ≡ f (slice_index_or xs j d) → i ≡ j
 
 -- at the number of each of the first n stands its index
 abbrev pub AreNumberedTo : {X : Type 0} → (X → ℕ) → List X → List ℕ → ℕ → Type 0
@@ -52,7 +53,8 @@ AreNumbered f xs table = AreNumberedTo f xs table (length xs)
 -- the side of a cell that has the facet, which has its least number first, and side 3 where none has
 unfoldable pub side_with : Tetrahedron → DirectedFacet → ℕ
 side_with t f =
-    if is_same_facet (least_first (facet_of t 0)) f then 0 else (if is_same_facet (least_first (facet_of t 1)) f then 1 else (if is_same_facet (least_first (facet_of t 2)) f then 2 else 3))
+    if is_same_facet (least_first (facet_of t 0)) f then 0 else
+    (if is_same_facet (least_first (facet_of t 1)) f then 1 else (if is_same_facet (least_first (facet_of t 2)) f then 2 else 3))
 
 -- the neighbor, of which there is one
 abbrev pub other_of : List (Option Cell) → Side → ℕ
@@ -73,12 +75,14 @@ arc_from slots nodes numbers crossed fixed settings x =
       from = slice_index nodes x.id;
       to = slice_index nodes (other_of slots x);
       cap = settings.vote * slice_index crossed (number_of_side x) + settings.smooth;
-      pair = if flag_at fixed x.id then None else Some (slice_index numbers (4 * other_of slots x + side_with ((links_of slots).at (other_of slots x)) (turned (facet_at x.facet))));
+      pair =
+          if flag_at fixed x.id then None else Some
+          (slice_index numbers (4 * other_of slots x + side_with ((links_of slots).at (other_of slots x)) (turned (facet_at x.facet))));
     }
 
 -- what the tables are is left open, but for the indices of rows and sides
-pub record AreArcs (slots : List (Option Cell)) (rows : List Row) (sides : List Side) (crossed : List ℕ) (fixed : List Bool) (settings : Settings)
-    (arcs : List Arc) : Type 0 where
+pub record AreArcs (slots : List (Option Cell)) (rows : List Row) (sides : List Side) (crossed : List ℕ) (fixed : List Bool)
+    (settings : Settings) (arcs : List Arc) : Type 0 where
   pub nodes : List ℕ
   pub numbers : List ℕ
   pub are_nodes : AreNumbered id_of_row rows nodes

@@ -2,10 +2,9 @@
 
 ghost use Rattle.std.specs.Prelude.{◌≡◌, IfOk, map};
 ghost use Rattle.std.specs.List.Sorted.{IsPermutation, IsNonDecreasingBy};
-ghost use Rattle.slab.specs.Slab.{entries_from};
 ghost use Rattle.tetra_store.specs.Links.{tetrahedron_from};
 ghost use Rattle.vote_net.specs.CellRows.{low, high, risen, row_from};
-ghost use Rattle.vote_net.specs.Gathered.{row_at, row_key, key_of_row};
+ghost use Rattle.vote_net.specs.Gathered.{row_key, key_of_row, all_rows};
 ghost use Rattle.vote_net.specs.Tables.{cell_of_row};
 
 use crate::NoMemory;
@@ -54,7 +53,7 @@ fn rising(v: [u32; 4]) -> [u32; 4]
 
 /// The live cells, by rising id.
 fn rows(alloc: Global, t: &Tetra) -> Result<Vec<Row>, NoMemory>
-    ensures { IfOk result (λ rows. rows.items ≡ map row_at (entries_from 0 t.now.slots)) }
+    ensures { IfOk result (λ rows. rows.items ≡ all_rows t.now.slots) }
 {
     let mut rows = Vec::with_capacity(alloc, t.number_limit())?;
     let mut cells = t.cells();
@@ -77,7 +76,7 @@ fn sort_rows(rows: &mut [Row])
 
 /// The live cells in the order of their numbers.
 pub(crate) fn sorted_rows(alloc: Global, t: &Tetra) -> Result<Vec<Row>, NoMemory>
-    ensures moved { IfOk result (λ rows. IsPermutation (map row_at (entries_from 0 t.now.slots)) rows.items) }
+    ensures moved { IfOk result (λ rows. IsPermutation (all_rows t.now.slots) rows.items) }
     ensures sorted { IfOk result (λ rows. IsNonDecreasingBy key_of_row rows.items) }
 {
     let mut rows = rows(alloc, t)?;

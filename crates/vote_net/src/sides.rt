@@ -1,14 +1,12 @@
 //! The directed facets that have a capacity, by their numbers with the least first.
 
 ghost use Rattle.std.specs.Prelude.{◌≡◌, ◌++◌, ◌<◌, IfOk};
-ghost use Rattle.std.specs.List.{flat_map};
 ghost use Rattle.std.specs.List.Sorted.{IsPermutation, IsNonDecreasingBy};
 ghost use Rattle.geo_sign.specs.Tetrahedron.{facet_at, numbers_of};
-ghost use Rattle.slab.specs.Slab.{entries_from};
 ghost use Rattle.flow_net.specs.Nets.{flag_at};
 ghost use Rattle.tetra_store.specs.Links.{tetrahedron_from, next_in};
 ghost use Rattle.vote_net.specs.CellRows.{least_first as least_first_in, facet_row as facet_row_in};
-ghost use Rattle.vote_net.specs.Gathered.{side_if_open, open_at, cut_at, facet_key, key_of_side};
+ghost use Rattle.vote_net.specs.Gathered.{side_if_open, open_at, cut_at, facet_key, key_of_side, all_open, all_cut};
 
 use crate::NoMemory;
 use std::alloc::Global;
@@ -111,7 +109,7 @@ fn push_open(sides: &mut Vec<Side>, fixed: &[bool], id: CellId, cell: &Cell) -> 
 
 /// The sides with a free cell across, by rising id and side, in a list with room for so many.
 fn open_sides(alloc: Global, t: &Tetra, fixed: &[bool], room: usize) -> Result<Vec<Side>, NoMemory>
-    ensures { IfOk result (λ sides. sides.items ≡ flat_map (open_at fixed.now) (entries_from 0 t.now.slots)) }
+    ensures { IfOk result (λ sides. sides.items ≡ all_open fixed.now t.now.slots) }
 {
     let mut sides = Vec::with_capacity(alloc, room)?;
     let mut cells = t.cells();
@@ -136,7 +134,7 @@ pub(crate) fn sorted_sides(
     fixed: &[bool],
     room: usize,
 ) -> Result<Vec<Side>, NoMemory>
-    ensures moved { IfOk result (λ sides. IsPermutation (flat_map (open_at fixed.now) (entries_from 0 t.now.slots)) sides.items) }
+    ensures moved { IfOk result (λ sides. IsPermutation (all_open fixed.now t.now.slots) sides.items) }
     ensures sorted { IfOk result (λ sides. IsNonDecreasingBy key_of_side sides.items) }
 {
     let mut sides = open_sides(alloc, t, fixed, room)?;
@@ -162,7 +160,7 @@ fn push_cut(
 
 /// The sides of outside cells with an inside cell across, by rising id and side.
 fn cut_sides(alloc: Global, t: &Tetra, outside: &[bool]) -> Result<Vec<Side>, NoMemory>
-    ensures { IfOk result (λ sides. sides.items ≡ flat_map (cut_at outside.now) (entries_from 0 t.now.slots)) }
+    ensures { IfOk result (λ sides. sides.items ≡ all_cut outside.now t.now.slots) }
 {
     let mut sides = Vec::new(alloc);
     let mut cells = t.cells();
@@ -174,7 +172,7 @@ fn cut_sides(alloc: Global, t: &Tetra, outside: &[bool]) -> Result<Vec<Side>, No
 
 /// The sides of outside cells with an inside cell across, in the order of their facets.
 pub fn sorted_cut(alloc: Global, t: &Tetra, outside: &[bool]) -> Result<Vec<Side>, NoMemory>
-    ensures moved { IfOk result (λ sides. IsPermutation (flat_map (cut_at outside.now) (entries_from 0 t.now.slots)) sides.items) }
+    ensures moved { IfOk result (λ sides. IsPermutation (all_cut outside.now t.now.slots) sides.items) }
     ensures sorted { IfOk result (λ sides. IsNonDecreasingBy key_of_side sides.items) }
 {
     let mut sides = cut_sides(alloc, t, outside)?;

@@ -50,11 +50,15 @@ mesh_of_facets-requires-clause-facets g c =
     let inside : List ℕ → Bool = test_of complex.cells labels in
     let none : IsAdmissible s complex inside = c.requires.1.1.1.1.1 in
     let outside : List Bool = c.in_ok-outside.outside.items in
-    let made : (k : ℕ) → k < length ids → flag_at outside (get_or ids k 0) ≡ not (flag_at labels k) = λ k l. c.in_ok-outside.ensures k l ∙ ap (λ (x : List Bool). not (flag_at x k)) c.as_slice-inside.ensures in
+    let made : (k : ℕ) → k < length ids → flag_at outside (get_or ids k 0) ≡ not (flag_at labels k) =
+    λ k l. c.in_ok-outside.ensures k l ∙ ap (λ (x : List Bool). not (flag_at x k)) c.as_slice-inside.ensures in
     let flags : AreOutside slots inside outside = outside_is s slots cells few complex all ids labels outside are_ids made in
-    let sorted : IsSortedCut slots outside c.in_ok-facets.facets.items = subst (λ (o : List Bool). IsSortedCut slots o c.in_ok-facets.facets.items) c.deref.ensures.value c.in_ok-facets.ensures in
+    let sorted : IsSortedCut slots outside c.in_ok-facets.facets.items =
+    subst (λ (o : List Bool). IsSortedCut slots o c.in_ok-facets.facets.items) c.deref.ensures.value c.in_ok-facets.ensures in
     let cut : List (List ℕ) = cut_facets s.vertices complex inside in
-    let is : c.deref-3.result.now ≡ cut = c.deref-3.ensures.value ∙ cut_is_facets s slots cells few complex all inside none outside c.in_ok-facets.facets.items flags sorted in
+    let is : c.deref-3.result.now ≡ cut =
+    c.deref-3.ensures.value
+    ∙ cut_is_facets s slots cells few complex all inside none outside c.in_ok-facets.facets.items flags sorted in
     let at : c.deref-2.result.now ≡ points = c.deref-2.ensures.value ∙ c.in_ok-points.ensures in
     subst (λ (ps : List Point). IsFaceList (length ps) c.deref-3.result.now) (sym at)
     (subst (IsFaceList (length points)) (sym is) (subst (λ (n : ℕ). IsFaceList n cut) count (cut_is_list s complex all inside)))
@@ -76,11 +80,15 @@ returns-clause-points g c =
     let inside : List ℕ → Bool = test_of complex.cells labels in
     let none : IsAdmissible s complex inside = c.requires.1.1.1.1.1 in
     let outside : List Bool = c.in_ok-outside.outside.items in
-    let made : (k : ℕ) → k < length ids → flag_at outside (get_or ids k 0) ≡ not (flag_at labels k) = λ k l. c.in_ok-outside.ensures k l ∙ ap (λ (x : List Bool). not (flag_at x k)) c.as_slice-inside.ensures in
+    let made : (k : ℕ) → k < length ids → flag_at outside (get_or ids k 0) ≡ not (flag_at labels k) =
+    λ k l. c.in_ok-outside.ensures k l ∙ ap (λ (x : List Bool). not (flag_at x k)) c.as_slice-inside.ensures in
     let flags : AreOutside slots inside outside = outside_is s slots cells few complex all ids labels outside are_ids made in
-    let sorted : IsSortedCut slots outside c.in_ok-facets.facets.items = subst (λ (o : List Bool). IsSortedCut slots o c.in_ok-facets.facets.items) c.deref.ensures.value c.in_ok-facets.ensures in
+    let sorted : IsSortedCut slots outside c.in_ok-facets.facets.items =
+    subst (λ (o : List Bool). IsSortedCut slots o c.in_ok-facets.facets.items) c.deref.ensures.value c.in_ok-facets.ensures in
     let cut : List (List ℕ) = cut_facets s.vertices complex inside in
-    let is : c.deref-3.result.now ≡ cut = c.deref-3.ensures.value ∙ cut_is_facets s slots cells few complex all inside none outside c.in_ok-facets.facets.items flags sorted in
+    let is : c.deref-3.result.now ≡ cut =
+    c.deref-3.ensures.value
+    ∙ cut_is_facets s slots cells few complex all inside none outside c.in_ok-facets.facets.items flags sorted in
     let at : c.deref-2.result.now ≡ points = c.deref-2.ensures.value ∙ c.in_ok-points.ensures in
     subst (λ (ps : List Point). IfOk c.mesh_of_facets.result (λ mesh. mesh.points.items ≡ (mesh_of ps cut).points)) at
     (subst (λ (fs : List (List ℕ)). IfOk c.mesh_of_facets.result (λ mesh. mesh.points.items ≡ (mesh_of c.deref-2.result.now fs).points)) is c.mesh_of_facets.ensures.points)
@@ -102,11 +110,15 @@ returns-clause-faces g c =
     let inside : List ℕ → Bool = test_of complex.cells labels in
     let none : IsAdmissible s complex inside = c.requires.1.1.1.1.1 in
     let outside : List Bool = c.in_ok-outside.outside.items in
-    let made : (k : ℕ) → k < length ids → flag_at outside (get_or ids k 0) ≡ not (flag_at labels k) = λ k l. c.in_ok-outside.ensures k l ∙ ap (λ (x : List Bool). not (flag_at x k)) c.as_slice-inside.ensures in
+    let made : (k : ℕ) → k < length ids → flag_at outside (get_or ids k 0) ≡ not (flag_at labels k) =
+    λ k l. c.in_ok-outside.ensures k l ∙ ap (λ (x : List Bool). not (flag_at x k)) c.as_slice-inside.ensures in
     let flags : AreOutside slots inside outside = outside_is s slots cells few complex all ids labels outside are_ids made in
-    let sorted : IsSortedCut slots outside c.in_ok-facets.facets.items = subst (λ (o : List Bool). IsSortedCut slots o c.in_ok-facets.facets.items) c.deref.ensures.value c.in_ok-facets.ensures in
+    let sorted : IsSortedCut slots outside c.in_ok-facets.facets.items =
+    subst (λ (o : List Bool). IsSortedCut slots o c.in_ok-facets.facets.items) c.deref.ensures.value c.in_ok-facets.ensures in
     let cut : List (List ℕ) = cut_facets s.vertices complex inside in
-    let is : c.deref-3.result.now ≡ cut = c.deref-3.ensures.value ∙ cut_is_facets s slots cells few complex all inside none outside c.in_ok-facets.facets.items flags sorted in
+    let is : c.deref-3.result.now ≡ cut =
+    c.deref-3.ensures.value
+    ∙ cut_is_facets s slots cells few complex all inside none outside c.in_ok-facets.facets.items flags sorted in
     let at : c.deref-2.result.now ≡ points = c.deref-2.ensures.value ∙ c.in_ok-points.ensures in
     subst (λ (ps : List Point). IfOk c.mesh_of_facets.result (λ mesh. mesh.faces.items ≡ (mesh_of ps cut).faces)) at
     (subst (λ (fs : List (List ℕ)). IfOk c.mesh_of_facets.result (λ mesh. mesh.faces.items ≡ (mesh_of c.deref-2.result.now fs).faces)) is c.mesh_of_facets.ensures.faces)
@@ -128,15 +140,21 @@ returns-clause-closed g c =
     let inside : List ℕ → Bool = test_of complex.cells labels in
     let none : IsAdmissible s complex inside = c.requires.1.1.1.1.1 in
     let outside : List Bool = c.in_ok-outside.outside.items in
-    let made : (k : ℕ) → k < length ids → flag_at outside (get_or ids k 0) ≡ not (flag_at labels k) = λ k l. c.in_ok-outside.ensures k l ∙ ap (λ (x : List Bool). not (flag_at x k)) c.as_slice-inside.ensures in
+    let made : (k : ℕ) → k < length ids → flag_at outside (get_or ids k 0) ≡ not (flag_at labels k) =
+    λ k l. c.in_ok-outside.ensures k l ∙ ap (λ (x : List Bool). not (flag_at x k)) c.as_slice-inside.ensures in
     let flags : AreOutside slots inside outside = outside_is s slots cells few complex all ids labels outside are_ids made in
-    let sorted : IsSortedCut slots outside c.in_ok-facets.facets.items = subst (λ (o : List Bool). IsSortedCut slots o c.in_ok-facets.facets.items) c.deref.ensures.value c.in_ok-facets.ensures in
+    let sorted : IsSortedCut slots outside c.in_ok-facets.facets.items =
+    subst (λ (o : List Bool). IsSortedCut slots o c.in_ok-facets.facets.items) c.deref.ensures.value c.in_ok-facets.ensures in
     let cut : List (List ℕ) = cut_facets s.vertices complex inside in
-    let is : c.deref-3.result.now ≡ cut = c.deref-3.ensures.value ∙ cut_is_facets s slots cells few complex all inside none outside c.in_ok-facets.facets.items flags sorted in
+    let is : c.deref-3.result.now ≡ cut =
+    c.deref-3.ensures.value
+    ∙ cut_is_facets s slots cells few complex all inside none outside c.in_ok-facets.facets.items flags sorted in
     let at : c.deref-2.result.now ≡ points = c.deref-2.ensures.value ∙ c.in_ok-points.ensures in
-    let faces = subst (λ (fs : List (List ℕ)). IfOk c.mesh_of_facets.result (λ mesh. mesh.faces.items ≡ (mesh_of c.deref-2.result.now fs).faces)) is c.mesh_of_facets.ensures.faces in
+    let faces =
+    subst (λ (fs : List (List ℕ)). IfOk c.mesh_of_facets.result (λ mesh. mesh.faces.items ≡ (mesh_of c.deref-2.result.now fs).faces)) is c.mesh_of_facets.ensures.faces in
     let closed : IsClosed cut =
     subst IsClosed (sym sorted.facets_are ∙ cut_is_facets s slots cells few complex all inside none outside c.in_ok-facets.facets.items flags sorted)
     (closed_sides s slots cells few complex all inside none outside flags sorted.sides sorted.moved) in
-    IfOk-weaker c.mesh_of_facets.result (λ mesh. mesh.faces.items ≡ (mesh_of c.deref-2.result.now cut).faces) (λ mesh. IsClosed mesh.faces.items)
+    IfOk-weaker c.mesh_of_facets.result (λ mesh. mesh.faces.items ≡ (mesh_of c.deref-2.result.now cut).faces)
+    (λ mesh. IsClosed mesh.faces.items)
     (λ mesh e. subst IsClosed (sym e) (mesh_closed s.vertices.count c.deref-2.result.now cut (cut_is_list s complex all inside) closed)) faces

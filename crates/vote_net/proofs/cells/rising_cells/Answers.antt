@@ -13,7 +13,8 @@ pub returns : goal.returns
 returns c points e =
     let k = c.facts.ensures in
     let all = whole c.args.t.now points k e c.requires.delaunay c.requires.inserted in
-    let n : length c.args.t.now.points ≡ 8 + length points = ap (λ (ps : List Point). length ps) e ∙ length-append corners points in
+    let n : length c.args.t.now.points ≡ 8 + length points =
+    ap (λ (ps : List Point). length ps) e ∙ length-append corners points in
     let few = k.vertices.few in
     let rows = c.in_ok-rows.rows.items in
     subst (IsCellList (vertices_of points)) (sym (c.in_ok-cells.ensures ∙ ap (map cell_of_row) c.deref.ensures.value))

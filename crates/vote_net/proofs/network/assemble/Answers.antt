@@ -18,9 +18,12 @@ arcs_of-requires-clause-ids g c r h =
     let fixed : List Bool = c.args.fixed.now in
     let rows : List Row = c.in_ok-rows.rows.items in
     let sides : List Side = c.in_ok-sides.sides.items in
-    let asked : IsAsked s slots crossed behind fixed = record { cells = c.requires.0; few = c.requires.1.0; few_sights = c.requires.1.1.0; crossings = c.requires.1.1.1.1.0; before = c.requires.1.1.1.1.1.0; flags = c.requires.1.1.1.1.1.1 } in
-    let lists : AreSorted slots fixed rows sides = record { moved = c.in_ok-rows.ensures.moved; sorted = c.in_ok-rows.ensures.sorted; moved_sides = c.in_ok-sides.ensures.moved; sorted_sides = c.in_ok-sides.ensures.sorted } in
-    ids_below s slots crossed behind fixed rows sides asked lists r (subst (λ (x : List Row). Contains x r) c.deref.ensures.value h)
+    let asked : IsAsked s slots crossed behind fixed =
+    record { cells = c.requires.0; few = c.requires.1.0; few_sights = c.requires.1.1.0; crossings = c.requires.1.1.1.1.0; before = c.requires.1.1.1.1.1.0; flags = c.requires.1.1.1.1.1.1 } in
+    let lists : AreSorted slots fixed rows sides =
+    record { moved = c.in_ok-rows.ensures.moved; sorted = c.in_ok-rows.ensures.sorted; moved_sides = c.in_ok-sides.ensures.moved; sorted_sides = c.in_ok-sides.ensures.sorted } in
+    ids_below s slots crossed behind fixed rows sides asked lists r
+    (subst (λ (x : List Row). Contains x r) c.deref.ensures.value h)
 
 pub arcs_of-requires-clause-numbers : goal.arcs_of-requires-clause-numbers
 arcs_of-requires-clause-numbers g c x h =
@@ -31,9 +34,12 @@ arcs_of-requires-clause-numbers g c x h =
     let fixed : List Bool = c.args.fixed.now in
     let rows : List Row = c.in_ok-rows.rows.items in
     let sides : List Side = c.in_ok-sides.sides.items in
-    let asked : IsAsked s slots crossed behind fixed = record { cells = c.requires.0; few = c.requires.1.0; few_sights = c.requires.1.1.0; crossings = c.requires.1.1.1.1.0; before = c.requires.1.1.1.1.1.0; flags = c.requires.1.1.1.1.1.1 } in
-    let lists : AreSorted slots fixed rows sides = record { moved = c.in_ok-rows.ensures.moved; sorted = c.in_ok-rows.ensures.sorted; moved_sides = c.in_ok-sides.ensures.moved; sorted_sides = c.in_ok-sides.ensures.sorted } in
-    numbers_below s slots crossed behind fixed rows sides asked lists x (subst (λ (u : List Side). Contains u x) c.deref-2.ensures.value h)
+    let asked : IsAsked s slots crossed behind fixed =
+    record { cells = c.requires.0; few = c.requires.1.0; few_sights = c.requires.1.1.0; crossings = c.requires.1.1.1.1.0; before = c.requires.1.1.1.1.1.0; flags = c.requires.1.1.1.1.1.1 } in
+    let lists : AreSorted slots fixed rows sides =
+    record { moved = c.in_ok-rows.ensures.moved; sorted = c.in_ok-rows.ensures.sorted; moved_sides = c.in_ok-sides.ensures.moved; sorted_sides = c.in_ok-sides.ensures.sorted } in
+    numbers_below s slots crossed behind fixed rows sides asked lists x
+    (subst (λ (u : List Side). Contains u x) c.deref-2.ensures.value h)
 
 pub arcs_of-requires-clause-apart_rows : goal.arcs_of-requires-clause-apart_rows
 arcs_of-requires-clause-apart_rows g c =
@@ -44,9 +50,12 @@ arcs_of-requires-clause-apart_rows g c =
     let fixed : List Bool = c.args.fixed.now in
     let rows : List Row = c.in_ok-rows.rows.items in
     let sides : List Side = c.in_ok-sides.sides.items in
-    let asked : IsAsked s slots crossed behind fixed = record { cells = c.requires.0; few = c.requires.1.0; few_sights = c.requires.1.1.0; crossings = c.requires.1.1.1.1.0; before = c.requires.1.1.1.1.1.0; flags = c.requires.1.1.1.1.1.1 } in
-    let lists : AreSorted slots fixed rows sides = record { moved = c.in_ok-rows.ensures.moved; sorted = c.in_ok-rows.ensures.sorted; moved_sides = c.in_ok-sides.ensures.moved; sorted_sides = c.in_ok-sides.ensures.sorted } in
-    subst (λ (x : List Row). AreApart id_of_row x) (sym c.deref.ensures.value) (rows_apart s slots crossed behind fixed rows sides asked lists)
+    let asked : IsAsked s slots crossed behind fixed =
+    record { cells = c.requires.0; few = c.requires.1.0; few_sights = c.requires.1.1.0; crossings = c.requires.1.1.1.1.0; before = c.requires.1.1.1.1.1.0; flags = c.requires.1.1.1.1.1.1 } in
+    let lists : AreSorted slots fixed rows sides =
+    record { moved = c.in_ok-rows.ensures.moved; sorted = c.in_ok-rows.ensures.sorted; moved_sides = c.in_ok-sides.ensures.moved; sorted_sides = c.in_ok-sides.ensures.sorted } in
+    subst (λ (x : List Row). AreApart id_of_row x) (sym c.deref.ensures.value)
+    (rows_apart s slots crossed behind fixed rows sides asked lists)
 
 pub arcs_of-requires-clause-apart_sides : goal.arcs_of-requires-clause-apart_sides
 arcs_of-requires-clause-apart_sides g c =
@@ -57,9 +66,12 @@ arcs_of-requires-clause-apart_sides g c =
     let fixed : List Bool = c.args.fixed.now in
     let rows : List Row = c.in_ok-rows.rows.items in
     let sides : List Side = c.in_ok-sides.sides.items in
-    let asked : IsAsked s slots crossed behind fixed = record { cells = c.requires.0; few = c.requires.1.0; few_sights = c.requires.1.1.0; crossings = c.requires.1.1.1.1.0; before = c.requires.1.1.1.1.1.0; flags = c.requires.1.1.1.1.1.1 } in
-    let lists : AreSorted slots fixed rows sides = record { moved = c.in_ok-rows.ensures.moved; sorted = c.in_ok-rows.ensures.sorted; moved_sides = c.in_ok-sides.ensures.moved; sorted_sides = c.in_ok-sides.ensures.sorted } in
-    subst (λ (x : List Side). AreApart number_of_side x) (sym c.deref-2.ensures.value) (sides_apart s slots crossed behind fixed rows sides asked lists)
+    let asked : IsAsked s slots crossed behind fixed =
+    record { cells = c.requires.0; few = c.requires.1.0; few_sights = c.requires.1.1.0; crossings = c.requires.1.1.1.1.0; before = c.requires.1.1.1.1.1.0; flags = c.requires.1.1.1.1.1.1 } in
+    let lists : AreSorted slots fixed rows sides =
+    record { moved = c.in_ok-rows.ensures.moved; sorted = c.in_ok-rows.ensures.sorted; moved_sides = c.in_ok-sides.ensures.moved; sorted_sides = c.in_ok-sides.ensures.sorted } in
+    subst (λ (x : List Side). AreApart number_of_side x) (sym c.deref-2.ensures.value)
+    (sides_apart s slots crossed behind fixed rows sides asked lists)
 
 pub arcs_of-requires-clause-joins : goal.arcs_of-requires-clause-joins
 arcs_of-requires-clause-joins g c x h =
@@ -70,9 +82,12 @@ arcs_of-requires-clause-joins g c x h =
     let fixed : List Bool = c.args.fixed.now in
     let rows : List Row = c.in_ok-rows.rows.items in
     let sides : List Side = c.in_ok-sides.sides.items in
-    let asked : IsAsked s slots crossed behind fixed = record { cells = c.requires.0; few = c.requires.1.0; few_sights = c.requires.1.1.0; crossings = c.requires.1.1.1.1.0; before = c.requires.1.1.1.1.1.0; flags = c.requires.1.1.1.1.1.1 } in
-    let lists : AreSorted slots fixed rows sides = record { moved = c.in_ok-rows.ensures.moved; sorted = c.in_ok-rows.ensures.sorted; moved_sides = c.in_ok-sides.ensures.moved; sorted_sides = c.in_ok-sides.ensures.sorted } in
-    can_join s slots crossed behind fixed rows sides asked lists (search arith) x (subst (λ (u : List Side). Contains u x) c.deref-2.ensures.value h)
+    let asked : IsAsked s slots crossed behind fixed =
+    record { cells = c.requires.0; few = c.requires.1.0; few_sights = c.requires.1.1.0; crossings = c.requires.1.1.1.1.0; before = c.requires.1.1.1.1.1.0; flags = c.requires.1.1.1.1.1.1 } in
+    let lists : AreSorted slots fixed rows sides =
+    record { moved = c.in_ok-rows.ensures.moved; sorted = c.in_ok-rows.ensures.sorted; moved_sides = c.in_ok-sides.ensures.moved; sorted_sides = c.in_ok-sides.ensures.sorted } in
+    can_join s slots crossed behind fixed rows sides asked lists (search arith) x
+    (subst (λ (u : List Side). Contains u x) c.deref-2.ensures.value h)
 
 pub new-net-requires : goal.new-net-requires
 new-net-requires g c =
@@ -83,14 +98,18 @@ new-net-requires g c =
     let fixed : List Bool = c.args.fixed.now in
     let rows : List Row = c.in_ok-rows.rows.items in
     let sides : List Side = c.in_ok-sides.sides.items in
-    let asked : IsAsked s slots crossed behind fixed = record { cells = c.requires.0; few = c.requires.1.0; few_sights = c.requires.1.1.0; crossings = c.requires.1.1.1.1.0; before = c.requires.1.1.1.1.1.0; flags = c.requires.1.1.1.1.1.1 } in
-    let lists : AreSorted slots fixed rows sides = record { moved = c.in_ok-rows.ensures.moved; sorted = c.in_ok-rows.ensures.sorted; moved_sides = c.in_ok-sides.ensures.moved; sorted_sides = c.in_ok-sides.ensures.sorted } in
+    let asked : IsAsked s slots crossed behind fixed =
+    record { cells = c.requires.0; few = c.requires.1.0; few_sights = c.requires.1.1.0; crossings = c.requires.1.1.1.1.0; before = c.requires.1.1.1.1.1.0; flags = c.requires.1.1.1.1.1.1 } in
+    let lists : AreSorted slots fixed rows sides =
+    record { moved = c.in_ok-rows.ensures.moved; sorted = c.in_ok-rows.ensures.sorted; moved_sides = c.in_ok-sides.ensures.moved; sorted_sides = c.in_ok-sides.ensures.sorted } in
     let made : IsMade s slots crossed behind fixed rows sides asked lists c.args.settings c.in_ok-fixed_of.field-0.items c.in_ok-sinks_of.field-0.items c.in_ok-arcs.arcs.items =
     record {
       settings_are = c.requires.1.1.1.0;
       flags_are = c.in_ok-fixed_of.ensures ∙ ap (map (λ r. flag_at fixed (id_of_row r))) c.deref-3.ensures.value;
-      sinks_are = c.in_ok-sinks_of.ensures ∙ ap (map (λ r. c.args.settings.vote * get_or behind (id_of_row r) 0)) c.deref-4.ensures.value;
-      arcs_are = subst (λ (x : List Row). AreArcs slots x sides crossed fixed c.args.settings c.in_ok-arcs.arcs.items) c.deref.ensures.value
+      sinks_are =
+          c.in_ok-sinks_of.ensures ∙ ap (map (λ r. c.args.settings.vote * get_or behind (id_of_row r) 0)) c.deref-4.ensures.value;
+      arcs_are =
+          subst (λ (x : List Row). AreArcs slots x sides crossed fixed c.args.settings c.in_ok-arcs.arcs.items) c.deref.ensures.value
           (subst (λ (x : List Side). AreArcs slots c.deref.result.now x crossed fixed c.args.settings c.in_ok-arcs.arcs.items) c.deref-2.ensures.value c.in_ok-arcs.ensures);
     } in
     subst (λ (x : List Bool). IsValidNet x c.from-2.result c.from-3.result) (sym c.from.ensures)
@@ -107,19 +126,25 @@ returns-clause-network g c =
     let fixed : List Bool = c.args.fixed.now in
     let rows : List Row = c.in_ok-rows.rows.items in
     let sides : List Side = c.in_ok-sides.sides.items in
-    let asked : IsAsked s slots crossed behind fixed = record { cells = c.requires.0; few = c.requires.1.0; few_sights = c.requires.1.1.0; crossings = c.requires.1.1.1.1.0; before = c.requires.1.1.1.1.1.0; flags = c.requires.1.1.1.1.1.1 } in
-    let lists : AreSorted slots fixed rows sides = record { moved = c.in_ok-rows.ensures.moved; sorted = c.in_ok-rows.ensures.sorted; moved_sides = c.in_ok-sides.ensures.moved; sorted_sides = c.in_ok-sides.ensures.sorted } in
+    let asked : IsAsked s slots crossed behind fixed =
+    record { cells = c.requires.0; few = c.requires.1.0; few_sights = c.requires.1.1.0; crossings = c.requires.1.1.1.1.0; before = c.requires.1.1.1.1.1.0; flags = c.requires.1.1.1.1.1.1 } in
+    let lists : AreSorted slots fixed rows sides =
+    record { moved = c.in_ok-rows.ensures.moved; sorted = c.in_ok-rows.ensures.sorted; moved_sides = c.in_ok-sides.ensures.moved; sorted_sides = c.in_ok-sides.ensures.sorted } in
     let made : IsMade s slots crossed behind fixed rows sides asked lists c.args.settings c.in_ok-fixed_of.field-0.items c.in_ok-sinks_of.field-0.items c.in_ok-arcs.arcs.items =
     record {
       settings_are = c.requires.1.1.1.0;
       flags_are = c.in_ok-fixed_of.ensures ∙ ap (map (λ r. flag_at fixed (id_of_row r))) c.deref-3.ensures.value;
-      sinks_are = c.in_ok-sinks_of.ensures ∙ ap (map (λ r. c.args.settings.vote * get_or behind (id_of_row r) 0)) c.deref-4.ensures.value;
-      arcs_are = subst (λ (x : List Row). AreArcs slots x sides crossed fixed c.args.settings c.in_ok-arcs.arcs.items) c.deref.ensures.value
+      sinks_are =
+          c.in_ok-sinks_of.ensures ∙ ap (map (λ r. c.args.settings.vote * get_or behind (id_of_row r) 0)) c.deref-4.ensures.value;
+      arcs_are =
+          subst (λ (x : List Row). AreArcs slots x sides crossed fixed c.args.settings c.in_ok-arcs.arcs.items) c.deref.ensures.value
           (subst (λ (x : List Side). AreArcs slots c.deref.result.now x crossed fixed c.args.settings c.in_ok-arcs.arcs.items) c.deref-2.ensures.value c.in_ok-arcs.ensures);
     } in
     network_is s slots crossed behind fixed rows sides asked lists c.args.settings c.in_ok-fixed_of.field-0.items c.in_ok-sinks_of.field-0.items c.in_ok-arcs.arcs.items made c.new-net.result c.from-4.result c.from-5.result
-    (c.from-4.ensures ∙ (c.in_ok-cells_of.ensures ∙ ap (map cell_of_row) c.deref-5.ensures.value)) (c.from-5.ensures ∙ c.in_ok-facets.ensures)
-    (c.new-net.ensures.fixed ∙ c.from.ensures) (c.new-net.ensures.sink ∙ c.from-2.ensures) (c.new-net.ensures.arcs ∙ c.from-3.ensures)
+    (c.from-4.ensures ∙ (c.in_ok-cells_of.ensures ∙ ap (map cell_of_row) c.deref-5.ensures.value))
+    (c.from-5.ensures ∙ c.in_ok-facets.ensures)
+    (c.new-net.ensures.fixed ∙ c.from.ensures) (c.new-net.ensures.sink ∙ c.from-2.ensures)
+    (c.new-net.ensures.arcs ∙ c.from-3.ensures)
 
 pub returns-clause-ids : goal.returns-clause-ids
 returns-clause-ids g c =
@@ -130,6 +155,10 @@ returns-clause-ids g c =
     let fixed : List Bool = c.args.fixed.now in
     let rows : List Row = c.in_ok-rows.rows.items in
     let sides : List Side = c.in_ok-sides.sides.items in
-    let asked : IsAsked s slots crossed behind fixed = record { cells = c.requires.0; few = c.requires.1.0; few_sights = c.requires.1.1.0; crossings = c.requires.1.1.1.1.0; before = c.requires.1.1.1.1.1.0; flags = c.requires.1.1.1.1.1.1 } in
-    let lists : AreSorted slots fixed rows sides = record { moved = c.in_ok-rows.ensures.moved; sorted = c.in_ok-rows.ensures.sorted; moved_sides = c.in_ok-sides.ensures.moved; sorted_sides = c.in_ok-sides.ensures.sorted } in
-    ids_are s slots crossed behind fixed rows sides asked lists c.from-4.result c.in_ok-ids.ids.items (c.from-4.ensures ∙ (c.in_ok-cells_of.ensures ∙ ap (map cell_of_row) c.deref-5.ensures.value)) (c.in_ok-ids.ensures ∙ ap (map id_of_row) c.deref-6.ensures.value)
+    let asked : IsAsked s slots crossed behind fixed =
+    record { cells = c.requires.0; few = c.requires.1.0; few_sights = c.requires.1.1.0; crossings = c.requires.1.1.1.1.0; before = c.requires.1.1.1.1.1.0; flags = c.requires.1.1.1.1.1.1 } in
+    let lists : AreSorted slots fixed rows sides =
+    record { moved = c.in_ok-rows.ensures.moved; sorted = c.in_ok-rows.ensures.sorted; moved_sides = c.in_ok-sides.ensures.moved; sorted_sides = c.in_ok-sides.ensures.sorted } in
+    ids_are s slots crossed behind fixed rows sides asked lists c.from-4.result c.in_ok-ids.ids.items
+    (c.from-4.ensures ∙ (c.in_ok-cells_of.ensures ∙ ap (map cell_of_row) c.deref-5.ensures.value))
+    (c.in_ok-ids.ensures ∙ ap (map id_of_row) c.deref-6.ensures.value)
