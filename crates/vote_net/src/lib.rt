@@ -1,7 +1,8 @@
 //! The network of linked Delaunay cells: a node for each cell, an arc for each directed facet with a free cell across.
 //!
 //! What sights vote for is counted elsewhere, by the numbers that cells have in the store. Here the nodes and arcs are put in order and
-//! numbered. `rows` lists the cells, `sides` the facets, `tables` finds their numbers, `arcs` makes the arcs, and `network` the whole.
+//! numbered: `rows` lists the cells, `sides` the facets, `tables` finds their indices, `arcs` makes the arcs, and `network` the whole.
+//! `cells` is the list of all cells, and `laws` says what the counts are however a cell is written.
 #![tactic(auto)]
 
 mod arcs;
@@ -11,6 +12,8 @@ mod network;
 mod rows;
 mod sides;
 mod tables;
+#[cfg(test)]
+mod tests;
 
 pub use cells::rising_cells;
 pub use laws::{cell_count_law, facet_count_law, stored_cells_law};
