@@ -1,0 +1,15 @@
+//! The network of linked Delaunay cells, from the sights of a scan.
+//!
+//! Each sight is walked once, from its point to its scanner, so that the time is that of the crossings that there are. `fixing` finds
+//! the cells of the scanners and which cells are fixed, `ordering` puts the sights in an order in which those that follow each other
+//! go through much the same cells, `tally` counts along them, and `counting` puts the counts into the network.
+#![tactic(auto)]
+
+mod fixing;
+mod ordering;
+mod tally;
+
+use std::alloc::AllocError;
+
+/// Want of memory: the one answer that any input may get.
+pub type NoMemory = AllocError;
