@@ -1,6 +1,6 @@
 -- Flags of cells, while cells and scanners are gone through. The cells that `cells` lists are all live ones, so a cell is still to come
 -- or its flag says whether it has a corner. A scanner more sets the flag of its cell, which is the only one that has that scanner.
-use Rattle.std.proofs.Common.{ℕ, zero, suc, ◌<◌, ◌≤◌, ◌+◌, ◌≡◌, ◌≢◌, ◌⊎◌, inl, inr, ⊎_elim, refl, sym, ap, subst, ◌∙◌, arith, Bool, true, false, true≢false, eqb, ◌||◌, Option, Some, None, is_some, List, [], ◌∷◌, ◌++◌, length, set, take, get_or, slice_index, Contains}
+use Rattle.std.proofs.Common.{ℕ, ◌<◌, ◌≤◌, ◌+◌, ◌≡◌, ◌≢◌, ◌⊎◌, inl, inr, ⊎_elim, refl, sym, ap, subst, ◌∙◌, arith, Bool, true, false, true≢false, eqb, ◌||◌, Option, Some, None, is_some, List, [], ◌∷◌, ◌++◌, length, set, take, get_or, slice_index, Contains}
 use Rattle.std.proofs.lemmas.Bool.{eqb-true, eqb-false}
 use Rattle.std.proofs.lemmas.List.{get_or-set_same, get_or-set_other, length-set, length_push, get_or_push, get_or_append_left}
 use Rattle.std.proofs.lemmas.List.Folds.{list_any_more}
@@ -142,8 +142,8 @@ one_fixed s scanners n found flags l m is h =
       flagged = λ id live.
           flag id live (eqb id found) refl
           ∙ (ap (λ (b : Bool). b || test id (get_or scanners n origin)) (h.flagged id live)
-            ∙ (or_or (has_corner ((links_of s.slots).at id)) (holds s (take n scanners) id) (test id (get_or scanners n origin))
-              ∙ ap (λ (b : Bool). has_corner ((links_of s.slots).at id) || b) (sym (list_any_more (test id) scanners n origin l))));
+          ∙ (or_or (has_corner ((links_of s.slots).at id)) (holds s (take n scanners) id) (test id (get_or scanners n origin))
+          ∙ ap (λ (b : Bool). has_corner ((links_of s.slots).at id) || b) (sym (list_any_more (test id) scanners n origin l))));
     }
   where
     test : ℕ → Point → Bool

@@ -1,3 +1,4 @@
-pub mod Counting
+pub mod WalkCounts
 pub mod Tallies
 pub mod Flags
+pub mod Scenes

@@ -1,6 +1,6 @@
 -- The counters after some of the sights. They are what these add, to begin with nothing; a counter stays below the number of sights times
 -- what one of them adds, so it has room for one more.
-use Rattle.std.proofs.Common.{ℕ, zero, suc, ◌<◌, ◌≤◌, ◌+◌, ◌*◌, ◌^◌, ◌≡◌, refl, sym, ap, ap₂, subst, ◌∙◌, arith, Bool, true, false, ◌&&◌, cond, List, [], ◌∷◌, length, take, get_or, slice_index, slice_index_or}
+use Rattle.std.proofs.Common.{ℕ, zero, suc, ◌<◌, ◌≤◌, ◌+◌, ◌*◌, ◌^◌, ◌≡◌, refl, sym, ap, ap₂, subst, ◌∙◌, arith, Bool, ◌&&◌, cond, List, [], ◌∷◌, length, take, get_or, slice_index, slice_index_or}
 use Rattle.std.specs.List.{count_by}
 use Rattle.std.proofs.lemmas.List.{take_all}
 use Rattle.std.proofs.lemmas.List.Sums.{count_by-le-length, sum_by_more}
@@ -85,9 +85,9 @@ all_counted s scanners sights n crossed behind e h =
       crossed_fits = h.crossed_fits;
       behind_fits = h.behind_fits;
       facets = λ id k l m.
-        subst (λ (b : Bool). slice_index crossed (4 * id + k) ≡ sum_where (λ sight. b && is_crossed (vertices_of s) sight.vertex (scanner_point scanners sight.scanner) (facet_of ((links_of s.slots).at id) k)) sights) l
-        (h.facets id k m ∙ ap (λ (xs : List Sight). sum_where (crosses s scanners id k) xs) t);
+          subst (λ (b : Bool). slice_index crossed (4 * id + k) ≡ sum_where (λ sight. b && is_crossed (vertices_of s) sight.vertex (scanner_point scanners sight.scanner) (facet_of ((links_of s.slots).at id) k)) sights) l
+          (h.facets id k m ∙ ap (λ (xs : List Sight). sum_where (crosses s scanners id k) xs) t);
       cells = λ id l.
-        subst (λ (b : Bool). slice_index behind id ≡ sum_where (λ sight. b && is_behind (vertices_of s) sight.vertex (scanner_point scanners sight.scanner) ((links_of s.slots).at id)) sights) l
-        (h.cells id ∙ ap (λ (xs : List Sight). sum_where (is_before s scanners id) xs) t);
+          subst (λ (b : Bool). slice_index behind id ≡ sum_where (λ sight. b && is_behind (vertices_of s) sight.vertex (scanner_point scanners sight.scanner) ((links_of s.slots).at id)) sights) l
+          (h.cells id ∙ ap (λ (xs : List Sight). sum_where (is_before s scanners id) xs) t);
     }

@@ -5,10 +5,12 @@
 //! go through much the same cells, `tally` counts along them, and `counting` puts the counts into the network.
 #![tactic(auto)]
 
+mod counting;
 mod fixing;
 mod ordering;
 mod tally;
 
+pub use counting::count_votes;
 use std::alloc::AllocError;
 
 /// Want of memory: the one answer that any input may get.

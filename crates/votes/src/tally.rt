@@ -31,9 +31,10 @@ pub(crate) struct Counts {
 }
 
 /// What a sight adds to each facet that it crosses and to the cell behind it: every sight counts once.
-fn added_by(_sight: Sight) -> u32
-    ensures { result ≡ added_by_sight _sight }
+fn added_by(sight: Sight) -> u32
+    ensures { result ≡ added_by_sight sight }
 {
+    let _sight = sight;
     1
 }
 

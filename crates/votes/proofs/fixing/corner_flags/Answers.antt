@@ -1,6 +1,4 @@
-use Rattle.std.proofs.Common.{◌≡◌, ◌<◌, ℕ, List, Bool, Option, ap, sym, subst, arith, length, set, replicate}
-use Rattle.std.proofs.lemmas.List.{length-replicate}
-use Rattle.slab.specs.Slab.{entries_from}
+use Rattle.std.proofs.Common.{◌<◌, ℕ, List, sym, subst, arith, length}
 use Rattle.tetra_store.specs.declared.link.Cell.{Cell}
 use Rattle.votes.proofs.Flags.{AreFlagged, none_flagged, entry_in_range, entry_flagged, all_flagged}
 use Rattle.votes.proofs.fixing.corner_flags.Goals as goal

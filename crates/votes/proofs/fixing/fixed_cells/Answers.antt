@@ -1,4 +1,4 @@
-use Rattle.std.proofs.Common.{◌≡◌, ◌<◌, ◌+◌, ℕ, true, arith, length, set, slice_index, sym, subst}
+use Rattle.std.proofs.Common.{◌≡◌, ◌+◌, ℕ, true, arith, set, slice_index, sym, subst}
 use Rattle.std.proofs.lemmas.Grind.{get_or_default_zero}
 use Rattle.votes.proofs.Flags.{AreFixedTo, scanner_flag_in, scanner_fixed}
 use Rattle.votes.proofs.fixing.fixed_cells.Goals as goal

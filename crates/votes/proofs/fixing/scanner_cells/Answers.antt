@@ -1,4 +1,4 @@
-use Rattle.std.proofs.Common.{ℕ, ◌≡◌, ◌<◌, ◌+◌, sym, subst, ◌∙◌, arith, List, length, get_or}
+use Rattle.std.proofs.Common.{ℕ, ◌≡◌, ◌+◌, sym, subst, ◌∙◌, arith, List, get_or}
 use Rattle.std.proofs.lemmas.List.{get_or_default}
 use Rattle.geo_sign.specs.Point.{Point, origin}
 use Rattle.votes.specs.Counts.{IsScannerCell}

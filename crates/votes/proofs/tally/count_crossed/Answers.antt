@@ -1,5 +1,5 @@
 use Rattle.std.proofs.Common.{ℕ, ◌+◌, ◌*◌, ◌^◌, ◌<◌, ◌≡◌, sym, subst, arith, set, slice_index}
-use Rattle.votes.proofs.Counting.{IsCounting, in_range, counted_on, room, all_counted}
+use Rattle.votes.proofs.WalkCounts.{IsCounting, in_range, counted_on, room, all_counted}
 use Rattle.votes.proofs.tally.count_crossed.Goals as goal
 
 pub overflow_add-crossed-in-Some : goal.overflow_add-crossed-in-Some

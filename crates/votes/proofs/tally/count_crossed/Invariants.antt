@@ -1,5 +1,5 @@
 use Rattle.std.proofs.Common.{length}
-use Rattle.votes.proofs.Counting.{IsCounting}
+use Rattle.votes.proofs.WalkCounts.{IsCounting}
 use Rattle.votes.proofs.tally.count_crossed.Given as goal
 
 abbrev pub invariant-loop-crossing : goal.invariant-loop-crossing

@@ -1,7 +1,7 @@
 -- The counters of facets while a walk along a sight goes on. What is counted so far and what the facets to come will add is always what
 -- all facets of the sight add; a step moves the first facet from the one to the other. Each side stands among the facets of a sight
 -- once or not at all, as the sight crosses it or not, so at the end the amount has been added to exactly the crossed ones.
-use Rattle.std.proofs.Common.{ℕ, ◌<◌, ◌≤◌, ◌+◌, ◌*◌, ◌^◌, ◌≡◌, ◌≢◌, ◌⊎◌, inl, inr, refl, sym, ap, ap₂, subst, ◌∙◌, arith, Bool, true, false, true≢false, ◌&&◌, cond, List, [], ◌∷◌, length, set, slice_index}
+use Rattle.std.proofs.Common.{ℕ, ◌<◌, ◌≤◌, ◌+◌, ◌*◌, ◌^◌, ◌≡◌, ◌≢◌, inl, inr, refl, sym, ap, ap₂, subst, ◌∙◌, arith, Bool, true, false, true≢false, ◌&&◌, cond, List, [], ◌∷◌, length, set, slice_index}
 use Rattle.std.proofs.lemmas.Bool.{and_parts, and_from, eqb-true, eq-eqb}
 use Rattle.std.proofs.lemmas.List.{get_or-set_same, get_or-set_other, length-set}
 use Rattle.geo_sign.specs.Point.{Point}
@@ -63,9 +63,9 @@ count_step amount id k d rest xs l m h = by (is_that (side id k) d) refl
     by false e =
         let none : cond (is_that (side id k) d) amount 0 ≡ 0 = ap (λ (b : Bool). cond b amount 0) e in
         let n : 4 * id + k ≢ j = λ i.
-            (let z = place_apart d.at d.side id k m l i in
-            let q : side id k ≡ d = same_side (side id k) d z.0 z.1 in
-            true≢false (sym (that_itself d) ∙ ap (λ (x : Side). is_that x d) (sym q) ∙ e)) in
+        (let z = place_apart d.at d.side id k m l i in
+        let q : side id k ≡ d = same_side (side id k) d z.0 z.1 in
+        true≢false (sym (that_itself d) ∙ ap (λ (x : Side). is_that x d) (sym q) ∙ e)) in
         let there : slice_index (set xs j (slice_index xs j + amount)) (4 * id + k) ≡ slice_index xs (4 * id + k) = get_or-set_other xs j (4 * id + k) (slice_index xs j + amount) 0 n in
         omega (arith, there, none)
 
@@ -116,8 +116,8 @@ all_add : (s : Store) (p : ℕ) (o : Point) (amount : ℕ) (w : Walk) → IsFrom
 all_add s p o amount w e h id k l =
     adds_once amount (side id k) w.to_come (is_crossed_at s p (displaced o) id k)
     (subst (λ (t : Store). count (is_that (side id k)) w.to_come ≡ one_if (is_crossed_at t p (displaced o) id k)) e.0
-      (subst (λ (n : ℕ). count (is_that (side id k)) w.to_come ≡ one_if (is_crossed_at w.store n (displaced o) id k)) e.1
-        (subst (λ (q : Point). count (is_that (side id k)) w.to_come ≡ one_if (is_crossed_at w.store w.vertex (displaced q) id k)) e.2 (once w h id k l))))
+    (subst (λ (n : ℕ). count (is_that (side id k)) w.to_come ≡ one_if (is_crossed_at w.store n (displaced o) id k)) e.1
+    (subst (λ (q : Point). count (is_that (side id k)) w.to_come ≡ one_if (is_crossed_at w.store w.vertex (displaced q) id k)) e.2 (once w h id k l))))
 
 at_most : (b : Bool) (amount : ℕ) → cond b amount 0 ≤ amount
 at_most true amount = omega arith
@@ -141,8 +141,8 @@ counted_on s amount first now next old xs c h t l =
       store = t.same.0 ∙ h.store;
       same_length = length-set xs (4 * next.at + next.entered) (slice_index xs (4 * next.at + next.entered) + amount) ∙ h.same_length;
       sums = λ id k m.
-        (count_step amount id k (side next.at next.entered) next.to_come xs m t.side_in l
-        ∙ ap (λ (ds : List Side). slice_index xs (4 * id + k) + adds amount (side id k) ds) (sym t.first) ∙ h.sums id k m);
+          (count_step amount id k (side next.at next.entered) next.to_come xs m t.side_in l
+          ∙ ap (λ (ds : List Side). slice_index xs (4 * id + k) + adds amount (side id k) ds) (sym t.first) ∙ h.sums id k m);
     }
 
 pub shorter : (now next : Walk) (c : Crossing) → IsTaken now next c → length next.to_come < length now.to_come
