@@ -27,7 +27,8 @@ pub record AreFlagged (slots : List (Option Cell)) (left : List (ℕ × Cell)) (
   pub only : (id : ℕ) (c : Cell) → Contains left (id, c) → slot_at slots id ≡ Some c
   pub flagged : (id : ℕ) (c : Cell) → slot_at slots id ≡ Some c → Contains left (id, c) ⊎ (flag_at flags id ≡ corner_of c)
 
-pub none_flagged : (slots : List (Option Cell)) (flags : List Bool) → length slots ≤ length flags → AreFlagged slots (entries_from 0 slots) flags
+pub none_flagged : (slots : List (Option Cell)) (flags : List Bool) → length slots ≤ length flags →
+    AreFlagged slots (entries_from 0 slots) flags
 none_flagged slots flags l =
     record { fits = l; only = λ id c. (listed_cells slots id c).0; flagged = λ id c e. inl ((listed_cells slots id c).1 e) }
 
@@ -41,7 +42,9 @@ module _ (slots : List (Option Cell)) (id : ℕ) (c : Cell) (left : List (ℕ ×
   pub flag_in : id < length flags
   flag_in = let l = slot_in slots id (ap is_some here) in let m = h.fits in omega (arith, l, m)
 
-  flag_set : (z : Bool) (n : ℕ) (d : Cell) → eqb n id ≡ z → slot_at slots n ≡ Some d → Contains ((id, c) ∷ left) (n, d) ⊎ (flag_at flags n ≡ corner_of d) → Contains left (n, d) ⊎ (flag_at (set flags id (corner_of c)) n ≡ corner_of d)
+  flag_set : (z : Bool) (n : ℕ) (d : Cell) → eqb n id ≡ z → slot_at slots n ≡ Some d →
+      Contains ((id, c) ∷ left) (n, d) ⊎ (flag_at flags n ≡ corner_of d) →
+      Contains left (n, d) ⊎ (flag_at (set flags id (corner_of c)) n ≡ corner_of d)
   flag_set true n d z i o =
       let q : n ≡ id = eqb-true n id z in
       let w : c ≡ d = some_is (sym here ∙ (ap (slot_at slots) (sym q) ∙ i)) in
@@ -62,18 +65,21 @@ module _ (slots : List (Option Cell)) (id : ℕ) (c : Cell) (left : List (ℕ ×
         flagged = λ x d i. flag_set (eqb x id) x d refl i (h.flagged x d i);
       }
 
-pub entry_in_range : (slots : List (Option Cell)) (left rest : List (ℕ × Cell)) (flags : List Bool) (id n : ℕ) (c : Cell) → left ≡ (id, c) ∷ rest → n ≡ id → AreFlagged slots left flags → n < length flags
+pub entry_in_range : (slots : List (Option Cell)) (left rest : List (ℕ × Cell)) (flags : List Bool) (id n : ℕ) (c : Cell) →
+    left ≡ (id, c) ∷ rest → n ≡ id → AreFlagged slots left flags → n < length flags
 entry_in_range slots left rest flags id n c e i h =
     let l : id < length flags = flag_in slots id c rest flags (subst (λ (xs : List (ℕ × Cell)). AreFlagged slots xs flags) e h) in
     omega (arith, l, i)
 
-pub entry_flagged : (slots : List (Option Cell)) (left rest : List (ℕ × Cell)) (flags : List Bool) (id n : ℕ) (c : Cell) (b : Bool) → left ≡ (id, c) ∷ rest → n ≡ id → b ≡ has_corner (tetrahedron_from c.v) → AreFlagged slots left flags →
+pub entry_flagged : (slots : List (Option Cell)) (left rest : List (ℕ × Cell)) (flags : List Bool) (id n : ℕ) (c : Cell) (b : Bool) →
+    left ≡ (id, c) ∷ rest → n ≡ id → b ≡ has_corner (tetrahedron_from c.v) → AreFlagged slots left flags →
     AreFlagged slots rest (set flags n b)
 entry_flagged slots left rest flags id n c b e i f h =
     subst (λ (m : ℕ). AreFlagged slots rest (set flags m b)) (sym i)
     (subst (λ (z : Bool). AreFlagged slots rest (set flags id z)) (sym f) (one_flagged slots id c rest flags (subst (λ (xs : List (ℕ × Cell)). AreFlagged slots xs flags) e h)))
 
-pub all_flagged : (slots : List (Option Cell)) (flags : List Bool) → AreFlagged slots [] flags → (id : ℕ) → IsLive (links_of slots) id → flag_at flags id ≡ has_corner ((links_of slots).at id)
+pub all_flagged : (slots : List (Option Cell)) (flags : List Bool) → AreFlagged slots [] flags → (id : ℕ) →
+    IsLive (links_of slots) id → flag_at flags id ≡ has_corner ((links_of slots).at id)
 all_flagged slots flags h id live = by (slot_at slots id) refl
   where
     by : (o : Option Cell) → slot_at slots id ≡ o → flag_at flags id ≡ has_corner ((links_of slots).at id)
@@ -87,7 +93,8 @@ pub record AreFirstCells (s : Store) (scanners : List Point) (n : ℕ) (cells : 
   pub count : length cells ≡ n
   pub at : (k : ℕ) → k < n → IsScannerCell s (get_or scanners k origin) (slice_index cells k)
 
-pub one_found : (s : Store) (scanners : List Point) (n : ℕ) (cells : List ℕ) (id : ℕ) → AreFirstCells s scanners n cells → IsScannerCell s (get_or scanners n origin) id → AreFirstCells s scanners (n + 1) (cells ++ id ∷ [])
+pub one_found : (s : Store) (scanners : List Point) (n : ℕ) (cells : List ℕ) (id : ℕ) → AreFirstCells s scanners n cells →
+    IsScannerCell s (get_or scanners n origin) id → AreFirstCells s scanners (n + 1) (cells ++ id ∷ [])
 one_found s scanners n cells id h is =
     record {
       count = let a = length_push cells id in let b = h.count in omega (arith, a, b);
@@ -108,7 +115,8 @@ holds s scanners id = has_scanner (vertices_of s) scanners ((links_of s.slots).a
 -- the cells with a corner and those of the first n scanners are flagged
 pub record AreFixedTo (s : Store) (scanners : List Point) (n : ℕ) (flags : List Bool) : Type 0 where
   pub fits : length s.slots ≤ length flags
-  pub flagged : (id : ℕ) → IsLive (links_of s.slots) id → flag_at flags id ≡ (has_corner ((links_of s.slots).at id) || holds s (take n scanners) id)
+  pub flagged : (id : ℕ) → IsLive (links_of s.slots) id →
+      flag_at flags id ≡ (has_corner ((links_of s.slots).at id) || holds s (take n scanners) id)
 
 or_false : (b : Bool) → b ≡ (b || false)
 or_false true = refl
@@ -122,7 +130,9 @@ or_or : (a b c : Bool) → ((a || b) || c) ≡ (a || (b || c))
 or_or true b c = refl
 or_or false b c = refl
 
-pub corners_fixed : (s : Store) (scanners : List Point) (flags : List Bool) → length s.slots ≤ length flags → ((id : ℕ) → IsLive (links_of s.slots) id → flag_at flags id ≡ has_corner ((links_of s.slots).at id)) → AreFixedTo s scanners 0 flags
+pub corners_fixed : (s : Store) (scanners : List Point) (flags : List Bool) → length s.slots ≤ length flags →
+    ((id : ℕ) → IsLive (links_of s.slots) id → flag_at flags id ≡ has_corner ((links_of s.slots).at id)) →
+    AreFixedTo s scanners 0 flags
 corners_fixed s scanners flags l h =
     record {
       fits = l;
@@ -134,7 +144,8 @@ corners_fixed s scanners flags l h =
     none [] = refl
     none (x ∷ xs) = refl
 
-one_fixed : (s : Store) (scanners : List Point) (n found : ℕ) (flags : List Bool) → n < length scanners → found < length flags → IsScannerCell s (get_or scanners n origin) found → AreFixedTo s scanners n flags →
+one_fixed : (s : Store) (scanners : List Point) (n found : ℕ) (flags : List Bool) → n < length scanners → found < length flags →
+    IsScannerCell s (get_or scanners n origin) found → AreFixedTo s scanners n flags →
     AreFixedTo s scanners (n + 1) (set flags found true)
 one_fixed s scanners n found flags l m is h =
     record {
@@ -153,7 +164,8 @@ one_fixed s scanners n found flags l m is h =
     no id live e true t = absurd (e (is.only id live t))
     no id live e false t = refl
 
-    flag : (id : ℕ) → IsLive (links_of s.slots) id → (z : Bool) → eqb id found ≡ z → flag_at (set flags found true) id ≡ (flag_at flags id || test id (get_or scanners n origin))
+    flag : (id : ℕ) → IsLive (links_of s.slots) id → (z : Bool) → eqb id found ≡ z →
+        flag_at (set flags found true) id ≡ (flag_at flags id || test id (get_or scanners n origin))
     flag id live true z =
         let q : id ≡ found = eqb-true id found z in
         ap (flag_at (set flags found true)) q
@@ -164,12 +176,14 @@ one_fixed s scanners n found flags l m is h =
         get_or-set_other flags found id true false e ∙ (or_false (flag_at flags id) ∙ ap (λ (b : Bool). flag_at flags id || b) (sym t))
 
 -- the cell of the next scanner has a flag, and setting it fixes that scanner's cell
-pub scanner_flag_in : (s : Store) (scanners : List Point) (cells : List ℕ) (n : ℕ) (flags : List Bool) → AreScannerCells s scanners cells → n < length cells → AreFixedTo s scanners n flags → slice_index cells n < length flags
+pub scanner_flag_in : (s : Store) (scanners : List Point) (cells : List ℕ) (n : ℕ) (flags : List Bool) →
+    AreScannerCells s scanners cells → n < length cells → AreFixedTo s scanners n flags → slice_index cells n < length flags
 scanner_flag_in s scanners cells n flags are l h =
     let m = are.count in let is = are.at n (omega (arith, l, m)) in let a = slot_in s.slots (slice_index cells n) is.end.live in let b = h.fits in
     omega (arith, a, b)
 
-pub scanner_fixed : (s : Store) (scanners : List Point) (cells : List ℕ) (n : ℕ) (flags : List Bool) → AreScannerCells s scanners cells → n < length cells → AreFixedTo s scanners n flags →
+pub scanner_fixed : (s : Store) (scanners : List Point) (cells : List ℕ) (n : ℕ) (flags : List Bool) →
+    AreScannerCells s scanners cells → n < length cells → AreFixedTo s scanners n flags →
     AreFixedTo s scanners (n + 1) (set flags (slice_index cells n) true)
 scanner_fixed s scanners cells n flags are l h =
     let m = are.count in let k : n < length scanners = omega (arith, l, m) in

@@ -33,7 +33,8 @@ use Rattle.votes.proofs.Flags.{holds}
 use Rattle.votes.proofs.Tallies.{sum_is_count}
 
 -- ---- the order of the sights
-pub counted_anyhow : (s : Store) (scanners : List Point) (sights walked : List Sight) (crossed behind : List ℕ) → IsPermutation sights walked → AreCounted s scanners walked crossed behind → AreCounted s scanners sights crossed behind
+pub counted_anyhow : (s : Store) (scanners : List Point) (sights walked : List Sight) (crossed behind : List ℕ) →
+    IsPermutation sights walked → AreCounted s scanners walked crossed behind → AreCounted s scanners sights crossed behind
 counted_anyhow s scanners sights walked crossed behind p h =
     record {
       crossed_fits = h.crossed_fits;
@@ -55,21 +56,25 @@ counted points inserted n = record { at = point_of points; high = λ u. height n
 seen : (s : Store) (points : List Point) → s.points ≡ corners ++ points → vertices_of s ≡ inserted_vertices points s.inserted
 seen s points e = ap (λ (ps : List Point). vertices_at ps s.inserted) e ∙ ap (counted points s.inserted) (count_of points)
 
-crossed_in : (points : List Point) (flags : List Bool) (p : ℕ) (q : RationalPoint) (f : DirectedFacet) → is_crossed (inserted_vertices points flags) p q f ≡ is_crossed (all.vertices_of points) p q f
+crossed_in : (points : List Point) (flags : List Bool) (p : ℕ) (q : RationalPoint) (f : DirectedFacet) →
+    is_crossed (inserted_vertices points flags) p q f ≡ is_crossed (all.vertices_of points) p q f
 unfolding is_crossed
 crossed_in points flags p q f = refl
 
-behind_in : (points : List Point) (flags : List Bool) (p : ℕ) (q : RationalPoint) (t : Tetrahedron) → is_behind (inserted_vertices points flags) p q t ≡ is_behind (all.vertices_of points) p q t
+behind_in : (points : List Point) (flags : List Bool) (p : ℕ) (q : RationalPoint) (t : Tetrahedron) →
+    is_behind (inserted_vertices points flags) p q t ≡ is_behind (all.vertices_of points) p q t
 unfolding is_behind
 behind_in points flags p q t = refl
 
-cell_in : (points : List Point) (flags : List Bool) (q : RationalPoint) (t : Tetrahedron) → is_cell_of (inserted_vertices points flags) q t ≡ is_cell_of (all.vertices_of points) q t
+cell_in : (points : List Point) (flags : List Bool) (q : RationalPoint) (t : Tetrahedron) →
+    is_cell_of (inserted_vertices points flags) q t ≡ is_cell_of (all.vertices_of points) q t
 unfolding is_cell_of
 cell_in points flags q t = refl
 
 -- ---- what the network is made of
 module _ (s : Store) (points scanners : List Point) (sights : List Sight) (settings : Settings) (e : s.points ≡ corners ++ points) (store : IsStore s)
-    (inserted : (u : ℕ) → u < length s.points → slice_index_or s.inserted u false ≡ true) (delaunay : IsDelaunay (vertices_of s) (links_of s.slots)) where
+    (inserted : (u : ℕ) → u < length s.points →
+    slice_index_or s.inserted u false ≡ true) (delaunay : IsDelaunay (vertices_of s) (links_of s.slots)) where
   abbrev scene : Scene
   scene = scene_of points scanners sights settings
 
@@ -80,10 +85,12 @@ module _ (s : Store) (points scanners : List Point) (sights : List Sight) (setti
   cells_are = stored_cells_law s points store e delaunay inserted scanners sights settings
 
   -- tests of the store's vertices and of all vertices of the points
-  crossed_is : (p : ℕ) (q : RationalPoint) (f : DirectedFacet) → is_crossed (vertices_of s) p q f ≡ is_crossed (all.vertices_of points) p q f
+  crossed_is : (p : ℕ) (q : RationalPoint) (f : DirectedFacet) →
+      is_crossed (vertices_of s) p q f ≡ is_crossed (all.vertices_of points) p q f
   crossed_is p q f = ap (λ (w : Vertices). is_crossed w p q f) (seen s points e) ∙ crossed_in points s.inserted p q f
 
-  behind_is : (p : ℕ) (q : RationalPoint) (t : Tetrahedron) → is_behind (vertices_of s) p q t ≡ is_behind (all.vertices_of points) p q t
+  behind_is : (p : ℕ) (q : RationalPoint) (t : Tetrahedron) →
+      is_behind (vertices_of s) p q t ≡ is_behind (all.vertices_of points) p q t
   behind_is p q t = ap (λ (w : Vertices). is_behind w p q t) (seen s points e) ∙ behind_in points s.inserted p q t
 
   cell_of_is : (q : RationalPoint) (t : Tetrahedron) → is_cell_of (vertices_of s) q t ≡ is_cell_of (all.vertices_of points) q t
@@ -112,7 +119,9 @@ module _ (s : Store) (points scanners : List Point) (sights : List Sight) (setti
             ∙ sym (cell_count_law scene s.slots cells_are id live).before));
       }
 
-  fixed_are : (flags : List Bool) → length s.slots ≤ length flags → ((id : ℕ) → IsLive (links_of s.slots) id → flag_at flags id ≡ (has_corner (at id) || holds s scanners id)) → AreFixed scene s.slots flags
+  fixed_are : (flags : List Bool) → length s.slots ≤ length flags →
+      ((id : ℕ) → IsLive (links_of s.slots) id → flag_at flags id ≡ (has_corner (at id) || holds s scanners id)) →
+      AreFixed scene s.slots flags
   fixed_are flags l h =
       record {
         count = l;
@@ -122,7 +131,8 @@ module _ (s : Store) (points scanners : List Point) (sights : List Sight) (setti
             ∙ sym (cell_count_law scene s.slots cells_are id live).fixed);
       }
 
-  pub all_asked : (given : Scene) → given ≡ scene → (crossed behind : List ℕ) (flags : List Bool) → AreCounted s scanners sights crossed behind → length s.slots ≤ length flags →
+  pub all_asked : (given : Scene) → given ≡ scene → (crossed behind : List ℕ) (flags : List Bool) →
+      AreCounted s scanners sights crossed behind → length s.slots ≤ length flags →
       ((id : ℕ) → IsLive (links_of s.slots) id → flag_at flags id ≡ (has_corner (at id) || holds s scanners id)) → length sights ≤ SIGHT_LIMIT →
       AreCellsOf given s.slots × (given.vertices.count ≤ 2 ^ 32 × (length given.sights ≤ SIGHT_LIMIT × (given.settings ≡ settings × (AreCrossings given s.slots crossed × (AreBehind given s.slots behind × AreFixed given s.slots flags)))))
   all_asked given is crossed behind flags h l f few =

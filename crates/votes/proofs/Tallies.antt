@@ -42,16 +42,19 @@ few_taken (suc n) (x ∷ xs) = let r = few_taken n xs in by r
     by : length (take n xs) ≤ length xs → suc (length (take n xs)) ≤ suc (length xs)
     by r = omega (arith, r)
 
-small : (test : Sight → Bool) (n : ℕ) (sights : List Sight) (sight : Sight) → length sights ≤ SIGHT_LIMIT → sum_where test (take n sights) + added_by sight < 2 ^ 32
+small : (test : Sight → Bool) (n : ℕ) (sights : List Sight) (sight : Sight) → length sights ≤ SIGHT_LIMIT →
+    sum_where test (take n sights) + added_by sight < 2 ^ 32
 small test n sights sight l =
     let a = count_by-le-length test (take n sights) in let b = few_taken n sights in let c = sum_is_count test (take n sights) in
     omega (arith, a, b, c, l)
 
-pub facet_room : (s : Store) (scanners : List Point) (sights : List Sight) (n : ℕ) (crossed behind : List ℕ) → IsTally s scanners sights n crossed behind → length sights ≤ SIGHT_LIMIT → (sight : Sight) →
+pub facet_room : (s : Store) (scanners : List Point) (sights : List Sight) (n : ℕ) (crossed behind : List ℕ) →
+    IsTally s scanners sights n crossed behind → length sights ≤ SIGHT_LIMIT → (sight : Sight) →
     (id k : ℕ) → k < 4 → slice_index crossed (4 * id + k) + added_by sight < 2 ^ 32
 facet_room s scanners sights n crossed behind h l sight id k m = let a = h.facets id k m in let b = small (crosses s scanners id k) n sights sight l in omega (arith, a, b)
 
-pub cell_room : (s : Store) (scanners : List Point) (sights : List Sight) (n : ℕ) (crossed behind : List ℕ) → IsTally s scanners sights n crossed behind → length sights ≤ SIGHT_LIMIT → (sight : Sight) →
+pub cell_room : (s : Store) (scanners : List Point) (sights : List Sight) (n : ℕ) (crossed behind : List ℕ) →
+    IsTally s scanners sights n crossed behind → length sights ≤ SIGHT_LIMIT → (sight : Sight) →
     (id : ℕ) → slice_index behind id + added_by sight < 2 ^ 32
 cell_room s scanners sights n crossed behind h l sight id = let a = h.cells id in let b = small (is_before s scanners id) n sights sight l in omega (arith, a, b)
 
@@ -59,7 +62,8 @@ cell_room s scanners sights n crossed behind h l sight id = let a = h.cells id i
 abbrev pub sight_at : List Sight → ℕ → Sight
 sight_at sights n = get_or sights n (record { vertex = 0; scanner = 0 })
 
-pub one_more : (s : Store) (scanners : List Point) (sights : List Sight) (n : ℕ) (crossed behind new_crossed new_behind : List ℕ) (q : Point) (amount : ℕ) → IsTally s scanners sights n crossed behind → n < length sights →
+pub one_more : (s : Store) (scanners : List Point) (sights : List Sight) (n : ℕ) (crossed behind new_crossed new_behind : List ℕ) (q : Point) (amount : ℕ) →
+    IsTally s scanners sights n crossed behind → n < length sights →
     q ≡ slice_index_or scanners (sight_at sights n).scanner origin → amount ≡ added_by (sight_at sights n) → length new_crossed ≡ length crossed → length new_behind ≡ length behind →
     ((id k : ℕ) → k < 4 → slice_index new_crossed (4 * id + k) ≡ slice_index crossed (4 * id + k) + cond (is_crossed_at s (sight_at sights n).vertex (displaced q) id k) amount 0) →
     ((id : ℕ) → slice_index new_behind id ≡ slice_index behind id + cond (is_behind_at s (sight_at sights n).vertex (displaced q) id) amount 0) → IsTally s scanners sights (n + 1) new_crossed new_behind
@@ -71,14 +75,17 @@ one_more s scanners sights n crossed behind new_crossed new_behind q amount h l 
       cells = λ id. on_cells id ∙ (ap₂ (λ x y. x + y) (h.cells id) (put (λ p. is_behind_at s (sight_at sights n).vertex (displaced p) id)) ∙ sym (more (is_before s scanners id)));
     }
   where
-    put : (test : Point → Bool) → cond (test q) amount 0 ≡ cond (test (slice_index_or scanners (sight_at sights n).scanner origin)) (added_by (sight_at sights n)) 0
+    put : (test : Point → Bool) →
+        cond (test q) amount 0 ≡ cond (test (slice_index_or scanners (sight_at sights n).scanner origin)) (added_by (sight_at sights n)) 0
     put test = ap₂ (λ (p : Point) (a : ℕ). cond (test p) a 0) e f
 
-    more : (test : Sight → Bool) → sum_where test (take (n + 1) sights) ≡ sum_where test (take n sights) + cond (test (sight_at sights n)) (added_by (sight_at sights n)) 0
+    more : (test : Sight → Bool) →
+        sum_where test (take (n + 1) sights) ≡ sum_where test (take n sights) + cond (test (sight_at sights n)) (added_by (sight_at sights n)) 0
     more test = sum_by_more (λ sight. cond (test sight) (added_by sight) 0) sights n (record { vertex = 0; scanner = 0 }) l
 
 -- ---- all of them
-pub all_counted : (s : Store) (scanners : List Point) (sights : List Sight) (n : ℕ) (crossed behind : List ℕ) → n ≡ length sights → IsTally s scanners sights n crossed behind → AreCounted s scanners sights crossed behind
+pub all_counted : (s : Store) (scanners : List Point) (sights : List Sight) (n : ℕ) (crossed behind : List ℕ) →
+    n ≡ length sights → IsTally s scanners sights n crossed behind → AreCounted s scanners sights crossed behind
 all_counted s scanners sights n crossed behind e h =
     let t : take n sights ≡ sights = ap (λ (m : ℕ). take m sights) e ∙ take_all (length sights) sights (omega arith) in
     record {

@@ -31,7 +31,8 @@ adds amount c (d ∷ ds) = cond (is_that c d) amount 0 + adds amount c ds
 pub record IsCounting (s : Store) (amount : ℕ) (first now : Walk) (old crossed : List ℕ) : Type 0 where
   pub store : now.store ≡ s
   pub same_length : length crossed ≡ length old
-  pub sums : (id k : ℕ) → k < 4 → slice_index crossed (4 * id + k) + adds amount (side id k) now.to_come ≡ slice_index old (4 * id + k) + adds amount (side id k) first.to_come
+  pub sums : (id k : ℕ) → k < 4 →
+      slice_index crossed (4 * id + k) + adds amount (side id k) now.to_come ≡ slice_index old (4 * id + k) + adds amount (side id k) first.to_come
 
 that_is : (c d : Side) → is_that c d ≡ true → d ≡ c
 that_is c d h = let x = and_parts _ _ h in same_side d c (eqb-true d.at c.at x.0) (eqb-true d.side c.side x.1)
@@ -71,12 +72,14 @@ count_step amount id k d rest xs l m h = by (is_that (side id k) d) refl
 
 -- ---- how often a side stands in a list
 -- a list that has a side once or not at all adds the amount or nothing
-adds_once : (amount : ℕ) (c : Side) (ds : List Side) (b : Bool) → count (is_that c) ds ≡ one_if b → adds amount c ds ≡ cond b amount 0
+adds_once : (amount : ℕ) (c : Side) (ds : List Side) (b : Bool) → count (is_that c) ds ≡ one_if b →
+    adds amount c ds ≡ cond b amount 0
 adds_once amount c [] true e = absurd (omega (arith, e))
 adds_once amount c [] false e = refl
 adds_once amount c (d ∷ ds) b e = by (is_that c d) refl b e (λ z f. adds_once amount c ds z f)
   where
-    by : (z : Bool) → is_that c d ≡ z → (b : Bool) → one_if (is_that c d) + count (is_that c) ds ≡ one_if b → ((z : Bool) → count (is_that c) ds ≡ one_if z → adds amount c ds ≡ cond z amount 0) →
+    by : (z : Bool) → is_that c d ≡ z → (b : Bool) → one_if (is_that c d) + count (is_that c) ds ≡ one_if b →
+        ((z : Bool) → count (is_that c) ds ≡ one_if z → adds amount c ds ≡ cond z amount 0) →
         cond (is_that c d) amount 0 + adds amount c ds ≡ cond b amount 0
     by true y true e later =
         let one : one_if (is_that c d) ≡ 1 = ap one_if y in
@@ -99,10 +102,12 @@ count_none (d ∷ ds) c n = ap₂ (λ x y. x + y) (by (is_that c d) refl) (count
     by false e = ap one_if e
 
 -- each side stands in a sight once if the sight crosses it, and else not at all
-once : (w : Walk) → IsSight w → (id k : ℕ) → k < 4 → count (is_that (side id k)) w.to_come ≡ one_if (is_crossed_at w.store w.vertex (displaced w.scanner) id k)
+once : (w : Walk) → IsSight w → (id k : ℕ) → k < 4 →
+    count (is_that (side id k)) w.to_come ≡ one_if (is_crossed_at w.store w.vertex (displaced w.scanner) id k)
 once w h id k l = by ((links_of w.store.slots).is_live id) refl
   where
-    by : (b : Bool) → (links_of w.store.slots).is_live id ≡ b → count (is_that (side id k)) w.to_come ≡ one_if (is_crossed_at w.store w.vertex (displaced w.scanner) id k)
+    by : (b : Bool) → (links_of w.store.slots).is_live id ≡ b →
+        count (is_that (side id k)) w.to_come ≡ one_if (is_crossed_at w.store w.vertex (displaced w.scanner) id k)
     by true f = h.counted (side id k) f l ∙ ap (λ (b : Bool). one_if (b && is_crossed (vertices_of w.store) w.vertex (displaced w.scanner) (facet_of ((links_of w.store.slots).at id) k))) (sym f)
     by false f =
         count_none w.to_come (side id k) (λ i. true≢false (sym (h.crossed (side id k) i).0 ∙ f))
@@ -112,7 +117,8 @@ abbrev IsFrom : Store → ℕ → Point → Walk → Type 0
 IsFrom s p o w = (w.store ≡ s) × (w.vertex ≡ p) × (w.scanner ≡ o)
 
 -- so all of a sight adds the amount to what it crosses
-all_add : (s : Store) (p : ℕ) (o : Point) (amount : ℕ) (w : Walk) → IsFrom s p o w → IsSight w → (id k : ℕ) → k < 4 → adds amount (side id k) w.to_come ≡ cond (is_crossed_at s p (displaced o) id k) amount 0
+all_add : (s : Store) (p : ℕ) (o : Point) (amount : ℕ) (w : Walk) → IsFrom s p o w → IsSight w → (id k : ℕ) → k < 4 →
+    adds amount (side id k) w.to_come ≡ cond (is_crossed_at s p (displaced o) id k) amount 0
 all_add s p o amount w e h id k l =
     adds_once amount (side id k) w.to_come (is_crossed_at s p (displaced o) id k)
     (subst (λ (t : Store). count (is_that (side id k)) w.to_come ≡ one_if (is_crossed_at t p (displaced o) id k)) e.0
@@ -127,14 +133,16 @@ at_most false amount = omega arith
 pub begins : (s : Store) (amount : ℕ) (w : Walk) (old : List ℕ) → w.store ≡ s → IsCounting s amount w w old old
 begins s amount w old e = record { store = e; same_length = refl; sums = λ id k l. refl }
 
-pub in_range : (s : Store) (now next : Walk) (xs : List ℕ) (c : Crossing) → now.store ≡ s → 4 * length s.slots ≤ length xs → IsTaken now next c → 4 * next.at + next.entered < length xs
+pub in_range : (s : Store) (now next : Walk) (xs : List ℕ) (c : Crossing) → now.store ≡ s → 4 * length s.slots ≤ length xs →
+    IsTaken now next c → 4 * next.at + next.entered < length xs
 in_range s now next xs c e h t =
     let l : IsLive (links_of s.slots) next.at = subst (λ (u : Store). IsLive (links_of u.slots) next.at) e t.live in
     let r = live_in_range s.slots next.at l in
     let m = t.side_in in
     omega (arith, r, m, h)
 
-pub counted_on : (s : Store) (amount : ℕ) (first now next : Walk) (old xs : List ℕ) (c : Crossing) → IsCounting s amount first now old xs → IsTaken now next c → 4 * next.at + next.entered < length xs →
+pub counted_on : (s : Store) (amount : ℕ) (first now next : Walk) (old xs : List ℕ) (c : Crossing) →
+    IsCounting s amount first now old xs → IsTaken now next c → 4 * next.at + next.entered < length xs →
     IsCounting s amount first next old (set xs (4 * next.at + next.entered) (slice_index xs (4 * next.at + next.entered) + amount))
 counted_on s amount first now next old xs c h t l =
     record {
@@ -152,7 +160,8 @@ shorter now next c t = let e : length now.to_come ≡ length next.to_come + 1 = 
     plus = omega arith
 
 -- a counter that a walk raises has room for it
-pub room : (s : Store) (p : ℕ) (o : Point) (amount : ℕ) (first now next : Walk) (old xs : List ℕ) (c : Crossing) → IsFrom s p o first → IsSight first → IsCounting s amount first now old xs → IsTaken now next c →
+pub room : (s : Store) (p : ℕ) (o : Point) (amount : ℕ) (first now next : Walk) (old xs : List ℕ) (c : Crossing) →
+    IsFrom s p o first → IsSight first → IsCounting s amount first now old xs → IsTaken now next c →
     ((id k : ℕ) → k < 4 → slice_index old (4 * id + k) + amount < 2 ^ 32) → slice_index xs (4 * next.at + next.entered) + amount < 2 ^ 32
 room s p o amount first now next old xs c e sight h t r =
     let id = next.at in let k = next.entered in
@@ -165,7 +174,8 @@ room s p o amount first now next old xs c e sight h t r =
     omega (arith, sum, all, most, before, here, one)
 
 -- where nothing is left to come
-pub all_counted : (s : Store) (p : ℕ) (o : Point) (amount : ℕ) (first now : Walk) (old xs : List ℕ) → IsFrom s p o first → IsSight first → IsCounting s amount first now old xs → now.to_come ≡ [] →
+pub all_counted : (s : Store) (p : ℕ) (o : Point) (amount : ℕ) (first now : Walk) (old xs : List ℕ) → IsFrom s p o first →
+    IsSight first → IsCounting s amount first now old xs → now.to_come ≡ [] →
     (id k : ℕ) → k < 4 → slice_index xs (4 * id + k) ≡ slice_index old (4 * id + k) + cond (is_crossed_at s p (displaced o) id k) amount 0
 all_counted s p o amount first now old xs e sight h n id k l =
     let sum = h.sums id k l in

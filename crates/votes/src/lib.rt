@@ -9,6 +9,8 @@ mod counting;
 mod fixing;
 mod ordering;
 mod tally;
+#[cfg(test)]
+mod tests;
 
 pub use counting::count_votes;
 use std::alloc::AllocError;

@@ -15,7 +15,7 @@ ghost use Rattle.votes.specs.Counts.{IsInRange, added_by as added_by_sight, is_c
 use crate::NoMemory;
 use flow_net::Sight;
 use geo_sign::Point;
-use sight::walk_into;
+use sight::{SightWalk, walk_into};
 use std::alloc::{AllocError, Global};
 use tetra_store::{CellId, Tetra};
 use tetra_walk::behind;
@@ -54,6 +54,14 @@ fn cell_at(cells: &[CellId], k: u32) -> CellId
     cells[k as usize]
 }
 
+/// The index of the counter of the facet through which a walk came into the cell that it has reached.
+fn counter_of(along: &SightWalk<'_>) -> usize
+    requires { 4 * along.now.at + along.now.entered < 2 ^ 64 }
+    ensures { result ≡ 4 * along.now.at + along.now.entered }
+{
+    4 * along.end_cell().number() + along.entered()
+}
+
 /// Adds an amount for each facet that a sight crosses, on its way to the scanner's cell `end`.
 fn count_crossed(t: &Tetra, v: u32, s: Point, end: CellId, added: u32, crossed: &mut [u32])
     requires delaunay { IsDelaunay (vertices_of t.now) (links_of t.now.slots) }
@@ -68,7 +76,7 @@ fn count_crossed(t: &Tetra, v: u32, s: Point, end: CellId, added: u32, crossed: 
 {
     let mut along = walk_into(t, v, s, end);
     while let Some(_crossing) = along.next() {
-        crossed[4 * along.end_cell().number() + along.entered()] += added;
+        crossed[counter_of(&along)] += added;
     }
 }
 

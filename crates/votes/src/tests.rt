@@ -1,0 +1,300 @@
+//! `count_votes` over built cells beside the plain network, on scans whose sights go through other cells, stand twice, or have scanners
+//! in one cell; and the first facet that a sight through the cell of four points crosses.
+
+ghost use Rattle.std.specs.Prelude.{◌≡◌, ◌<◌, ℕ, All, IfOk, IsTrue, length, get_or};
+ghost use Rattle.geo_sign.specs.declared.point.TheConstants.{DATA_LIMIT};
+ghost use Rattle.geo_sign.specs.Point.{origin, IsWithin};
+ghost use Rattle.tetra_store.specs.Store.{vertices_of};
+ghost use Rattle.votes.specs.Counts.{IsInRange};
+
+use crate::count_votes;
+use delaunay::build;
+use flow_net::{Settings, Sight, Voted};
+use geo_sign::Point;
+use plain_net::plain_net;
+use sight::walk;
+use std::alloc::{AllocError, Global};
+use std::test::Fail;
+use tetra_store::Tetra;
+
+/// Whether all are data points.
+fn are_data(points: &[Point]) -> bool
+    ensures { IsTrue result → (k : ℕ) → k < length points.now → IsWithin DATA_LIMIT (get_or points.now k origin) }
+{
+    for i in 0..points.len() {
+        let p = points[i];
+        if Point::data(i64::from(p.x()), i64::from(p.y()), i64::from(p.z())).is_none() {
+            return false;
+        }
+    }
+    true
+}
+
+/// Whether no point before the one at an index is equal to it.
+fn is_first(points: &[Point], k: usize) -> bool
+    requires { k < length points.now }
+    ensures { IsTrue result → (j : ℕ) → j < k → get_or points.now j origin ≡ get_or points.now k origin → ⊥ }
+{
+    for j in 0..k {
+        if points[j] == points[k] {
+            return false;
+        }
+    }
+    true
+}
+
+/// Whether no two are equal.
+fn are_distinct(points: &[Point]) -> bool
+    ensures { IsTrue result → (j k : ℕ) → j < length points.now → k < length points.now → get_or points.now j origin ≡ get_or points.now k origin → j ≡ k }
+{
+    for k in 0..points.len() {
+        if !is_first(points, k) {
+            return false;
+        }
+    }
+    true
+}
+
+/// Whether a sight is of an inserted data point and one of the scanners.
+fn is_in_range(t: &Tetra, scanners: &[Point], sight: Sight) -> bool
+    ensures { IsTrue result → IsInRange (vertices_of t.now) scanners.now sight }
+{
+    let v = sight.vertex;
+    if v < 8 || v >= t.vertex_count() || !t.is_inserted(v) {
+        return false;
+    }
+    (sight.scanner as usize) < scanners.len()
+}
+
+/// Whether all sights are.
+fn are_in_range(t: &Tetra, scanners: &[Point], sights: &[Sight]) -> bool
+    ensures { IsTrue result → All (IsInRange (vertices_of t.now) scanners.now) sights.now }
+{
+    for i in 0..sights.len() {
+        if !is_in_range(t, scanners, sights[i]) {
+            return false;
+        }
+    }
+    true
+}
+
+/// Whether two networks are equal, with what their nodes and arcs stand for.
+fn is_same(one: &Voted, other: &Voted) -> bool {
+    one.cells.as_slice() == other.cells.as_slice()
+        && one.facets.as_slice() == other.facets.as_slice()
+        && one.net.fixed.as_slice() == other.net.fixed.as_slice()
+        && one.net.sink.as_slice() == other.net.sink.as_slice()
+        && one.net.arcs.as_slice() == other.net.arcs.as_slice()
+}
+
+/// The network by walks along the sights. None where points are not distinct data points or too many, or sights out of range.
+fn walked(
+    alloc: Global,
+    points: &[Point],
+    sights: &[Sight],
+    scanners: &[Point],
+    settings: Settings,
+) -> Result<Option<Voted>, AllocError> {
+    if points.len() > 48 || sights.len() > 1000 {
+        return Ok(None);
+    }
+    if !are_data(points) || !are_distinct(points) || !are_data(scanners) {
+        return Ok(None);
+    }
+    let t = build(alloc, points)?;
+    if !are_in_range(&t, scanners, sights) {
+        return Ok(None);
+    }
+    let counted = count_votes(alloc, &t, points, sights, scanners, settings)?;
+    Ok(Some(counted.voted))
+}
+
+/// Whether it is the one by tests of each facet against each sight.
+fn agrees(
+    alloc: Global,
+    points: &[Point],
+    sights: &[Sight],
+    scanners: &[Point],
+) -> Result<bool, Fail> {
+    let settings = Settings::new(8, 1).ok_or("settings")?;
+    if points.len() > 48 || sights.len() > 1000 {
+        return Ok(false);
+    }
+    let voted = walked(alloc, points, sights, scanners, settings)?.ok_or("a scan")?;
+    let plain = plain_net(alloc, points, sights, scanners, settings)?;
+    Ok(is_same(&voted, &plain))
+}
+
+/// The point with these coordinates.
+fn point(x: i64, y: i64, z: i64) -> Result<Point, Fail>
+    ensures { IfOk result (IsWithin DATA_LIMIT) }
+{
+    Ok(Point::data(x, y, z).ok_or("a point")?)
+}
+
+/// Four points round the origin.
+fn four_points() -> Result<[Point; 4], Fail> {
+    Ok([
+        point(100, 100, 100)?,
+        point(100, -100, -100)?,
+        point(-100, 100, -100)?,
+        point(-100, -100, 100)?,
+    ])
+}
+
+/// A scanner beyond each of the four points, and one from which the first is seen through their cell.
+fn five_scanners() -> Result<[Point; 5], Fail> {
+    Ok([
+        point(1000, 1000, 1000)?,
+        point(1000, -1000, -1000)?,
+        point(-1000, 1000, -1000)?,
+        point(-1000, -1000, 1000)?,
+        point(-1000, -1000, -1000)?,
+    ])
+}
+
+/// The sights of the four points from the scanners beyond them, and the one through the cell.
+fn five_sights() -> [Sight; 5] {
+    let sight = |vertex, scanner| Sight { vertex, scanner };
+    [
+        sight(8, 0),
+        sight(9, 1),
+        sight(10, 2),
+        sight(11, 3),
+        sight(8, 4),
+    ]
+}
+
+/// A number from -1000 to 1000 by its index, the same at each run.
+fn number(index: u64) -> i64 {
+    let mixed = index
+        .wrapping_mul(6_364_136_223_846_793_005)
+        .wrapping_add(1_442_695_040_888_963_407);
+    (((mixed ^ (mixed >> 29)).wrapping_mul(2_862_933_555_777_941_757) >> 33) as i64
+        % 2001).wrapping_sub(1000)
+}
+
+/// Points with numbers of no pattern as coordinates, from an index on.
+fn scattered(alloc: Global, first: u64, count: u64) -> Result<Vec<Point>, Fail> {
+    let mut points = Vec::new(alloc);
+    for i in 0..count {
+        let at = first.wrapping_add(i).wrapping_mul(3);
+        let x = number(at);
+        let y = number(at.wrapping_add(1));
+        let z = number(at.wrapping_add(2));
+        points.push(point(x, y, z)?)?;
+    }
+    Ok(points)
+}
+
+#[test]
+fn four_points_and_a_sight_through_their_cell_agree(rt: HostRuntime) -> Result<(), Fail> {
+    let points = four_points()?;
+    let scanners = five_scanners()?;
+    assert!(rt; agrees(rt.alloc(), &points, &five_sights()[..4], &scanners)?);
+    assert!(rt; agrees(rt.alloc(), &points, &five_sights(), &scanners)?);
+    Ok(())
+}
+
+#[test]
+fn a_sight_through_the_cell_raises_the_facet_that_it_enters(rt: HostRuntime) -> Result<(), Fail> {
+    let settings = Settings::new(8, 1).ok_or("settings")?;
+    let scanners = five_scanners()?;
+    let voted = walked(
+        rt.alloc(),
+        &four_points()?,
+        &five_sights(),
+        &scanners,
+        settings,
+    )?
+    .ok_or("a scan")?;
+    let facets = [[8, 9, 10], [8, 10, 11], [8, 11, 9], [9, 11, 10]];
+    assert_eq!(rt; voted.facets.as_slice(), facets.as_slice());
+    let arcs = voted.net.arcs.as_slice();
+    for (arc, cap) in arcs.iter().zip([1, 1, 1, 9]) {
+        assert_eq!(rt; arc.cap, cap);
+        let inner = voted.cells.as_slice().get(arc.to).copied();
+        assert_eq!(rt; inner, Some([8, 9, 10, 11]));
+    }
+    Ok(())
+}
+
+#[test]
+fn the_cube_seen_from_both_sides_agrees(rt: HostRuntime) -> Result<(), Fail> {
+    let sides = [-100, 100];
+    let mut points = Vec::new(rt.alloc());
+    let mut scanners = Vec::new(rt.alloc());
+    let mut sights = Vec::new(rt.alloc());
+    for z in sides {
+        for y in sides {
+            for x in sides {
+                points.push(point(x, y, z)?)?;
+                scanners.push(point(7 * x, 9 * y, 11 * z)?)?;
+            }
+        }
+    }
+    // each point from the scanner beyond it, twice, and from the one beyond the point opposite to it
+    for k in 0..8 {
+        for scanner in [k, 7 - k, k] {
+            sights.push(Sight {
+                vertex: 8 + k,
+                scanner,
+            })?;
+        }
+    }
+    assert!(rt; agrees(rt.alloc(), &points, &sights, &scanners)?);
+    Ok(())
+}
+
+#[test]
+fn scattered_points_seen_from_scattered_scanners_agree(rt: HostRuntime) -> Result<(), Fail> {
+    let points = scattered(rt.alloc(), 0, 24)?;
+    let scanners = scattered(rt.alloc(), 100, 6)?;
+    let mut sights = Vec::new(rt.alloc());
+    // the last scanner sees nothing, and the first sees some points twice
+    for k in 0..24 {
+        for scanner in [k % 5, (3 * k + 1) % 5, 0] {
+            sights.push(Sight {
+                vertex: 8 + k,
+                scanner,
+            })?;
+        }
+    }
+    assert!(rt; agrees(rt.alloc(), &points, &sights, &scanners)?);
+    Ok(())
+}
+
+#[test]
+fn a_scanner_that_sees_nothing_fixes_its_cell(rt: HostRuntime) -> Result<(), Fail> {
+    let points = four_points()?;
+    let settings = Settings::new(8, 1).ok_or("settings")?;
+    let scanners = [point(1000, 1000, 1000)?, point(0, 0, 0)?];
+    let sights = [Sight {
+        vertex: 8,
+        scanner: 0,
+    }];
+    assert!(rt; agrees(rt.alloc(), &points, &sights, &scanners)?);
+    let voted = walked(rt.alloc(), &points, &sights, &scanners, settings)?.ok_or("a scan")?;
+    assert_eq!(rt; voted.facets.as_slice().len(), 0);
+    Ok(())
+}
+
+#[test]
+fn the_first_crossing_is_the_facet_of_the_cell_of_four_points(rt: HostRuntime) -> Result<(), Fail> {
+    let points = four_points()?;
+    let scanner = point(-1000, -1000, -1000)?;
+    assert!(rt; are_data(&points) && are_distinct(&points));
+    let t = build(rt.alloc(), &points)?;
+    assert!(rt; t.vertex_count() > 8 && t.is_inserted(8));
+    let mut along = walk(&t, 8, scanner);
+    let mut inner = t.cell(along.end_cell()).v;
+    inner.sort_unstable();
+    assert_eq!(rt; inner, [8, 9, 10, 11]);
+    let at = along.end_cell();
+    let crossing = along.next().ok_or("a crossing")?;
+    assert_eq!(rt; crossing.point_side, at);
+    let [a, b, c] = crossing.facet;
+    let turns = [[a, b, c], [b, c, a], [c, a, b]];
+    assert!(rt; turns.contains(&[9, 11, 10]));
+    Ok(())
+}
