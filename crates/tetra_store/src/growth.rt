@@ -1,6 +1,6 @@
 //! Putting the cells over a fan in.
 
-ghost use Rattle.std.specs.Prelude.{◌≡◌, ◌<◌, ◌≤◌, ◌+◌, ◌*◌, ◌^◌, ℕ, true, false, Some, None, [], ◌∷◌, length, slice_index, vec_capacity};
+ghost use Rattle.std.specs.Prelude.{◌≡◌, ◌≢◌, ◌<◌, ◌≤◌, ◌+◌, ◌*◌, ◌^◌, ℕ, true, false, Some, None, [], ◌∷◌, length, slice_index, vec_capacity};
 ghost use Rattle.slab.specs.Slab.{get, ContainsKey, HasRoomFor, Updates, slab_len};
 ghost use Rattle.std.specs.Option.{ForSome};
 ghost use Rattle.geo_sign.specs.Tetrahedron.{facet_of, IsRotated, IsTurned, facet_at};
@@ -63,8 +63,30 @@ fn is_turned(f: [u32; 3], g: [u32; 3]) -> bool
     g == [a, c, b] || g == [c, b, a] || g == [b, a, c]
 }
 
-/// The side of a cell that has a facet in the other direction.
-fn facing_side(v: [u32; 4], f: [u32; 3]) -> usize
+/// Whether a facet does not have a vertex.
+fn is_opposite(f: [u32; 3], v: u32) -> bool
+    ensures { result ≡ true → (slice_index f 0 ≢ v) × (slice_index f 1 ≢ v) × (slice_index f 2 ≢ v) }
+{
+    let [a, b, c] = f;
+    (a != v) & (b != v) & (c != v)
+}
+
+/// The index of a vertex of a cell that a facet does not have. It is 4 if there is none. All four are compared, with no branch between.
+fn opposite_index(v: [u32; 4], f: [u32; 3]) -> usize
+    ensures { result < 4 → (slice_index f 0 ≢ slice_index v result) × (slice_index f 1 ≢ slice_index v result) × (slice_index f 2 ≢ slice_index v result) }
+{
+    let first = is_opposite(f, v[0]);
+    let second = is_opposite(f, v[1]);
+    let third = is_opposite(f, v[2]);
+    let fourth = is_opposite(f, v[3]);
+    let after_third = if fourth { 3 } else { 4 };
+    let after_second = if third { 2 } else { after_third };
+    let after_first = if second { 1 } else { after_second };
+    if first { 0 } else { after_first }
+}
+
+/// The side of a cell that has a facet in the other direction, by comparing the facets of all sides.
+fn turned_side(v: [u32; 4], f: [u32; 3]) -> usize
     requires { IsFacing (tetrahedron_from v) (facet_at f) }
     ensures side { result < 4 }
     ensures turned { IsTurned (facet_at f) (facet_of (tetrahedron_from v) result) }
@@ -79,6 +101,20 @@ fn facing_side(v: [u32; 4], f: [u32; 3]) -> usize
         return 2;
     }
     3
+}
+
+/// The side of a cell that has a facet in the other direction. The vertex opposite to it is the one that the facet does not have, and
+/// a cell of four distinct vertices has such a vertex.
+fn facing_side(v: [u32; 4], f: [u32; 3]) -> usize
+    requires { IsFacing (tetrahedron_from v) (facet_at f) }
+    ensures side { result < 4 }
+    ensures turned { IsTurned (facet_at f) (facet_of (tetrahedron_from v) result) }
+{
+    let side = opposite_index(v, f);
+    if side < 4 {
+        return side;
+    }
+    turned_side(v, f)
 }
 
 /// Makes a cell name another across a facet.
@@ -139,5 +175,6 @@ pub(crate) fn grow(
     put_all(cells, fan, p, ids);
     name_outer(cells, fan, ids);
     push_edges(fan, ids, edges);
+    hints.enter(fan);
     join(cells, edges, hints);
 }

@@ -1,121 +1,95 @@
 //! Hints where the reverse of each edge of a fan stands.
 //!
-//! An edge and its reverse have one number. So the place of each edge is entered in a table under that number, and its reverse finds
-//! it there. What is read of a hint is checked by whoever reads it. So nothing is promised of a hint, and nothing has to be kept true
-//! of the table: where it is too small or too full, a reverse is not found, which costs time and nothing else.
+//! The vertices of a fan are numbered as they come. So an edge has a place in a square table: the row of its start and the column of its
+//! end. Each edge is entered there with its index in the list of edges, and its reverse finds it there. What is read of a hint is
+//! checked by whoever reads it. So nothing is promised of a hint, and nothing has to be kept true of the table: what earlier fans
+//! entered stays, and where a fan has too many vertices, a reverse is not found, which costs time and nothing else.
 
-ghost use Rattle.std.specs.Prelude.{◌<◌, ◌^◌};
-
+use crate::Facet;
 use crate::edge::Edge;
 use std::alloc::{AllocError, Global};
 
-/// What stands at a free place of the table, and where no reverse was found.
-const NONE: u32 = u32::MAX;
-
-/// How many places of the table there are for each edge of a fan.
-const SPREAD: usize = 2;
-
-/// How many places are looked at for one edge.
-const LOOKS: usize = 64;
-
-/// An odd number with well mixed bits: 2^64 over the golden ratio. Multiplication by it spreads numbers of edges over the table.
-const MIX: u64 = 0x9E37_79B9_7F4A_7C15;
+/// How many numbers there are for the vertices of a fan: those that fit a byte.
+const NUMBERS: usize = 256;
 
 /// Hints for the edges of one fan. They are found anew for each fan, which takes no memory.
 #[derive(Drop)]
 pub(crate) struct Hints {
-    // Places of edges, by the numbers of the edges.
+    // The number of each vertex in the last fan that had it.
+    numbers: Vec<u8>,
+    // The vertices of the last fan by their numbers.
+    vertices: [u32; NUMBERS],
+    // The indices of edges, by the numbers of start and end.
     table: Vec<u32>,
-    // The place of each edge's reverse.
-    reverses: Vec<u32>,
 }
 
 impl Hints {
-    /// Hints with room for no edge.
+    /// Hints with room for no vertex.
     pub(crate) fn new(alloc: Global) -> Hints {
         Hints {
+            numbers: Vec::new(alloc),
+            vertices: [0; NUMBERS],
             table: Vec::new(alloc),
-            reverses: Vec::new(alloc),
         }
     }
 
-    /// Makes room for so many edges.
-    pub(crate) fn reserve(&mut self, edges: usize) -> Result<(), AllocError>
-        requires { edges < 2 ^ 60 }
-    {
-        if self.reverses.len() < edges {
-            self.reverses.resize(edges, NONE)?;
+    /// Makes room for fans over so many vertices.
+    pub(crate) fn reserve(&mut self, vertices: usize) -> Result<(), AllocError> {
+        if self.numbers.len() < vertices {
+            self.numbers.resize(vertices, 0)?;
         }
-        if self.table.len() < SPREAD * edges {
-            self.table.resize(SPREAD * edges, NONE)?;
+        if self.table.is_empty() {
+            self.table.resize(NUMBERS * NUMBERS, 0)?;
         }
         Ok(())
     }
 
-    /// Finds the reverses of these edges.
-    pub(crate) fn find(&mut self, edges: &[Edge]) {
-        find_reverses(&mut self.table, &mut self.reverses, edges);
-    }
-
-    /// Where the reverse of the edge at a place may stand.
-    pub(crate) fn reverse(&self, at: usize) -> Option<usize> {
-        let place = self.reverses.get(at)?;
-        Some(*place as usize)
-    }
-}
-
-/// Finds the reverses of these edges, if the table has room for them.
-fn find_reverses(table: &mut [u32], reverses: &mut [u32], edges: &[Edge]) {
-    let size = edges.len().wrapping_mul(SPREAD);
-    if size > table.len() {
-        return;
-    }
-    let Ok(count) = u32::try_from(edges.len()) else {
-        return;
-    };
-    let table = &mut table[..size];
-    table.fill(NONE);
-    for at in 0..count {
-        pair(table, reverses, edges, at);
-    }
-}
-
-/// Looks for the reverse of an edge in the table, and enters the edge where it comes to a free place first.
-fn pair(table: &mut [u32], reverses: &mut [u32], edges: &[Edge], at: u32) {
-    let Some(edge) = edges.get(at as usize) else {
-        return;
-    };
-    let mut place = first_place(edge.key(), table.len());
-    for _ in 0..LOOKS {
-        let Some(entry) = table.get_mut(place) else {
-            return;
-        };
-        let other = *entry;
-        let Some(entered) = edges.get(other as usize) else {
-            *entry = at;
-            return;
-        };
-        if entered.is_reverse(edge) {
-            note(reverses, at, other);
-            note(reverses, other, at);
-            return;
-        }
-        place = place.wrapping_add(1);
-        if place == table.len() {
-            place = 0;
+    /// Enters the edges of a fan, three for each facet: first those that start at its second, its third and its first vertex.
+    pub(crate) fn enter(&mut self, fan: &[Facet]) {
+        let mut count = 0u8;
+        let mut at = 0u32;
+        for facet in fan {
+            let [a, b, c] = facet.v;
+            let a = number_of(&mut self.numbers, &mut self.vertices, &mut count, a);
+            let b = number_of(&mut self.numbers, &mut self.vertices, &mut count, b);
+            let c = number_of(&mut self.numbers, &mut self.vertices, &mut count, c);
+            write(&mut self.table, place(b, c), at);
+            write(&mut self.table, place(c, a), at.wrapping_add(1));
+            write(&mut self.table, place(a, b), at.wrapping_add(2));
+            at = at.wrapping_add(3);
         }
     }
+
+    /// The index at which the reverse of an edge may stand.
+    pub(crate) fn reverse(&self, edge: &Edge) -> Option<usize> {
+        let start = self.numbers.get(edge.start as usize)?;
+        let end = self.numbers.get(edge.end as usize)?;
+        let index = self.table.get(place(*end, *start))?;
+        Some(*index as usize)
+    }
 }
 
-/// The place of a table of this size that is looked at first for a number.
-fn first_place(key: u64, size: usize) -> usize {
-    let mixed = key.wrapping_mul(MIX) >> 32;
-    (mixed.wrapping_mul(size as u64) >> 32) as usize
+/// The number of a vertex, which is the next one where it has none yet. Most vertices of a fan come several times, in no order that
+/// could be foretold. So there is no branch: the vertex is written down as the next one in any case, and counted only if it is new.
+fn number_of(numbers: &mut [u8], vertices: &mut [u32; NUMBERS], count: &mut u8, v: u32) -> u8 {
+    let Some(number) = numbers.get_mut(v as usize) else {
+        return 0;
+    };
+    let is_new = (*number >= *count) | (vertices[usize::from(*number)] != v);
+    vertices[usize::from(*count)] = v;
+    *number = if is_new { *count } else { *number };
+    *count = count.wrapping_add(u8::from(is_new));
+    *number
 }
 
-/// Notes where the reverse of an edge stands.
-fn note(reverses: &mut [u32], at: u32, place: u32) {
-    if let Some(reverse) = reverses.get_mut(at as usize) {
-        *reverse = place;
+/// The place of an edge in the table, by the numbers of its vertices.
+fn place(start: u8, end: u8) -> usize {
+    usize::from(start) * NUMBERS + usize::from(end)
+}
+
+/// Writes an index into the table.
+fn write(table: &mut [u32], place: usize, index: u32) {
+    if let Some(entry) = table.get_mut(place) {
+        *entry = index;
     }
 }

@@ -118,7 +118,7 @@ fn hinted(edges: &[Edge], hints: &Hints, at: usize) -> Option<Edge>
     ensures listed { IfSome result (λ mate. Contains edges.now mate) }
     ensures reverse { IfSome result (λ mate. IsReverse (edge_at edges.now at) mate) }
 {
-    let mate = edges.get(hints.reverse(at)?)?;
+    let mate = edges.get(hints.reverse(&edges[at])?)?;
     if mate.is_reverse(&edges[at]) {
         Some(*mate)
     } else {
@@ -145,14 +145,13 @@ fn join_hinted(cells: &mut Slab<Linked>, edges: &[Edge], hints: &Hints) -> bool
 }
 
 /// Makes the cells of each edge and of its reverse neighbors. The edges may then stand in another order.
-pub(crate) fn join(cells: &mut Slab<Linked>, edges: &mut [Edge], hints: &mut Hints)
+pub(crate) fn join(cells: &mut Slab<Linked>, edges: &mut [Edge], hints: &Hints)
     requires { (xs : List Edge) → IsPermutation edges.old xs → CanJoin (links_of cells.old.slots) xs }
     ensures moved { IsPermutation edges.old edges.new }
     ensures joined { AreJoined (links_of cells.old.slots) (links_of cells.new.slots) edges.new (length edges.new) }
     ensures capacity { cells.new.capacity ≡ cells.old.capacity }
     ensures len { slab_len cells.new ≡ slab_len cells.old }
 {
-    hints.find(edges);
     if join_hinted(cells, edges, hints) {
         return;
     }

@@ -6,7 +6,7 @@
 //! the cells that `replace` takes out. Only `with_box` says it of the cells that it makes.
 //!
 //! A cell takes 40 bytes: 32 for its vertices and neighbors, and 8 by which the slab marks a slot that is taken. A vertex takes 12
-//! bytes for its point, 4 for its kept cell and one for whether it is inserted.
+//! bytes for its point, 4 for its kept cell, one for whether it is inserted and one for its number in a fan.
 #![tactic(auto)]
 
 mod boxed;

@@ -151,7 +151,7 @@ impl Tetra {
         self.ids.reserve(cells)?;
         self.edges.clear();
         self.edges.reserve(cells * 3)?;
-        self.hints.reserve(cells * 3)?;
+        self.hints.reserve(self.points.len())?;
         self.cells.reserve(cells)?;
         if self.cells.capacity() > MOST_CELLS {
             return Err(AllocError);
