@@ -13,6 +13,7 @@ use geo_tie::conflict;
 use tetra_store::{CellId, Facet, Tetra};
 
 /// Whether a vertex that is not inserted yet is in conflict with a cell.
+#[inline(never)]
 pub(crate) fn is_in_conflict(t: &Tetra, id: CellId, p: u32) -> bool
     requires below { p < length t.now.points }
     requires out { slice_index_or t.now.inserted p false ≡ false }
@@ -35,6 +36,7 @@ pub(crate) fn is_in_conflict(t: &Tetra, id: CellId, p: u32) -> bool
 
 /// Crosses a facet of a reached cell: reaches the cell across where it is in conflict and was not reached before, and where it is
 /// not in conflict, or there is none, puts the facet into the fan.
+#[inline(always)]
 fn cross(
     into: &mut Cavity,
     t: &Tetra,
@@ -76,11 +78,16 @@ fn visit(into: &mut Cavity, t: &Tetra, p: u32, id: CellId) -> Result<(), NoMemor
     ensures marked { OnOk result (AreMarked into.new.marks.stamps.items into.new.marks.round into.new.cells.items) }
 {
     t.facts();
+    // The neighbors are all read before the first is visited, so that the cell is looked up once.
     let [a, b, c, d] = t.cell(id).v;
-    cross(into, t, p, [b, d, c], t.across(id, 0))?;
-    cross(into, t, p, [a, c, d], t.across(id, 1))?;
-    cross(into, t, p, [a, d, b], t.across(id, 2))?;
-    cross(into, t, p, [a, b, c], t.across(id, 3))?;
+    let w = t.across(id, 0);
+    let x = t.across(id, 1);
+    let y = t.across(id, 2);
+    let z = t.across(id, 3);
+    cross(into, t, p, [b, d, c], w)?;
+    cross(into, t, p, [a, c, d], x)?;
+    cross(into, t, p, [a, d, b], y)?;
+    cross(into, t, p, [a, b, c], z)?;
     Ok(())
 }
 
