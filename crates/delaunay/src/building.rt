@@ -1,6 +1,6 @@
 //! The insertion of all points.
 
-ghost use Rattle.std.specs.Prelude.{◌≡◌, ◌<◌, ◌≤◌, ◌++◌, ℕ, true, false, IfOk, length, get_or, slice_index_or};
+ghost use Rattle.std.specs.Prelude.{◌≡◌, ◌<◌, ◌≤◌, ◌++◌, ℕ, true, false, IfOk, length, get_or, slice_index_or, nat_lt};
 ghost use Rattle.geo_sign.specs.Point.{origin, IsWithin};
 ghost use Rattle.geo_sign.specs.declared.point.TheConstants.{DATA_LIMIT};
 ghost use Rattle.geo_sign.specs.Vertices.{corners, vertices_of as all_vertices_of};
@@ -38,6 +38,23 @@ pub fn build(alloc: Global, points: &[Point]) -> Result<Tetra, NoMemory>
     build_in_order(alloc, points, &order)
 }
 
+/// About how many cells there are for each point, where points lie anywhere in space. There are fewer where they lie on surfaces.
+const CELLS_PER_POINT: usize = 7;
+
+/// The box with these points, of which none is inserted, and room for about as many cells as there will be.
+fn box_with(alloc: Global, points: &[Point]) -> Result<Tetra, NoMemory>
+    requires within { (k : ℕ) → k < length points.now → IsWithin DATA_LIMIT (get_or points.now k origin) }
+    requires distinct { (j k : ℕ) → j < length points.now → k < length points.now → get_or points.now j origin ≡ get_or points.now k origin → j ≡ k }
+    requires few { length points.now ≤ VERTEX_LIMIT }
+    ensures points { IfOk result (λ t. t.points ≡ corners ++ points.now) }
+    ensures inserted { IfOk result (λ t. (u : ℕ) → slice_index_or t.inserted u false ≡ nat_lt u 8) }
+    ensures cells { IfOk result (λ t. IsDelaunay (vertices_of t) (links_of t.slots)) }
+{
+    let mut t = Tetra::with_box(alloc, points)?;
+    t.reserve_cells(CELLS_PER_POINT * points.len())?;
+    Ok(t)
+}
+
 /// The same, where the points are inserted in this order. Each walk begins at the cell that the insertion before it answered.
 fn build_in_order(alloc: Global, points: &[Point], order: &[u32]) -> Result<Tetra, NoMemory>
     requires within { (k : ℕ) → k < length points.now → IsWithin DATA_LIMIT (get_or points.now k origin) }
@@ -50,7 +67,7 @@ fn build_in_order(alloc: Global, points: &[Point], order: &[u32]) -> Result<Tetr
     ensures cells { IfOk result (λ t. IsDelaunay (all_vertices_of points.now) (links_of t.slots)) }
     ensures partition { IfOk result (λ t. IsPartition t) }
 {
-    let mut t = Tetra::with_box(alloc, points)?;
+    let mut t = box_with(alloc, points)?;
     t.facts();
     let mut cavity = Cavity::new(alloc);
     let mut at = t.cell_at(0);

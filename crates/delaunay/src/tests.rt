@@ -1,4 +1,4 @@
-//! `build` beside the plain list of cells, on made sets of points, and one insertion alone.
+//! `build` beside the plain list of cells, on made sets of points, and single insertions.
 
 ghost use Rattle.std.specs.Prelude.{◌≡◌, ◌<◌, ℕ, IsTrue, length, get_or};
 ghost use Rattle.geo_sign.specs.Point.{origin, IsWithin};
@@ -133,7 +133,7 @@ fn the_cube_is_built(rt: HostRuntime) -> Result<(), Fail> {
 
 #[test]
 fn points_in_general_position_are_built(rt: HostRuntime) -> Result<(), Fail> {
-    for count in [0, 1, 2, 3, 5, 12, 24] {
+    for count in [0, 1, 2, 3, 5, 12, 24, 48] {
         let points = scattered(rt.alloc(), count, false)?;
         assert!(rt; agrees(rt.alloc(), &points)?, "{count} points");
     }
@@ -142,7 +142,8 @@ fn points_in_general_position_are_built(rt: HostRuntime) -> Result<(), Fail> {
 
 #[test]
 fn points_of_a_plane_are_built(rt: HostRuntime) -> Result<(), Fail> {
-    let points = scattered(rt.alloc(), 24, true)?;
+    let points = scattered(rt.alloc(), 48, true)?;
+    assert_eq!(rt; points.len(), 48);
     assert!(rt; agrees(rt.alloc(), &points)?);
     let line = grid(rt.alloc(), &[-70, -3, 0, 1, 2, 5, 80, 90], &[7], &[-7])?;
     assert!(rt; agrees(rt.alloc(), &line)?);
@@ -151,25 +152,46 @@ fn points_of_a_plane_are_built(rt: HostRuntime) -> Result<(), Fail> {
 
 #[test]
 fn points_of_a_lattice_are_built(rt: HostRuntime) -> Result<(), Fail> {
-    let points = grid(rt.alloc(), &[-10, 0, 10], &[-10, 0, 10, 20], &[-10, 0, 10])?;
-    assert_eq!(rt; points.len(), 36);
+    let points = grid(
+        rt.alloc(),
+        &[-10, 0, 10, 20],
+        &[-10, 0, 10, 20],
+        &[-10, 0, 10],
+    )?;
+    assert_eq!(rt; points.len(), 48);
     assert!(rt; agrees(rt.alloc(), &points)?);
     Ok(())
 }
 
-/// The points with two coordinates of size 10 and one of size 40 lie on one sphere.
+/// The points whose coordinates have the sizes 10, 20 and 40 in any order lie on one sphere.
 #[test]
 fn points_of_a_sphere_are_built(rt: HostRuntime) -> Result<(), Fail> {
-    let sizes = [-40, -10, 10, 40];
+    let sizes = [-40, -20, -10, 10, 20, 40];
     let mut points = Vec::new(rt.alloc());
     for point in &grid(rt.alloc(), &sizes, &sizes, &sizes)? {
-        let far = [point.x(), point.y(), point.z()];
-        if far.iter().filter(|c| c.unsigned_abs() == 40).count() == 1 {
+        let x = point.x().unsigned_abs();
+        let y = point.y().unsigned_abs();
+        let z = point.z().unsigned_abs();
+        if x != y && y != z && z != x {
             points.push(*point)?;
         }
     }
-    assert_eq!(rt; points.len(), 24);
+    assert_eq!(rt; points.len(), 48);
     assert!(rt; agrees(rt.alloc(), &points)?);
+    Ok(())
+}
+
+/// The first point is in conflict with all six cells of the box. The cells after it stand over the twelve halves of the walls.
+#[test]
+fn one_point_has_twelve_cells(rt: HostRuntime) -> Result<(), Fail> {
+    let points = [Point::data(0, 0, 0).ok_or("a data point")?];
+    assert!(rt; are_data(&points) && are_distinct(&points));
+    let store = build(rt.alloc(), &points)?;
+    let found = rows(rt.alloc(), &store)?;
+    assert_eq!(rt; found.len(), 12);
+    for row in &found {
+        assert_eq!(rt; row[3], 8);
+    }
     Ok(())
 }
 
