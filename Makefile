@@ -2,7 +2,7 @@
 PREFIX ?= /usr/local
 PROGRAM = crates/recon_main/out/recon_main
 
-.PHONY: run recon test install clean
+.PHONY: run recon test bench install clean
 
 # Proves and builds the program (the first time about twenty minutes on four processors, afterwards seconds), leaves it
 # as ./recon and runs it on an example.
@@ -23,6 +23,12 @@ recon:
 test:
 	@echo "rt ci: every proof, every edit that must be refused, every test (about an hour)"
 	rt ci
+
+# Times build and check on scans of 10,000 to 1,000,000 points and prints the table of docs/performance.md (some twenty minutes,
+# most of it to make the scans). BESIDE=PROGRAM times another program of the same words run by run with it.
+bench: recon
+	@echo "times of build and check at growing sizes, into bench_scans/"
+	python3 tools/bench.py ./recon bench_scans $(if $(BESIDE),beside=$(BESIDE))
 
 # Installs the built program and its manual page under PREFIX (a second).
 install: recon

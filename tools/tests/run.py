@@ -1,10 +1,11 @@
 #!/usr/bin/env python3
-"""Runs the tests of the programs in tools/ (half a minute). The last line counts them; the status is 1 where one failed.
+"""Runs the tests of the programs in tools/ and of the built `recon` (two minutes). The last line counts them; the status is 1
+where one failed.
 
   python3 tools/tests/run.py [PART OF A NAME]
 
 Where `recon` is built (the path in RECON, ./recon, or what is left in crates/recon_main/out), it has to read what the
-programs wrote.
+programs wrote, and is run on files that are cut, spoiled and that lie.
 """
 import os
 import sys
@@ -13,6 +14,7 @@ import traceback
 
 import test_all
 import test_points
+import test_program
 import test_stations
 from helpers import RECON, ROOT
 
@@ -34,11 +36,12 @@ def passes(name, test):
 
 def main():
     part = sys.argv[1] if len(sys.argv) > 1 else ''
-    tests = [(name, test) for module in (test_points, test_stations, test_all) for name, test in vars(module).items()
+    modules = [test_points, test_stations, test_all] + ([test_program] if RECON else [])
+    tests = [(name, test) for module in modules for name, test in vars(module).items()
              if name.startswith('test_') and part in name]
     passed = sum(passes(name, test) for name, test in tests)
     if RECON is None:
-        print('recon is not built here, so what the programs wrote was not read by it')
+        print('recon is not built here: what the programs wrote was not read by it, and it was not run itself')
     print(f'tools: {passed} passed, {len(tests) - passed} failed')
     sys.exit(passed < len(tests) or not tests)
 

@@ -1,0 +1,184 @@
+"""The built program as the system runs it: statuses, lines and files, files that are cut or spoiled, and memory by what is
+there. They run where `recon` is built (see run.py)."""
+import os
+import random
+import resource
+import struct
+import subprocess
+
+from helpers import RECON, ROOT, equal, read, write
+
+EXAMPLES = os.path.join(ROOT, 'examples')
+LIMIT = 200 * 2 ** 20
+# What may stand behind a number that a command ends with, where no host fails and there is memory.
+LINES = {0: ('points ', 'yes ', 'demo '), 1: ('no ',), 2: ('refused words\n',), 3: ('refused ',)}
+
+
+def example(name):
+    with open(os.path.join(EXAMPLES, name), 'rb') as file:
+        return file.read()
+
+
+def data(name):
+    with open(name, 'rb') as file:
+        return file.read()
+
+
+def limited():
+    resource.setrlimit(resource.RLIMIT_AS, (LIMIT, LIMIT))
+
+
+def recon(*words, limit=False):
+    """Status and line of a run, which ends by itself."""
+    done = subprocess.run([RECON, *words], capture_output=True, timeout=10, preexec_fn=limited if limit else None)
+    return done.returncode, done.stdout.decode('ascii')
+
+
+def ends(words, status, line, kept=()):
+    """The program ends so, and these files are as they were."""
+    before = [data(name) for name in kept]
+    equal(recon(*words), (status, line))
+    equal([data(name) for name in kept], before)
+
+
+def test_each_status():
+    write('scan.ply', example('tetrahedron.ply'))
+    ends(['build', 'scan.ply', 'mesh.ply', 'cert', 'vote=8'], 0, 'points 4 scanners 4 sights 4 inside 1 faces 4 cost 4\n')
+    ends(['check', 'scan.ply', 'mesh.ply', 'cert'], 0, 'yes inside 1 faces 4 cost 4\n', ['mesh.ply', 'cert'])
+    kept = ['scan.ply', 'mesh.ply', 'cert']
+    write('spoiled', data('cert').replace(b'cost 4', b'cost 5'))
+    ends(['check', 'scan.ply', 'mesh.ply', 'spoiled'], 1, 'no 14 wrong_cost stated 5 cost 4\n', kept + ['spoiled'])
+    for words in ([], ['build'], ['build', 'scan.ply', 'mesh.ply'], ['make', 'scan.ply'], ['build', 'vote=8', 'scan.ply', 'mesh.ply', 'cert'],
+                  ['build', 'scan.ply', 'scan.ply', 'cert'], ['demo', '0', '1'], ['build', 'scan.ply', 'mesh.ply', 'cert', 'vote=8', 'vote=8']):
+        ends(words, 2, 'refused words\n', kept)
+    ends(['build', 'cert', 'mesh.ply', 'other'], 3, 'refused 1 not_ply\n', kept)
+    equal(os.path.exists('other'), False)
+    ends(['build', 'none.ply', 'mesh.ply', 'cert'], 4, '', kept)
+    ends(['build', 'scan.ply', 'no_folder/mesh.ply', 'cert'], 4, '', kept)
+
+
+def test_words_that_are_no_text():
+    done = subprocess.run([RECON.encode('ascii'), b'demo', b'\xff', b'1'], capture_output=True)
+    equal((done.returncode, done.stdout), (2, b'refused words\n'))
+
+
+def test_outputs_that_held_more():
+    write('scan.ply', example('tetrahedron.ply'))
+    recon('build', 'scan.ply', 'mesh.ply', 'cert')
+    wanted = data('mesh.ply'), data('cert')
+    for name in ('mesh.ply', 'cert'):
+        write(name, b'x' * 100000)
+    recon('build', 'scan.ply', 'mesh.ply', 'cert')
+    equal((data('mesh.ply'), data('cert')), wanted)
+
+
+def test_line_that_cannot_be_said():
+    with open('/dev/full', 'wb') as full:
+        equal(subprocess.run([RECON, 'demo', '1', '7'], stdout=full, stderr=subprocess.DEVNULL).returncode, 4)
+
+
+def header(kind, elements):
+    """A header of a format with elements and their properties."""
+    lines = ['ply', f'format {kind} 1.0']
+    for name, count, properties in elements:
+        lines += [f'element {name} {count}'] + ['property ' + each for each in properties]
+    return ('\n'.join(lines + ['end_header', ''])).encode('ascii')
+
+
+POINT = ['int x', 'int y', 'int z']
+WITH_LIST = [('vertex', 2, ['list uchar short colours'] + POINT + ['uchar scanner']), ('scanner', 1, POINT)]
+
+
+def with_lists(order):
+    """A binary scan with a list in each row of its points."""
+    rows = b''.join(struct.pack(order + 'BhhiiiB', 2, -1, 7, 100 * sign, 5, -100, 0) for sign in (1, -1))
+    kind = {'<': 'binary_little_endian', '>': 'binary_big_endian'}[order]
+    return header(kind, WITH_LIST) + rows + struct.pack(order + 'iii', 0, 0, 1000)
+
+
+def scans():
+    """Small scans of each kind, all of which are read."""
+    text = example('tetrahedron.ply')
+    return [text, text.replace(b'\n', b'\r\n'), example('one_point.ply'), with_lists('<'), with_lists('>'),
+            header('ascii', WITH_LIST) + b'2 1 2 100 5 -100 0\n0 -100 5 -100 0\n0 0 1000']
+
+
+def is_told(answer):
+    """The status is one of the table, with a line of its own."""
+    status, line = answer
+    if status not in LINES or not line.startswith(LINES[status]) or line.count('\n') != 1:
+        raise AssertionError(f'answered {answer!r}')
+
+
+def test_scans_cut_anywhere():
+    for number, scan in enumerate(scans()):
+        write('whole', scan)
+        equal(recon('cells', 'whole', 'out')[0], 0)
+        write('out', 'before')
+        for length in range(len(scan)):
+            write('cut', scan[:length])
+            answer = recon('cells', 'cut', 'out')
+            is_told(answer)
+            if answer[0] == 3:
+                equal(read('out'), 'before')
+            elif scan[length:].strip(b'0123456789 \r\n'):
+                raise AssertionError(f'scan {number} cut at {length}: {answer!r}')
+            else:
+                write('out', 'before')
+
+
+def test_files_of_an_answer_cut_anywhere():
+    write('scan', example('tetrahedron.ply'))
+    recon('build', 'scan', 'mesh', 'cert')
+    mesh, cert = data('mesh'), data('cert')
+    for length in range(len(mesh)):
+        write('cut', mesh[:length])
+        equal(recon('check', 'scan', 'cut', 'cert'), (1, f'no 15 mesh_differs at {length}\n'))
+    for length in range(len(cert)):
+        write('cut', cert[:length])
+        status, line = recon('check', 'scan', 'mesh', 'cut')
+        equal((status, line[:5]), (1, 'no 3 ' if not line.startswith('no 1 ') else 'no 1 '))
+
+
+def test_spoiled_bytes():
+    draw = random.Random(1)
+    scan = example('one_point.ply')
+    for place in range(len(scan)):
+        for byte in draw.sample(range(256), 4):
+            write('spoiled', scan[:place] + bytes([byte]) + scan[place + 1:])
+            is_told(recon('cells', 'spoiled', 'out'))
+    write('scan', scan)
+    recon('build', 'scan', 'mesh', 'cert')
+    cert = data('cert')
+    for place in range(len(cert)):
+        for byte in draw.sample(range(256), 4):
+            write('spoiled', cert[:place] + bytes([byte]) + cert[place + 1:])
+            is_told(recon('check', 'scan', 'mesh', 'spoiled'))
+
+
+def test_memory_follows_the_bytes():
+    rows = 4294967295
+    write('rows', header('binary_little_endian', [('other', rows, ['int a'])] + WITH_LIST))
+    equal(recon('cells', 'rows', 'out', limit=True), (3, 'refused 17 cut element 0 row 0 property 0\n'))
+    write('list', header('binary_little_endian', [('other', 1, ['list uint double a'])] + WITH_LIST) + struct.pack('<I', 2 ** 31))
+    equal(recon('cells', 'list', 'out', limit=True), (3, 'refused 17 cut element 0 row 0 property 0\n'))
+    write('many', header('ascii', [('vertex', rows, POINT + ['int scanner']), ('scanner', 1, POINT)]))
+    equal(recon('cells', 'many', 'out', limit=True), (3, f'refused 10 too_many vertex count {rows}\n'))
+    write('scan', example('tetrahedron.ply'))
+    recon('build', 'scan', 'mesh', 'cert')
+    cert = data('cert')
+    for count in (10 ** 8, 4 * 10 ** 8, 2 ** 64 - 1):
+        write('counted', cert.replace(b'inside 1\n', b'inside %d\n' % count))
+        equal(recon('check', 'scan', 'mesh', 'counted', limit=True)[0], 1)
+
+
+def test_long_headers():
+    lines = b'ply\nformat ascii 1.0\n' + b'element ' + b'n' * 900 + b' 0\n'
+    many = b''.join(b'element e%d 4294967295\n' % k for k in range(990))
+    tail = header('ascii', [('vertex', 1, POINT + ['int scanner']), ('scanner', 1, POINT)]).split(b'1.0\n', 1)[1]
+    write('named', lines + tail + b'1 2 3 0\n0 0 9\n')
+    equal(recon('cells', 'named', 'out')[0], 0)
+    write('long', lines.replace(b' 0\n', b' ' * 200 + b'0\n') + tail)
+    equal(recon('cells', 'long', 'out'), (3, 'refused 3 long_line line 3\n'))
+    write('many', b'ply\nformat ascii 1.0\n' + many + tail)
+    equal(recon('cells', 'many', 'out'), (3, 'refused 4 long_header\n'))
