@@ -1,6 +1,10 @@
--- What the real outside is seen as: it tells no bytes.
-use Rattle.std.specs.Prelude.{None}
-use Rattle.std.specs.Option.{is_some}
+-- What the real outside is seen as: it tells no bytes, but what its open files tell.
+--
+--     state_of host             its counts and whether files are open
+--     left_of remaining host    the bytes left of the file that is read, where such files tell them
+--     held_of contents host     the bytes of the file that is written, where such files tell them
+use Rattle.std.specs.Prelude.{ℕ, List, Option, None}
+use Rattle.std.specs.Option.{is_some, option_and_then}
 use Rattle.host.specs.State.{State}
 use Rattle.recon_main.specs.declared.real.RealHost.{RealHost}
 
@@ -13,3 +17,11 @@ state_of host = record {
   reading = is_some host.reading;
   writing = is_some host.writing;
 }
+
+-- the bytes that are left of the file that is read, where there is one and files tell them
+abbrev pub left_of : {R F : Type 0} → (F → Option (List ℕ)) → RealHost R F → Option (List ℕ)
+left_of remaining host = option_and_then remaining host.reading
+
+-- the bytes of the file that is written, where there is one and files tell them
+abbrev pub held_of : {R F : Type 0} → (F → Option (List ℕ)) → RealHost R F → Option (List ℕ)
+held_of contents host = option_and_then contents host.writing

@@ -1,44 +1,22 @@
 //! `recon`, the program: it hands the words of its command line and the system to `recon_cmd::run`, and ends with the
-//! status that this answers.
+//! status that this answers (`ends`).
 #![tactic(auto)]
 
+mod ends;
 mod real;
+mod retried;
 
-use real::RealHost;
-use recon_cmd::{Status, run};
-use std::alloc::AllocError;
-use std::env;
-use std::io::ErrorKind;
+use ends::ends_on;
 use std::process::ExitCode;
 
 fn main(rt: HostRuntime) -> ExitCode {
-    let Ok(words) = words_given(&rt) else {
-        return ExitCode::from(Status::NoMemory.code());
-    };
-    let alloc = rt.alloc();
-    let mut host = RealHost::new(rt);
-    ExitCode::from(run(alloc, &words, &mut host))
-}
-
-// The words after the program's name. Words that are no text stand as one word that is no command.
-fn words_given(rt: &HostRuntime) -> Result<Vec<String>, AllocError> {
-    let alloc = rt.alloc();
-    let mut words = Vec::new(alloc);
-    match env::args(rt) {
-        Ok(args) => {
-            for word in args.skip(1) {
-                words.push(word)?;
-            }
-        }
-        Err(error) if error.kind() == ErrorKind::OutOfMemory => return Err(AllocError),
-        Err(_) => words.push(String::from_str(alloc, "?")?)?,
-    }
-    Ok(words)
+    ends_on(rt)
 }
 
 #[cfg(test)]
 mod tests {
     use super::*;
+    use recon_cmd::run;
     use std::fs;
     use std::test::Fail;
 

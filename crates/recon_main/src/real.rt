@@ -1,18 +1,16 @@
 //! The system as a host: its files, and standard output. It stands on std's files and on the trait of `host`.
 //!
-//! It is the trusted edge of the program: it tells no bytes, so what it reads and writes is not part of any proof. Its
-//! counts and its open files are.
-ghost use Rattle.std.specs.Prelude.{false, ◌≡◌, ◌≤◌, ◌<◌, IfOk, IsErr, length};
-ghost use Rattle.host.specs.State.{IsFront};
+//! It is the trusted edge of the program. The system tells no bytes, so no proof says what a file holds. Its counts and
+//! its open files are told, and what a call of it took and gave is what the file under it took and gave, in std's words.
+ghost use Rattle.std.specs.Prelude.{false, true, ◌≡◌, ◌≤◌, ◌<◌, IfOk, OnOk, OnErr, IsErr, IfSome, IsTrue, length, take, Ok};
+ghost use Rattle.std.specs.Io.KnownBytes.{ReadConsumes, WriteAppends};
+ghost use Rattle.host.specs.State.{IsFront, IsNext, FailedFrom, takes, appends};
 ghost use Rattle.host.specs.Counts.{Rose, next};
 
+use crate::retried::{create_retried, open_retried, read_retried, write_retried};
 use host::{Failed, Host};
-use std::io::{ErrorKind, Read, Write};
+use std::io;
 use std::rt::Files;
-use std::{fs, io};
-
-// How often a call that is interrupted is made.
-const MOST_TRIES: u32 = 1000;
 
 /// The files and the standard output of the system, over its runtime.
 ///
@@ -45,111 +43,74 @@ impl<R: Files + Print + Drop> RealHost<R, R::File> {
         }
     }
 
-    // Counts a fault.
-    fn fail<T: Drop>(&mut self) -> Result<T, Failed>
-        ensures err { IsErr result }
-        ensures rose { Rose self.old.faults self.new.faults }
-        ensures fault { self.new ≡ record self.old { faults = next self.old.faults } }
+    // The answer of a call of the system, an error of which is counted as a fault.
+    fn counted<T: Drop>(&mut self, answer: io::Result<T>) -> Result<T, Failed>
+        ensures ok { IfOk answer (λ value. result ≡ Ok value) }
+        ensures kept { OnOk answer (self.new ≡ self.old) }
+        ensures err { OnErr answer (IsErr result) }
+        ensures rose { OnErr answer (Rose self.old.faults self.new.faults) }
+        ensures fault { OnErr answer (self.new ≡ record self.old { faults = next self.old.faults }) }
     {
-        self.faults = self.faults.saturating_add(1);
-        Err(Failed)
-    }
-}
-
-// Opens a file to read it. None after an error, or after the last of the tries.
-fn open_retried<R: Files>(rt: &R, name: &str) -> Option<R::File> {
-    for _ in 0..MOST_TRIES {
-        match fs::open(rt, name) {
-            Ok(file) => return Some(file),
-            Err(error) if error.kind() == ErrorKind::Interrupted => {}
-            Err(_) => return None,
+        match answer {
+            Ok(value) => Ok(value),
+            Err(_) => {
+                self.faults = self.faults.saturating_add(1);
+                Err(Failed)
+            }
         }
     }
-    None
-}
-
-// Makes a file, or empties it, to write it. None after an error, or after the last of the tries.
-fn create_retried<R: Files>(rt: &R, name: &str) -> Option<R::File> {
-    for _ in 0..MOST_TRIES {
-        match fs::create(rt, name) {
-            Ok(file) => return Some(file),
-            Err(error) if error.kind() == ErrorKind::Interrupted => {}
-            Err(_) => return None,
-        }
-    }
-    None
-}
-
-// Reads the next bytes into the buffer.
-fn read_retried<F: Read>(file: &mut F, buffer: &mut [u8]) -> Result<usize, Failed>
-    ensures { IfOk result (λ count. count ≤ length buffer.new) }
-{
-    for _ in 0..MOST_TRIES {
-        match file.read(buffer) {
-            Ok(count) => return Ok(count),
-            Err(error) if error.kind() == ErrorKind::Interrupted => {}
-            Err(_) => return Err(Failed),
-        }
-    }
-    Err(Failed)
-}
-
-// Writes a front of the bytes. To take nothing of bytes that are not empty is a failure.
-fn write_retried<W: Write>(file: &mut W, bytes: &[u8]) -> Result<usize, Failed>
-    ensures { IfOk result (λ count. IsFront count bytes.now) }
-{
-    for _ in 0..MOST_TRIES {
-        match file.write(bytes) {
-            Ok(0) if !bytes.is_empty() => return Err(Failed),
-            Ok(count) => return Ok(count),
-            Err(error) if error.kind() == ErrorKind::Interrupted => {}
-            Err(_) => return Err(Failed),
-        }
-    }
-    Err(Failed)
 }
 
 impl<R: Files + Print + Drop> Host for RealHost<R, R::File> {
-    ghost use Rattle.recon_main.specs.Real.{state_of};
+    ghost use Rattle.recon_main.specs.Real.{state_of, left_of, held_of};
 
     ghost state = { state_of };
 
     fn open(&mut self, name: &str) -> Result<(), Failed> {
         self.opens = self.opens.saturating_add(1);
-        self.reading = open_retried(&self.rt, name);
-        if self.reading.is_none() {
-            return self.fail();
-        }
+        self.reading = None;
+        let opened = open_retried(&self.rt, name);
+        self.reading = Some(self.counted(opened)?);
         Ok(())
     }
 
-    fn read(&mut self, buffer: &mut [u8]) -> Result<usize, Failed> {
+    // All clauses but the last are those of `Host`; the last is what the file gave.
+    fn read(&mut self, buffer: &mut [u8]) -> Result<usize, Failed>
+        requires { IsTrue (state_of self.old).reading }
+        ensures within { IfOk result (λ count. count ≤ length buffer.new) }
+        ensures next_bytes { IfOk result (λ count. IfSome (state_of self.old).told (λ told. IsNext count buffer.new told.left)) }
+        ensures taken { IfOk result (λ count. state_of self.new ≡ takes count (state_of self.old)) }
+        ensures failed { OnErr result (FailedFrom (state_of self.old) (state_of self.new)) }
+        ensures given { ReadConsumes (left_of R.File.remaining self.old) (left_of R.File.remaining self.new) result buffer.new }
+    {
         let Some(file) = &mut self.reading else {
-            return Ok(0);
+            unreachable!()
         };
-        match read_retried(file, buffer) {
-            Ok(count) => Ok(count),
-            Err(Failed) => self.fail(),
-        }
+        let answer = read_retried(file, buffer);
+        self.counted(answer)
     }
 
     fn create(&mut self, name: &str) -> Result<(), Failed> {
         self.reading = None;
-        self.writing = create_retried(&self.rt, name);
-        if self.writing.is_none() {
-            return self.fail();
-        }
+        self.writing = None;
+        let created = create_retried(&self.rt, name);
+        self.writing = Some(self.counted(created)?);
         Ok(())
     }
 
-    fn append(&mut self, bytes: &[u8]) -> Result<usize, Failed> {
+    // All clauses but the last are those of `Host`; the last is what the file took.
+    fn append(&mut self, bytes: &[u8]) -> Result<usize, Failed>
+        requires { IsTrue (state_of self.old).writing }
+        ensures front { IfOk result (λ count. IsFront count bytes.now) }
+        ensures added { IfOk result (λ count. state_of self.new ≡ appends (take count bytes.now) (state_of self.old)) }
+        ensures failed { OnErr result (FailedFrom (state_of self.old) (state_of self.new)) }
+        ensures given { WriteAppends (held_of R.File.contents self.old) (held_of R.File.contents self.new) result bytes.now }
+    {
         let Some(file) = &mut self.writing else {
-            return Ok(0);
+            unreachable!()
         };
-        match write_retried(file, bytes) {
-            Ok(count) => Ok(count),
-            Err(Failed) => self.fail(),
-        }
+        let answer = write_retried(file, bytes);
+        self.counted(answer)
     }
 
     fn finish(&mut self) -> Result<(), Failed> {
@@ -158,11 +119,8 @@ impl<R: Files + Print + Drop> Host for RealHost<R, R::File> {
     }
 
     fn say(&mut self, bytes: &[u8]) -> Result<usize, Failed> {
-        let wrote = write_retried(&mut io::writer(&self.rt), bytes);
-        match wrote {
-            Ok(count) => Ok(count),
-            Err(Failed) => self.fail(),
-        }
+        let answer = write_retried(&mut io::writer(&self.rt), bytes);
+        self.counted(answer)
     }
 
     ghost coherent = { λ host. tt };

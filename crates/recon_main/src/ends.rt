@@ -1,0 +1,58 @@
+//! How the program ends, by what the system hands in as its words. It stands on `recon_cmd`.
+ghost use Rattle.std.specs.Prelude.{◌≡◌, false, drop, IfOk};
+ghost use Rattle.std.specs.Process.{exit_status};
+ghost use Rattle.std.specs.Vec.Iter.{into_iter_items};
+ghost use Rattle.recon_main.specs.Ends.{EndsOn, EndsAfterARun};
+
+use crate::real::RealHost;
+use host::Host;
+use recon_cmd::{Status, run};
+use std::alloc::{AllocError, Global};
+use std::env::Args;
+use std::io::ErrorKind;
+use std::process::ExitCode;
+use std::rt::{Env, Files};
+use std::{env, io};
+
+/// The whole program: it ends with what the system's words come to over the system's files and output.
+///
+/// Nothing is known of what a system hands in, so the clause names no words: it says that the status is one of `ends`.
+pub fn ends_on<R: Env + Files + Print + AllocGlobal + Drop>(rt: R) -> ExitCode
+    ensures { EndsAfterARun (exit_status result) }
+{
+    let alloc = rt.alloc();
+    let args = env::args(&rt);
+    let mut host = RealHost::new(rt);
+    ends(alloc, args, &mut host)
+}
+
+/// The status that the program ends with, after a run on the words behind the program's name.
+///
+/// Words of which one is no text are no command, as if there were none. Where there is no memory for the words, the status
+/// is 5 and nothing is done.
+pub fn ends<H: Host>(alloc: Global, args: io::Result<Args>, host: &mut H) -> ExitCode
+    requires { (H.state host.old).writing ≡ false }
+    ensures { EndsOn args (exit_status result) (H.state host.old) (H.state host.new) }
+{
+    let status = match args {
+        Ok(args) => match words_behind_name(alloc, args) {
+            Ok(words) => run(alloc, &words, host),
+            Err(AllocError) => Status::NoMemory.code(),
+        },
+        Err(error) if error.kind() == ErrorKind::OutOfMemory => Status::NoMemory.code(),
+        Err(_) => run(alloc, &[], host),
+    };
+    ExitCode::from(status)
+}
+
+// All but the first.
+fn words_behind_name(alloc: Global, mut args: Args) -> Result<Vec<String>, AllocError>
+    ensures { IfOk result (λ words. words.items ≡ drop 1 (into_iter_items args)) }
+{
+    let mut words = Vec::new(alloc);
+    let _name = args.next();
+    while let Some(word) = args.next() {
+        words.push(word)?;
+    }
+    Ok(words)
+}
