@@ -43,6 +43,12 @@ impl<R: Files + Print + Drop> RealHost<R, R::File> {
         }
     }
 
+    /// How many calls failed.
+    #[cfg(test)]
+    pub fn fault_count(&self) -> u64 {
+        self.faults
+    }
+
     // The answer of a call of the system, an error of which is counted as a fault.
     fn counted<T: Drop>(&mut self, answer: io::Result<T>) -> Result<T, Failed>
         ensures ok { IfOk answer (λ value. result ≡ Ok value) }
@@ -92,7 +98,6 @@ impl<R: Files + Print + Drop> Host for RealHost<R, R::File> {
 
     fn create(&mut self, name: &str) -> Result<(), Failed> {
         self.reading = None;
-        self.writing = None;
         let created = create_retried(&self.rt, name);
         self.writing = Some(self.counted(created)?);
         Ok(())
