@@ -13,7 +13,7 @@ use geo_sign::Point;
 use std::alloc::Global;
 use tetra_store::Tetra;
 
-/// The cells' numbers are taken by this in a key, which leaves those of a store as they are.
+/// What a scanner's number counts for in a key. The numbers of a store's cells are below it.
 const KEY_ROOM: u64 = 4_294_967_296;
 
 /// A sight and the key by which it is sorted.

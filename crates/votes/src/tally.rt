@@ -20,7 +20,7 @@ use std::alloc::{AllocError, Global};
 use tetra_store::{CellId, Tetra};
 use tetra_walk::behind;
 
-/// The most numbers of cells that are counted for.
+/// The most numbers of cells for which there are counters.
 const MOST_CELLS: usize = 4_294_967_295;
 
 /// What sights add to each directed facet that they cross, at 4 * id + side, and to each cell that they are before, at its id.
