@@ -1,6 +1,6 @@
 //! Keys along the curve.
 
-ghost use Rattle.std.specs.Prelude.{◌≡◌, ◌<◌, ◌≤◌, ◌^◌};
+ghost use Rattle.std.specs.Prelude.{◌≡◌, ◌<◌, ◌≤◌, ◌+◌, ◌*◌, ◌%◌, ◌^◌};
 ghost use Rattle.geo_sign.specs.Point.{IsWithin};
 ghost use Rattle.geo_sign.specs.declared.point.TheConstants.{DATA_LIMIT};
 ghost use Rattle.curve_order.specs.Curve.{interleave, curve_key};
@@ -13,9 +13,16 @@ const BITS: u32 = 22;
 /// What a coordinate is counted from, turned round.
 const SHIFT: i32 = DATA_LIMIT as i32;
 
-/// The lowest bits of three numbers in turn.
-fn interleaved(bits: u32, x: u32, y: u32, z: u32) -> u128
-    requires { bits ≤ 22 }
+/// The lowest bit of each of three numbers.
+fn lowest(x: u32, y: u32, z: u32) -> u32
+    ensures { result ≡ x % 2 * 4 + y % 2 * 2 + z % 2 }
+{
+    x % 2 * 4 + y % 2 * 2 + z % 2
+}
+
+/// Fewer than `BITS` of the lowest bits of three numbers in turn. They fit 64 bits, in which it is faster.
+fn interleaved(bits: u32, x: u32, y: u32, z: u32) -> u64
+    requires { bits ≤ 21 }
     ensures value { result ≡ interleave bits x y z }
     ensures bound { result < 8 ^ bits }
 {
@@ -23,7 +30,16 @@ fn interleaved(bits: u32, x: u32, y: u32, z: u32) -> u128
         return 0;
     }
     let high = interleaved(bits - 1, x / 2, y / 2, z / 2);
-    high * 8 + u128::from(x % 2 * 4 + y % 2 * 2 + z % 2)
+    high * 8 + u64::from(lowest(x, y, z))
+}
+
+/// The `BITS` lowest bits of three numbers in turn.
+fn all_interleaved(x: u32, y: u32, z: u32) -> u128
+    ensures value { result ≡ interleave 22 x y z }
+    ensures bound { result < 2 ^ 66 }
+{
+    let high = interleaved(BITS - 1, x / 2, y / 2, z / 2);
+    u128::from(high) * 8 + u128::from(lowest(x, y, z))
 }
 
 /// The key of a data point.
@@ -32,8 +48,7 @@ pub(crate) fn key_of(p: Point) -> u128
     ensures value { result ≡ curve_key p }
     ensures bound { result < 2 ^ 66 }
 {
-    interleaved(
-        BITS,
+    all_interleaved(
         (p.x() + SHIFT) as u32,
         (p.y() + SHIFT) as u32,
         (p.z() + SHIFT) as u32,
