@@ -33,7 +33,7 @@ impl Hints {
         }
     }
 
-    /// Makes room for fans over so many vertices.
+    /// Makes room for fans over so many vertices: a byte for each, and 2^18 bytes for the table.
     pub(crate) fn reserve(&mut self, vertices: usize) -> Result<(), AllocError> {
         if self.numbers.len() < vertices {
             self.numbers.resize(vertices, 0)?;
