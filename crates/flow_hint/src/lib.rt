@@ -13,6 +13,7 @@
 
 mod forest;
 mod hinting;
+mod levels;
 mod preflow;
 mod refund;
 mod rounds;
@@ -22,6 +23,7 @@ mod walk;
 mod wiring;
 
 pub use hinting::{Hint, find_hint};
+pub use levels::{Levels, find_levels};
 
 /// The error of a call for which there was no memory.
 pub type NoMemory = std::alloc::AllocError;

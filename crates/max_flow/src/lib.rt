@@ -15,6 +15,7 @@
 #![tactic(auto)]
 
 mod incidence;
+mod levels;
 mod paths;
 mod phases;
 mod residual;

@@ -7,12 +7,12 @@
 ghost use Rattle.std.specs.Prelude.{◌≡◌, ◌<◌, ◌≤◌, length, true, IfOk, IfSome};
 ghost use Rattle.flow_net.specs.Nets.{flag_at};
 ghost use Rattle.flow_net.specs.Flows.{IsValidFlow, value_of};
-ghost use Rattle.max_flow.specs.Paths.{HasRoom, IsAugmenting, end_of};
+ghost use Rattle.max_flow.specs.Paths.{IsAugmenting, end_of};
 ghost use Rattle.max_flow.specs.Phases.{LeadsDown};
 
 use crate::NoMemory;
 use crate::incidence::Incidence;
-use crate::paths::{augment, bottleneck};
+use crate::paths::{augment, bottleneck, has_room};
 use crate::residual::ResidualArc;
 use crate::searches::Search;
 use flow_net::{Flow, Net};
@@ -224,13 +224,4 @@ impl Phase {
             }
         }
     }
-}
-
-/// Whether a node is free and its sink has room.
-fn has_room(net: &Net, flow: &Flow, node: usize) -> bool
-    requires valid { IsValidFlow net.now flow.now }
-    requires node { node < length net.now.fixed }
-    ensures { result ≡ true → HasRoom net.now flow.now node }
-{
-    !net.fixed.as_slice()[node] && flow.on_sink.as_slice()[node] < net.sink.as_slice()[node]
 }

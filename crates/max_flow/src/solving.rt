@@ -1,5 +1,5 @@
 //! A largest flow from a tested hint and by rounds, and the least-inside labels that it shows. It stands on the search, on
-//! augmenting paths and on phases.
+//! augmenting paths, on phases and on the test of levels.
 
 ghost use Rattle.std.specs.Prelude.{◌≡◌, ◌<◌, ◌≤◌, length, true, false, ℕ, IfOk, IfSome, IfNone, OnOk, OnErr};
 ghost use Rattle.flow_net.specs.Nets.{flag_at};
@@ -10,11 +10,12 @@ ghost use Rattle.max_flow.specs.Searches.{IsComplete};
 
 use crate::NoMemory;
 use crate::incidence::Incidence;
+use crate::levels::are_levels;
 use crate::paths::{augment, bottleneck};
 use crate::phases::Phase;
 use crate::residual::ResidualArc;
 use crate::searches::{Search, search_back};
-use flow_hint::{Hint, find_hint};
+use flow_hint::{Hint, Levels, find_hint, find_levels};
 use flow_net::{Flow, Labels, Net, Sequence, cost, equal_value_and_cost_are_best, value};
 use flow_valid::is_valid_flow;
 use std::alloc::Global;
@@ -163,11 +164,29 @@ pub fn solve(alloc: Global, net: &Net) -> Result<Flow, NoMemory>
     Ok(flow)
 }
 
-/// The least-inside labels of a network, of which a largest flow is known.
-///
-/// They cost the value of the flow. A node is inside where a sink with room can be reached from it in the residual
-/// network, so each labels of the least cost have it inside.
-pub fn least_inside(alloc: Global, net: &Net, flow: &Flow) -> Result<Labels, NoMemory>
+/// The least-inside labels that levels show, or None where they show none.
+fn shown_inside(alloc: Global, net: &Net, flow: &Flow) -> Result<Option<Labels>, NoMemory>
+    requires { IsValidFlow net.now flow.now }
+    ensures least { IfOk result (λ found. IfSome found (λ labels. IsLeastInside net.now labels)) }
+    ensures cost { IfOk result (λ found. IfSome found (λ labels. cost_of net.now labels ≡ value_of net.now flow.now)) }
+{
+    let Some(levels) = find_levels(alloc, net, flow)? else {
+        return Ok(None);
+    };
+    let Levels { is_found, level } = levels;
+    if !are_levels(alloc, net, flow, &is_found, &level)? {
+        return Ok(None);
+    }
+    let None = found_fixed(net, &is_found) else {
+        return Ok(None);
+    };
+    Ok(Some(Labels {
+        inside: Sequence::from(is_found),
+    }))
+}
+
+/// The least-inside labels by a search.
+fn searched_inside(alloc: Global, net: &Net, flow: &Flow) -> Result<Labels, NoMemory>
     requires { IsLargest net.now flow.now }
     ensures least { IfOk result (λ labels. IsLeastInside net.now labels) }
     ensures cost { IfOk result (λ labels. cost_of net.now labels ≡ value_of net.now flow.now) }
@@ -178,4 +197,19 @@ pub fn least_inside(alloc: Global, net: &Net, flow: &Flow) -> Result<Labels, NoM
     Ok(Labels {
         inside: Sequence::from(marked),
     })
+}
+
+/// The least-inside labels of a network, of which a largest flow is known.
+///
+/// They cost the value of the flow. A node is inside where a sink with room can be reached from it in the residual
+/// network, so each labels of the least cost have it inside.
+pub fn least_inside(alloc: Global, net: &Net, flow: &Flow) -> Result<Labels, NoMemory>
+    requires { IsLargest net.now flow.now }
+    ensures least { IfOk result (λ labels. IsLeastInside net.now labels) }
+    ensures cost { IfOk result (λ labels. cost_of net.now labels ≡ value_of net.now flow.now) }
+{
+    if let Some(labels) = shown_inside(alloc, net, flow)? {
+        return Ok(labels);
+    }
+    searched_inside(alloc, net, flow)
 }
