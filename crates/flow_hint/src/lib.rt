@@ -8,7 +8,7 @@
 //!
 //! `survey` adds up capacities, `wiring` says which arcs meet at a node, `preflow` holds what is where, `forest` and `rounds`
 //! move excess into sinks, `refund` holds what can go back, `sweep` and `walk` give it back, and `hinting` puts them
-//! together. The crate stands on `flow_net` alone.
+//! together. `levels` finds the levels of nodes in the residual network of a flow. The crate stands on `flow_net` alone.
 #![tactic(auto)]
 
 mod forest;

@@ -9,8 +9,8 @@
 //! all minimum cuts. Labatut, Pons and Keriven (2007) cut such a network of cells.
 //!
 //! `residual` holds the residual arcs, `incidence` finds those that enter a node, `searches` goes backwards from the
-//! sinks with room, `paths` sends more along augmenting paths, `phases` does so down the levels of a search, and `solving`
-//! has the two calls that stand on all these. The crate stands on `flow_net`, on `flow_hint` for the hint and on
+//! sinks with room, `levels` tests levels that a hint gives in its place, `paths` sends more along augmenting paths,
+//! `phases` does so down the levels of a search, and `solving` has the two calls that stand on all these. The crate stands on `flow_net`, on `flow_hint` for the hint and on
 //! `flow_valid` for its test.
 #![tactic(auto)]
 
