@@ -21,7 +21,7 @@ pub record ScanRows : Type 0 where
   pub vertices : List VertexRow
   pub scanners : List Point
 
--- the most vertex rows of a scan
+-- the most vertex rows of a scan: 2 ^ 20
 abbrev pub point_limit : ℕ
 point_limit = POINT_LIMIT
 

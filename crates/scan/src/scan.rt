@@ -7,8 +7,8 @@ ghost use Rattle.geo_sign.specs.declared.point.TheConstants.{DATA_LIMIT};
 
 use geo_sign::Point;
 
-/// The most vertex rows of a scan.
-pub const POINT_LIMIT: u32 = 56;
+/// The most vertex rows of a scan: 2^20.
+pub const POINT_LIMIT: u32 = 1_048_576;
 
 /// The most scanner rows of a scan: 2^16.
 pub const SCANNER_LIMIT: u32 = 65_536;

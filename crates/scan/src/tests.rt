@@ -87,14 +87,11 @@ fn the_first_refusal_of_a_header_is_told(rt: HostRuntime) -> Result<(), Fail> {
             },
         ),
         (
-            "element vertex 57\n",
-            ScanRefusal::TooMany {
-                need: Need::VertexElement,
-                count: 57,
-            },
+            "element vertex 1048576\n@property int scanner\nelement scanner 65536\n@",
+            ScanRefusal::Cut(at(0, 0, 0)),
         ),
         (
-            "element vertex 56\nproperty int y\n",
+            "element vertex 1\nproperty int y\n",
             ScanRefusal::Missing(Need::VertexX),
         ),
         (

@@ -1,4 +1,5 @@
 pub mod SightLists
+pub mod ScanScenes
 pub mod RowLists
 pub mod Certificates
 pub mod Uniqueness

@@ -8,7 +8,7 @@ use Rattle.geo_sign.specs.Point.{Point, origin}
 use Rattle.merge.specs.Merging.{distinct_points, index_among}
 use Rattle.merge.proofs.Distinct.{few}
 use Rattle.merge.proofs.Indices.{each_stands}
-use Rattle.scan.specs.ScanRows.{ScanRows, VertexRow, vertex_rows}
+use Rattle.scan.specs.ScanRows.{ScanRows, VertexRow, point_limit, vertex_rows}
 use Rattle.scan.specs.Views.{rows_of}
 use Rattle.scan.specs.declared.scan.Scan.{Scan}
 use Rattle.scan.proofs.RowLemmas.{length-vertex_rows}
@@ -64,12 +64,12 @@ pub index_count : (scan : Scan) (of_row : List ℕ) → of_row ≡ map (λ (row 
 index_count scan of_row indices =
     ap length indices ∙ length-map (rows_of scan).vertices (λ (row : VertexRow). index_among (points_of (rows_of scan)) row.point) ∙ row_count scan ∙ sym scan.one_each
 
--- there are few points
-pub few_points : (scan : Scan) → length (points_of (rows_of scan)) ≤ 56
+-- there are no more points than rows
+pub few_points : (scan : Scan) → length (points_of (rows_of scan)) ≤ point_limit
 few_points scan = omega (arith, ap length (points_are scan), few scan.points.items, scan.points_fit)
 
 -- a row's index is that of a point
-pub few_indices : (scan : Scan) (of_row : List ℕ) (i : ℕ) → of_row ≡ map (λ (row : VertexRow). index_among (points_of (rows_of scan)) row.point) (rows_of scan).vertices → i < length scan.seen_by.items → get_or of_row i 0 < 56
+pub few_indices : (scan : Scan) (of_row : List ℕ) (i : ℕ) → of_row ≡ map (λ (row : VertexRow). index_among (points_of (rows_of scan)) row.point) (rows_of scan).vertices → i < length scan.seen_by.items → get_or of_row i 0 < point_limit
 few_indices scan of_row i indices within =
     let points : List Point = points_of (rows_of scan) in
     let row : i < length scan.points.items = omega (arith, within, scan.one_each) in
@@ -88,7 +88,7 @@ pub few_sights : (scan : Scan) → length (sights_of (rows_of scan)) ≤ SIGHT_L
 few_sights scan = omega (arith, sight_count (rows_of scan), row_count scan, scan.points_fit)
 
 -- the corners and the points are the vertices
-pub few_vertices : (scan : Scan) (settings : Settings) → (scene_of_rows (rows_of scan) settings).vertices.count ≤ 64
+pub few_vertices : (scan : Scan) (settings : Settings) → (scene_of_rows (rows_of scan) settings).vertices.count ≤ 8 + point_limit
 few_vertices scan settings = omega (arith, few_points scan)
 
 -- the network over lists that are the scan's is that of its rows

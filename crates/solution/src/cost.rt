@@ -9,7 +9,8 @@ ghost use Rattle.solution.specs.Scans.{scene_of_rows};
 use flow_net::{Labels, Settings, Voted, cost};
 use scan::Scan;
 
-/// What the least-inside labels of a scan's network cost. It fits, since they cost no more than to have all cells outside.
+/// What the least-inside labels of a scan's network cost. It fits, since they cost no more than to have all cells outside, and that is
+/// below 2^37: each sight has one cell behind it.
 pub fn least_cost(scan: &Scan, settings: Settings, voted: &Voted, labels: &Labels) -> u64
     requires network { IsNetworkOf (scene_of_rows (rows_of scan.now) settings) voted.now }
     requires labels { IsLeastInside voted.now.net labels.now }

@@ -5,7 +5,7 @@
 //! numbers). `specs/Solutions` says what a solution is, over cells and directed facets alone, and `specs/Scans` what the rows of a
 //! scan show. Whoever makes a solution and whoever checks one stand on it, and neither on the other.
 //!
-//! Of code it has what both need: the sights of a scan and the cost of its least-inside labels.
+//! Of code it has what both need: the points and sights of a scan, and the cost of its least-inside labels.
 #![tactic(auto)]
 
 mod cost;
@@ -14,7 +14,7 @@ mod sights;
 
 pub use cost::least_cost;
 pub use laws::{least_costs_fit, solutions_differ_in_their_flows_alone};
-pub use sights::sights_of;
+pub use sights::{Seen, seen_in};
 use std::alloc::AllocError;
 
 /// Want of memory: the one answer that any input may get.
