@@ -1,5 +1,5 @@
 -- The certificate of a scan's network is well formed.
-use Rattle.std.proofs.Common.{ℕ, zero, suc, ◌≡◌, ◌<◌, ◌≤◌, ◌^◌, not, refl, ap, sym, subst, arith, Bool, true, false, cond, inl, inr, ⊎_elim, List, [], ◌∷◌, length, map, filter, get_or, eqb, AllPairs, Contains}
+use Rattle.std.proofs.Common.{ℕ, zero, suc, ◌≡◌, ◌+◌, ◌<◌, ◌≤◌, ◌^◌, not, refl, ap, sym, subst, arith, Bool, true, false, cond, inl, inr, ⊎_elim, List, [], ◌∷◌, length, map, filter, get_or, eqb, AllPairs, Contains}
 use Rattle.std.proofs.lemmas.Bool.{eqb-false}
 use Rattle.std.proofs.lemmas.List.{get_or-map, length-map}
 use Rattle.std.proofs.lemmas.List.Kept.{AllPairs-filter}
@@ -20,6 +20,7 @@ use Rattle.visibility.specs.Laws.{IsOrdered}
 use Rattle.visibility.proofs.Amounts.{capacity_fits, sink_fits}
 use Rattle.visibility.proofs.Ordered.{facets_are_ordered, form_below}
 use Rattle.flow_net.specs.declared.votes.Settings.{Settings}
+use Rattle.scan.specs.ScanRows.{point_limit}
 use Rattle.scan.specs.Views.{rows_of}
 use Rattle.scan.specs.declared.scan.Scan.{Scan}
 use Rattle.solution.proofs.SightLists.{few_points, row_count}
@@ -54,11 +55,11 @@ kept test (row ∷ rows) k d within = by (test row) refl k within (λ j l. kept 
     by true e (suc k) l rest = later (get_or (filter test rows) k d) (rest k (omega (arith, l)))
     by false e k l rest = later (get_or (filter test rows) k d) (rest k l)
 
-facet_is : (n : ℕ) (f : List ℕ) → n ≤ 64 → IsOrdered n f → IsFacetRow f
+facet_is : (n : ℕ) (f : List ℕ) → n ≤ 8 + point_limit → IsOrdered n f → IsFacetRow f
 facet_is n f few o = subst IsFacetRow (sym o.three) (o.first_second, o.first_third, o.apart, omega (arith, o.second_below), omega (arith, o.third_below))
 
--- a cell of few vertices
-cell_is : (v : Vertices) (row : List ℕ) → v.count ≤ 64 → IsRisingCell v row → IsCellRow row
+-- a cell of such vertices
+cell_is : (v : Vertices) (row : List ℕ) → v.count ≤ 8 + point_limit → IsRisingCell v row → IsCellRow row
 cell_is v [] few h = elim h [ ]
 cell_is v (a ∷ []) few h = elim h [ ]
 cell_is v (a ∷ b ∷ []) few h = elim h [ ]
@@ -66,7 +67,7 @@ cell_is v (a ∷ b ∷ c ∷ []) few h = elim h [ ]
 cell_is v (a ∷ b ∷ c ∷ d ∷ e ∷ rest) few h = elim h [ ]
 cell_is v (a ∷ b ∷ c ∷ d ∷ []) few h = let below : d < v.count = form_below v a b c d h.3 in (h.0, h.1, h.2, omega arith)
 
-a_cell : (s : Scene) (complex : Complex) → IsComplexOf s complex → s.vertices.count ≤ 64 → (row : List ℕ) → Contains complex.cells row → IsCellRow row
+a_cell : (s : Scene) (complex : Complex) → IsComplexOf s complex → s.vertices.count ≤ 8 + point_limit → (row : List ℕ) → Contains complex.cells row → IsCellRow row
 a_cell s complex is few row there = cell_is s.vertices row few (is.cells_are.cells row there)
 
 -- an amount that is not 0
@@ -78,7 +79,7 @@ some_amount zero e = by (eqb 0 0) refl e
     by false h e = absurd (eqb-false 0 0 h refl)
 some_amount (suc n) e = omega arith
 
-flow_list : (s : Scene) (complex : Complex) (claim : Claim) → IsComplexOf s complex → s.vertices.count ≤ 64 → length s.sights ≤ SIGHT_LIMIT → length (flow_rows complex.facets (flow_on claim)) < 2 ^ 64
+flow_list : (s : Scene) (complex : Complex) (claim : Claim) → IsComplexOf s complex → s.vertices.count ≤ 8 + point_limit → length s.sights ≤ SIGHT_LIMIT → length (flow_rows complex.facets (flow_on claim)) < 2 ^ 64
     → IsValidFlow s complex (flow_on claim) (sink_at claim) → IsFlowList (flow_rows complex.facets (flow_on claim))
 flow_list s complex claim is few few_sights short valid =
     let test : List ℕ → Bool = λ key. not (eqb (flow_on claim key) 0) in
@@ -101,7 +102,7 @@ flow_list s complex claim is few few_sights short valid =
     keys_of [] = refl
     keys_of (key ∷ rest) = ap (λ (list : List (List ℕ)). key ∷ list) (keys_of rest)
 
-sink_list : (s : Scene) (complex : Complex) (claim : Claim) → IsComplexOf s complex → s.vertices.count ≤ 64 → length s.sights ≤ SIGHT_LIMIT → length (sink_rows complex.cells (sink_at claim)) < 2 ^ 64
+sink_list : (s : Scene) (complex : Complex) (claim : Claim) → IsComplexOf s complex → s.vertices.count ≤ 8 + point_limit → length s.sights ≤ SIGHT_LIMIT → length (sink_rows complex.cells (sink_at claim)) < 2 ^ 64
     → IsValidFlow s complex (flow_on claim) (sink_at claim) → IsSinkList (sink_rows complex.cells (sink_at claim))
 sink_list s complex claim is few few_sights short valid =
     let test : List ℕ → Bool = λ key. not (eqb (sink_at claim key) 0) in
@@ -124,7 +125,7 @@ sink_list s complex claim is few few_sights short valid =
     keys_of [] = refl
     keys_of (key ∷ rest) = ap (λ (list : List (List ℕ)). key ∷ list) (keys_of rest)
 
-cell_list : (s : Scene) (complex : Complex) (inside : List ℕ → Bool) → IsComplexOf s complex → s.vertices.count ≤ 64 → length (filter inside complex.cells) < 2 ^ 64 → AreCellRows (filter inside complex.cells)
+cell_list : (s : Scene) (complex : Complex) (inside : List ℕ → Bool) → IsComplexOf s complex → s.vertices.count ≤ 8 + point_limit → length (filter inside complex.cells) < 2 ^ 64 → AreCellRows (filter inside complex.cells)
 cell_list s complex inside is few short =
     record {
       few = short;
@@ -138,8 +139,8 @@ pub record IsShort (claim : Claim) : Type 0 where
   pub flow : length claim.flow < 2 ^ 64
   pub sink : length claim.sink < 2 ^ 64
 
--- a certificate of a complex of at most 64 vertices is well formed, where its counts and its lists fit
-pub well_formed : (s : Scene) (complex : Complex) (inside : List ℕ → Bool) (claim : Claim) → IsComplexOf s complex → s.vertices.count ≤ 64 → length s.sights ≤ SIGHT_LIMIT → FitCounts claim.counts → IsShort claim
+-- a certificate of a complex of as many vertices as a scan has at most is well formed, where its counts and its lists fit
+pub well_formed : (s : Scene) (complex : Complex) (inside : List ℕ → Bool) (claim : Claim) → IsComplexOf s complex → s.vertices.count ≤ 8 + point_limit → length s.sights ≤ SIGHT_LIMIT → FitCounts claim.counts → IsShort claim
     → IsCertificate s complex inside claim → IsWellFormed claim
 well_formed s complex inside claim is few few_sights counts short certificate =
     let inside_is : claim.inside ≡ filter inside complex.cells = certificate.inside_is in

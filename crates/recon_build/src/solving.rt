@@ -1,48 +1,56 @@
-//! The best surface of a scan. It stands on `merge`, `plain_net`, `max_flow` and the rows of `cert_text`.
+//! The best surface of a scan. It stands on the network of its cells, on `max_flow`, `surface` and the rows of `cert_text`.
 
-ghost use Rattle.std.specs.Prelude.{◌≡◌, ◌<◌, ◌^◌, IfOk};
+ghost use Rattle.std.specs.Prelude.{◌≡◌, ◌<◌, ◌^◌, ◌++◌, IfOk};
 ghost use Rattle.cert_text.specs.Certificates.{claim_of, IsWellFormed};
 ghost use Rattle.flow_net.specs.Flows.{IsValidFlow, IsLeastInside, cost_of, value_of};
+ghost use Rattle.geo_sign.specs.Vertices.{corners};
 ghost use Rattle.mesh_ply.specs.Meshes.{IsMesh};
 ghost use Rattle.scan.specs.Views.{rows_of};
 ghost use Rattle.visibility.specs.Laws.{test_of};
 ghost use Rattle.visibility.specs.Networks.{complex_of, IsNetworkOf};
+ghost use Rattle.vote_net.specs.Counts.{AreCellsOf, AreIdsOf};
 ghost use Rattle.solution.specs.Scans.{points_of, scene_of_rows};
 ghost use Rattle.solution.specs.Solutions.{HasCounts, IsCertificate, IsSolution, surface_of};
+ghost use Rattle.surface.specs.Closed.{IsClosed};
+ghost use Rattle.surface.specs.Labelled.{Cutting};
+ghost use Rattle.recon_build.specs.Stored.{IsStoreOf};
 
 use crate::NoMemory;
+use crate::network::network;
 use crate::rows::{flow_rows, inside_rows, sink_rows};
 use cert_text::Certificate;
 use flow_net::{Flow, Labels, Settings, Voted};
-use geo_sign::Point;
 use max_flow::{least_inside, solve};
-use merge::merge;
 use mesh_ply::Mesh;
-use plain_net::{plain_mesh, plain_net};
 use scan::Scan;
-use solution::{least_cost, sights_of};
+use solution::least_cost;
 use std::alloc::Global;
+use surface::facets;
+use tetra_store::Tetra;
+use vote_net::Counted;
 
 /// A surface, and the certificate that shows it best.
-#[derive(Debug, Drop)]
+#[derive(Drop)]
 pub struct Solved {
+    /// The linked Delaunay cells of the box's corners and the scan's distinct points, between which the surface is.
+    pub tetra: Tetra,
     /// The facets between inside and outside, in scaled whole units.
     pub mesh: Mesh,
     /// The labels, and a flow whose value is their cost.
     pub cert: Certificate,
 }
 
-/// The certificate of labels and of a flow that is worth their cost. `points` are the scan's distinct points.
+/// The certificate of labels of a scan's cells, and of a flow that is worth their cost.
 fn certificate(
     alloc: Global,
     scan: &Scan,
-    points: &[Point],
     settings: Settings,
+    tetra: &Tetra,
     voted: &Voted,
     labels: &Labels,
     flow: &Flow,
 ) -> Result<Certificate, NoMemory>
-    requires points { points.now ≡ points_of (rows_of scan.now) }
+    requires points { tetra.now.points ≡ corners ++ points_of (rows_of scan.now) }
     requires network { IsNetworkOf (scene_of_rows (rows_of scan.now) settings) voted.now }
     requires labels { IsLeastInside voted.now.net labels.now }
     requires flow { IsValidFlow voted.now.net flow.now }
@@ -53,7 +61,7 @@ fn certificate(
 {
     let cells = voted.cells.as_slice();
     Ok(Certificate {
-        points: points.len() as u32,
+        points: tetra.vertex_count() - 8,
         scanners: scan.scanners.len() as u32,
         sights: scan.seen_by.len() as u32,
         vote: settings.vote,
@@ -65,23 +73,48 @@ fn certificate(
     })
 }
 
+/// The best labels of a scan's cells, their mesh and their certificate.
+fn solve_over(
+    alloc: Global,
+    scan: &Scan,
+    settings: Settings,
+    tetra: Tetra,
+    counted: Counted,
+) -> Result<Solved, NoMemory>
+    ghost cutting: { Cutting }
+    requires scene { cutting.scene ≡ scene_of_rows (rows_of scan.now) settings }
+    requires complex { cutting.complex ≡ complex_of counted.voted }
+    requires store { IsStoreOf (rows_of scan.now) settings tetra }
+    requires cells { AreCellsOf (scene_of_rows (rows_of scan.now) settings) tetra.slots }
+    requires network { IsNetworkOf (scene_of_rows (rows_of scan.now) settings) counted.voted }
+    requires ids { AreIdsOf tetra.slots counted.voted.cells counted.ids.items }
+    ensures solution { IfOk result (λ solved. IsSolution (rows_of scan.now) settings (surface_of solved.mesh) (claim_of solved.cert)) }
+    ensures valid { IfOk result (λ solved. IsMesh solved.mesh.points.items solved.mesh.faces.items) }
+    ensures well_formed { IfOk result (λ solved. IsWellFormed (claim_of solved.cert)) }
+    ensures tetra { IfOk result (λ solved. IsStoreOf (rows_of scan.now) settings solved.tetra) }
+    ensures closed { IfOk result (λ solved. IsClosed solved.mesh.faces.items) }
+{
+    let voted = counted.voted;
+    let flow = solve(alloc, &voted.net)?;
+    let labels = least_inside(alloc, &voted.net, &flow)?;
+    let mesh = facets(alloc, &tetra, &counted.ids, &labels)?;
+    let cert = certificate(alloc, scan, settings, &tetra, &voted, &labels, &flow)?;
+    Ok(Solved { tetra, mesh, cert })
+}
+
 /// The best surface of a scan at these settings, and its certificate.
 ///
 /// The surface is the mesh of the directed facets between outside and inside cells, under the labels of least sight-line cost whose
 /// inside is smallest. The certificate has these labels and a flow whose value is that cost, so that no labels can cost less. Points
-/// that stand in several rows are one vertex, and each row is a sight. The only error is want of memory.
+/// that stand in several rows are one vertex, and each row is a sight. The surface is closed: each directed edge of its faces is there as
+/// often as its reverse. The only error is want of memory.
 pub fn solve_scan(alloc: Global, scan: &Scan, settings: Settings) -> Result<Solved, NoMemory>
     ensures solution { IfOk result (λ solved. IsSolution (rows_of scan.now) settings (surface_of solved.mesh) (claim_of solved.cert)) }
     ensures valid { IfOk result (λ solved. IsMesh solved.mesh.points.items solved.mesh.faces.items) }
     ensures well_formed { IfOk result (λ solved. IsWellFormed (claim_of solved.cert)) }
+    ensures tetra { IfOk result (λ solved. IsStoreOf (rows_of scan.now) settings solved.tetra) }
+    ensures closed { IfOk result (λ solved. IsClosed solved.mesh.faces.items) }
 {
-    let merged = merge(alloc, &scan.points)?;
-    let points = merged.points.as_slice();
-    let sights = sights_of(alloc, scan, &merged.of_row)?;
-    let voted = plain_net(alloc, points, &sights, &scan.scanners, settings)?;
-    let flow = solve(alloc, &voted.net)?;
-    let labels = least_inside(alloc, &voted.net, &flow)?;
-    let mesh = plain_mesh(alloc, points, &voted, &labels)?;
-    let cert = certificate(alloc, scan, points, settings, &voted, &labels, &flow)?;
-    Ok(Solved { mesh, cert })
+    let (tetra, counted) = network(alloc, scan, settings)?;
+    solve_over(alloc, scan, settings, tetra, counted)
 }

@@ -7,10 +7,11 @@ use Rattle.scan.specs.Views.{rows_of}
 use Rattle.visibility.specs.Laws.{test_of}
 use Rattle.visibility.specs.Networks.{complex_of}
 use Rattle.visibility.specs.Scenes.{Scene}
-use Rattle.solution.specs.Scans.{scene_of_rows}
+use Rattle.solution.specs.Scans.{points_of, scene_of_rows}
 use Rattle.solution.specs.Solutions.{flow_rows, sink_rows}
 use Rattle.solution.proofs.Certificates.{flags_are, on_arcs_are, at_nodes_are, certificate_is}
-use Rattle.solution.proofs.SightLists.{few_points, row_count, few_vertices, few_sights}
+use Rattle.solution.proofs.SightLists.{row_count, few_vertices, few_sights}
+use Rattle.recon_build.proofs.Stored.{corner_count}
 use Rattle.recon_build.proofs.WellFormed.{well_formed, fit_counts}
 use Rattle.recon_build.proofs.solving.certificate.Goals as goal
 
@@ -18,7 +19,7 @@ pub returns-clause-counts : goal.returns-clause-counts
 returns-clause-counts c =
     let each : length c.args.scan.now.seen_by.items ≡ length c.args.scan.now.points.items = c.args.scan.now.one_each in
     record {
-      points = ap length c.requires.points;
+      points = omega (arith, c.vertex_count.ensures, corner_count c.args.tetra.now (points_of (rows_of c.args.scan.now)) c.requires.points);
       scanners = omega (arith, c.len.ensures, c.args.scan.now.scanners.ok);
       sights = omega (arith, c.len-2.ensures, c.args.scan.now.seen_by.ok, each, row_count c.args.scan.now);
       vote = refl;
@@ -71,5 +72,5 @@ returns-clause-well_formed c =
     })
     (returns-clause-states c)
 
-pub overflow_cast-result : goal.overflow_cast-result
-overflow_cast-result c = omega (arith, ap length c.requires.points, few_points c.args.scan.now)
+pub overflow_sub-result : goal.overflow_sub-result
+overflow_sub-result c = omega (arith, c.vertex_count.ensures, corner_count c.args.tetra.now (points_of (rows_of c.args.scan.now)) c.requires.points)

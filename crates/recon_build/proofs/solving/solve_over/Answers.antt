@@ -1,0 +1,78 @@
+use Rattle.std.proofs.Common.{ℕ, ◌≡◌, ◌++◌, ap, sym, subst, ◌∙◌, Bool, List, length}
+use Rattle.geo_sign.specs.Point.{Point}
+use Rattle.geo_sign.specs.Vertices.{corners}
+use Rattle.mesh_ply.specs.Meshes.{mesh_of}
+use Rattle.mesh_ply.specs.declared.mesh.Mesh.{Mesh}
+use Rattle.scan.specs.Views.{rows_of}
+use Rattle.solution.specs.Scans.{points_of, scene_of_rows}
+use Rattle.solution.specs.Solutions.{surface_of}
+use Rattle.solution.proofs.Certificates.{least_inside_is}
+use Rattle.surface.specs.Labelled.{Cutting}
+use Rattle.tetra_store.specs.Store.{Store}
+use Rattle.visibility.specs.Complexes.{Complex}
+use Rattle.visibility.specs.Cuts.{cut_facets, IsAdmissible}
+use Rattle.visibility.specs.Laws.{test_of}
+use Rattle.visibility.specs.Networks.{complex_of}
+use Rattle.visibility.specs.Scenes.{Scene}
+use Rattle.visibility.specs.Votes.{IsComplexOf}
+use Rattle.visibility.proofs.Networks.{node_count}
+use Rattle.vote_net.specs.Counts.{AreCellsOf, AreIdsOf}
+use Rattle.recon_build.proofs.Stored.{corner_count}
+use Rattle.recon_build.proofs.solving.solve_over.Goals as goal
+
+-- what the mesh is made of
+abbrev IsCut : Store → (ids : List ℕ) (inside : List Bool) → Scene → Complex → Type 0
+IsCut t ids inside s complex =
+    AreCellsOf s t.slots × (s.vertices.count ≡ length t.points) × IsComplexOf s complex × AreIdsOf t.slots complex.cells ids × (length inside ≡ length complex.cells) ×
+    IsAdmissible s complex (test_of complex.cells inside)
+
+-- of a scene and a complex that have names of their own
+named : (cutting : Cutting) (s : Scene) (complex : Complex) → cutting.scene ≡ s → cutting.complex ≡ complex → (P : Scene → Complex → Type 0) → P s complex → P cutting.scene cutting.complex
+named cutting s complex e f P h = subst (λ (t : Scene). P t cutting.complex) (sym e) (subst (P s) (sym f) h)
+
+pub facets-requires : goal.facets-requires
+facets-requires g c =
+    let s : Scene = scene_of_rows (rows_of c.args.scan.now) c.args.settings in
+    let network = c.requires.1.1.1.1.0 in
+    let least = least_inside_is s c.args.counted.voted c.in_ok-labels.labels network c.in_ok-labels.ensures.least in
+    let cut : IsCut c.args.tetra c.deref.result.now c.in_ok-labels.labels.inside g.cutting.scene g.cutting.complex =
+    named g.cutting s (complex_of c.args.counted.voted) c.requires.0 c.requires.1.0 (IsCut c.args.tetra c.deref.result.now c.in_ok-labels.labels.inside) (
+      c.requires.1.1.1.0,
+      sym (corner_count c.args.tetra (points_of (rows_of c.args.scan.now)) c.requires.1.1.0.points),
+      network.complex_is,
+      subst (AreIdsOf c.args.tetra.slots c.args.counted.voted.cells) (sym c.deref.ensures.value) c.requires.1.1.1.1.1,
+      c.in_ok-labels.ensures.least.least_cost.admissible.count ∙ node_count s c.args.counted.voted network,
+      least.least_cost.admissible,
+    ) in
+    (cut.0, (cut.1, (cut.2, (cut.3, (cut.4, cut.5)))))
+
+-- the facets are those of the scene and the complex by any name
+cut_same : (cutting : Cutting) (s : Scene) (complex : Complex) (inside : List Bool) → cutting.scene ≡ s → cutting.complex ≡ complex
+    → cut_facets cutting.scene.vertices cutting.complex (test_of cutting.complex.cells inside) ≡ cut_facets s.vertices complex (test_of complex.cells inside)
+cut_same cutting s complex inside e f =
+    ap (λ (t : Scene). cut_facets t.vertices cutting.complex (test_of cutting.complex.cells inside)) e
+    ∙ ap (λ (x : Complex). cut_facets s.vertices x (test_of x.cells inside)) f
+
+-- so the mesh is of these points and facets
+mesh_is : (mesh : Mesh) (given points : List Point) (cut facets : List (List ℕ)) → given ≡ points → cut ≡ facets → mesh.points.items ≡ (mesh_of given cut).points → mesh.faces.items ≡ (mesh_of given cut).faces
+    → surface_of mesh ≡ mesh_of points facets
+mesh_is mesh given points cut facets same cut_is points_are faces_are =
+    ap (λ (list : List Point). record { points = list; faces = mesh.faces.items }) points_are
+    ∙ ap (λ (faces : List (List ℕ)). record { points = (mesh_of given cut).points; faces = faces }) faces_are
+    ∙ ap (mesh_of given) cut_is
+    ∙ ap (λ (list : List Point). mesh_of list facets) same
+
+pub returns-clause-solution : goal.returns-clause-solution
+returns-clause-solution g c =
+    let s : Scene = scene_of_rows (rows_of c.args.scan.now) c.args.settings in
+    let network = c.requires.1.1.1.1.0 in
+    record {
+      complex = complex_of c.args.counted.voted;
+      inside = test_of c.args.counted.voted.cells c.in_ok-labels.labels.inside;
+      complex_is = network.complex_is;
+      least = least_inside_is s c.args.counted.voted c.in_ok-labels.labels network c.in_ok-labels.ensures.least;
+      mesh_is = mesh_is c.in_ok-mesh.mesh c.args.tetra.points (corners ++ points_of (rows_of c.args.scan.now)) _ _ c.requires.1.1.0.points
+          (cut_same g.cutting s (complex_of c.args.counted.voted) c.in_ok-labels.labels.inside c.requires.0 c.requires.1.0) c.in_ok-mesh.ensures.points c.in_ok-mesh.ensures.faces;
+      counts = c.in_ok-cert.ensures.counts;
+      certificate = c.in_ok-cert.ensures.states;
+    }

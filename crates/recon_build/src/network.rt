@@ -1,0 +1,44 @@
+//! The linked cells of a scan and the network over them. It stands on `delaunay`, which makes the cells, and on `votes`, which counts
+//! what each sight votes for.
+
+ghost use Rattle.std.specs.Prelude.{IfOk};
+ghost use Rattle.scan.specs.Views.{rows_of};
+ghost use Rattle.solution.specs.Scans.{scene_of_rows};
+ghost use Rattle.visibility.specs.Networks.{IsNetworkOf};
+ghost use Rattle.vote_net.specs.Counts.{AreCellsOf, AreIdsOf};
+ghost use Rattle.recon_build.specs.Stored.{IsStoreOf};
+
+use crate::NoMemory;
+use delaunay::build;
+use flow_net::Settings;
+use scan::Scan;
+use solution::seen_in;
+use std::alloc::Global;
+use tetra_store::Tetra;
+use vote_net::Counted;
+use votes::count_votes;
+
+/// The linked Delaunay cells of a scan's points, and the network over them, with the cell that each node stands for.
+pub(crate) fn network(
+    alloc: Global,
+    scan: &Scan,
+    settings: Settings,
+) -> Result<(Tetra, Counted), NoMemory>
+    ensures store { IfOk result (λ made. IsStoreOf (rows_of scan.now) settings made.0) }
+    ensures cells { IfOk result (λ made. AreCellsOf (scene_of_rows (rows_of scan.now) settings) made.0.slots) }
+    ensures network { IfOk result (λ made. IsNetworkOf (scene_of_rows (rows_of scan.now) settings) made.1.voted) }
+    ensures ids { IfOk result (λ made. AreIdsOf made.0.slots made.1.voted.cells made.1.ids.items) }
+{
+    let seen = seen_in(alloc, scan)?;
+    let tetra = build(alloc, &seen.points)?;
+    tetra.facts();
+    let counted = count_votes(
+        alloc,
+        &tetra,
+        &seen.points,
+        &seen.sights,
+        &scan.scanners,
+        settings,
+    )?;
+    Ok((tetra, counted))
+}
