@@ -9,3 +9,4 @@ pub mod FirstCounts
 pub mod Stopped
 pub mod StrayReasons
 pub mod Surfaces
+pub mod Seen

@@ -23,6 +23,7 @@ use Rattle.visibility.proofs.Indices.{index_has}
 use Rattle.recon_check.specs.Answers.{best_surface}
 use Rattle.recon_check.specs.Claims.{is_inside}
 use Rattle.recon_check.specs.Faults.{IsBest}
+use Rattle.recon_check.specs.Networks.{IsBestSurface}
 use Rattle.recon_check.proofs.Lists.{among_from, among_means, among_kept, kept_has, kept_passes, kept_there, sum_same, rows_listed, listed_there}
 
 -- two tests agree on the cells
@@ -61,17 +62,9 @@ least_same s complex inside other is same h = record {
   within = λ any least row there passes. h.within any least row there (same row there ∙ passes);
 }
 
--- what is known of a solution by its certificate's own rows
-pub record IsKnown (rows : ScanRows) (settings : Settings) (surface : Surface) (claim : Claim) : Type 0 where
-  pub complex : Complex
-  pub complex_is : IsComplexOf (scene_of_rows rows settings) complex
-  pub counts : HasCounts claim rows settings
-  pub best : IsBest (scene_of_rows rows settings) complex claim
-  pub cost_is : claim.counts.cost ≡ cost (scene_of_rows rows settings) complex (is_inside claim)
-  pub surface_is : surface ≡ best_surface rows complex (is_inside claim)
-
-pub known_from : (rows : ScanRows) (settings : Settings) (surface : Surface) (claim : Claim) → IsSolution rows settings surface claim → IsKnown rows settings surface claim
-known_from rows settings surface claim h =
+-- a solution's mesh is the surface of its certificate's labels
+pub best_from : (rows : ScanRows) (settings : Settings) (surface : Surface) (claim : Claim) → IsSolution rows settings surface claim → IsBestSurface rows settings claim surface
+best_from rows settings surface claim h =
     let s : Scene = scene_of_rows rows settings in
     let costs : cost s h.complex h.inside ≡ cost s h.complex (is_inside claim) = cost_same s h.complex h.inside (is_inside claim) h.complex_is agree in
     record {

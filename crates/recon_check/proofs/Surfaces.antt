@@ -1,6 +1,6 @@
 -- The surface and the cost of the labels of a claim, by number and over cells and facets.
-use Rattle.std.proofs.Common.{ℕ, ◌≡◌, ◌++◌, ◌≤◌, ap, sym, subst, ◌∙◌, arith, Bool, false, List, [], length, get_or, map, AllPairs}
-use Rattle.std.proofs.lemmas.List.{get_or-map}
+use Rattle.std.proofs.Common.{ℕ, ◌≡◌, ◌++◌, ap, sym, subst, ◌∙◌, arith, Bool, false, List, [], length, get_or, map, AllPairs}
+use Rattle.std.proofs.lemmas.List.{get_or-map, length-append, length-map}
 use Rattle.cert_text.specs.Certificates.{Claim}
 use Rattle.flow_net.specs.declared.Labels.{Labels}
 use Rattle.flow_net.specs.declared.Voted.{Voted}
@@ -8,27 +8,28 @@ use Rattle.flow_net.specs.declared.votes.Settings.{Settings}
 use Rattle.flow_net.specs.Nets.{flag_at}
 use Rattle.flow_net.specs.Flows.{cost_of, IsLeastInside as IsLeastInsideNet}
 use Rattle.geo_sign.specs.Point.{Point}
-use Rattle.geo_sign.specs.Vertices.{corners, vertices_of}
+use Rattle.geo_sign.specs.Vertices.{Vertices, corners, vertices_of}
 use Rattle.geo_sign.specs.Cells.{IsBefore}
-use Rattle.merge.specs.Merging.{distinct_points}
 use Rattle.mesh_ply.specs.Meshes.{mesh_of}
 use Rattle.mesh_ply.specs.declared.mesh.Mesh.{Mesh}
 use Rattle.solution.specs.Scans.{points_of, scene_of_rows}
 use Rattle.solution.specs.Solutions.{surface_of}
-use Rattle.solution.proofs.SightLists.{points_are, few_points}
 use Rattle.scan.specs.ScanRows.{ScanRows}
-use Rattle.scan.specs.Views.{rows_of}
-use Rattle.scan.specs.declared.scan.Scan.{Scan}
+use Rattle.surface.specs.Labelled.{Cutting}
 use Rattle.visibility.specs.Scenes.{Scene}
 use Rattle.visibility.specs.Complexes.{Complex}
-use Rattle.visibility.specs.Cuts.{cost, cut_facets}
+use Rattle.visibility.specs.Cuts.{cost, cut_facets, IsAdmissible}
 use Rattle.visibility.specs.Laws.{test_of, row_index, AgreeAsLabels}
 use Rattle.visibility.specs.Networks.{complex_of, IsNetworkOf}
+use Rattle.visibility.specs.Votes.{IsComplexOf}
 use Rattle.visibility.proofs.Labels.{labels_agree}
 use Rattle.visibility.proofs.Indices.{at_index, row_index_at}
+use Rattle.vote_net.specs.Counts.{AreCellsOf, AreIdsOf}
 use Rattle.recon_check.specs.Answers.{best_surface}
 use Rattle.recon_check.specs.Claims.{is_inside}
 use Rattle.recon_check.specs.Faults.{IsBest}
+use Rattle.recon_check.specs.Networks.{cutting_of, IsNetworkOfScan}
+use Rattle.recon_check.specs.declared.network.Network.{Network}
 use Rattle.recon_check.proofs.Bridge.{labels_by}
 use Rattle.recon_check.proofs.Solutions.{Agree, cut_same}
 
@@ -41,18 +42,63 @@ test_agrees complex inside rising row there =
     ∙ get_or-map inside complex.cells there.0 [] false there.1 ∙ ap inside here
 
 -- the mesh of the labels is the surface of the claim
-pub surface_is : (rows : ScanRows) (settings : Settings) (voted : Voted) (claim : Claim) (points : List Point) (labels : Labels) (mesh : Mesh) → IsNetworkOf (scene_of_rows rows settings) voted → points ≡ points_of rows → labels ≡ labels_by voted claim
-    → mesh.points.items ≡ (mesh_of (corners ++ points) (cut_facets (vertices_of points) (complex_of voted) (test_of voted.cells labels.inside))).points
-    → mesh.faces.items ≡ (mesh_of (corners ++ points) (cut_facets (vertices_of points) (complex_of voted) (test_of voted.cells labels.inside))).faces
-    → surface_of mesh ≡ best_surface rows (complex_of voted) (is_inside claim)
-surface_is rows settings voted claim points labels mesh network same labels_are points_are faces_are =
+pub surface_is : (rows : ScanRows) (settings : Settings) (network : Network) (claim : Claim) (cutting : Cutting) (labels : Labels) (mesh : Mesh)
+    → IsNetworkOfScan rows settings network → cutting ≡ cutting_of rows settings network → labels ≡ labels_by network.counted.voted claim
+    → mesh.points.items ≡ (mesh_of network.linked.points (cut_facets cutting.scene.vertices cutting.complex (test_of cutting.complex.cells labels.inside))).points
+    → mesh.faces.items ≡ (mesh_of network.linked.points (cut_facets cutting.scene.vertices cutting.complex (test_of cutting.complex.cells labels.inside))).faces
+    → surface_of mesh ≡ best_surface rows (complex_of network.counted.voted) (is_inside claim)
+surface_is rows settings network claim cutting labels mesh is same labels_are points_are faces_are =
     ap (λ (list : List Point). record { points = list; faces = mesh.faces.items }) points_are
-    ∙ ap (λ (faces : List (List ℕ)). record { points = (mesh_of (corners ++ points) (cut_facets (vertices_of points) (complex_of voted) (test_of voted.cells labels.inside))).points; faces = faces }) faces_are
-    ∙ ap (λ (list : List Point). mesh_of (corners ++ list) (cut_facets (vertices_of list) (complex_of voted) (test_of voted.cells labels.inside))) same
-    ∙ ap (λ (l : Labels). mesh_of (corners ++ points_of rows) (cut_facets (vertices_of (points_of rows)) (complex_of voted) (test_of voted.cells l.inside))) labels_are
+    ∙ ap (λ (faces : List (List ℕ)). record { points = (mesh_of network.linked.points (cut_facets cutting.scene.vertices cutting.complex (test_of cutting.complex.cells labels.inside))).points; faces = faces }) faces_are
+    ∙ ap (λ (k : Cutting). mesh_of network.linked.points (cut_facets k.scene.vertices k.complex (test_of k.complex.cells labels.inside))) same
+    ∙ ap (λ (list : List Point). mesh_of list (cut_facets v complex (test_of complex.cells labels.inside))) is.points
+    ∙ ap (λ (l : Labels). mesh_of (corners ++ points_of rows) (cut_facets v complex (test_of complex.cells l.inside))) labels_are
     ∙ ap (mesh_of (corners ++ points_of rows))
-    (cut_same (scene_of_rows rows settings) (complex_of voted) (test_of voted.cells (map (is_inside claim) voted.cells)) (is_inside claim) network.complex_is
-    (test_agrees (complex_of voted) (is_inside claim) network.complex_is.cells_are.rising))
+    (cut_same (scene_of_rows rows settings) complex (test_of complex.cells (map (is_inside claim) complex.cells)) (is_inside claim) is.voted.complex_is
+    (test_agrees complex (is_inside claim) is.voted.complex_is.cells_are.rising))
+  where
+    v : Vertices
+    v = vertices_of (points_of rows)
+
+    complex : Complex
+    complex = complex_of network.counted.voted
+
+-- the labels have no fixed cell inside, where the claim's have none
+flags_admissible : (s : Scene) (voted : Voted) (claim : Claim) (labels : Labels) → IsNetworkOf s voted → labels ≡ labels_by voted claim → IsAdmissible s (complex_of voted) (is_inside claim) → IsAdmissible s (complex_of voted) (test_of voted.cells labels.inside)
+flags_admissible s voted claim labels network same admissible =
+    subst (λ (l : Labels). IsAdmissible s (complex_of voted) (test_of voted.cells l.inside)) (sym same)
+    (record { none_fixed = λ row there fixed. test_agrees (complex_of voted) (is_inside claim) network.complex_is.cells_are.rising row there ∙ admissible.none_fixed row there fixed })
+
+-- what is asked of labels whose surface is wanted
+abbrev pub CanBeCut : Network → List ℕ → Labels → Cutting → Type 0
+CanBeCut network ids labels cutting =
+    AreCellsOf cutting.scene network.linked.slots
+    × ((cutting.scene.vertices.count ≡ length network.linked.points)
+    × (IsComplexOf cutting.scene cutting.complex
+    × (AreIdsOf network.linked.slots cutting.complex.cells ids
+    × ((length labels.inside ≡ length cutting.complex.cells)
+    × IsAdmissible cutting.scene cutting.complex (test_of cutting.complex.cells labels.inside)))))
+
+pub can_be_cut : (rows : ScanRows) (settings : Settings) (network : Network) (claim : Claim) (cutting : Cutting) (ids : List ℕ) (labels : Labels)
+    → IsNetworkOfScan rows settings network → cutting ≡ cutting_of rows settings network → ids ≡ network.counted.ids.items → labels ≡ labels_by network.counted.voted claim
+    → IsAdmissible (scene_of_rows rows settings) (complex_of network.counted.voted) (is_inside claim) → CanBeCut network ids labels cutting
+can_be_cut rows settings network claim cutting ids labels is same ids_are labels_are admissible =
+    subst (CanBeCut network ids labels) (sym same) (
+      is.cells,
+      (
+        omega (arith, ap length is.points, length-append corners (points_of rows)),
+        (
+          is.voted.complex_is,
+          (
+            subst (AreIdsOf network.linked.slots network.counted.voted.cells) (sym ids_are) is.ids,
+            (
+              ap (λ (l : Labels). length l.inside) labels_are ∙ length-map network.counted.voted.cells (is_inside claim),
+              flags_admissible (scene_of_rows rows settings) network.counted.voted claim labels is.voted labels_are admissible,
+            ),
+          ),
+        ),
+      ),
+    )
 
 -- the labels cost what the claim's labels cost
 pub cost_is : (s : Scene) (voted : Voted) (claim : Claim) (labels : Labels) → IsNetworkOf s voted → labels ≡ labels_by voted claim → cost_of voted.net labels ≡ cost s (complex_of voted) (is_inside claim)
@@ -65,10 +111,3 @@ pub least_is : (s : Scene) (voted : Voted) (claim : Claim) (labels : Labels) →
 least_is s voted claim labels network same best =
     let agree : AgreeAsLabels s voted (is_inside claim) = labels_agree s voted (is_inside claim) network in
     subst (λ (l : Labels). IsLeastInsideNet voted.net l) (sym same) (agree.least_inside.1 best.least)
-
--- merged points are the scan's distinct points
-pub merged_are : (scan : Scan) (given found merged : List Point) → given ≡ found → found ≡ distinct_points merged → merged ≡ scan.points.items → given ≡ points_of (rows_of scan)
-merged_are scan given found merged a b e = a ∙ b ∙ ap distinct_points e ∙ sym (points_are scan)
-
-pub few_given : (scan : Scan) (given : List Point) → given ≡ points_of (rows_of scan) → length given ≤ 56
-few_given scan given same = omega (arith, ap length same, few_points scan)

@@ -37,7 +37,8 @@ use Rattle.recon_check.specs.declared.answer.Which.{Which}
 use Rattle.recon_check.specs.declared.answer.Which.TheVariants.{Points, Scanners, Sights, Vote, Smooth}
 use Rattle.recon_check.proofs.Bridge.{admissible_from}
 use Rattle.recon_check.proofs.Firsts.{one_first, one_first_of, not_first_of}
-use Rattle.recon_check.proofs.Solutions.{IsKnown, known_from}
+use Rattle.recon_check.specs.Networks.{IsBestSurface}
+use Rattle.recon_check.proofs.Solutions.{best_from}
 
 -- ---- which fault comes before which
 level : Reason → ℕ
@@ -334,8 +335,8 @@ one_fault rows settings mesh claim reason other h k = by (count_or_over rows set
 shown_no_fault : (rows : ScanRows) (settings : Settings) (mesh : List ℕ) (claim : Claim) (reason : Reason) → IsShown rows settings mesh claim → IsFault rows settings mesh claim reason → ⊥
 shown_no_fault rows settings mesh claim reason shown h = by (count_or_over rows settings mesh claim reason h)
   where
-    known : IsKnown rows settings shown.surface claim
-    known = known_from rows settings shown.surface claim shown.solution
+    known : IsBestSurface rows settings claim shown.surface
+    known = best_from rows settings shown.surface claim shown.solution
 
     by : IsCount rows settings claim reason ⊎ IsFaultOver rows settings mesh claim reason → ⊥
     by (inl a) = not_both rows settings claim reason shown.solution.counts a

@@ -2,6 +2,7 @@ pub mod Claims
 pub mod Faults
 pub mod Differences
 pub mod Answers
+pub mod Networks
 pub mod Stops
 pub mod Strays
 pub mod Verdicts

@@ -3,29 +3,35 @@
 ghost use Rattle.std.specs.Prelude.{◌≡◌, ◌↔◌, ℕ, List, IfOk, IfErr, OnOk, length};
 ghost use Rattle.cert_text.specs.Certificates.{claim_of, Claim, IsWellFormed};
 ghost use Rattle.cert_text.specs.Texts.{cert_text};
-ghost use Rattle.mesh_ply.specs.Meshes.{Surface};
-ghost use Rattle.solution.specs.Scans.{points_of, scene_of_rows};
-ghost use Rattle.solution.specs.Solutions.{HasCounts, IsSolution};
+ghost use Rattle.mesh_ply.specs.Meshes.{IsMesh, Surface};
+ghost use Rattle.solution.specs.Scans.{scene_of_rows};
+ghost use Rattle.solution.specs.Solutions.{surface_of, HasCounts, IsSolution};
 ghost use Rattle.scan.specs.ScanRows.{ScanRows};
 ghost use Rattle.scan.specs.Views.{rows_of};
-ghost use Rattle.visibility.specs.Networks.{IsNetworkOf};
+ghost use Rattle.surface.specs.Labelled.{Cutting};
+ghost use Rattle.visibility.specs.Cuts.{cost as cost_over};
+ghost use Rattle.visibility.specs.Laws.{labels_of};
+ghost use Rattle.visibility.specs.Networks.{complex_of, IsNetworkOf};
 ghost use Rattle.recon_check.specs.Answers.{surface_text, IsFault, IsShownWith, IsAccepted, IsYes, IsAnswer};
+ghost use Rattle.recon_check.specs.Claims.{is_inside};
+ghost use Rattle.recon_check.specs.Faults.{IsBest};
+ghost use Rattle.recon_check.specs.Networks.{cutting_of, IsBestSurface, IsNetworkOfScan};
 ghost use Rattle.recon_check.specs.Stops.{StopsFor};
 
 use crate::counts::other_count;
 use crate::flows::best_labels;
+use crate::network::{Network, network_of};
 use crate::stop::Stop;
 use crate::texts::first_difference;
 use crate::{Answer, NoMemory, Reason};
 use cert_text::{CertRefusal, Certificate, read_cert};
-use flow_net::{Settings, Voted};
-use geo_sign::Point;
-use merge::merge;
-use mesh_ply::push_mesh;
-use plain_net::{plain_mesh, plain_net};
+use flow_net::{Labels, Settings, Voted};
+use mesh_ply::{Mesh, push_mesh};
 use scan::Scan;
-use solution::{least_cost, sights_of};
+use solution::{least_cost, seen_in};
 use std::alloc::{AllocError, Global};
+use surface::facets;
+use vote_net::Counted;
 
 /// The numbers of a surface that was shown best.
 #[derive(Drop)]
@@ -53,34 +59,73 @@ fn certificate(alloc: Global, bytes: &[u8]) -> Result<Certificate, Stop>
     }
 }
 
-/// The numbers of the surface whose text the mesh is, where the certificate shows it best among the cells of a network.
-///
-/// The network is that of the scan at these settings, `points` are its distinct points, and the certificate has its numbers.
-fn shown_over(
+/// The labels that a certificate shows best, where it states what they cost. The network, which is the scan's, is dropped.
+fn labels_at_cost(
     alloc: Global,
     scan: &Scan,
     settings: Settings,
-    points: &[Point],
-    voted: &Voted,
-    mesh: &[u8],
+    voted: Voted,
     cert: &Certificate,
-) -> Result<Shown, Stop>
-    requires points { points.now ≡ points_of (rows_of scan.now) }
-    requires network { IsNetworkOf (scene_of_rows (rows_of scan.now) settings) voted.now }
+) -> Result<Labels, Stop>
+    requires network { IsNetworkOf (scene_of_rows (rows_of scan.now) settings) voted }
     requires formed { IsWellFormed (claim_of cert.now) }
     requires counts { HasCounts (claim_of cert.now) (rows_of scan.now) settings }
-    ensures shown { IfOk result (λ shown. IsShownWith (rows_of scan.now) settings mesh.now shown.inside shown.faces shown.cost (claim_of cert.now)) }
-    ensures fault { IfErr result (StopsFor (IsFault (rows_of scan.now) settings mesh.now (claim_of cert.now))) }
+    ensures labels { IfOk result (λ labels. labels ≡ labels_of (complex_of voted) (is_inside (claim_of cert.now))) }
+    ensures best { OnOk result (IsBest (scene_of_rows (rows_of scan.now) settings) (complex_of voted) (claim_of cert.now)) }
+    ensures cost { OnOk result ((claim_of cert.now).counts.cost ≡ cost_over (scene_of_rows (rows_of scan.now) settings) (complex_of voted) (is_inside (claim_of cert.now))) }
+    ensures fault { (mesh : List ℕ) → IfErr result (StopsFor (IsFault (rows_of scan.now) settings mesh (claim_of cert.now))) }
 {
-    let labels = best_labels(alloc, voted, cert)?;
-    let cost = least_cost(scan, settings, voted, &labels);
+    let labels = best_labels(alloc, &voted, cert)?;
+    let cost = least_cost(scan, settings, &voted, &labels);
     if cert.cost != cost {
         return Err(Stop::Fault(Reason::WrongCost {
             stated: cert.cost,
             cost,
         }));
     }
-    let surface = plain_mesh(alloc, points, voted, &labels)?;
+    Ok(labels)
+}
+
+/// The surface of the labels that a certificate shows best. The cells and the network, which are the scan's, are dropped.
+fn best_surface(
+    alloc: Global,
+    scan: &Scan,
+    settings: Settings,
+    network: Network,
+    cert: &Certificate,
+) -> Result<Mesh, Stop>
+    ghost cutting: { Cutting }
+    requires cutting { cutting ≡ cutting_of (rows_of scan.now) settings network }
+    requires network { IsNetworkOfScan (rows_of scan.now) settings network }
+    requires formed { IsWellFormed (claim_of cert.now) }
+    requires counts { HasCounts (claim_of cert.now) (rows_of scan.now) settings }
+    ensures surface { IfOk result (λ surface. IsBestSurface (rows_of scan.now) settings (claim_of cert.now) (surface_of surface)) }
+    ensures valid { IfOk result (λ surface. IsMesh surface.points.items surface.faces.items) }
+    ensures fault { (mesh : List ℕ) → IfErr result (StopsFor (IsFault (rows_of scan.now) settings mesh (claim_of cert.now))) }
+{
+    let Network { linked, counted } = network;
+    let Counted { voted, ids } = counted;
+    let labels = labels_at_cost(alloc, scan, settings, voted, cert)?;
+    Ok(facets(alloc, &linked, &ids, &labels)?)
+}
+
+/// The numbers of the surface whose text the mesh is, where the certificate shows it best over the scan's network. The certificate
+/// has the scan's numbers.
+fn shown_over(
+    alloc: Global,
+    scan: &Scan,
+    settings: Settings,
+    network: Network,
+    mesh: &[u8],
+    cert: &Certificate,
+) -> Result<Shown, Stop>
+    requires network { IsNetworkOfScan (rows_of scan.now) settings network }
+    requires formed { IsWellFormed (claim_of cert.now) }
+    requires counts { HasCounts (claim_of cert.now) (rows_of scan.now) settings }
+    ensures shown { IfOk result (λ shown. IsShownWith (rows_of scan.now) settings mesh.now shown.inside shown.faces shown.cost (claim_of cert.now)) }
+    ensures fault { IfErr result (StopsFor (IsFault (rows_of scan.now) settings mesh.now (claim_of cert.now))) }
+{
+    let surface = best_surface(alloc, scan, settings, network, cert)?;
     let mut text = Vec::new(alloc);
     push_mesh(&mut text, &surface)?;
     match first_difference(mesh, &text) {
@@ -88,7 +133,7 @@ fn shown_over(
         None => Ok(Shown {
             inside: cert.inside.len() as u64,
             faces: surface.faces.len() as u64,
-            cost,
+            cost: cert.cost,
         }),
     }
 }
@@ -105,13 +150,12 @@ fn shown_by_certificate(
     ensures shown { IfOk result (λ shown. IsShownWith (rows_of scan.now) settings mesh.now shown.inside shown.faces shown.cost (claim_of cert.now)) }
     ensures fault { IfErr result (StopsFor (IsFault (rows_of scan.now) settings mesh.now (claim_of cert.now))) }
 {
-    let merged = merge(alloc, &scan.points)?;
-    if let Some(reason) = other_count(scan, &merged.points, settings, cert) {
+    let seen = seen_in(alloc, scan)?;
+    if let Some(reason) = other_count(scan, &seen.points, settings, cert) {
         return Err(Stop::Fault(reason));
     }
-    let sights = sights_of(alloc, scan, &merged.of_row)?;
-    let voted = plain_net(alloc, &merged.points, &sights, &scan.scanners, settings)?;
-    shown_over(alloc, scan, settings, &merged.points, &voted, mesh, cert)
+    let network = network_of(alloc, scan, settings, seen)?;
+    shown_over(alloc, scan, settings, network, mesh, cert)
 }
 
 /// The numbers of the surface whose text the mesh is, where the certificate whose text `cert` is shows it best.

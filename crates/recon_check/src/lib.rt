@@ -4,11 +4,12 @@
 //! certificate states are compared with them: a valid flow whose value is the cost of admissible labels shows that no
 //! labels cost less, so a reader of the answer needs to trust nothing about who made the two texts.
 //!
-//! `answer` holds the answers, `counts` compares the numbers that a certificate states with the scan's, `rows` turns its rows into
-//! flags and amounts by number, `flows` checks the labels and the flow that they state, `verdicts` says a verdict by number with
-//! cells and facets, `texts` finds where two texts differ, `checking` puts them together, `stop` is why a check stops, and `laws`
-//! says what holds of all answers. The crate stands on `cert_text` (certificates), `merge` and `solution` (points, sights, and
-//! what a solution is), `plain_net` (the network and the mesh of labels) and `flow_check` (labels and a flow by number).
+//! `answer` holds the answers, `counts` compares the numbers that a certificate states with the scan's, `network` links the scan's
+//! cells and makes the network over them, `rows` turns the certificate's rows into flags and amounts by number, `flows` checks the
+//! labels and the flow that they state, `verdicts` says a verdict by number with cells and facets, `texts` finds where two texts
+//! differ, `checking` puts them together, `stop` is why a check stops, and `laws` says what holds of all answers. The crate stands on
+//! `cert_text` (certificates), `solution` (points, sights, and what a solution is), `delaunay`, `votes` and `surface` (the cells, their
+//! network, and the mesh of labels) and `flow_check` (labels and a flow by number).
 #![tactic(auto)]
 
 mod answer;
@@ -16,6 +17,7 @@ mod checking;
 mod counts;
 mod flows;
 mod laws;
+mod network;
 mod rows;
 mod stop;
 #[cfg(test)]

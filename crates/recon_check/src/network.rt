@@ -1,0 +1,50 @@
+//! The linked cells of a scan, and the network over them. It stands on `delaunay`, which links the cells, and on `votes`, which walks
+//! along the sights.
+
+ghost use Rattle.std.specs.Prelude.{◌≡◌, IfOk};
+ghost use Rattle.scan.specs.Views.{rows_of};
+ghost use Rattle.solution.specs.Scans.{points_of, sights_of};
+ghost use Rattle.recon_check.specs.Networks.{IsNetworkOfScan};
+
+use crate::NoMemory;
+use delaunay::build;
+use flow_net::Settings;
+use scan::Scan;
+use solution::Seen;
+use std::alloc::Global;
+use tetra_store::Tetra;
+use vote_net::Counted;
+use votes::count_votes;
+
+/// The cells of a scan and the network over them.
+#[derive(Drop)]
+pub struct Network {
+    /// The Delaunay cells of the box's corners and the scan's points.
+    pub linked: Tetra,
+    /// The network, and the cell of each node.
+    pub counted: Counted,
+}
+
+/// The cells and the network of a scan at these settings. `seen` are its points and its sights, which are dropped.
+pub fn network_of(
+    alloc: Global,
+    scan: &Scan,
+    settings: Settings,
+    seen: Seen,
+) -> Result<Network, NoMemory>
+    requires points { seen.points.items ≡ points_of (rows_of scan.now) }
+    requires sights { seen.sights.items ≡ sights_of (rows_of scan.now) }
+    ensures { IfOk result (IsNetworkOfScan (rows_of scan.now) settings) }
+{
+    let linked = build(alloc, &seen.points)?;
+    linked.facts();
+    let counted = count_votes(
+        alloc,
+        &linked,
+        &seen.points,
+        &seen.sights,
+        &scan.scanners,
+        settings,
+    )?;
+    Ok(Network { linked, counted })
+}
