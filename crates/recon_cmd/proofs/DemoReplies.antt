@@ -7,9 +7,10 @@ use Rattle.gen_scan.specs.Generated.{generated}
 use Rattle.mesh_ply.specs.Meshes.{IsMesh}
 use Rattle.mesh_ply.specs.Texts.{mesh_text}
 use Rattle.solution.specs.Solutions.{IsSolution, surface_of}
+use Rattle.solution.proofs.ScanScenes.{is_scan}
 use Rattle.recon_build.specs.declared.solving.Solved.{Solved}
 use Rattle.scan.specs.PlainForm.{plain_text}
-use Rattle.scan.specs.ScanRows.{ScanRows, IsScan}
+use Rattle.scan.specs.ScanRows.{ScanRows}
 use Rattle.scan.specs.Outcomes.{scan_of}
 use Rattle.scan.specs.ScanRefusals.{Fails}
 use Rattle.scan.specs.Views.{rows_of}
@@ -17,7 +18,6 @@ use Rattle.scan.specs.declared.refusal.ScanRefusal.{ScanRefusal}
 use Rattle.scan.specs.declared.refusal.ScanRefusal.TheVariants as refusals
 use Rattle.scan.specs.declared.scan.Scan.{Scan}
 use Rattle.scan.proofs.PrintedScans.{printed_read}
-use Rattle.scan.proofs.RowLemmas.{kept_rows}
 use Rattle.host.specs.State.{State, Told}
 use Rattle.recon_cmd.specs.Answers.{Answer, AnswerOf, Demonstrates, default_options, file_limit, read_as}
 use Rattle.recon_cmd.specs.Lines.{build_line, demo_line}
@@ -30,14 +30,9 @@ use Rattle.recon_cmd.specs.declared.status.Status.{Status}
 use Rattle.recon_cmd.specs.declared.status.Status.TheVariants.{Done}
 use Rattle.recon_cmd.proofs.PlainTextLengths.{plain_text_fits}
 
--- the rows of a scan are those that a scan may have
-scan_is : (scan : Scan) → IsScan (rows_of scan)
-scan_is scan =
-    kept_rows scan.points.items scan.seen_by.items scan.scanners.items scan.one_each scan.points_are_data scan.scanners_are_data scan.scanners_are_there scan.points_fit scan.scanners_fit
-
 -- the plain text of a generated scan is within the limit of files
 pub generated_fits : (count seed : ℕ) (scan : Scan) → rows_of scan ≡ generated count seed → length (plain_text (generated count seed)) ≤ file_limit
-generated_fits count seed scan same = subst (λ (rows : ScanRows). length (plain_text rows) ≤ file_limit) same (plain_text_fits (rows_of scan) (scan_is scan))
+generated_fits count seed scan same = subst (λ (rows : ScanRows). length (plain_text rows) ≤ file_limit) same (plain_text_fits (rows_of scan) (is_scan scan))
 
 -- what is read is not refused
 not_refused : (rows : ScanRows) (read : Result ScanRows ScanRefusal) (why : ScanRefusal) → read ≡ Ok rows → (why ≡ refusals.NoMemory → ⊥) → Fails why read → ⊥
@@ -60,7 +55,7 @@ not_refused rows read refusals.NoMemory is other fails = other refl
 pub printed_is_read : (scan : Scan) (text : List ℕ) (why : ScanRefusal) → text ≡ plain_text (rows_of scan) → (why ≡ refusals.NoMemory → ⊥) → Fails why (scan_of text 1 None) → ⊥
 printed_is_read scan text why is other fails =
     not_refused (rows_of scan) (scan_of text 1 None) why
-    (ap (λ (t : List ℕ). scan_of t 1 None) is ∙ printed_read (rows_of scan) (scan_is scan)) other fails
+    (ap (λ (t : List ℕ). scan_of t 1 None) is ∙ printed_read (rows_of scan) (is_scan scan)) other fails
 
 -- what `build` says of the generated scan
 pub demonstrated : (count seed : ℕ) (scan : ScanRows) (settings : Settings) (solved : Solved) (built line : List ℕ)

@@ -6,7 +6,7 @@ use Rattle.std.proofs.lemmas.Fmt.{length-decimal-le, length_signed_le}
 use Rattle.std.proofs.lemmas.List.{length-append}
 use Rattle.std.proofs.lemmas.List.Elements.{All-head, All-tail}
 use Rattle.geo_sign.specs.Point.{Point, IsWithin}
-use Rattle.scan.specs.ScanRows.{VertexRow, ScanRows, IsVertexRow, IsScan}
+use Rattle.scan.specs.ScanRows.{VertexRow, ScanRows, point_limit, scanner_limit, IsVertexRow, IsScan}
 use Rattle.scan.specs.PlainForm.{before_vertex_count, before_scanner_count, after_counts, header, coordinates, vertex_line, scanner_line, plain_text, line_feed, space}
 use Rattle.recon_cmd.specs.Answers.{file_limit}
 use Rattle.geo_sign.specs.declared.point.TheConstants.{DATA_LIMIT}
@@ -16,9 +16,9 @@ coordinate_fits : (z : ℤ) → unsigned_abs z ≤ DATA_LIMIT → length (signed
 coordinate_fits (pos n) within = length_signed_le 7 (pos n) (omega arith) (omega arith)
 coordinate_fits (negsuc n) within = length_signed_le 7 (negsuc n) (omega arith) (omega arith)
 
--- and a number of a scanner or of rows at most five
-count_fits : (n : ℕ) → n ≤ 65536 → length (decimal n) ≤ 5
-count_fits n within = length-decimal-le 5 n (omega arith) (omega arith) (omega arith)
+-- and a number of a scanner or of rows as well
+count_fits : (n : ℕ) → n ≤ point_limit → length (decimal n) ≤ 7
+count_fits n within = length-decimal-le 7 n (omega arith) (omega (arith, within)) (omega arith)
 
 coordinates_fit : (p : Point) → IsWithin DATA_LIMIT p → length (coordinates p) ≤ 26
 coordinates_fit p within =
@@ -31,17 +31,17 @@ coordinates_fit p within =
       coordinate_fits p.z within.z_within,
     )
 
-vertex_line_fits : (scanners : ℕ) (row : VertexRow) → scanners ≤ 65536 → IsVertexRow scanners row → length (vertex_line row) ≤ 33
+vertex_line_fits : (scanners : ℕ) (row : VertexRow) → scanners ≤ scanner_limit → IsVertexRow scanners row → length (vertex_line row) ≤ 35
 vertex_line_fits scanners row few is =
     omega (
       arith,
       length-append (coordinates row.point) (space ∷ (decimal row.seen_by ++ (line_feed ∷ []))),
       length-append (decimal row.seen_by) (line_feed ∷ []),
       coordinates_fit row.point is.data_point,
-      count_fits row.seen_by (omega (arith, is.scanner)),
+      count_fits row.seen_by (omega (arith, few, is.scanner)),
     )
 
-vertex_lines_fit : (scanners : ℕ) (rows : List VertexRow) → scanners ≤ 65536 → All (IsVertexRow scanners) rows → length (flat_map vertex_line rows) ≤ length rows * 33
+vertex_lines_fit : (scanners : ℕ) (rows : List VertexRow) → scanners ≤ scanner_limit → All (IsVertexRow scanners) rows → length (flat_map vertex_line rows) ≤ length rows * 35
 vertex_lines_fit scanners [] few all = omega arith
 vertex_lines_fit scanners (row ∷ rows) few all =
     omega (
@@ -66,7 +66,7 @@ fixed_texts : length before_vertex_count + length before_scanner_count + length 
 unfolding before_vertex_count before_scanner_count after_counts
 fixed_texts = omega arith
 
-header_fits : (vertices scanners : ℕ) → vertices ≤ 65536 → scanners ≤ 65536 → length (header vertices scanners) ≤ 270
+header_fits : (vertices scanners : ℕ) → vertices ≤ point_limit → scanners ≤ scanner_limit → length (header vertices scanners) ≤ 270
 header_fits vertices scanners few few_scanners =
     omega (
       arith,
@@ -75,7 +75,7 @@ header_fits vertices scanners few few_scanners =
       length-append before_scanner_count (decimal scanners ++ (line_feed ∷ after_counts)),
       length-append (decimal scanners) (line_feed ∷ after_counts),
       count_fits vertices few,
-      count_fits scanners few_scanners,
+      count_fits scanners (omega (arith, few_scanners)),
       fixed_texts,
     )
 
@@ -86,7 +86,7 @@ plain_text_fits rows is =
       arith,
       length-append (header (length rows.vertices) (length rows.scanners)) (flat_map vertex_line rows.vertices ++ flat_map scanner_line rows.scanners),
       length-append (flat_map vertex_line rows.vertices) (flat_map scanner_line rows.scanners),
-      header_fits (length rows.vertices) (length rows.scanners) (omega (arith, is.vertex_count)) is.scanner_count,
+      header_fits (length rows.vertices) (length rows.scanners) is.vertex_count is.scanner_count,
       vertex_lines_fit (length rows.scanners) rows.vertices is.scanner_count is.vertices,
       scanner_lines_fit rows.scanners is.scanners,
       is.vertex_count,

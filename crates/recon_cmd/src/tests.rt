@@ -28,6 +28,15 @@ struct Ran {
     cert: Option<Vec<u8>>,
 }
 
+// The words as a command line has them.
+fn owned(alloc: Global, words: &[&str]) -> Result<Vec<String>, Fail> {
+    let mut owned = Vec::new(alloc);
+    for word in words {
+        owned.push(String::from_str(alloc, word)?)?;
+    }
+    Ok(owned)
+}
+
 // A run where the file `in` has these bytes, if there is one, and `out`, `mesh`, `cert` and `unit=3` are names without a
 // file.
 fn run_with(
@@ -40,10 +49,6 @@ fn run_with(
     requires piece { 0 < piece }
     requires failing { AreNumbers failing.items }
 {
-    let mut owned = Vec::new(alloc);
-    for word in words {
-        owned.push(String::from_str(alloc, word)?)?;
-    }
     let input = match input {
         Some(bytes) => Some(bytes.to_vec(alloc)?),
         None => None,
@@ -56,7 +61,7 @@ fn run_with(
         (String::from_str(alloc, "unit=3")?, None),
     ]?;
     let mut host = MemHost::new(alloc, files, piece, 1_048_576, failing)?;
-    let status = run(alloc, &owned, &mut host);
+    let status = run(alloc, &owned(alloc, words)?, &mut host);
     Ok(Ran {
         status,
         said: host.said().to_vec(alloc)?,

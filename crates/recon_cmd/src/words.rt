@@ -69,7 +69,7 @@ pub enum Command<'a> {
 /// | `cells IN OUT` | `unit=`, `scanner=` |
 /// | `build IN MESH CERT` | `unit=`, `vote=`, `smooth=`, `scanner=` |
 /// | `check IN MESH CERT` | `unit=`, `vote=`, `smooth=`, `scanner=` |
-/// | `demo N SEED` | none; N is 1 to 56 in 1 to 10 digits, SEED at most 2^64 - 1 in 1 to 20 |
+/// | `demo N SEED` | none; N is 1 to 1,048,576 in 1 to 10 digits, SEED at most 2^64 - 1 in 1 to 20 |
 pub fn understand(words: &[String]) -> Option<Command<'_>>
     ensures some { IfSome result (λ command. command_of (map string_bytes words.now) ≡ Some (asked command)) }
     ensures none { IfNone result (command_of (map string_bytes words.now) ≡ None) }

@@ -1,7 +1,11 @@
 //! The answer of `cells IN OUT`: the Delaunay cells of a scan's points and the box's corners. It stands on `merge`, which
-//! finds the distinct points, and on `geo_tie`, which lists the cells.
+//! finds the distinct points, on `delaunay`, which links their cells, and on `vote_net`, which lists these.
 ghost use Rattle.std.specs.Prelude.{◌≡◌, false, Some, IfOk};
+ghost use Rattle.geo_sign.specs.Cells.{IsCellList};
+ghost use Rattle.geo_sign.specs.Vertices.{vertices_of};
+ghost use Rattle.scan.specs.ScanRows.{ScanRows, IsScan};
 ghost use Rattle.scan.specs.Views.{rows_of};
+ghost use Rattle.solution.specs.Scans.{points_of};
 ghost use Rattle.recon_cmd.specs.Answers.{WritesCells};
 ghost use Rattle.recon_cmd.specs.OptionViews.{options_view};
 ghost use Rattle.recon_cmd.specs.Replies.{answer_of};
@@ -16,11 +20,13 @@ use crate::lines::{line_of_cells, text_of_cells};
 use crate::options::Options;
 use crate::status::Status;
 use crate::words::CellsNames;
-use geo_tie::plain_cells;
+use delaunay::build;
+use geo_sign::Point;
 use host::Host;
 use merge::merge;
 use scan::Scan;
 use std::alloc::Global;
+use vote_net::rising_cells;
 
 /// Reads the scan and makes the answer of `cells`. Nothing is written or said.
 pub fn reply_to_cells<'a, H: Host>(
@@ -52,7 +58,7 @@ fn reply_to_scan<'a>(alloc: Global, scan: &Scan, output: &'a str) -> Result<Repl
     ensures { IfOk result (λ reply. WritesCells output.now (rows_of scan.now) (answer_of 1 reply)) }
 {
     let merged = merge(alloc, &scan.points)?;
-    let cells = plain_cells(alloc, &merged.points)?;
+    let cells = cells_of(alloc, &merged.points)?;
     let text = text_of_cells(alloc, &cells)?;
     let line = line_of_cells(alloc, merged.points.len(), cells.len())?;
     let mut texts = Vec::new(alloc);
@@ -65,4 +71,13 @@ fn reply_to_scan<'a>(alloc: Global, scan: &Scan, output: &'a str) -> Result<Repl
         texts,
         line: Line::Made(line),
     })
+}
+
+// The cells of the distinct points of a scan, as rising numbers in rising order. The links between them are dropped.
+fn cells_of(alloc: Global, points: &[Point]) -> Result<Vec<[u32; 4]>, NoMemory>
+    requires { (rows : ScanRows) × IsScan rows × (points.now ≡ points_of rows) }
+    ensures { IfOk result (λ cells. IsCellList (vertices_of points.now) cells.items) }
+{
+    let linked = build(alloc, points)?;
+    rising_cells(alloc, &linked)
 }

@@ -1,7 +1,7 @@
 //! Runs of `check`: the verdict on a mesh and a certificate, one line for each reason, and what was built.
 
 use super::build::{FOUR_CERT, FOUR_MESH};
-use super::{FOUR, PIECE, Ran, ended, run_on, written};
+use super::{FOUR, PIECE, Ran, ended, owned, written};
 use crate::run;
 use gen_scan::gen_scan;
 use host::MemHost;
@@ -19,17 +19,13 @@ fn check(
     mesh: Option<&[u8]>,
     cert: Option<&[u8]>,
 ) -> Result<Ran, Fail> {
-    let mut owned = Vec::new(alloc);
-    for word in words {
-        owned.push(String::from_str(alloc, word)?)?;
-    }
     let files = vec![in alloc;
         (String::from_str(alloc, "in")?, Some(input.to_vec(alloc)?)),
         (String::from_str(alloc, "mesh")?, copied(alloc, mesh)?),
         (String::from_str(alloc, "cert")?, copied(alloc, cert)?),
     ]?;
     let mut host = MemHost::new(alloc, files, PIECE, 1_048_576, Vec::new(alloc))?;
-    let status = run(alloc, &owned, &mut host);
+    let status = run(alloc, &owned(alloc, words)?, &mut host);
     Ok(Ran {
         status,
         said: host.said().to_vec(alloc)?,
@@ -217,18 +213,30 @@ fn other_files_give_a_reason_or_are_not_there(rt: HostRuntime) -> Result<(), Fai
     Ok(())
 }
 
+// So many rows that a program which tries every four points comes to no end in the time of a test.
+const ROWS: u32 = 1000;
+
+// How many bytes the host has room for.
+const ROOM: usize = 16_777_216;
+
 #[test]
 fn what_was_built_is_accepted(rt: HostRuntime) -> Result<(), Fail> {
     let alloc = rt.alloc();
-    let scan = gen_scan(alloc, 56, 7)?;
+    let scan = gen_scan(alloc, ROWS, 7)?;
     let mut text = Vec::new(alloc);
     push_scan(&mut text, &scan)?;
-    let built = run_on(alloc, &["build", "in", "mesh", "cert"], Some(&text))?;
-    let mesh = built.mesh.as_ref().map(|bytes| bytes.as_slice());
-    let cert = built.cert.as_ref().map(|bytes| bytes.as_slice());
-    let ran = check(alloc, &WORDS, &text, mesh, cert)?;
-    assert!(rt; built.status == 0 && ran.status == 0);
-    assert!(rt; ran.said.starts_with(b"yes inside "));
-    assert!(rt; built.said.ends_with(&ran.said[3..]));
+    let files = vec![in alloc;
+        (String::from_str(alloc, "in")?, Some(text)),
+        (String::from_str(alloc, "mesh")?, None),
+        (String::from_str(alloc, "cert")?, None),
+    ]?;
+    let mut host = MemHost::new(alloc, files, PIECE, ROOM, Vec::new(alloc))?;
+    let built = run(alloc, &owned(alloc, &["build", "in", "mesh", "cert"])?, &mut host);
+    let end = host.said().len();
+    let checked = run(alloc, &owned(alloc, &WORDS)?, &mut host);
+    assert!(rt; built == 0 && checked == 0);
+    let said = host.said();
+    assert!(rt; said[end..].starts_with(b"yes inside "));
+    assert!(rt; said[..end].ends_with(&said[end + 3..]));
     Ok(())
 }

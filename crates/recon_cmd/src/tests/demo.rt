@@ -7,7 +7,7 @@ use std::test::Fail;
 #[test]
 fn a_generated_scan_is_built_and_no_file_is_touched(rt: HostRuntime) -> Result<(), Fail> {
     let alloc = rt.alloc();
-    let cases: [(&[&str], &str); 4] = [
+    let cases: [(&[&str], &str); 5] = [
         (
             &["demo", "1", "7"],
             "demo 1 7 points 1 scanners 6 sights 1 inside 0 faces 0 cost 8\n",
@@ -23,6 +23,10 @@ fn a_generated_scan_is_built_and_no_file_is_touched(rt: HostRuntime) -> Result<(
         (
             &["demo", "56", "7"],
             "demo 56 7 points 56 scanners 6 sights 56 inside 61 faces 92 cost 196\n",
+        ),
+        (
+            &["demo", "1000", "7"],
+            "demo 1000 7 points 1000 scanners 6 sights 1000 inside 2906 faces 1990 cost 2118\n",
         ),
     ];
     for (words, said) in cases {

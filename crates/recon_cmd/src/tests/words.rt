@@ -55,7 +55,7 @@ fn words_that_are_no_command_are_refused_with_no_call_but_say(rt: HostRuntime) -
         &["check", "in", "mesh", "cert", "out"],
         &["demo", "1"],
         &["demo", "0", "7"],
-        &["demo", "57", "7"],
+        &["demo", "1048577", "1"],
         &["demo", "00000000001", "7"],
         &["demo", "1", "18446744073709551616"],
         &["demo", "1", "000000000000000000007"],

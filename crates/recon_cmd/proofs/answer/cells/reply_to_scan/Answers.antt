@@ -1,10 +1,11 @@
-use Rattle.std.proofs.Common.{◌≡◌, sym, subst, ap, ◌∙◌, List, [], ◌∷◌, ◌++◌, length, arith}
+use Rattle.std.proofs.Common.{◌≡◌, sym, subst, ap, ◌∙◌, List, [], ◌∷◌, ◌++◌, length}
 use Rattle.geo_sign.specs.Point.{Point}
 use Rattle.geo_sign.specs.Vertices.{vertices_of}
 use Rattle.geo_sign.specs.Cells.{IsCellList}
 use Rattle.scan.specs.Views.{rows_of}
 use Rattle.solution.specs.Scans.{points_of}
-use Rattle.solution.proofs.SightLists.{points_are, few_points}
+use Rattle.solution.proofs.ScanScenes.{is_scan}
+use Rattle.solution.proofs.SightLists.{points_are}
 use Rattle.merge.specs.Merging.{distinct_points}
 use Rattle.recon_cmd.specs.Lines.{cells_line, cells_text}
 use Rattle.recon_cmd.specs.Replies.{texts_of}
@@ -12,11 +13,8 @@ use Rattle.recon_cmd.specs.declared.answer.Text.{Text}
 use Rattle.recon_cmd.proofs.ScanReplies.{celled}
 use Rattle.recon_cmd.proofs.answer.cells.reply_to_scan.Goals as goal
 
-pub plain_cells-requires : goal.plain_cells-requires
-plain_cells-requires c =
-    let points : c.deref-2.result.now ≡ points_of (rows_of c.args.scan.now) =
-    c.deref-2.ensures.value ∙ (c.in_ok-merged.ensures.points ∙ (ap distinct_points c.deref.ensures.value ∙ sym (points_are c.args.scan.now))) in
-    record { few = omega (arith, ap length points, few_points c.args.scan.now) }
+pub cells_of-requires : goal.cells_of-requires
+cells_of-requires c = (rows_of c.args.scan.now, is_scan c.args.scan.now, c.deref-2.ensures.value ∙ (c.in_ok-merged.ensures.points ∙ (ap distinct_points c.deref.ensures.value ∙ sym (points_are c.args.scan.now))))
 
 pub returns : goal.returns
 returns c =

@@ -1,0 +1,23 @@
+use Rattle.std.proofs.Common.{ℕ, ◌≡◌, ◌<◌, sym, subst, ap, arith, List, length, get_or}
+use Rattle.std.proofs.lemmas.List.{length-map}
+use Rattle.geo_sign.specs.Point.{Point, IsWithin, origin}
+use Rattle.geo_sign.specs.declared.point.TheConstants.{DATA_LIMIT}
+use Rattle.merge.proofs.Distinct.{few}
+use Rattle.scan.specs.ScanRows.{VertexRow}
+use Rattle.solution.proofs.ScanScenes.{points_within, points_apart, row_points}
+use Rattle.recon_cmd.proofs.answer.cells.cells_of.Goals as goal
+
+pub build-requires-clause-within : goal.build-requires-clause-within
+build-requires-clause-within c =
+    subst (λ (list : List Point). (k : ℕ) → k < length list → IsWithin DATA_LIMIT (get_or list k origin)) (sym c.requires.2) (λ k l. points_within c.requires.0 c.requires.1 k origin l)
+
+pub build-requires-clause-distinct : goal.build-requires-clause-distinct
+build-requires-clause-distinct c =
+    subst (λ (list : List Point). (j k : ℕ) → j < length list → k < length list → get_or list j origin ≡ get_or list k origin → j ≡ k) (sym c.requires.2) (points_apart c.requires.0)
+
+pub build-requires-clause-few : goal.build-requires-clause-few
+build-requires-clause-few c =
+    omega (arith, ap length c.requires.2, few (row_points c.requires.0), length-map c.requires.0.vertices (λ (row : VertexRow). row.point), c.requires.1.vertex_count)
+
+pub returns : goal.returns
+returns c = c.rising_cells.ensures c.args.points.now c.in_ok-linked.ensures.points
