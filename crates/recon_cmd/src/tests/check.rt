@@ -231,7 +231,11 @@ fn what_was_built_is_accepted(rt: HostRuntime) -> Result<(), Fail> {
         (String::from_str(alloc, "cert")?, None),
     ]?;
     let mut host = MemHost::new(alloc, files, PIECE, ROOM, Vec::new(alloc))?;
-    let built = run(alloc, &owned(alloc, &["build", "in", "mesh", "cert"])?, &mut host);
+    let built = run(
+        alloc,
+        &owned(alloc, &["build", "in", "mesh", "cert"])?,
+        &mut host,
+    );
     let end = host.said().len();
     let checked = run(alloc, &owned(alloc, &WORDS)?, &mut host);
     assert!(rt; built == 0 && checked == 0);

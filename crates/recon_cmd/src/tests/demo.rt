@@ -1,6 +1,6 @@
 //! Runs of `demo`: what is said of generated scans, with no call but `say`.
 
-use super::{ended, run_with, wrote_nothing};
+use super::{ended, run_on, run_with, wrote_nothing};
 use host::HostCall;
 use std::test::Fail;
 
@@ -34,5 +34,15 @@ fn a_generated_scan_is_built_and_no_file_is_touched(rt: HostRuntime) -> Result<(
         let ran = run_with(alloc, words, None, 10, failing)?;
         assert!(rt; ended(&ran, 0, said) && wrote_nothing(&ran), "{words:?}");
     }
+    Ok(())
+}
+
+#[test]
+fn ten_thousand_rows_are_built(rt: HostRuntime) -> Result<(), Fail> {
+    let alloc = rt.alloc();
+    let ran = run_on(alloc, &["demo", "10000", "7"], None)?;
+    let said =
+        "demo 10000 7 points 9995 scanners 6 sights 10000 inside 32170 faces 19982 cost 20254\n";
+    assert!(rt; ended(&ran, 0, said) && wrote_nothing(&ran));
     Ok(())
 }
