@@ -26,4 +26,4 @@ pub use laws::{facets_make_valid_meshes, mesh_texts_are_distinct};
 pub use mesh::{Mesh, NoMemory};
 pub use read::read_mesh;
 pub use refusal::MeshRefusal;
-pub use text::push_mesh;
+pub use text::{push_faces, push_mesh, push_point, push_points};

@@ -22,7 +22,10 @@ fn push_coordinates(out: &mut Vec<u8>, x: i64, y: i64, z: i64) -> Result<(), NoM
     Ok(())
 }
 
-fn push_point(out: &mut Vec<u8>, point: Point) -> Result<(), NoMemory>
+/// Adds the line `x y z` of a point at the end of `out`.
+///
+/// After `NoMemory` the bytes that `out` held are still at its front, and more may follow.
+pub fn push_point(out: &mut Vec<u8>, point: Point) -> Result<(), NoMemory>
     ensures ok { OnOk result (out.new.items ≡ out.old.items ++ point_line point) }
     ensures kept { OnErr result (take (length out.old.items) out.new.items ≡ out.old.items) }
 {
@@ -54,7 +57,10 @@ fn push_face(out: &mut Vec<u8>, face: [u32; 3]) -> Result<(), NoMemory>
     push_places(out, a, b, c)
 }
 
-fn push_points(out: &mut Vec<u8>, points: &[Point]) -> Result<(), NoMemory>
+/// Adds the lines of points at the end of `out`, in order.
+///
+/// After `NoMemory` the bytes that `out` held are still at its front, and more may follow.
+pub fn push_points(out: &mut Vec<u8>, points: &[Point]) -> Result<(), NoMemory>
     ensures ok { OnOk result (out.new.items ≡ out.old.items ++ flat_map point_line points.now) }
     ensures kept { OnErr result (take (length out.old.items) out.new.items ≡ out.old.items) }
 {
@@ -64,7 +70,10 @@ fn push_points(out: &mut Vec<u8>, points: &[Point]) -> Result<(), NoMemory>
     Ok(())
 }
 
-fn push_faces(out: &mut Vec<u8>, faces: &[[u32; 3]]) -> Result<(), NoMemory>
+/// Adds the lines `3 a b c` of faces at the end of `out`, in order.
+///
+/// After `NoMemory` the bytes that `out` held are still at its front, and more may follow.
+pub fn push_faces(out: &mut Vec<u8>, faces: &[[u32; 3]]) -> Result<(), NoMemory>
     ensures ok { OnOk result (out.new.items ≡ out.old.items ++ flat_map face_line faces.now) }
     ensures kept { OnErr result (take (length out.old.items) out.new.items ≡ out.old.items) }
 {

@@ -1,0 +1,116 @@
+-- What a form of a mesh has received.
+--
+--   Received             its stage, the numbers of points and faces due, the points and faces received
+--   fresh, IsFresh       nothing was received, and no numbers are known
+--   TakesPoint r         a point may come: begun, and fewer points than are due
+--   TakesFace f r        the face may come: begun, all points there, fewer faces than are due
+--   IsFull r             begun, and all that is due was received
+--   begun, with_point, with_face, ended   what the calls of a form make of it
+--   HasPoints k r points, HasFaces k r points faces   begun, so many of the points and no faces; all points and so many faces
+--   HasAll r points faces      ended, with exactly these points and faces
+--   HasPrefix r points faces   a front of the points, and behind all of them a front of the faces; not ended
+--   IsReceived           what a receipt keeps
+--   once_ended stage t   the text t at the stage Ended, else nothing
+use Rattle.std.specs.Prelude.{ℕ, ◌≡◌, ◌≢◌, ◌<◌, ◌≤◌, ◌^◌, List, [], ◌∷◌, ◌++◌, length, take, All}
+use Rattle.geo_sign.specs.Point.{Point}
+use Rattle.mesh_ply.specs.Meshes.{IsFace}
+use Rattle.mesh_form.specs.declared.stage.Stage.{Stage}
+use Rattle.mesh_form.specs.declared.stage.Stage.TheVariants.{Fresh, Begun, Ended}
+
+-- what a form has received
+pub record Received : Type 0 where
+  pub stage : Stage
+  pub points_due : ℕ
+  pub faces_due : ℕ
+  pub points : List Point
+  pub faces : List (List ℕ)
+
+-- nothing, and no numbers are due
+abbrev pub fresh : Received
+fresh = record { stage = Fresh; points_due = 0; faces_due = 0; points = []; faces = [] }
+
+-- not begun, and nothing received
+pub record IsFresh (r : Received) : Type 0 where
+  pub stage : r.stage ≡ Fresh
+  pub no_points : r.points ≡ []
+  pub no_faces : r.faces ≡ []
+
+-- a point may come
+pub record TakesPoint (r : Received) : Type 0 where
+  pub stage : r.stage ≡ Begun
+  pub due : length r.points < r.points_due
+
+-- this face may come
+pub record TakesFace (f : List ℕ) (r : Received) : Type 0 where
+  pub stage : r.stage ≡ Begun
+  pub points : length r.points ≡ r.points_due
+  pub due : length r.faces < r.faces_due
+  pub face : IsFace (length r.points) f
+
+-- all that is due was received
+pub record IsFull (r : Received) : Type 0 where
+  pub stage : r.stage ≡ Begun
+  pub points : length r.points ≡ r.points_due
+  pub faces : length r.faces ≡ r.faces_due
+
+-- begun, with n points and m faces due
+abbrev pub begun : (n m : ℕ) → Received → Received
+begun n m r = record { stage = Begun; points_due = n; faces_due = m; points = r.points; faces = r.faces }
+
+-- one point more
+abbrev pub with_point : Point → Received → Received
+with_point p r = record { stage = r.stage; points_due = r.points_due; faces_due = r.faces_due; points = r.points ++ p ∷ []; faces = r.faces }
+
+-- one face more
+abbrev pub with_face : List ℕ → Received → Received
+with_face f r = record { stage = r.stage; points_due = r.points_due; faces_due = r.faces_due; points = r.points; faces = r.faces ++ f ∷ [] }
+
+-- all is received
+abbrev pub ended : Received → Received
+ended r = record { stage = Ended; points_due = r.points_due; faces_due = r.faces_due; points = r.points; faces = r.faces }
+
+-- begun, k of these points received, and no faces
+pub record HasPoints (k : ℕ) (r : Received) (points : List Point) : Type 0 where
+  pub stage : r.stage ≡ Begun
+  pub due : r.points_due ≡ length points
+  pub within : k ≤ length points
+  pub front : r.points ≡ take k points
+  pub no_faces : r.faces ≡ []
+
+-- begun, all points received, and k of these faces
+pub record HasFaces (k : ℕ) (r : Received) (points : List Point) (faces : List (List ℕ)) : Type 0 where
+  pub stage : r.stage ≡ Begun
+  pub points_due : r.points_due ≡ length points
+  pub all_points : r.points ≡ points
+  pub due : r.faces_due ≡ length faces
+  pub within : k ≤ length faces
+  pub front : r.faces ≡ take k faces
+
+-- ended, with exactly these points and faces
+pub record HasAll (r : Received) (points : List Point) (faces : List (List ℕ)) : Type 0 where
+  pub stage : r.stage ≡ Ended
+  pub all_points : r.points ≡ points
+  pub all_faces : r.faces ≡ faces
+  pub points_due : r.points_due ≡ length points
+  pub faces_due : r.faces_due ≡ length faces
+
+-- a front of the points, and a front of the faces behind all points; not ended
+pub record HasPrefix (r : Received) (points : List Point) (faces : List (List ℕ)) : Type 0 where
+  pub stage : r.stage ≢ Ended
+  pub front_points : r.points ≡ take (length r.points) points
+  pub front_faces : r.faces ≡ take (length r.faces) faces
+  pub in_turn : 0 < length r.faces → r.points ≡ points
+
+-- what a receipt keeps: numbers of 32 bits, no more than is due, faces among the points that are due
+pub record IsReceived (points_due faces_due : ℕ) (points : List Point) (faces : List (List ℕ)) : Type 0 where
+  pub few_points : points_due < 2 ^ 32
+  pub few_faces : faces_due < 2 ^ 32
+  pub some_points : length points ≤ points_due
+  pub some_faces : length faces ≤ faces_due
+  pub each : All (IsFace points_due) faces
+
+-- the text of an ended form, before which there is none
+abbrev pub once_ended : Stage → List ℕ → List ℕ
+once_ended Fresh text = []
+once_ended Begun text = []
+once_ended Ended text = text

@@ -1,0 +1,88 @@
+//! A mesh handed to a form.
+ghost use Rattle.std.specs.Prelude.{◌≡◌, ℕ, length, All, OnOk, OnErr};
+ghost use Rattle.mesh_ply.specs.Meshes.{IsFace, IsMesh};
+ghost use Rattle.mesh_form.specs.Received.{IsFresh, TakesPoint, TakesFace, IsFull, HasPoints, HasFaces, HasPrefix, HasAll, begun, with_point, with_face, ended};
+
+use crate::form::Form;
+use geo_sign::Point;
+use mesh_ply::{Mesh, NoMemory};
+
+// The calls of a boxed form, one by one: what each says of the form in the box.
+
+fn begin(form: &mut Box<dyn Form>, points: u32, faces: u32) -> Result<(), NoMemory>
+    requires { IsFresh (received form.old) }
+    ensures begun { OnOk result (received form.new ≡ begun points faces (received form.old)) }
+    ensures kept { OnErr result (received form.new ≡ received form.old) }
+{
+    form.begin(points, faces)
+}
+
+fn hand_point(form: &mut Box<dyn Form>, point: Point) -> Result<(), NoMemory>
+    requires { TakesPoint (received form.old) }
+    ensures taken { OnOk result (received form.new ≡ with_point point (received form.old)) }
+    ensures kept { OnErr result (received form.new ≡ received form.old) }
+{
+    form.vertex(point)
+}
+
+fn hand_face(form: &mut Box<dyn Form>, face: [u32; 3]) -> Result<(), NoMemory>
+    requires { TakesFace face (received form.old) }
+    ensures taken { OnOk result (received form.new ≡ with_face face (received form.old)) }
+    ensures kept { OnErr result (received form.new ≡ received form.old) }
+{
+    form.face(face)
+}
+
+fn end(form: &mut Box<dyn Form>) -> Result<(), NoMemory>
+    requires { IsFull (received form.old) }
+    ensures ended { OnOk result (received form.new ≡ ended (received form.old)) }
+    ensures kept { OnErr result (received form.new ≡ received form.old) }
+{
+    form.end()
+}
+
+// All the points, to a form that has begun.
+fn hand_points(form: &mut Box<dyn Form>, points: &[Point]) -> Result<(), NoMemory>
+    requires { HasPoints 0 (received form.old) points.now }
+    ensures all { OnOk result (HasPoints (length points.now) (received form.new) points.now) }
+    ensures due { (received form.new).faces_due ≡ (received form.old).faces_due }
+    ensures front { (k : ℕ) × HasPoints k (received form.new) points.now }
+{
+    for point in points {
+        hand_point(form, *point)?;
+    }
+    Ok(())
+}
+
+// All the faces, to a form that has all points.
+fn hand_faces(
+    form: &mut Box<dyn Form>,
+    points: &[Point],
+    faces: &[[u32; 3]],
+) -> Result<(), NoMemory>
+    requires due { HasFaces 0 (received form.old) points.now faces.now }
+    requires each { All (IsFace (length points.now)) faces.now }
+    ensures all { OnOk result (HasFaces (length faces.now) (received form.new) points.now faces.now) }
+    ensures front { (k : ℕ) × HasFaces k (received form.new) points.now faces.now }
+{
+    for face in faces {
+        hand_face(form, *face)?;
+    }
+    Ok(())
+}
+
+/// Hands a valid mesh to a fresh form: its points and then its faces, in order, once each.
+///
+/// After `NoMemory` the form has received a prefix of them, and is not ended.
+pub fn drive(form: &mut Box<dyn Form>, mesh: &Mesh) -> Result<(), NoMemory>
+    requires fresh { IsFresh (received form.old) }
+    requires valid { IsMesh mesh.now.points.items mesh.now.faces.items }
+    ensures all { OnOk result (HasAll (received form.new) mesh.now.points.items mesh.now.faces.items) }
+    ensures prefix { OnErr result (HasPrefix (received form.new) mesh.now.points.items mesh.now.faces.items) }
+{
+    begin(form, mesh.points.len() as u32, mesh.faces.len() as u32)?;
+    hand_points(form, &mesh.points)?;
+    hand_faces(form, &mesh.points, &mesh.faces)?;
+    end(form)?;
+    Ok(())
+}
