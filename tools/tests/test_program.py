@@ -96,6 +96,75 @@ def with_lists(order):
     return header(kind, WITH_LIST) + rows + struct.pack(order + 'iii', 0, 0, 1000)
 
 
+COORDINATES = [(-100, 5, 7), (100, 5, 7), (-3, 100, -128), (0, -90, 127), (11, 12, 13)]
+WHOLE = {'char': 'b', 'uchar': 'B', 'short': 'h', 'ushort': 'H', 'int': 'i', 'uint': 'I'}
+
+
+def scan_of_type(order, kind, scanners):
+    """A binary scan of five points and many scanners, with six properties a row and two elements more, all coordinates of one
+    type; negative ones become positive where the type has none."""
+    sign = abs if kind.startswith('u') else int
+    axes = [f'{kind} {axis}' for axis in 'xyz']
+    elements = [('camera', 1, ['double view']), ('vertex', 5, ['float red', 'uchar blue'] + axes + ['ushort scanner']),
+                ('face', 0, ['list uchar int vertex_indices']), ('scanner', scanners, axes + ['float heat'])]
+    number = order + 3 * WHOLE[kind]
+    rows = b''.join(struct.pack(order + 'fB', 0.5, 9) + struct.pack(number, *map(sign, point)) + struct.pack(order + 'H', k * 2 % scanners)
+                    for k, point in enumerate(COORDINATES))
+    places = b''.join(struct.pack(number, 90, 3 * k, 120) + struct.pack(order + 'f', 1) for k in range(scanners))
+    name = {'<': 'binary_little_endian', '>': 'binary_big_endian'}[order]
+    return header(name, elements) + struct.pack(order + 'd', 1) + rows + places
+
+
+def text_of_type(kind, scanners, unit):
+    """The same scan as text, in scaled units."""
+    sign = abs if kind.startswith('u') else int
+    rows = ''.join('%d %d %d %d\n' % (*(unit * sign(c) for c in point), k * 2 % scanners) for k, point in enumerate(COORDINATES))
+    places = ''.join('%d %d %d\n' % (unit * 90, unit * 3 * k, unit * 120) for k in range(scanners))
+    return header('ascii', [('vertex', 5, POINT + ['int scanner']), ('scanner', scanners, POINT)]) + (rows + places).encode('ascii')
+
+
+def test_binary_scans_of_each_type():
+    for kind in WHOLE:
+        for order in '<>':
+            for unit, scanners in ((1, 3), (1, 12), (250, 12)):
+                write('binary', scan_of_type(order, kind, scanners))
+                write('text', text_of_type(kind, scanners, unit))
+                for words in (['cells', 'IN', 'out'], ['build', 'IN', 'out', 'cert', 'vote=9', 'smooth=2']):
+                    both = []
+                    for name, more in (('binary', [f'unit={unit}']), ('text', [])):
+                        answer = recon(*[name if word == 'IN' else word for word in words], *more)
+                        both.append((answer, data('out')))
+                    equal(both[0], both[1])
+                    equal(both[0][0][0], 0)
+                equal(recon('check', 'binary', 'out', 'cert', 'vote=9', 'smooth=2', f'unit={unit}')[0], 0)
+
+
+def test_options_of_cells_and_check():
+    write('scan', example('metres.ply'))
+    options = ['unit=1000', 'scanner=1,1,1']
+    equal(recon('build', 'scan', 'mesh', 'cert', *options), (0, 'points 4 scanners 1 sights 4 inside 1 faces 4 cost 28\n'))
+    equal(recon('check', 'scan', 'mesh', 'cert', *reversed(options)), (0, 'yes inside 1 faces 4 cost 28\n'))
+    equal(recon('cells', 'scan', 'out', *options)[0], 0)
+    cells = data('out')
+    equal(recon('cells', 'scan', 'out', 'unit=1', 'scanner=1,1,1'), (0, 'points 1 cells 12\n'))
+    equal(cells != data('out'), True)
+
+
+def test_demonstrations_of_few_rows():
+    for rows in range(1, 60):
+        status, line = recon('demo', str(rows), '11')
+        equal((status, line.split()[:3], line.split()[7:9]), (0, ['demo', str(rows), '11'], ['sights', str(rows)]))
+
+
+def test_cost_over_32_bits():
+    rows = 70000
+    write('scan', header('ascii', [('vertex', rows, POINT), ]) + b'1 2 3\n' * rows)
+    options = ['scanner=5,6,7', 'vote=65535']
+    line = f'inside 0 faces 0 cost {rows * 65535}\n'
+    equal(recon('build', 'scan', 'mesh', 'cert', *options), (0, f'points 1 scanners 1 sights {rows} {line}'))
+    equal(recon('check', 'scan', 'mesh', 'cert', *options), (0, f'yes {line}'))
+
+
 def scans():
     """Small scans of each kind, all of which are read."""
     text = example('tetrahedron.ply')
