@@ -3,7 +3,7 @@
 
   pictures.py RECON FOLDER [PICTURE ..]
 
-  RECON              the program `recon` at a limit that takes scans of 100,000 points
+  RECON              the built program
   FOLDER             where the pictures are written
   PICTURE            inside, sight, torus, statue, room, smooth, unit, scanner; all of them where none is named
 
