@@ -18,8 +18,8 @@ recon:
 	cd crates/recon_main && rt run -- demo 1 7
 	cp $(PROGRAM) recon
 
-# The gate: proves every crate and its tests from nothing, tries the edits that must be refused, runs every test and
-# the program, each time. About an hour on four processors.
+# Proves every crate and its tests from nothing, tries the edits that must be refused, runs every test and the program, each
+# time. About an hour on four processors. The tests of tools/ and of what the documents name are beside it, in .ci/run.
 test:
 	@echo "rt ci: every proof, every edit that must be refused, every test (about an hour)"
 	rt ci
@@ -30,11 +30,11 @@ bench: recon
 	@echo "times of build and check at growing sizes, into bench_scans/"
 	python3 tools/bench.py ./recon bench_scans $(if $(BESIDE),beside=$(BESIDE))
 
-# Installs the built program and its manual page under PREFIX (a second).
+# Installs the program and its manual page under PREFIX (a second, where the program is built; else it is built first).
 install: recon
 	install -D -m 755 recon $(DESTDIR)$(PREFIX)/bin/recon
 	install -D -m 644 docs/recon.1 $(DESTDIR)$(PREFIX)/share/man/man1/recon.1
 
-# Removes what was built and what the proofs kept (a second; the next run proves from nothing).
+# Removes what was built and what the proofs kept (a second; the next run proves from nothing). The scans of bench stay.
 clean:
 	rm -rf crates/*/out recon tetrahedron_mesh.ply tetrahedron.cert

@@ -10,9 +10,10 @@
                      be the same, byte for byte
   sizes=N,N,..       without it 10000,100000,1000000
   shapes=NAME,..     shapes of make_scan.py; without it cube,torus,room,statue
-  runs=N             runs of each, of which the least time counts; without it 2
+  runs=N             runs of each, of which the least times and the largest peak count; without it 2
 
-Seconds are of the processor (user and system) and of the wall; the peak is the largest resident memory.
+Seconds are of the processor (user and system) and of the wall; the peak is the largest resident memory, in units of 2^20
+bytes. Needs Python 3.9.
 """
 import os
 import resource

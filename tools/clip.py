@@ -4,7 +4,7 @@ keeps the points on them.
 
   clip.py IN OUT from=X,Y,Z to=X,Y,Z [outside=yes] [index=NAME] [positions=TABLE] [origin=X,Y,Z] [open_end=yes]
 
-  from=X,Y,Z         the corner of the box with the least coordinates, in the file's own numbers
+  from=X,Y,Z         the corner of the box with the least coordinates, in the file's own numbers (before origin= is taken off)
   to=X,Y,Z           the corner with the greatest
   outside=yes        keep the points outside of the box instead
 """

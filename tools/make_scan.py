@@ -5,12 +5,15 @@
 
   SHAPE              torus, statue (a figure of balls), cube or sphere, seen from 8 places around it; or room (a room with
                      furniture and two pillars, seen from 4 places in it)
-  COUNT, SEED        how many points, and the number that they are drawn from
-  scale=S            units for the length 1; the shapes reach from about -1 to 1. Without it 500000
-  noise=F            how far a point errs along its sight, as the deviation of a normal error of length F. Without it 0.0015
+  COUNT, SEED        how many points, and a word that they are drawn from
+  scale=S            units for the length 1; the shapes reach from about -1 to 1, their scanners to 2.4. Without it 500000. A
+                     coordinate that would pass 2,097,151 stays there
+  noise=F            how far a point errs along its sight, as the deviation of a normal error, in the length of which S units
+                     are one. Without it 0.0015
   stray=F            which part of the points is wrong: half of them too short on their sight, half anywhere. Without it 0.02
 
-A point is drawn evenly on the surface together with a scanner, and kept where that scanner sees it.
+A point is drawn evenly on the surface together with a scanner, and kept where that scanner sees it, and not at a grazing
+angle.
 """
 import math
 import random

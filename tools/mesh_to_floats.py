@@ -5,7 +5,7 @@ PLY with whole-number coordinates. Coordinates are divided by the unit, and the 
   mesh_to_floats.py IN OUT [unit=U] [origin=X,Y,Z]
 
   unit=U             the unit that the mesh was built with. Without it 1
-  origin=X,Y,Z       the place that floats_to_text, thin or clip took off
+  origin=X,Y,Z       the place that floats_to_text, thin, clip or surround took off. Without it 0,0,0
 
 Coordinates are exact decimals, rounded only where they have over 30 digits. The faces stay as they are.
 """

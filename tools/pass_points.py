@@ -10,13 +10,16 @@ from tool import left_out, number_of, three, yes
 KEYS = ('index', 'positions', 'origin', 'open_end')
 HELP = """
   index=NAME         the vertex property that numbers the scanner of a point, from 0; it is written as `scanner`, and
-                     3.000000 as 3. Without it `scanner` or else `scalar_scanner` is taken, if there is one
+                     3.000000 as 3; another property `scanner` is kept as `scanner_before`. Without it `scanner` or else
+                     `scalar_scanner` is taken, if there is one
   positions=TABLE    a text file of lines X Y Z, one a scanner in the order of its numbers, for a file that has no
                      element `scanner`. Where it is one line and no property numbers the scanners, it saw all points
   origin=X,Y,Z       this place is taken off every point and every scanner
   open_end=yes       take a text file whose last line has no end (else it counts as cut)
 
-Left out are points with a coordinate or a scanner that is nan or infinite, and all elements but `vertex` and `scanner`."""
+Left out are points with a coordinate or a scanner that is nan or infinite, and all elements but `vertex` and `scanner`.
+A property of `vertex` that is a list is refused. Names of properties that are no printable ASCII, or stand twice, are
+changed."""
 
 
 def index_column(vertex, name):

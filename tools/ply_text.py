@@ -4,8 +4,9 @@ Rows are lists of words: a text body's own, digit by digit, and the numbers of a
 the same number. Nothing is held but a part of the file, and each output stands only when it is whole.
 
 Names: Refusal (why a file is not taken) · Property, Element (what a header says) · Reader (a file's header and its rows,
-text or binary) · whole_file, Writer (a text PLY whose count is known at the end) · decimals (whether three words are a
-point) · index_text (the number of a scanner, written as a whole number) · read_positions (a table of scanner positions).
+text or binary) · plain_names (columns under names that every reader takes) · whole_file, Writer (a text PLY whose count is
+known at the end) · decimals (whether three words are a point) · index_text (the number of a scanner, written as a whole
+number) · read_positions (a table of scanner positions).
 """
 import contextlib
 import os

@@ -1,7 +1,7 @@
 #!/usr/bin/env python3
 """Leica's PTX becomes a PLY scan that `recon` reads: each station's points, brought to where they are by its matrix, with
-the number of the station; and each station's position. Returns that are empty (0 0 0) are left out, and so are intensity
-and colours, which `recon` does not read.
+the number of the station; and each station's position. Returns that are empty (0 0 0) or have a coordinate that is nan or
+infinite are left out, and so are intensity and colours, which `recon` does not read.
 
   ptx_to_ply.py IN OUT [position=header|matrix] [open_end=yes]
 

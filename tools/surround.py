@@ -8,7 +8,8 @@ side of the box is no surface of the object: take it off the mesh in a viewer.
 
   surround.py IN OUT by=D [index=NAME] [positions=TABLE] [origin=X,Y,Z] [open_end=yes]
 
-  by=D               how far the box stands off the points, and the eight scanners off the box, in the file's own numbers
+  by=D               how far the box stands off the points, and the eight scanners off the box, on each axis, in the file's
+                     own numbers
 """
 from math import isfinite
 

@@ -4,7 +4,8 @@ cloud with too many points becomes one with fewer, evenly spread. The cubes lie 
 
   thin.py IN OUT side=S [index=NAME] [positions=TABLE] [origin=X,Y,Z] [open_end=yes]
 
-  side=S             the side of a cube, in the file's own numbers
+  side=S             the side of a cube, in the file's own numbers. No point may be over 1,048,575 sides
+                     from the first one on an axis
 """
 from array import array
 from math import floor, isfinite
