@@ -24,8 +24,8 @@ test:
 	@echo "rt ci: every proof, every edit that must be refused, every test (about an hour)"
 	rt ci
 
-# Times build and check on scans of 10,000 to 1,000,000 points and prints the table of docs/performance.md (some twenty minutes,
-# most of it to make the scans). BESIDE=PROGRAM times another program of the same words run by run with it.
+# Times build and check on scans of 10,000 to 1,000,000 points and prints the table of docs/performance.md (some tens of minutes;
+# the scans are made the first time). BESIDE=PROGRAM times another program of the same words run by run with it.
 bench: recon
 	@echo "times of build and check at growing sizes, into bench_scans/"
 	python3 tools/bench.py ./recon bench_scans $(if $(BESIDE),beside=$(BESIDE))
