@@ -18,11 +18,11 @@ recon:
 	cd crates/recon_main && rt run -- demo 1 7
 	cp $(PROGRAM) recon
 
-# Proves every crate and its tests from nothing, tries the edits that must be refused, runs every test and the program, each
-# time. About an hour on four processors. The tests of tools/ and of what the documents name are beside it, in .ci/run.
+# All tests, as the gate runs them: every proof of every crate and its tests from nothing, the edits that must be refused, every
+# test and the program, each time; then the tests of tools/ and of the built program. About an hour on four processors.
 test:
-	@echo "rt ci: every proof, every edit that must be refused, every test (about an hour)"
-	rt ci
+	@echo "rt ci (every proof, every edit that must be refused, every test), then the tests of tools/: about an hour"
+	bash .ci/run
 
 # Times build and check on scans of 10,000 to 1,000,000 points and prints the table of docs/performance.md (some tens of minutes;
 # the scans are made the first time). BESIDE=PROGRAM times another program of the same words run by run with it.
