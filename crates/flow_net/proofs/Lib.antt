@@ -1,3 +1,4 @@
 pub mod SumLemmas
 pub mod Duality
 pub mod Meets
+pub mod WeightLemmas

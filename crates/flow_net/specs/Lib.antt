@@ -2,3 +2,4 @@ pub mod Flows
 pub mod Laws
 pub mod Nets
 pub mod Sums
+pub mod Weights

@@ -21,7 +21,7 @@ mod votes;
 pub use laws::{equal_value_and_cost_are_best, exactly_one_is_least_inside, value_is_at_most_cost};
 pub use lists::Sequence;
 pub use sums::{cost, value};
-pub use votes::{SIGHT_LIMIT, Settings, Sight, WEIGHT_LIMIT};
+pub use votes::{SIGHT_LIMIT, SIGHT_WEIGHT_LIMIT, Settings, Sight, WEIGHT_LIMIT, are_sights};
 
 /// The largest capacity of an arc and the largest sink of a node, 2^60, so that sums of them fit in 128 bits.
 pub const AMOUNT_LIMIT: u64 = 1_152_921_504_606_846_976;

@@ -1,18 +1,22 @@
 //! What cells are voted on by: the settings and the sights. It stands on nothing else.
 
-ghost use Rattle.std.specs.Prelude.{◌≡◌, ◌≤◌, ◌↔◌, IsSome, IfSome};
+ghost use Rattle.std.specs.Prelude.{◌≡◌, ◌≤◌, ◌↔◌, IsSome, IsTrue, IfSome};
+ghost use Rattle.flow_net.specs.Weights.{IsSightList, IsWeighed};
 ghost use Rattle.flow_net.specs.declared.votes.TheConstants.{WEIGHT_LIMIT};
 
 /// The largest weight of a vote and of smoothing.
 pub const WEIGHT_LIMIT: u32 = 65_535;
 
 /// The most sights of a network.
-pub const SIGHT_LIMIT: usize = 1_048_576;
+pub const SIGHT_LIMIT: usize = 8_388_608;
+
+/// The largest weight of a sight.
+pub const SIGHT_WEIGHT_LIMIT: u32 = 255;
 
 /// The weights of votes and of smoothing.
 #[derive(Clone, Copy, Debug, PartialEq, Eq)]
 pub struct Settings {
-    /// What each sight adds to the capacity of a facet that it crosses and to the sink of the cell behind it, 1 to 65,535.
+    /// What each sight of weight 1 adds to the capacity of a facet that it crosses and to the sink of the cell behind it, 1 to 65,535.
     pub vote: u32,
     /// What each facet has as capacity beside its votes, 0 to 65,535.
     pub smooth: u32,
@@ -42,4 +46,21 @@ pub struct Sight {
     pub vertex: u32,
     /// The index of the scanner in the list of scanners.
     pub scanner: u32,
+    /// How much it counts: as much as so many sights of weight 1. It is 1 to 255.
+    pub weight: u32,
+}
+
+/// Whether a sight has a weight that it may have.
+fn is_weighed(sight: &Sight) -> bool
+    ensures { IsTrue result ↔ IsWeighed sight.now }
+{
+    sight.weight >= 1 && sight.weight <= SIGHT_WEIGHT_LIMIT
+}
+
+/// Whether a network may be made of these sights: there are at most [`SIGHT_LIMIT`], each of a weight from 1 to
+/// [`SIGHT_WEIGHT_LIMIT`].
+pub fn are_sights(sights: &[Sight]) -> bool
+    ensures { IsTrue result ↔ IsSightList sights.now }
+{
+    sights.len() <= SIGHT_LIMIT && sights.iter().all(|sight| is_weighed(sight))
 }

@@ -64,6 +64,14 @@ no_items at n ts is = subst (λ (k : ℕ). items_of at k ts ≡ Ok (record { pla
 pub no_token : (at : Place) (n : ℕ) (ts : List Token) → 0 < n → ts ≡ [] → items_of at n ts ≡ Err (Cut at)
 no_token at n ts lt is = rw (is, lt-ltb 0 n lt) refl
 
+-- tokens that were read were there
+pub items_there : (at : Place) (n place : ℕ) (ts : List Token) (read : ℕ × List Token) → items_end at n place ts ≡ Ok read → n ≤ length ts
+items_there at n place ts read e =
+    elim (cases_lt (length ts) n) [
+      | inl lt ↦ let cut : items_end at n place ts ≡ Err (Cut at) = rw (lt-ltb (length ts) n lt) refl in absurd cc
+      | inr ge ↦ ge
+    ]
+
 -- a list is refused as its items are
 pub items_fail : (e : RowRefusal) (at : Place) (n : ℕ) (t : Token) (ts all : List Token) (behind : ℕ) → 0 < n → t.place + length t.bytes ≡ behind → all ≡ t ∷ ts → Fails e (items_end at (n - 1) behind ts) → Fails e (items_of at n all)
 items_fail NoMemory at n t ts all behind lt ends is fails = tt

@@ -1,5 +1,6 @@
 pub mod TokenLemmas
 pub mod ItemLemmas
+pub mod Walks
 pub mod RowLemmas
 pub mod ElementLemmas
 pub mod FitLemmas

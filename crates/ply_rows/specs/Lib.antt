@@ -5,3 +5,4 @@ pub mod Rests
 pub mod Bodies
 pub mod Readers
 pub mod Grammar
+pub mod Items

@@ -4,6 +4,7 @@
 -- NextRow        what a call for the next row answers, and what it leaves
 -- IsInside       a field lies in the body
 -- HasSize        a field has as many bytes as its items take, in a binary body
+-- HasTokens      a list's field has as many tokens as items from its place on, in a text
 -- IsFieldOf      a field is one of a property
 -- AreFieldsOf    fields are those of properties, one for each
 -- IsRowOf        fields are those of a row of the header
@@ -21,6 +22,7 @@ use Rattle.ply_rows.specs.declared.place.RowAt.{RowAt}
 use Rattle.ply_rows.specs.declared.refusal.RowRefusal.{RowRefusal}
 use Rattle.ply_rows.specs.declared.refusal.RowRefusal.TheVariants.{Trailing, NoMemory}
 use Rattle.ply_rows.specs.Binaries.{size_of}
+use Rattle.ply_rows.specs.Tokens.{tokens_at}
 use Rattle.ply_rows.specs.Bodies.{BodyRows, row, ends, refused}
 
 -- the header, the body, and the rows that are left with how they end
@@ -47,10 +49,16 @@ HasSize Ascii shape field = Unit {0}
 HasSize kind (One scalar) field = field.size ≡ size_of scalar
 HasSize kind (Many count item) field = field.size ≡ field.items * size_of item
 
+-- in a text the items of a list are tokens that stand from the field's place on
+abbrev pub HasTokens : Kind → List ℕ → Shape → Field → Type 0
+HasTokens Ascii body (Many count item) field = field.items ≤ length (tokens_at body field.place)
+HasTokens kind body shape field = Unit {0}
+
 -- the field is one of a property of this shape
 pub record IsFieldOf (kind : Kind) (body : List ℕ) (shape : Shape) (field : Field) : Type 0 where
   pub inside : IsInside body field
   pub size : HasSize kind shape field
+  pub tokens : HasTokens kind body shape field
 
 -- the fields are those of the properties, one for each, in order
 pub record AreFieldsOf (kind : Kind) (body : List ℕ) (properties : List Property) (fields : List Field) : Type 0 where

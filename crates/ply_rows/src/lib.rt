@@ -20,6 +20,7 @@
 
 mod binary;
 mod fields;
+mod items;
 mod laws;
 mod place;
 mod refusal;
@@ -30,6 +31,7 @@ mod text;
 mod tokens;
 
 pub use binary::{binary_whole, size};
+pub use items::first_item;
 pub use laws::bodies_with_rows_are_read;
 pub use place::{Field, Place, RowAt};
 pub use refusal::{NoMemory, RowRefusal};

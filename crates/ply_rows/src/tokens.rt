@@ -50,6 +50,7 @@ pub(crate) fn next_token(body: &[u8], place: usize) -> Option<(usize, usize)>
     ensures most { IfSome result (λ token. token.1 ≤ length body.now) }
     ensures some { IfSome result (λ token. tokens_at body.now place
         ≡ record { place = token.0; bytes = take (token.1 - token.0) (drop token.0 body.now) } ∷ tokens_at body.now token.1) }
+    ensures begins { IfSome result (λ token. tokens_at body.now token.0 ≡ tokens_at body.now place) }
     ensures none { IfNone result (tokens_at body.now place ≡ []) }
 {
     let start = token_start(body, place);
