@@ -1,2 +1,3 @@
 pub mod WellFormed
 pub mod Stored
+pub mod SortedRows

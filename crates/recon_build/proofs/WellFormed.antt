@@ -1,9 +1,12 @@
 -- The certificate of a scan's network is well formed.
-use Rattle.std.proofs.Common.{ℕ, zero, suc, ◌≡◌, ◌+◌, ◌<◌, ◌≤◌, ◌^◌, not, refl, ap, sym, subst, arith, Bool, true, false, cond, inl, inr, ⊎_elim, List, [], ◌∷◌, length, map, filter, get_or, eqb, AllPairs, Contains}
+use Rattle.std.proofs.Common.{ℕ, zero, suc, ◌≡◌, ◌+◌, ◌<◌, ◌≤◌, ◌^◌, not, refl, ap, sym, subst, arith, Bool, true, false, cond, inl, inr, ⊎_elim, List, [], ◌∷◌, length, map, filter, get_or, eqb, AllPairs, Contains, Option, Some, None}
 use Rattle.std.proofs.lemmas.Bool.{eqb-false}
 use Rattle.std.proofs.lemmas.List.{get_or-map, length-map}
 use Rattle.std.proofs.lemmas.List.Kept.{AllPairs-filter}
-use Rattle.cert_text.specs.Certificates.{Claim, FitCounts, AreCellRows, IsFlowList, IsSinkList, IsWellFormed}
+use Rattle.std.specs.Option.{option_map}
+use Rattle.cert_text.specs.Stamps.{IsVersion}
+use Rattle.cert_text.specs.declared.stamp.Stamp.{Stamp}
+use Rattle.cert_text.specs.Certificates.{Claim, FitCounts, AreCellRows, IsFlowList, IsSinkList, IsWellFormed, stamp_view}
 use Rattle.cert_text.specs.Rows.{IsCellRow, IsFlowRow, IsSinkRow}
 use Rattle.line_text.specs.Facets.{IsFacetRow}
 use Rattle.cert_text.specs.declared.certificate.FlowRow.{FlowRow}
@@ -25,7 +28,7 @@ use Rattle.scan.specs.Views.{rows_of}
 use Rattle.scan.specs.declared.scan.Scan.{Scan}
 use Rattle.solution.proofs.SightLists.{few_points, row_count}
 use Rattle.solution.specs.Solutions.{HasCounts, IsCertificate, flow_on, sink_at, flow_row, sink_row, flow_rows, sink_rows}
-use Rattle.flow_net.specs.declared.votes.TheConstants.{SIGHT_LIMIT}
+use Rattle.flow_net.specs.Weights.{IsSightList}
 
 -- the two orders of rows are one
 same_before : (xs ys : List ℕ) → IsBefore xs ys → IsRowBefore xs ys
@@ -79,7 +82,7 @@ some_amount zero e = by (eqb 0 0) refl e
     by false h e = absurd (eqb-false 0 0 h refl)
 some_amount (suc n) e = omega arith
 
-flow_list : (s : Scene) (complex : Complex) (claim : Claim) → IsComplexOf s complex → s.vertices.count ≤ 8 + point_limit → length s.sights ≤ SIGHT_LIMIT → length (flow_rows complex.facets (flow_on claim)) < 2 ^ 64
+flow_list : (s : Scene) (complex : Complex) (claim : Claim) → IsComplexOf s complex → s.vertices.count ≤ 8 + point_limit → IsSightList s.sights → length (flow_rows complex.facets (flow_on claim)) < 2 ^ 64
     → IsValidFlow s complex (flow_on claim) (sink_at claim) → IsFlowList (flow_rows complex.facets (flow_on claim))
 flow_list s complex claim is few few_sights short valid =
     let test : List ℕ → Bool = λ key. not (eqb (flow_on claim key) 0) in
@@ -102,7 +105,7 @@ flow_list s complex claim is few few_sights short valid =
     keys_of [] = refl
     keys_of (key ∷ rest) = ap (λ (list : List (List ℕ)). key ∷ list) (keys_of rest)
 
-sink_list : (s : Scene) (complex : Complex) (claim : Claim) → IsComplexOf s complex → s.vertices.count ≤ 8 + point_limit → length s.sights ≤ SIGHT_LIMIT → length (sink_rows complex.cells (sink_at claim)) < 2 ^ 64
+sink_list : (s : Scene) (complex : Complex) (claim : Claim) → IsComplexOf s complex → s.vertices.count ≤ 8 + point_limit → IsSightList s.sights → length (sink_rows complex.cells (sink_at claim)) < 2 ^ 64
     → IsValidFlow s complex (flow_on claim) (sink_at claim) → IsSinkList (sink_rows complex.cells (sink_at claim))
 sink_list s complex claim is few few_sights short valid =
     let test : List ℕ → Bool = λ key. not (eqb (sink_at claim key) 0) in
@@ -140,18 +143,24 @@ pub record IsShort (claim : Claim) : Type 0 where
   pub sink : length claim.sink < 2 ^ 64
 
 -- a certificate of a complex of as many vertices as a scan has at most is well formed, where its counts and its lists fit
-pub well_formed : (s : Scene) (complex : Complex) (inside : List ℕ → Bool) (claim : Claim) → IsComplexOf s complex → s.vertices.count ≤ 8 + point_limit → length s.sights ≤ SIGHT_LIMIT → FitCounts claim.counts → IsShort claim
+pub well_formed : (s : Scene) (complex : Complex) (inside : List ℕ → Bool) (claim : Claim) → IsComplexOf s complex → s.vertices.count ≤ 8 + point_limit → IsSightList s.sights → IsVersion claim.stamp → FitCounts claim.counts → IsShort claim
     → IsCertificate s complex inside claim → IsWellFormed claim
-well_formed s complex inside claim is few few_sights counts short certificate =
+well_formed s complex inside claim is few few_sights stamp counts short certificate =
     let inside_is : claim.inside ≡ filter inside complex.cells = certificate.inside_is in
     let flow_is : claim.flow ≡ flow_rows complex.facets (flow_on claim) = certificate.flow_is in
     let sink_is : claim.sink ≡ sink_rows complex.cells (sink_at claim) = certificate.sink_is in
     record {
+      stamp = stamp;
       counts = counts;
       inside = subst AreCellRows (sym inside_is) (cell_list s complex inside is few (subst (λ (rows : List (List ℕ)). length rows < 2 ^ 64) inside_is short.inside));
       flow = subst IsFlowList (sym flow_is) (flow_list s complex claim is few few_sights (subst (λ (rows : List FlowRow). length rows < 2 ^ 64) flow_is short.flow) certificate.flow);
       sink = subst IsSinkList (sym sink_is) (sink_list s complex claim is few few_sights (subst (λ (rows : List SinkRow). length rows < 2 ^ 64) sink_is short.sink) certificate.flow);
     }
+
+-- a stamp is what its type keeps
+pub version_of : (stamp : Option Stamp) → IsVersion (option_map stamp_view stamp)
+version_of None = tt
+version_of (Some s) = record { digest = s.digest_is; unit = s.unit_is; fixed = s.fixed_is }
 
 -- the counts of a scan fit
 pub fit_counts : (claim : Claim) (scan : Scan) (settings : Settings) → HasCounts claim (rows_of scan) settings → claim.counts.cost < 2 ^ 64 → FitCounts claim.counts

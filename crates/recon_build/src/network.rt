@@ -4,7 +4,7 @@
 ghost use Rattle.std.specs.Prelude.{IfOk};
 ghost use Rattle.scan.specs.Views.{rows_of};
 ghost use Rattle.solution.specs.Scans.{scene_of_rows};
-ghost use Rattle.visibility.specs.Networks.{IsNetworkOf};
+ghost use Rattle.visibility.specs.Networks.{IsNetworkInAnyOrder};
 ghost use Rattle.vote_net.specs.Counts.{AreCellsOf, AreIdsOf};
 ghost use Rattle.recon_build.specs.Stored.{IsStoreOf};
 
@@ -26,7 +26,7 @@ pub(crate) fn network(
 ) -> Result<(Tetra, Counted), NoMemory>
     ensures store { IfOk result (λ made. IsStoreOf (rows_of scan.now) settings made.0) }
     ensures cells { IfOk result (λ made. AreCellsOf (scene_of_rows (rows_of scan.now) settings) made.0.slots) }
-    ensures network { IfOk result (λ made. IsNetworkOf (scene_of_rows (rows_of scan.now) settings) made.1.voted) }
+    ensures network { IfOk result (λ made. IsNetworkInAnyOrder (scene_of_rows (rows_of scan.now) settings) made.1.voted) }
     ensures ids { IfOk result (λ made. AreIdsOf made.0.slots made.1.voted.cells made.1.ids.items) }
 {
     let seen = seen_in(alloc, scan)?;

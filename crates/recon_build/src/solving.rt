@@ -1,13 +1,15 @@
 //! The best surface of a scan. It stands on the network of its cells, on `max_flow`, `surface` and the rows of `cert_text`.
 
 ghost use Rattle.std.specs.Prelude.{◌≡◌, ◌<◌, ◌^◌, ◌++◌, IfOk};
-ghost use Rattle.cert_text.specs.Certificates.{claim_of, IsWellFormed};
+ghost use Rattle.std.specs.Option.{option_map};
+ghost use Rattle.cert_text.specs.Certificates.{claim_of, stamp_view, IsWellFormed};
 ghost use Rattle.flow_net.specs.Flows.{IsValidFlow, IsLeastInside, cost_of, value_of};
 ghost use Rattle.geo_sign.specs.Vertices.{corners};
 ghost use Rattle.mesh_ply.specs.Meshes.{IsMesh};
 ghost use Rattle.scan.specs.Views.{rows_of};
 ghost use Rattle.visibility.specs.Laws.{test_of};
-ghost use Rattle.visibility.specs.Networks.{complex_of, IsNetworkOf};
+ghost use Rattle.visibility.specs.Listings.{IsListingOf};
+ghost use Rattle.visibility.specs.Networks.{complex_of, IsNetworkInAnyOrder};
 ghost use Rattle.vote_net.specs.Counts.{AreCellsOf, AreIdsOf};
 ghost use Rattle.solution.specs.Scans.{points_of, scene_of_rows};
 ghost use Rattle.solution.specs.Solutions.{HasCounts, IsCertificate, IsSolution, surface_of};
@@ -18,7 +20,7 @@ ghost use Rattle.recon_build.specs.Stored.{IsStoreOf};
 use crate::NoMemory;
 use crate::network::network;
 use crate::rows::{flow_rows, inside_rows, sink_rows};
-use cert_text::Certificate;
+use cert_text::{Certificate, Stamp};
 use flow_net::{Flow, Labels, Settings, Voted};
 use max_flow::{least_inside, solve};
 use mesh_ply::Mesh;
@@ -40,7 +42,7 @@ pub struct Solved {
     pub cert: Certificate,
 }
 
-/// The certificate of labels of a scan's cells, and of a flow that is worth their cost.
+/// The certificate of labels of a scan's cells, and of a flow that is worth their cost, with this stamp or none.
 fn certificate(
     alloc: Global,
     scan: &Scan,
@@ -49,18 +51,21 @@ fn certificate(
     voted: &Voted,
     labels: &Labels,
     flow: &Flow,
+    stamp: Option<Stamp>,
 ) -> Result<Certificate, NoMemory>
     requires points { tetra.now.points ≡ corners ++ points_of (rows_of scan.now) }
-    requires network { IsNetworkOf (scene_of_rows (rows_of scan.now) settings) voted.now }
+    requires network { IsNetworkInAnyOrder (scene_of_rows (rows_of scan.now) settings) voted.now }
     requires labels { IsLeastInside voted.now.net labels.now }
     requires flow { IsValidFlow voted.now.net flow.now }
     requires equal { cost_of voted.now.net labels.now ≡ value_of voted.now.net flow.now }
     ensures counts { IfOk result (λ cert. HasCounts (claim_of cert) (rows_of scan.now) settings) }
-    ensures states { IfOk result (λ cert. IsCertificate (scene_of_rows (rows_of scan.now) settings) (complex_of voted.now) (test_of voted.now.cells labels.now.inside) (claim_of cert)) }
+    ensures states { (listing : IsListingOf (scene_of_rows (rows_of scan.now) settings) (complex_of voted.now)) → IfOk result (λ cert. IsCertificate (scene_of_rows (rows_of scan.now) settings) listing.complex (test_of voted.now.cells labels.now.inside) (claim_of cert)) }
     ensures well_formed { IfOk result (λ cert. IsWellFormed (claim_of cert)) }
+    ensures stamp { IfOk result (λ cert. (claim_of cert).stamp ≡ option_map stamp_view stamp) }
 {
     let cells = voted.cells.as_slice();
     Ok(Certificate {
+        stamp,
         points: tetra.vertex_count() - 8,
         scanners: scan.scanners.len() as u32,
         sights: scan.seen_by.len() as u32,
@@ -73,24 +78,26 @@ fn certificate(
     })
 }
 
-/// The best labels of a scan's cells, their mesh and their certificate.
+/// The best labels of a scan's cells, their mesh and their certificate, which has this stamp or none.
 fn solve_over(
     alloc: Global,
     scan: &Scan,
     settings: Settings,
     tetra: Tetra,
     counted: Counted,
+    stamp: Option<Stamp>,
 ) -> Result<Solved, NoMemory>
     ghost cutting: { Cutting }
     requires scene { cutting.scene ≡ scene_of_rows (rows_of scan.now) settings }
     requires complex { cutting.complex ≡ complex_of counted.voted }
     requires store { IsStoreOf (rows_of scan.now) settings tetra }
     requires cells { AreCellsOf (scene_of_rows (rows_of scan.now) settings) tetra.slots }
-    requires network { IsNetworkOf (scene_of_rows (rows_of scan.now) settings) counted.voted }
+    requires network { IsNetworkInAnyOrder (scene_of_rows (rows_of scan.now) settings) counted.voted }
     requires ids { AreIdsOf tetra.slots counted.voted.cells counted.ids.items }
     ensures solution { IfOk result (λ solved. IsSolution (rows_of scan.now) settings (surface_of solved.mesh) (claim_of solved.cert)) }
     ensures valid { IfOk result (λ solved. IsMesh solved.mesh.points.items solved.mesh.faces.items) }
     ensures well_formed { IfOk result (λ solved. IsWellFormed (claim_of solved.cert)) }
+    ensures stamp { IfOk result (λ solved. (claim_of solved.cert).stamp ≡ option_map stamp_view stamp) }
     ensures tetra { IfOk result (λ solved. IsStoreOf (rows_of scan.now) settings solved.tetra) }
     ensures closed { IfOk result (λ solved. IsClosed solved.mesh.faces.items) }
 {
@@ -98,23 +105,29 @@ fn solve_over(
     let flow = solve(alloc, &voted.net)?;
     let labels = least_inside(alloc, &voted.net, &flow)?;
     let mesh = facets(alloc, &tetra, &counted.ids, &labels)?;
-    let cert = certificate(alloc, scan, settings, &tetra, &voted, &labels, &flow)?;
+    let cert = certificate(alloc, scan, settings, &tetra, &voted, &labels, &flow, stamp)?;
     Ok(Solved { tetra, mesh, cert })
 }
 
-/// The best surface of a scan at these settings, and its certificate.
+/// The best surface of a scan at these settings, and its certificate, which has this stamp or none.
 ///
 /// The surface is the mesh of the directed facets between outside and inside cells, under the labels of least sight-line cost whose
 /// inside is smallest. The certificate has these labels and a flow whose value is that cost, so that no labels can cost less. Points
 /// that stand in several rows are one vertex, and each row is a sight. The surface is closed: each directed edge of its faces is there as
 /// often as its reverse. The only error is want of memory.
-pub fn solve_scan(alloc: Global, scan: &Scan, settings: Settings) -> Result<Solved, NoMemory>
+pub fn solve_scan(
+    alloc: Global,
+    scan: &Scan,
+    settings: Settings,
+    stamp: Option<Stamp>,
+) -> Result<Solved, NoMemory>
     ensures solution { IfOk result (λ solved. IsSolution (rows_of scan.now) settings (surface_of solved.mesh) (claim_of solved.cert)) }
     ensures valid { IfOk result (λ solved. IsMesh solved.mesh.points.items solved.mesh.faces.items) }
     ensures well_formed { IfOk result (λ solved. IsWellFormed (claim_of solved.cert)) }
+    ensures stamp { IfOk result (λ solved. (claim_of solved.cert).stamp ≡ option_map stamp_view stamp) }
     ensures tetra { IfOk result (λ solved. IsStoreOf (rows_of scan.now) settings solved.tetra) }
     ensures closed { IfOk result (λ solved. IsClosed solved.mesh.faces.items) }
 {
     let (tetra, counted) = network(alloc, scan, settings)?;
-    solve_over(alloc, scan, settings, tetra, counted)
+    solve_over(alloc, scan, settings, tetra, counted, stamp)
 }

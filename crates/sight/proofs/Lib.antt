@@ -1,3 +1,4 @@
 pub mod Exits
 pub mod Paths
+pub mod Planes
 pub mod Steps

@@ -4,9 +4,9 @@
 //! p, d and each of a, b, c cut what lies ahead into three parts, one before each other facet of the cell. So the sides of two of the
 //! planes on which the scanner is leave one facet. In the cell at the vertex that facet is the one opposite to the vertex.
 
-ghost use Rattle.std.specs.Prelude.{◌≡◌, ◌<◌, ◌<ℤ◌, ◌↔◌, ℕ, pos, true, IsTrue, IfSome, IfNone, length, slice_index};
-ghost use Rattle.geo_sign.specs.declared.point.TheConstants.{DATA_LIMIT};
-ghost use Rattle.geo_sign.specs.Point.{IsWithin};
+ghost use Rattle.std.specs.Prelude.{◌≡◌, ◌<◌, ◌<ℤ◌, ◌↔◌, ℕ, pos, true, IsTrue, IfSome, IfNone, length, get_or, slice_index};
+ghost use Rattle.geo_sign.specs.declared.point.TheConstants.{BOX_LIMIT, DATA_LIMIT};
+ghost use Rattle.geo_sign.specs.Point.{origin, IsWithin};
 ghost use Rattle.geo_sign.specs.Rational.{side, displaced};
 ghost use Rattle.geo_sign.specs.Cells.{IsCell};
 ghost use Rattle.geo_sign.specs.Sights.{side_of, is_crossed, is_cell_of};
@@ -19,7 +19,7 @@ ghost use Rattle.std.specs.Option.{ForSome};
 ghost use Rattle.sight.specs.Walks.{IsWalking, IsEndCell};
 ghost use Rattle.sight.specs.Exits.{first_around, second_around, third_around, past, IsEntered, IsExit};
 
-use geo_sign::{Point, Sign, side_of_scanner};
+use geo_sign::{Point, Sign, orient, side_of_scanner};
 use tetra_store::{CellId, Tetra};
 use tetra_walk::facet;
 
@@ -57,13 +57,28 @@ fn around(side: usize) -> (usize, usize, usize)
     }
 }
 
-/// Whether the scanner is on the inner side of the facet p a b.
-fn is_before(p: Point, a: Point, b: Point, s: Point) -> bool
+/// Whether the scanner is on the inner side of the facet p a b, by the sign of its displaced place.
+fn is_before_displaced(p: Point, a: Point, b: Point, s: Point) -> bool
     ensures { IsTrue result ↔ (pos 0 <ℤ side p a b (displaced s)) }
 {
     match side_of_scanner(p, a, b, s) {
         Sign::Neg => false,
         Sign::Zero => false,
+        Sign::Pos => true,
+    }
+}
+
+/// Whether the scanner is on the inner side of the facet p a b. It is so where a is before the plane of p, b and the scanner's point:
+/// that plane is the same for each a, so a step that asks for two computes it once. Only where a is in it the displacement decides.
+fn is_before(p: Point, a: Point, b: Point, s: Point) -> bool
+    requires p_within { IsWithin BOX_LIMIT p }
+    requires a_within { IsWithin BOX_LIMIT a }
+    requires b_within { IsWithin BOX_LIMIT b }
+    ensures { IsTrue result ↔ (pos 0 <ℤ side p a b (displaced s)) }
+{
+    match orient(p, b, s, a) {
+        Sign::Neg => false,
+        Sign::Zero => is_before_displaced(p, a, b, s),
         Sign::Pos => true,
     }
 }
@@ -80,15 +95,28 @@ fn is_behind(a: Point, b: Point, c: Point, s: Point) -> bool
 }
 
 /// Whether the scanner is on the inner side of the plane through a sight's vertex and two vertices of a cell, each given by the side
-/// opposite to it: first the other one's, then the entered one's.
-fn is_past(t: &Tetra, v: [u32; 4], vertex: u32, s: Point, entered: usize, other: usize) -> bool
+/// opposite to it: first the other one's, then the entered one's. Where the sight's vertex and the entered one's are was read before.
+fn is_past(
+    t: &Tetra,
+    v: [u32; 4],
+    vertex: u32,
+    s: Point,
+    entered: usize,
+    other: usize,
+    p: Point,
+    d: Point,
+) -> bool
     requires known { (k : ℕ) → k < 4 → slice_index v k < length t.now.points }
     requires vertex { vertex < length t.now.points }
     requires entered { entered < 4 }
     requires other { other < 4 }
+    requires at_vertex { p ≡ get_or t.now.points vertex origin }
+    requires at_entered { d ≡ get_or t.now.points (slice_index v entered) origin }
     ensures { IsTrue result ↔ (pos 0 <ℤ past (vertices_of t.now) vertex (displaced s) (tetrahedron_from v) entered other) }
 {
-    is_before(t.point(vertex), t.point(v[other]), t.point(v[entered]), s)
+    t.facts();
+    let _indices = (vertex, entered);
+    is_before(p, t.point(v[other]), d, s)
 }
 
 /// Whether the scanner is beyond a side of a cell.
@@ -115,13 +143,15 @@ fn side_ahead(t: &Tetra, v: [u32; 4], entered: usize, vertex: u32, s: Point) -> 
         return side_opposite(v, vertex);
     }
     let (first, second, third) = around(entered);
-    if is_past(t, v, vertex, s, entered, first) {
-        if is_past(t, v, vertex, s, entered, third) {
+    let p = t.point(vertex);
+    let d = t.point(v[entered]);
+    if is_past(t, v, vertex, s, entered, first, p, d) {
+        if is_past(t, v, vertex, s, entered, third, p, d) {
             return first;
         }
         return second;
     }
-    if is_past(t, v, vertex, s, entered, second) {
+    if is_past(t, v, vertex, s, entered, second, p, d) {
         return third;
     }
     first

@@ -1,4 +1,4 @@
--- The least cost of a scan is below 2^37. The distinct points of the rows are data points, so the corners and they are vertices of
+-- The least cost of a scan is below 2^47. The distinct points of the rows are data points, so the corners and they are vertices of
 -- the box; each row's sight goes from a scanner within the limit to one of them, and of the list of all cells exactly one is behind it.
 use Rattle.std.proofs.Common.{ℕ, ◌+◌, ◌<◌, ◌≡◌, refl, sym, subst, ◌∙◌, arith, List, length, get_or, count_by}
 use Rattle.std.proofs.lemmas.List.{get_or-map}
@@ -19,7 +19,7 @@ use Rattle.visibility.proofs.SightCosts.{least_cost_is_small}
 use Rattle.solution.specs.Laws.{LeastCostLaw}
 use Rattle.solution.specs.Scans.{points_of, sight_of, scene_of_rows}
 use Rattle.solution.proofs.ScanScenes.{row_points, no_row, points_within, index_below}
-use Rattle.solution.proofs.SightLists.{sight_count}
+use Rattle.solution.proofs.SightLists.{sight_count, sight_list}
 
 boxed : (rows : ScanRows) → IsScan rows → IsBoxed (vertices_of (points_of rows))
 boxed rows scan = all_law (points_of rows) (points_within rows scan) (distinct (row_points rows))
@@ -34,7 +34,7 @@ row_behind rows cells scan list k l sight e =
 
 pub least_cost_law : LeastCostLaw
 least_cost_law rows settings complex inside scan o h =
-    least_cost_is_small (scene_of_rows rows settings) complex inside one (omega (arith, sight_count rows, scan.vertex_count)) h
+    least_cost_is_small (scene_of_rows rows settings) complex inside one (sight_list rows scan.vertex_count) h
   where
     one : HasOneBehind (scene_of_rows rows settings) complex.cells
     one sight c =

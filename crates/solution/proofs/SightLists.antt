@@ -12,14 +12,13 @@ use Rattle.scan.specs.ScanRows.{ScanRows, VertexRow, point_limit, vertex_rows}
 use Rattle.scan.specs.Views.{rows_of}
 use Rattle.scan.specs.declared.scan.Scan.{Scan}
 use Rattle.scan.proofs.RowLemmas.{length-vertex_rows}
-use Rattle.visibility.specs.Scenes.{scene_of}
-use Rattle.visibility.specs.Networks.{IsNetworkOf}
+use Rattle.visibility.specs.Scenes.{Scene, scene_of}
 use Rattle.solution.specs.Scans.{points_of, sight_of, sights_of, scene_of_rows}
-use Rattle.flow_net.specs.declared.votes.TheConstants.{SIGHT_LIMIT}
+use Rattle.flow_net.specs.Weights.{IsWeighed, IsSightList}
 
 -- the sight of the row at an index, by the lists that have the indices and the scanners of all rows
 pub sights_more : (points : List Point) (rows : List VertexRow) (of_row seen_by : List ℕ) (i : ℕ) → of_row ≡ map (λ (row : VertexRow). index_among points row.point) rows → seen_by ≡ map (λ (row : VertexRow). row.seen_by) rows → i < length rows
-    → map (sight_of points) (take (i + 1) rows) ≡ map (sight_of points) (take i rows) ++ (record { vertex = 8 + get_or of_row i 0; scanner = get_or seen_by i 0 }) ∷ []
+    → map (sight_of points) (take (i + 1) rows) ≡ map (sight_of points) (take i rows) ++ (record { vertex = 8 + get_or of_row i 0; scanner = get_or seen_by i 0; weight = 1 }) ∷ []
 sights_more points rows of_row seen_by i indices scanners within =
     let d : VertexRow = record { point = origin; seen_by = 0 } in
     let index : get_or of_row i 0 ≡ index_among points (get_or rows i d).point =
@@ -27,8 +26,8 @@ sights_more points rows of_row seen_by i indices scanners within =
     let scanner : get_or seen_by i 0 ≡ (get_or rows i d).seen_by = ap (λ (list : List ℕ). get_or list i 0) scanners ∙ get_or-map (λ (row : VertexRow). row.seen_by) rows i d 0 within in
     ap (map (sight_of points)) (take_more rows i d within)
     ∙ map-append (sight_of points) (take i rows) (get_or rows i d ∷ [])
-    ∙ ap (λ (n : ℕ). map (sight_of points) (take i rows) ++ (record { vertex = 8 + n; scanner = (get_or rows i d).seen_by }) ∷ []) (sym index)
-    ∙ ap (λ (n : ℕ). map (sight_of points) (take i rows) ++ (record { vertex = 8 + get_or of_row i 0; scanner = n }) ∷ []) (sym scanner)
+    ∙ ap (λ (n : ℕ). map (sight_of points) (take i rows) ++ (record { vertex = 8 + n; scanner = (get_or rows i d).seen_by; weight = 1 }) ∷ []) (sym index)
+    ∙ ap (λ (n : ℕ). map (sight_of points) (take i rows) ++ (record { vertex = 8 + get_or of_row i 0; scanner = n; weight = 1 }) ∷ []) (sym scanner)
 
 -- the points of rows are those that they were made of
 pub points-vertex_rows : (points : List Point) (seen_by : List ℕ) → length seen_by ≡ length points → map (λ (row : VertexRow). row.point) (vertex_rows points seen_by) ≡ points
@@ -84,18 +83,27 @@ few_indices scan of_row i indices within =
 pub sight_count : (rows : ScanRows) → length (sights_of rows) ≡ length rows.vertices
 sight_count rows = length-map rows.vertices (sight_of (points_of rows))
 
-pub few_sights : (scan : Scan) → length (sights_of (rows_of scan)) ≤ SIGHT_LIMIT
-few_sights scan = omega (arith, sight_count (rows_of scan), row_count scan, scan.points_fit)
+pub sight_list : (rows : ScanRows) → length rows.vertices ≤ point_limit → IsSightList (sights_of rows)
+sight_list rows l =
+    record {
+      few = omega (arith, sight_count rows, l);
+      weighed = λ k d m.
+          let n : k < length rows.vertices = omega (arith, m, sight_count rows) in
+          subst IsWeighed (sym (get_or-map (sight_of (points_of rows)) rows.vertices k (record { point = origin; seen_by = 0 }) d n)) (record { at_least = omega arith; at_most = omega arith });
+    }
+
+pub few_sights : (scan : Scan) → IsSightList (sights_of (rows_of scan))
+few_sights scan = sight_list (rows_of scan) (omega (arith, row_count scan, scan.points_fit))
 
 -- the corners and the points are the vertices
 pub few_vertices : (scan : Scan) (settings : Settings) → (scene_of_rows (rows_of scan) settings).vertices.count ≤ 8 + point_limit
 few_vertices scan settings = omega (arith, few_points scan)
 
--- the network over lists that are the scan's is that of its rows
-pub network_of_rows : (scan : Scan) (settings : Settings) (points scanners : List Point) (sights : List Sight) (voted : Voted)
+-- what holds of the scene over lists that are the scan's holds of that of its rows
+pub scene_of_scan : (scan : Scan) (settings : Settings) (points scanners : List Point) (sights : List Sight) (P : Scene → Type 0)
     → points ≡ points_of (rows_of scan) → scanners ≡ scan.scanners.items → sights ≡ sights_of (rows_of scan)
-    → IsNetworkOf (scene_of points scanners sights settings) voted → IsNetworkOf (scene_of_rows (rows_of scan) settings) voted
-network_of_rows scan settings points scanners sights voted same_points same_scanners same_sights network =
-    subst (λ (list : List Point). IsNetworkOf (scene_of list scan.scanners.items (sights_of (rows_of scan)) settings) voted) same_points
-    (subst (λ (list : List Point). IsNetworkOf (scene_of points list (sights_of (rows_of scan)) settings) voted) same_scanners
-    (subst (λ (list : List Sight). IsNetworkOf (scene_of points scanners list settings) voted) same_sights network))
+    → P (scene_of points scanners sights settings) → P (scene_of_rows (rows_of scan) settings)
+scene_of_scan scan settings points scanners sights P same_points same_scanners same_sights h =
+    subst (λ (list : List Point). P (scene_of list scan.scanners.items (sights_of (rows_of scan)) settings)) same_points
+    (subst (λ (list : List Point). P (scene_of points list (sights_of (rows_of scan)) settings)) same_scanners
+    (subst (λ (list : List Sight). P (scene_of points scanners list settings)) same_sights h))

@@ -1,7 +1,7 @@
 -- What holds of all solutions.
 --
 --   IsSame          two solutions have one mesh, and certificates that differ in their flows alone
---   LeastCostLaw    the least cost of a scan's surface is below 2^37, however many points it has
+--   LeastCostLaw    the least cost of a scan's surface is below 2^47, however many points it has
 --   SolutionLaw     two solutions of one scan at the same settings are the same but for the flow
 use Rattle.std.specs.Prelude.{ℕ, ◌≡◌, ◌<◌, ◌^◌, Bool, List}
 use Rattle.cert_text.specs.Certificates.{Claim}
@@ -14,7 +14,8 @@ use Rattle.visibility.specs.Complexes.{Complex}
 use Rattle.visibility.specs.Cuts.{cost, IsLeastCost}
 use Rattle.visibility.specs.Votes.{IsComplexOf}
 
--- one mesh, the same counts, weights and cost, and the same inside cells
+-- one mesh, the same counts, weights and cost, and the same inside cells; the stamp, which says which file was read, is no part of a
+-- solution
 pub record IsSame (mesh : Surface) (claim : Claim) (other_mesh : Surface) (other : Claim) : Type 0 where
   pub mesh_is : mesh ≡ other_mesh
   pub counts_are : claim.counts ≡ other.counts
@@ -30,4 +31,4 @@ SolutionLaw =
 abbrev pub LeastCostLaw : Type 0
 LeastCostLaw =
     (rows : ScanRows) (settings : Settings) (complex : Complex) (inside : List ℕ → Bool) → IsScan rows → IsComplexOf (scene_of_rows rows settings) complex
-    → IsLeastCost (scene_of_rows rows settings) complex inside → cost (scene_of_rows rows settings) complex inside < 2 ^ 37
+    → IsLeastCost (scene_of_rows rows settings) complex inside → cost (scene_of_rows rows settings) complex inside < 2 ^ 47

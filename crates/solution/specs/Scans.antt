@@ -16,9 +16,9 @@ use Rattle.visibility.specs.Scenes.{Scene, scene_of}
 abbrev pub points_of : ScanRows → List Point
 points_of rows = distinct_points (map (λ (row : VertexRow). row.point) rows.vertices)
 
--- a sight of the row's point from the scanner that saw it: the first point is vertex 8, after the box's eight corners
+-- a sight of the row's point from the scanner that saw it, of weight 1: the first point is vertex 8, after the box's eight corners
 abbrev pub sight_of : List Point → VertexRow → Sight
-sight_of points row = record { vertex = 8 + index_among points row.point; scanner = row.seen_by }
+sight_of points row = record { vertex = 8 + index_among points row.point; scanner = row.seen_by; weight = 1 }
 
 -- a sight for each row, in the order of the rows: equal ones stand as often as they were seen
 abbrev pub sights_of : ScanRows → List Sight

@@ -17,7 +17,7 @@ use std::alloc::Global;
 pub struct Seen {
     /// The distinct points in the order of their first rows. The first is vertex 8, after the box's eight corners.
     pub points: Vec<Point>,
-    /// A sight for each row: of the row's point, from the row's scanner. Equal ones stand as often as they were seen.
+    /// A sight of weight 1 for each row: of the row's point, from the row's scanner. Equal ones stand as often as they were seen.
     pub sights: Vec<Sight>,
 }
 
@@ -31,6 +31,7 @@ fn sights_of(alloc: Global, scan: &Scan, of_row: &[u32]) -> Result<Vec<Sight>, N
         sights.push(Sight {
             vertex: 8 + of_row[row],
             scanner: *scanner,
+            weight: 1,
         })?;
     }
     Ok(sights)

@@ -26,7 +26,7 @@ use Rattle.visibility.specs.Complexes.{Complex, has_facet, HasFacet, cell_index,
 use Rattle.visibility.specs.Votes.{is_fixed, HasCapacity, IsComplexOf}
 use Rattle.visibility.specs.Cuts.{is_cut, cut_facets, IsAdmissible}
 use Rattle.visibility.specs.Laws.{test_of, row_index, IsOrdered}
-use Rattle.visibility.proofs.Indices.{first_within, same_index, row_index_at}
+use Rattle.visibility.proofs.Indices.{first_within, once_rising, once_permuted, same_index, row_index_at}
 use Rattle.visibility.proofs.Ordered.{facets_are_ordered}
 use Rattle.tetra_store.specs.declared.link.Cell.{Cell}
 use Rattle.tetra_store.specs.Links.{links_of, IsLive}
@@ -56,7 +56,7 @@ filter_in {X = X} p (y ∷ xs) x h = by (p y) refl (filter_in p xs x) h
     by true e rest (suc k, l, i) = let q = rest (k, omega (arith, l), i) in (there y x xs q.0, q.1)
     by false e rest g = let q = rest g in (there y x xs q.0, q.1)
 
-in_filter : {X : Type 0} (p : X → Bool) (xs : List X) (x : X) → Contains xs x → p x ≡ true → Contains (filter p xs) x
+pub in_filter : {X : Type 0} (p : X → Bool) (xs : List X) (x : X) → Contains xs x → p x ≡ true → Contains (filter p xs) x
 in_filter p [] x h t = absurd (omega (arith, h.1))
 in_filter {X = X} p (y ∷ xs) x h t = by (p y) refl h (λ c. in_filter p xs x c t)
   where
@@ -120,27 +120,29 @@ module _ (s : Scene) (slots : List (Option Cell)) (cells : AreCellsOf s slots) (
   cell_is row f c h = let p = first_in f (has row f c h) in one_cell (cell_of s.vertices complex.cells f) row f p.0 c p.1 h
 
   -- ---- flags by number, and labels of rows
-  pub ids_once : (ids : List ℕ) → AreIdsOf slots complex.cells ids → AreOnce ids
-  ids_once ids a i j li lj e =
-      let n = a.count in
-      same_index complex.cells i j all.cells_are.rising (omega (arith, li, n)) (omega (arith, lj, n))
-      (a.row i li ∙ ap (row_of slots) e ∙ sym (a.row j lj))
+  module _ (order : List (List ℕ)) (listing : IsPermutation complex.cells order) where
+    pub ids_once : (ids : List ℕ) → AreIdsOf slots order ids → AreOnce ids
+    ids_once ids a i j li lj e =
+        let n = a.count in
+        same_index order i j (once_permuted complex.cells order listing (once_rising complex.cells all.cells_are.rising))
+        (omega (arith, li, n)) (omega (arith, lj, n)) (a.row i li ∙ ap (row_of slots) e ∙ sym (a.row j lj))
 
-  pub outside_is : (ids : List ℕ) (inside outside : List Bool) → AreIdsOf slots complex.cells ids
-      → ((k : ℕ) → k < length ids → flag_at outside (get_or ids k 0) ≡ not (flag_at inside k))
-      → AreOutside slots (test_of complex.cells inside) outside
-  outside_is ids inside outside a flags id h =
-      let c = row_in id h in
-      let k : ℕ = c.0 in
-      let l : k < length complex.cells = c.1 in
-      let n = a.count in
-      let m : k < length ids = omega (arith, l, n) in
-      let at : get_or complex.cells k [] ≡ row_of slots id = get_or_default complex.cells k [] (row_of slots id) l ∙ c.2 in
-      let same : get_or ids k 0 ≡ id =
-      nodes.one_id s slots [] cells few (get_or ids k 0) id (a.live k m) h (sym (a.row k m) ∙ at) in
-      let index : row_index complex.cells (row_of slots id) ≡ k =
-      ap (row_index complex.cells) (sym at) ∙ row_index_at complex.cells k all.cells_are.rising l in
-      ap (flag_at outside) (sym same) ∙ flags k m ∙ ap (λ (i : ℕ). not (flag_at inside i)) (sym index)
+    pub outside_is : (ids : List ℕ) (inside outside : List Bool) → AreIdsOf slots order ids
+        → ((k : ℕ) → k < length ids → flag_at outside (get_or ids k 0) ≡ not (flag_at inside k))
+        → AreOutside slots (test_of order inside) outside
+    outside_is ids inside outside a flags id h =
+        let c = Contains-permutation complex.cells order (row_of slots id) listing (row_in id h) in
+        let k : ℕ = c.0 in
+        let l : k < length order = c.1 in
+        let n = a.count in
+        let m : k < length ids = omega (arith, l, n) in
+        let at : get_or order k [] ≡ row_of slots id = get_or_default order k [] (row_of slots id) l ∙ c.2 in
+        let same : get_or ids k 0 ≡ id =
+        nodes.one_id s slots [] cells few (get_or ids k 0) id (a.live k m) h (sym (a.row k m) ∙ at) in
+        let index : row_index order (row_of slots id) ≡ k =
+        ap (row_index order) (sym at)
+        ∙ row_index_at order k (once_permuted complex.cells order listing (once_rising complex.cells all.cells_are.rising)) l in
+        ap (flag_at outside) (sym same) ∙ flags k m ∙ ap (λ (i : ℕ). not (flag_at inside i)) (sym index)
 
   module _ (inside : List ℕ → Bool) (none : IsAdmissible s complex inside) where
     pub free : (row : List ℕ) → Contains complex.cells row → inside row ≡ true → is_fixed s.vertices s.scanners row ≡ false

@@ -16,7 +16,7 @@ use Rattle.vote_net.specs.Counts.{row_of}
 use Rattle.vote_net.specs.Gathered.{key_of_side, all_cut}
 use Rattle.vote_net.specs.Tables.{facet_of_side}
 
--- what is cut: all cells of a scene, and the facets that have a capacity
+-- what is cut: all cells of a scene and the facets that have a capacity, in the order of the labels
 pub record Cutting : Type 0 where
   pub scene : Scene
   pub complex : Complex

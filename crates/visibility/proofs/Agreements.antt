@@ -4,9 +4,11 @@
 -- the first cell that has a facet is the same, listed or not. The tests of a cell and of a facet whose vertices are in are the
 -- same, so are the amounts, and what is said of labels and flows rests on these alone. Each step leads from the one scene to the
 -- other; the way back is the same step, since the scene over the first vertices again is the first scene.
-use Rattle.std.proofs.Common.{ℕ, ◌+◌, ◌*◌, ◌≡◌, ap, sym, subst, ◌∙◌, inl, inr, ⊎_elim, Bool, cond, ◌||◌, List, [], ◌∷◌, slice_index_or, count_by, Contains}
+use Rattle.std.proofs.Common.{ℕ, ◌+◌, ◌*◌, ◌≡◌, ap, sym, subst, ◌∙◌, inl, inr, ⊎_elim, Bool, cond, ◌||◌, List, [], ◌∷◌, slice_index_or, Contains}
 use Rattle.std.specs.List.{list_any}
 use Rattle.flow_net.specs.declared.votes.Sight.{Sight}
+use Rattle.flow_net.specs.Weights.{weight_where}
+use Rattle.flow_net.proofs.WeightLemmas.{added_where, weight_is_sum}
 use Rattle.geo_sign.specs.Point.{Point}
 use Rattle.geo_sign.specs.Rational.{displaced}
 use Rattle.geo_sign.specs.Tetrahedron.{Tetrahedron, DirectedFacet, facet_at, turned, is_among}
@@ -48,8 +50,8 @@ same_fixed v w g scanners row h =
 pub same_sink : (s : Scene) (w : Vertices) → Agree s.vertices w → (row : List ℕ) → IsRisingCell s.vertices row → sink s row ≡ sink (over_vertices s w) row
 unfolding sink sights_before
 same_sink s w g row h =
-    ap (λ (test : Sight → Bool). s.settings.vote * count_by test s.sights) (equal (λ sight. agree_behind s.vertices w g sight.vertex (scanner_point s.scanners sight.scanner) (written s.vertices row) (written_in s.vertices row h)))
-    ∙ ap (λ t. s.settings.vote * count_by (λ sight. is_behind w sight.vertex (scanner_point s.scanners sight.scanner) t) s.sights) (same_written s.vertices w g row h)
+    ap (λ (test : Sight → Bool). s.settings.vote * weight_where test s.sights) (equal (λ sight. agree_behind s.vertices w g sight.vertex (scanner_point s.scanners sight.scanner) (written s.vertices row) (written_in s.vertices row h)))
+    ∙ ap (λ t. s.settings.vote * weight_where (λ sight. is_behind w sight.vertex (scanner_point s.scanners sight.scanner) t) s.sights) (same_written s.vertices w g row h)
 
 -- ---- facets of cells
 same_has_facet : (v w : Vertices) → Agree v w → (f : DirectedFacet) (row : List ℕ) → IsRisingCell v row → has_facet v row f ≡ has_facet w row f
@@ -92,12 +94,17 @@ facet_of_cell_in v cells rising f h = pick (one_of t f h.4)
     pick (inr (inr (inl e))) = three t.a t.d t.b i.has_a i.has_d i.has_b e
     pick (inr (inr (inr e))) = three t.a t.b t.c i.has_a i.has_b i.has_c e
 
+-- tests that say the same of the sights let the same weights pass
+same_weight : (p q : Sight → Bool) (sights : List Sight) → ((sight : Sight) → Contains sights sight → p sight ≡ q sight) → weight_where p sights ≡ weight_where q sights
+same_weight p q sights h =
+    weight_is_sum p sights ∙ (same_sum (added_where p) (added_where q) sights (λ sight c. ap (λ (b : Bool). cond b sight.weight 0) (h sight c)) ∙ sym (weight_is_sum q sights))
+
 pub same_capacity : (s : Scene) (w : Vertices) → Agree s.vertices w → AreSightsIn s → (f : DirectedFacet) → IsFacetIn s.vertices f → capacity s f ≡ capacity (over_vertices s w) f
 unfolding crossings
 same_capacity s w g i f h =
     ap (λ n. s.settings.vote * n + s.settings.smooth)
-    (same_sum (λ sight. cond (is_crossed s.vertices sight.vertex (scanner_point s.scanners sight.scanner) f) 1 0) (λ sight. cond (is_crossed w sight.vertex (scanner_point s.scanners sight.scanner) f) 1 0) s.sights
-    (λ sight c. ap (λ b. cond b 1 0) (agree_crossed s.vertices w g sight.vertex (scanner_point s.scanners sight.scanner) f (i sight c) h)))
+    (same_weight (λ sight. is_crossed s.vertices sight.vertex (scanner_point s.scanners sight.scanner) f) (λ sight. is_crossed w sight.vertex (scanner_point s.scanners sight.scanner) f) s.sights
+    (λ sight c. agree_crossed s.vertices w g sight.vertex (scanner_point s.scanners sight.scanner) f (i sight c) h))
 
 -- ---- the complex
 has_capacity_to : (s : Scene) (w : Vertices) → Agree s.vertices w → (cells : List (List ℕ)) → AreRisingCells s.vertices cells → (f : List ℕ) → HasCapacity s cells f → HasCapacity (over_vertices s w) cells f

@@ -8,13 +8,13 @@ use Rattle.visibility.specs.Scenes.{Scene}
 use Rattle.geo_sign.specs.Tetrahedron.{facet_at, turned}
 use Rattle.visibility.specs.Complexes.{cell_index, cell_of}
 use Rattle.visibility.specs.Cuts.{is_cut}
-use Rattle.visibility.specs.Networks.{arc_of, IsNetworkOf}
+use Rattle.visibility.specs.Networks.{arc_of, IsNetworkInAnyOrder}
 use Rattle.visibility.specs.Laws.{test_of}
 use Rattle.visibility.proofs.Indices.{map_of_indices}
-use Rattle.visibility.proofs.Networks.{cells_rise, arc_is, IsJoined, joined_at}
+use Rattle.visibility.proofs.Networks.{nodes_once, arc_is, IsJoined, joined_at}
 
 -- an arc leads from a node that is not flagged to one that is where its facet leads from an outside cell to an inside one
-pub cut_at : (s : Scene) (voted : Voted) (inside : List ℕ → Bool) (j : ℕ) → IsNetworkOf s voted → j < length voted.facets
+pub cut_at : (s : Scene) (voted : Voted) (inside : List ℕ → Bool) (j : ℕ) → IsNetworkInAnyOrder s voted → j < length voted.facets
     → (not (flag_at (map inside voted.cells) (arc_at voted.net.arcs j).from) && flag_at (map inside voted.cells) (arc_at voted.net.arcs j).to) ≡ is_cut s.vertices voted.cells inside (get_or voted.facets j [])
 unfolding arc_of
 cut_at s voted inside j n l =
@@ -27,8 +27,8 @@ cut_at s voted inside j n l =
     ∙ ap (λ (b : Bool). not (inside (cell_of s.vertices voted.cells (facet_at f))) && b) across
 
 -- the same of flags, one a node
-pub flags_cut_at : (s : Scene) (voted : Voted) (flags : List Bool) (j : ℕ) → IsNetworkOf s voted → length flags ≡ length voted.cells → j < length voted.facets
+pub flags_cut_at : (s : Scene) (voted : Voted) (flags : List Bool) (j : ℕ) → IsNetworkInAnyOrder s voted → length flags ≡ length voted.cells → j < length voted.facets
     → (not (flag_at flags (arc_at voted.net.arcs j).from) && flag_at flags (arc_at voted.net.arcs j).to) ≡ is_cut s.vertices voted.cells (test_of voted.cells flags) (get_or voted.facets j [])
 flags_cut_at s voted flags j n e l =
-    ap (λ (fs : List Bool). not (flag_at fs (arc_at voted.net.arcs j).from) && flag_at fs (arc_at voted.net.arcs j).to) (sym (map_of_indices voted.cells flags false (cells_rise s voted n) e))
+    ap (λ (fs : List Bool). not (flag_at fs (arc_at voted.net.arcs j).from) && flag_at fs (arc_at voted.net.arcs j).to) (sym (map_of_indices voted.cells flags false (nodes_once s voted n) e))
     ∙ cut_at s voted (test_of voted.cells flags) j n l

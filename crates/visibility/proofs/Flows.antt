@@ -12,16 +12,16 @@ use Rattle.geo_sign.specs.Tetrahedron.{facet_at, turned}
 use Rattle.visibility.specs.Complexes.{cell_index, cell_of}
 use Rattle.visibility.specs.Votes.{is_fixed, capacity, sink}
 use Rattle.visibility.specs.Flows.{is_equal, amount_in, amount_out, value, IsValidFlow}
-use Rattle.visibility.specs.Networks.{complex_of, arc_of, IsNetworkOf}
+use Rattle.visibility.specs.Networks.{complex_of, arc_of, IsNetworkInAnyOrder}
 use Rattle.visibility.specs.Laws.{flow_of, FlowsAgree}
 use Rattle.visibility.proofs.Indices.{sum_by-below, at_index, index_has, index_test, le_along}
-use Rattle.visibility.proofs.Networks.{cells_rise, node_count, arc_count, fixed_at, sink_at, arc_is, IsJoined, joined_at}
+use Rattle.visibility.proofs.Networks.{nodes_once, node_count, arc_count, fixed_at, sink_at, arc_is, IsJoined, joined_at}
 
 amount_is : (amount : List ℕ → ℕ) (rows : List (List ℕ)) (k : ℕ) → k < length rows → get_or (map amount rows) k 0 ≡ amount (get_or rows k [])
 amount_is amount rows k l = get_or-map amount rows k [] 0 l
 
 -- what enters a node is what enters its cell
-pub amounts_in : (s : Scene) (voted : Voted) (amount : List ℕ → ℕ) (k : ℕ) → IsNetworkOf s voted → k < length voted.cells
+pub amounts_in : (s : Scene) (voted : Voted) (amount : List ℕ → ℕ) (k : ℕ) → IsNetworkInAnyOrder s voted → k < length voted.cells
     → amount_in_net voted.net.arcs (map amount voted.facets) k ≡ amount_in s.vertices (complex_of voted) amount (get_or voted.cells k [])
 unfolding arc_of
 amounts_in s voted amount k n l =
@@ -33,11 +33,11 @@ amounts_in s voted amount k n l =
     let index : ℕ = cell_index s.vertices voted.cells (turned (facet_at f)) in
     let p : IsJoined s voted.cells f = joined_at s voted j n m in
     ap (λ (a : Arc). cond (eqb a.to k) (get_or (map amount voted.facets) j 0) 0) (arc_is s voted j n m)
-    ∙ ap (λ (b : Bool). cond b (get_or (map amount voted.facets) j 0) 0) (index_test voted.cells index k (cells_rise s voted n) p.across l)
+    ∙ ap (λ (b : Bool). cond b (get_or (map amount voted.facets) j 0) 0) (index_test voted.cells index k (nodes_once s voted n) p.across l)
     ∙ ap (λ (i : ℕ). cond (is_equal (get_or voted.cells index []) (get_or voted.cells k [])) i 0) (amount_is amount voted.facets j m))
     ∙ sym (sum_by-below term voted.facets [])
 
-pub amounts_out : (s : Scene) (voted : Voted) (amount : List ℕ → ℕ) (k : ℕ) → IsNetworkOf s voted → k < length voted.cells
+pub amounts_out : (s : Scene) (voted : Voted) (amount : List ℕ → ℕ) (k : ℕ) → IsNetworkInAnyOrder s voted → k < length voted.cells
     → amount_out_net voted.net.arcs (map amount voted.facets) k ≡ amount_out s.vertices (complex_of voted) amount (get_or voted.cells k [])
 unfolding arc_of
 amounts_out s voted amount k n l =
@@ -49,12 +49,12 @@ amounts_out s voted amount k n l =
     let index : ℕ = cell_index s.vertices voted.cells (facet_at f) in
     let p : IsJoined s voted.cells f = joined_at s voted j n m in
     ap (λ (a : Arc). cond (eqb a.from k) (get_or (map amount voted.facets) j 0) 0) (arc_is s voted j n m)
-    ∙ ap (λ (b : Bool). cond b (get_or (map amount voted.facets) j 0) 0) (index_test voted.cells index k (cells_rise s voted n) p.own l)
+    ∙ ap (λ (b : Bool). cond b (get_or (map amount voted.facets) j 0) 0) (index_test voted.cells index k (nodes_once s voted n) p.own l)
     ∙ ap (λ (i : ℕ). cond (is_equal (get_or voted.cells index []) (get_or voted.cells k [])) i 0) (amount_is amount voted.facets j m))
     ∙ sym (sum_by-below term voted.facets [])
 
 -- a flow is worth what its amounts at cells are
-value_is : (s : Scene) (voted : Voted) (on_facet on_cell : List ℕ → ℕ) → IsNetworkOf s voted → value_of voted.net (flow_of (complex_of voted) on_facet on_cell) ≡ value s (complex_of voted) on_cell
+value_is : (s : Scene) (voted : Voted) (on_facet on_cell : List ℕ → ℕ) → IsNetworkInAnyOrder s voted → value_of voted.net (flow_of (complex_of voted) on_facet on_cell) ≡ value s (complex_of voted) on_cell
 value_is s voted on_facet on_cell n =
     let amounts : List ℕ = map on_cell voted.cells in
     let term : List ℕ → ℕ = λ row. cond (is_fixed s.vertices s.scanners row) (sink s row) (on_cell row) in
@@ -69,7 +69,7 @@ value_is s voted on_facet on_cell n =
 sums_along : (a b c d e f : ℕ) → a ≡ b → c ≡ d → e ≡ f → a ≡ c + e → b ≡ d + f
 sums_along a b c d e f p q r l = omega arith
 
-to_amounts : (s : Scene) (voted : Voted) (on_facet on_cell : List ℕ → ℕ) → IsNetworkOf s voted → IsValidFlowNet voted.net (flow_of (complex_of voted) on_facet on_cell) → IsValidFlow s (complex_of voted) on_facet on_cell
+to_amounts : (s : Scene) (voted : Voted) (on_facet on_cell : List ℕ → ℕ) → IsNetworkInAnyOrder s voted → IsValidFlowNet voted.net (flow_of (complex_of voted) on_facet on_cell) → IsValidFlow s (complex_of voted) on_facet on_cell
 unfolding arc_of
 to_amounts s voted on_facet on_cell n h =
     record {
@@ -96,7 +96,7 @@ to_amounts s voted on_facet on_cell n h =
           (amount_is on_cell voted.cells has.0 has.1 ∙ ap on_cell here) sums;
     }
 
-to_flow : (s : Scene) (voted : Voted) (on_facet on_cell : List ℕ → ℕ) → IsNetworkOf s voted → IsValidFlow s (complex_of voted) on_facet on_cell → IsValidFlowNet voted.net (flow_of (complex_of voted) on_facet on_cell)
+to_flow : (s : Scene) (voted : Voted) (on_facet on_cell : List ℕ → ℕ) → IsNetworkInAnyOrder s voted → IsValidFlow s (complex_of voted) on_facet on_cell → IsValidFlowNet voted.net (flow_of (complex_of voted) on_facet on_cell)
 unfolding arc_of
 to_flow s voted on_facet on_cell n h =
     record {

@@ -1,15 +1,20 @@
 -- Places in lists of rows, and sums over lists as sums over indices.
 use Rattle.std.proofs.Common.{ℕ, zero, suc, ◌+◌, ◌<◌, ◌≤◌, ◌≡◌, refl, ap, sym, subst, ◌∙◌, arith, Bool, true, false, ⊎_elim, List, [], ◌∷◌, length, get_or, map, take, eqb, AllPairs, Contains}
+use Rattle.std.specs.Bool.{Decides}
 use Rattle.std.specs.List.{Any, position_or_len, sum_by}
 use Rattle.std.proofs.Math.Nat.{lt_of_not-le}
 use Rattle.std.proofs.Math.Seq.{take-length}
 use Rattle.std.proofs.lemmas.Bool.{and_parts, and_from, eqb-true, eq-eqb, false_from_ne_true}
 use Rattle.std.proofs.lemmas.List.{get_or-map, get_or_default, length-map, same_lists}
+use Rattle.std.specs.List.Sorted.{IsPermutation}
+use Rattle.std.proofs.lemmas.Map.Keys.{IsDistinct-IsPermutation}
+use Rattle.std.proofs.lemmas.Map.Made.{AllPairs-from_IsDistinct, IsDistinct-from_AllPairs}
 use Rattle.std.proofs.lemmas.List.Sums.{position_or_len_is, fails_before_first, sum_by_more}
 use Rattle.flow_net.specs.Sums.{sum_below}
 use Rattle.geo_sign.specs.Cells.{IsBefore}
 use Rattle.visibility.specs.Flows.{is_equal}
 use Rattle.visibility.specs.Laws.{row_index}
+use Rattle.visibility.specs.Listings.{AreOnce}
 
 -- no row is before itself
 pub not_before_itself : (xs : List ℕ) → IsBefore xs xs → ⊥
@@ -29,20 +34,38 @@ is_equal_means (x ∷ xs) (y ∷ ys) h =
     let p = and_parts (eqb x y) (is_equal xs ys) h in
     ap (λ (n : ℕ). n ∷ xs) (eqb-true x y p.0) ∙ ap (λ (t : List ℕ). y ∷ t) (is_equal_means xs ys p.1)
 
--- rising rows are distinct
-pub same_index : (rows : List (List ℕ)) (i j : ℕ) → AllPairs IsBefore rows → i < length rows → j < length rows → get_or rows i [] ≡ get_or rows j [] → i ≡ j
-same_index rows i j r li lj e =
-    let first : ¬ (i < j) = λ l. not_before_itself (get_or rows j []) (subst (λ (u : List ℕ). IsBefore u (get_or rows j [])) e (r i j [] l lj)) in
-    let second : ¬ (j < i) = λ l. not_before_itself (get_or rows i []) (subst (λ (u : List ℕ). IsBefore u (get_or rows i [])) (sym e) (r j i [] l li)) in
-    omega (arith, first, second)
-
 same_bools : (a b : Bool) → (a ≡ true → b ≡ true) → (b ≡ true → a ≡ true) → a ≡ b
 same_bools true b f g = sym (f refl)
 same_bools false true f g = g refl
 same_bools false false f g = refl
 
--- indices in rising rows are equal where the rows are
-pub index_test : (rows : List (List ℕ)) (i j : ℕ) → AllPairs IsBefore rows → i < length rows → j < length rows → eqb i j ≡ is_equal (get_or rows i []) (get_or rows j [])
+-- rising rows stand once
+pub once_rising : (rows : List (List ℕ)) → AllPairs IsBefore rows → AreOnce rows
+once_rising rows r i j d l m e = not_before_itself (get_or rows j d) (subst (λ (u : List ℕ). IsBefore u (get_or rows j d)) e (r i j d l m))
+
+-- rows that stand once, at two indices
+pub same_index : (rows : List (List ℕ)) (i j : ℕ) → AreOnce rows → i < length rows → j < length rows → get_or rows i [] ≡ get_or rows j [] → i ≡ j
+same_index rows i j r li lj e =
+    let first : ¬ (i < j) = λ l. r i j [] l lj e in
+    let second : ¬ (j < i) = λ l. r j i [] l li (sym e) in
+    omega (arith, first, second)
+
+-- and so in another order
+pub once_permuted : (xs ys : List (List ℕ)) → IsPermutation xs ys → AreOnce xs → AreOnce ys
+once_permuted xs ys p h =
+    AllPairs-from_IsDistinct same ys (IsDistinct-IsPermutation is_equal flips xs ys p (IsDistinct-from_AllPairs same xs h))
+  where
+    same : (a b : List ℕ) → Decides (is_equal a b) (a ≡ b)
+    same a b = (is_equal_means a b, λ e. subst (λ (x : List ℕ). is_equal a x ≡ true) e (is_equal_itself a))
+
+    flips : (a b : List ℕ) → is_equal a b ≡ is_equal b a
+    flips a b =
+        same_bools (is_equal a b) (is_equal b a)
+        (λ h. subst (λ (x : List ℕ). is_equal x a ≡ true) (is_equal_means a b h) (is_equal_itself a))
+        (λ h. subst (λ (x : List ℕ). is_equal x b ≡ true) (is_equal_means b a h) (is_equal_itself b))
+
+-- indices of rows that stand once are equal where the rows are
+pub index_test : (rows : List (List ℕ)) (i j : ℕ) → AreOnce rows → i < length rows → j < length rows → eqb i j ≡ is_equal (get_or rows i []) (get_or rows j [])
 index_test rows i j r li lj =
     same_bools (eqb i j) (is_equal (get_or rows i []) (get_or rows j []))
     (λ h. subst (λ (k : ℕ). is_equal (get_or rows i []) (get_or rows k []) ≡ true) (eqb-true i j h) (is_equal_itself (get_or rows i [])))
@@ -57,15 +80,15 @@ first_within p xs h =
     let here : get_or xs h.0 h.1 ≡ h.1 = h.3 in
     cc (fails, holds, here))
 
--- the index of a row in rising rows
-pub row_index_at : (rows : List (List ℕ)) (k : ℕ) → AllPairs IsBefore rows → k < length rows → row_index rows (get_or rows k []) ≡ k
+-- the index of a row that stands once
+pub row_index_at : (rows : List (List ℕ)) (k : ℕ) → AreOnce rows → k < length rows → row_index rows (get_or rows k []) ≡ k
 row_index_at rows k r l =
     position_or_len_is (λ other. is_equal other (get_or rows k [])) rows k [] (omega arith)
-    (λ i m. false_from_ne_true (is_equal (get_or rows i []) (get_or rows k [])) (λ h. not_before_itself (get_or rows k []) (subst (λ (u : List ℕ). IsBefore u (get_or rows k [])) (is_equal_means (get_or rows i []) (get_or rows k []) h) (r i k [] m l))))
+    (λ i m. false_from_ne_true (is_equal (get_or rows i []) (get_or rows k [])) (λ h. r i k [] m l (is_equal_means (get_or rows i []) (get_or rows k []) h)))
     (λ m. is_equal_itself (get_or rows k []))
 
--- what stands at the indices of rising rows, as a function of the rows
-pub map_of_indices : {X : Type 0} (rows : List (List ℕ)) (xs : List X) (d : X) → AllPairs IsBefore rows → length xs ≡ length rows → map (λ row. get_or xs (row_index rows row) d) rows ≡ xs
+-- what stands at the indices of rows that stand once, as a function of the rows
+pub map_of_indices : {X : Type 0} (rows : List (List ℕ)) (xs : List X) (d : X) → AreOnce rows → length xs ≡ length rows → map (λ row. get_or xs (row_index rows row) d) rows ≡ xs
 map_of_indices {X} rows xs d r e =
     let f : List ℕ → X = λ row. get_or xs (row_index rows row) d in
     same_lists (map f rows) xs (length-map rows f ∙ sym e)

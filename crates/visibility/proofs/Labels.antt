@@ -14,16 +14,16 @@ use Rattle.geo_sign.specs.Tetrahedron.{facet_at, turned}
 use Rattle.visibility.specs.Complexes.{cell_index, cell_of}
 use Rattle.visibility.specs.Votes.{is_fixed, capacity}
 use Rattle.visibility.specs.Cuts.{facet_cost, cell_cost, cost, IsAdmissible, IsLeastCost, IsLeastInside}
-use Rattle.visibility.specs.Networks.{complex_of, arc_of, IsNetworkOf}
+use Rattle.visibility.specs.Networks.{complex_of, arc_of, IsNetworkInAnyOrder}
 use Rattle.visibility.specs.Laws.{labels_of, test_of, LabelsAgree}
 use Rattle.visibility.proofs.Indices.{sum_by-below, at_index, index_has, map_of_indices, le_along}
-use Rattle.visibility.proofs.Networks.{cells_rise, node_count, arc_count, fixed_at, sink_at, arc_is, IsJoined, joined_at}
+use Rattle.visibility.proofs.Networks.{nodes_once, node_count, arc_count, fixed_at, sink_at, arc_is, IsJoined, joined_at}
 
 flag_is : (inside : List ℕ → Bool) (cells : List (List ℕ)) (k : ℕ) → k < length cells → flag_at (map inside cells) k ≡ inside (get_or cells k [])
 flag_is inside cells k l = get_or-map inside cells k [] false l
 
 -- what an arc costs is what its facet costs
-facet_costs : (s : Scene) (voted : Voted) (inside : List ℕ → Bool) (j : ℕ) → IsNetworkOf s voted → j < length voted.facets
+facet_costs : (s : Scene) (voted : Voted) (inside : List ℕ → Bool) (j : ℕ) → IsNetworkInAnyOrder s voted → j < length voted.facets
     → arc_cost voted.net.arcs (map inside voted.cells) j ≡ facet_cost s voted.cells inside (get_or voted.facets j [])
 unfolding arc_of
 facet_costs s voted inside j n l =
@@ -35,14 +35,14 @@ facet_costs s voted inside j n l =
     ∙ ap (λ (b : Bool). cond (not b && flag_at (map inside voted.cells) (cell_index s.vertices voted.cells (turned (facet_at f)))) (capacity s (facet_at f)) 0) own
     ∙ ap (λ (b : Bool). cond (not (inside (cell_of s.vertices voted.cells (facet_at f))) && b) (capacity s (facet_at f)) 0) across
 
-cell_costs : (s : Scene) (voted : Voted) (inside : List ℕ → Bool) (k : ℕ) → IsNetworkOf s voted → k < length voted.cells
+cell_costs : (s : Scene) (voted : Voted) (inside : List ℕ → Bool) (k : ℕ) → IsNetworkInAnyOrder s voted → k < length voted.cells
     → node_cost voted.net.sink (map inside voted.cells) k ≡ cell_cost s inside (get_or voted.cells k [])
 cell_costs s voted inside k n l =
     ap (λ (b : Bool). cond b 0 (get_or voted.net.sink k 0)) (flag_is inside voted.cells k l)
     ∙ ap (λ (i : ℕ). cond (inside (get_or voted.cells k [])) 0 i) (sink_at s voted k n l)
 
 -- the cost by numbers is the cost over cells and facets
-cost_is : (s : Scene) (voted : Voted) (inside : List ℕ → Bool) → IsNetworkOf s voted → cost_of voted.net (labels_of (complex_of voted) inside) ≡ cost s (complex_of voted) inside
+cost_is : (s : Scene) (voted : Voted) (inside : List ℕ → Bool) → IsNetworkInAnyOrder s voted → cost_of voted.net (labels_of (complex_of voted) inside) ≡ cost s (complex_of voted) inside
 cost_is s voted inside n =
     let flags : List Bool = map inside voted.cells in
     let first : sum_below (length voted.net.arcs) (arc_cost voted.net.arcs flags) ≡ sum_by (facet_cost s voted.cells inside) voted.facets =
@@ -56,7 +56,7 @@ cost_is s voted inside n =
     ap (λ (i : ℕ). i + sum_below (length voted.net.fixed) (node_cost voted.net.sink flags)) first ∙ ap (λ (i : ℕ). sum_by (facet_cost s voted.cells inside) voted.facets + i) second
 
 -- admissible tests have admissible labels
-to_labels : (s : Scene) (voted : Voted) (inside : List ℕ → Bool) → IsNetworkOf s voted → IsAdmissible s (complex_of voted) inside → IsAdmissibleNet voted.net (labels_of (complex_of voted) inside)
+to_labels : (s : Scene) (voted : Voted) (inside : List ℕ → Bool) → IsNetworkInAnyOrder s voted → IsAdmissible s (complex_of voted) inside → IsAdmissibleNet voted.net (labels_of (complex_of voted) inside)
 to_labels s voted inside n a =
     record {
       count = length-map voted.cells inside ∙ sym (node_count s voted n);
@@ -65,7 +65,7 @@ to_labels s voted inside n a =
           flag_is inside voted.cells k m ∙ a.none_fixed (get_or voted.cells k []) (index_has voted.cells k m) (sym (fixed_at s voted k n m) ∙ h);
     }
 
-to_test : (s : Scene) (voted : Voted) (inside : List ℕ → Bool) → IsNetworkOf s voted → IsAdmissibleNet voted.net (labels_of (complex_of voted) inside) → IsAdmissible s (complex_of voted) inside
+to_test : (s : Scene) (voted : Voted) (inside : List ℕ → Bool) → IsNetworkInAnyOrder s voted → IsAdmissibleNet voted.net (labels_of (complex_of voted) inside) → IsAdmissible s (complex_of voted) inside
 to_test s voted inside n a =
     record {
       none_fixed = λ row h f.
@@ -75,18 +75,18 @@ to_test s voted inside n a =
     }
 
 -- labels, one a node, are those of a test
-as_test : (s : Scene) (voted : Voted) (labels : Labels) → IsNetworkOf s voted → length labels.inside ≡ length voted.net.fixed → labels_of (complex_of voted) (test_of voted.cells labels.inside) ≡ labels
+as_test : (s : Scene) (voted : Voted) (labels : Labels) → IsNetworkInAnyOrder s voted → length labels.inside ≡ length voted.net.fixed → labels_of (complex_of voted) (test_of voted.cells labels.inside) ≡ labels
 as_test s voted labels n e =
-    ap (λ (flags : List Bool). let made : Labels = record { inside = flags } in made) (map_of_indices voted.cells labels.inside false (cells_rise s voted n) (e ∙ node_count s voted n))
+    ap (λ (flags : List Bool). let made : Labels = record { inside = flags } in made) (map_of_indices voted.cells labels.inside false (nodes_once s voted n) (e ∙ node_count s voted n))
 
-least_to_test : (s : Scene) (voted : Voted) (inside : List ℕ → Bool) → IsNetworkOf s voted → IsLeastCostNet voted.net (labels_of (complex_of voted) inside) → IsLeastCost s (complex_of voted) inside
+least_to_test : (s : Scene) (voted : Voted) (inside : List ℕ → Bool) → IsNetworkInAnyOrder s voted → IsLeastCostNet voted.net (labels_of (complex_of voted) inside) → IsLeastCost s (complex_of voted) inside
 least_to_test s voted inside n h =
     record {
       admissible = to_test s voted inside n h.admissible;
       least = λ other a. le_along _ _ _ _ (cost_is s voted inside n) (cost_is s voted other n) (h.least (labels_of (complex_of voted) other) (to_labels s voted other n a));
     }
 
-least_to_labels : (s : Scene) (voted : Voted) (inside : List ℕ → Bool) → IsNetworkOf s voted → IsLeastCost s (complex_of voted) inside → IsLeastCostNet voted.net (labels_of (complex_of voted) inside)
+least_to_labels : (s : Scene) (voted : Voted) (inside : List ℕ → Bool) → IsNetworkInAnyOrder s voted → IsLeastCost s (complex_of voted) inside → IsLeastCostNet voted.net (labels_of (complex_of voted) inside)
 least_to_labels s voted inside n h =
     record {
       admissible = to_labels s voted inside n h.admissible;
@@ -97,7 +97,7 @@ least_to_labels s voted inside n h =
           le_along _ _ _ _ (sym (cost_is s voted inside n)) (sym (cost_is s voted other_test n) ∙ ap (cost_of voted.net) same) (h.least other_test b);
     }
 
-inside_to_test : (s : Scene) (voted : Voted) (inside : List ℕ → Bool) → IsNetworkOf s voted → IsLeastInsideNet voted.net (labels_of (complex_of voted) inside) → IsLeastInside s (complex_of voted) inside
+inside_to_test : (s : Scene) (voted : Voted) (inside : List ℕ → Bool) → IsNetworkInAnyOrder s voted → IsLeastInsideNet voted.net (labels_of (complex_of voted) inside) → IsLeastInside s (complex_of voted) inside
 inside_to_test s voted inside n h =
     record {
       least_cost = least_to_test s voted inside n h.least_cost;
@@ -107,7 +107,7 @@ inside_to_test s voted inside n h =
           ∙ h.within (labels_of (complex_of voted) other) (least_to_labels s voted other n o) has.0 (omega (arith, has.1, node_count s voted n)) (flag_is inside voted.cells has.0 has.1 ∙ ap inside here ∙ i);
     }
 
-inside_to_labels : (s : Scene) (voted : Voted) (inside : List ℕ → Bool) → IsNetworkOf s voted → IsLeastInside s (complex_of voted) inside → IsLeastInsideNet voted.net (labels_of (complex_of voted) inside)
+inside_to_labels : (s : Scene) (voted : Voted) (inside : List ℕ → Bool) → IsNetworkInAnyOrder s voted → IsLeastInside s (complex_of voted) inside → IsLeastInsideNet voted.net (labels_of (complex_of voted) inside)
 inside_to_labels s voted inside n h =
     record {
       least_cost = least_to_labels s voted inside n h.least_cost;

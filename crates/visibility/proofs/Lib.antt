@@ -1,4 +1,5 @@
 pub mod Indices
+pub mod Listings
 pub mod Networks
 pub mod Labels
 pub mod Flows
@@ -6,8 +7,8 @@ pub mod Amounts
 pub mod Validity
 pub mod Cuts
 pub mod Ordered
-pub mod LeastCost
 pub mod Members
 pub mod Agreements
 pub mod AgreedAmounts
 pub mod SightCosts
+pub mod ListingAgreements

@@ -1,33 +1,37 @@
 -- The network of a scene at a node and at an arc.
-use Rattle.std.proofs.Common.{ℕ, ◌<◌, ◌≡◌, ap, ◌∙◌, Bool, List, [], length, get_or, AllPairs}
+use Rattle.std.proofs.Common.{ℕ, ◌<◌, ◌≡◌, ap, ◌∙◌, Bool, List, [], length, get_or}
 use Rattle.std.proofs.lemmas.List.{get_or-map, length-map}
 use Rattle.flow_net.specs.Nets.{arc_at, flag_at, no_arc}
 use Rattle.flow_net.specs.declared.Arc.{Arc}
 use Rattle.flow_net.specs.declared.Voted.{Voted}
-use Rattle.geo_sign.specs.Cells.{IsBefore}
 use Rattle.visibility.specs.Scenes.{Scene}
 use Rattle.geo_sign.specs.Tetrahedron.{facet_at, turned}
 use Rattle.visibility.specs.Complexes.{has_facet, cell_index}
 use Rattle.visibility.specs.Votes.{is_fixed, sink, HasCapacity}
-use Rattle.visibility.specs.Networks.{complex_of, arc_of, IsNetworkOf}
+use Rattle.visibility.specs.Networks.{complex_of, arc_of, IsNetworkInAnyOrder}
+use Rattle.visibility.specs.Listings.{AreOnce}
+use Rattle.visibility.proofs.Listings.{cells_once, facets_once, has_capacity}
 use Rattle.visibility.proofs.Indices.{first_within, index_has}
 
-pub cells_rise : (s : Scene) (voted : Voted) → IsNetworkOf s voted → AllPairs IsBefore voted.cells
-cells_rise s voted n = n.complex_is.cells_are.rising
+pub nodes_once : (s : Scene) (voted : Voted) → IsNetworkInAnyOrder s voted → AreOnce voted.cells
+nodes_once s voted n = cells_once s (complex_of voted) n.listing
 
-pub node_count : (s : Scene) (voted : Voted) → IsNetworkOf s voted → length voted.net.fixed ≡ length voted.cells
+pub arcs_once : (s : Scene) (voted : Voted) → IsNetworkInAnyOrder s voted → AreOnce voted.facets
+arcs_once s voted n = facets_once s (complex_of voted) n.listing
+
+pub node_count : (s : Scene) (voted : Voted) → IsNetworkInAnyOrder s voted → length voted.net.fixed ≡ length voted.cells
 node_count s voted n = ap length n.fixed_is ∙ length-map voted.cells (is_fixed s.vertices s.scanners)
 
-pub arc_count : (s : Scene) (voted : Voted) → IsNetworkOf s voted → length voted.net.arcs ≡ length voted.facets
+pub arc_count : (s : Scene) (voted : Voted) → IsNetworkInAnyOrder s voted → length voted.net.arcs ≡ length voted.facets
 arc_count s voted n = ap length n.arcs_are ∙ length-map voted.facets (arc_of s (complex_of voted))
 
-pub fixed_at : (s : Scene) (voted : Voted) (k : ℕ) → IsNetworkOf s voted → k < length voted.cells → flag_at voted.net.fixed k ≡ is_fixed s.vertices s.scanners (get_or voted.cells k [])
+pub fixed_at : (s : Scene) (voted : Voted) (k : ℕ) → IsNetworkInAnyOrder s voted → k < length voted.cells → flag_at voted.net.fixed k ≡ is_fixed s.vertices s.scanners (get_or voted.cells k [])
 fixed_at s voted k n l = ap (λ (flags : List Bool). flag_at flags k) n.fixed_is ∙ get_or-map (is_fixed s.vertices s.scanners) voted.cells k [] _ l
 
-pub sink_at : (s : Scene) (voted : Voted) (k : ℕ) → IsNetworkOf s voted → k < length voted.cells → get_or voted.net.sink k 0 ≡ sink s (get_or voted.cells k [])
+pub sink_at : (s : Scene) (voted : Voted) (k : ℕ) → IsNetworkInAnyOrder s voted → k < length voted.cells → get_or voted.net.sink k 0 ≡ sink s (get_or voted.cells k [])
 sink_at s voted k n l = ap (λ (sinks : List ℕ). get_or sinks k 0) n.sink_is ∙ get_or-map (sink s) voted.cells k [] _ l
 
-pub arc_is : (s : Scene) (voted : Voted) (j : ℕ) → IsNetworkOf s voted → j < length voted.facets → arc_at voted.net.arcs j ≡ arc_of s (complex_of voted) (get_or voted.facets j [])
+pub arc_is : (s : Scene) (voted : Voted) (j : ℕ) → IsNetworkInAnyOrder s voted → j < length voted.facets → arc_at voted.net.arcs j ≡ arc_of s (complex_of voted) (get_or voted.facets j [])
 arc_is s voted j n l = ap (λ (arcs : List Arc). arc_at arcs j) n.arcs_are ∙ get_or-map (arc_of s (complex_of voted)) voted.facets j [] no_arc l
 
 -- the two cells of a facet that has a capacity are in the list
@@ -42,5 +46,5 @@ joined s cells f h =
       across = first_within (λ row. has_facet s.vertices row (turned (facet_at f))) cells h.across;
     }
 
-pub joined_at : (s : Scene) (voted : Voted) (j : ℕ) → IsNetworkOf s voted → j < length voted.facets → IsJoined s voted.cells (get_or voted.facets j [])
-joined_at s voted j n l = joined s voted.cells (get_or voted.facets j []) (n.complex_is.facets_are.only (get_or voted.facets j []) (index_has voted.facets j l))
+pub joined_at : (s : Scene) (voted : Voted) (j : ℕ) → IsNetworkInAnyOrder s voted → j < length voted.facets → IsJoined s voted.cells (get_or voted.facets j [])
+joined_at s voted j n l = joined s voted.cells (get_or voted.facets j []) (has_capacity s (complex_of voted) n.listing (get_or voted.facets j []) (index_has voted.facets j l))

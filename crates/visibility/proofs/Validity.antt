@@ -1,5 +1,5 @@
 -- The network of a scene is valid.
-use Rattle.std.proofs.Common.{ℕ, ◌<◌, ◌≤◌, ◌^◌, ◌≡◌, ◌≢◌, refl, ap, sym, subst, ◌∙◌, arith, Bool, true, false, cond, ◌&&◌, ◌||◌, ◌⊎◌, inl, inr, ⊎_elim, List, [], ◌∷◌, length, get_or, map, eqb, Some, None, Option, AllPairs, Contains, pos, int_lt}
+use Rattle.std.proofs.Common.{ℕ, ◌<◌, ◌≤◌, ◌^◌, ◌≡◌, ◌≢◌, refl, ap, sym, subst, ◌∙◌, arith, Bool, true, false, cond, ◌&&◌, ◌||◌, ◌⊎◌, inl, inr, ⊎_elim, List, [], ◌∷◌, length, get_or, map, eqb, Some, None, Option, Contains, pos, int_lt}
 use Rattle.std.proofs.lemmas.Bool.{and_parts, and_from, or_cases, eqb-true, eq-eqb, false_from_ne_true}
 use Rattle.std.proofs.lemmas.List.{get_or-map, length-map}
 use Rattle.std.proofs.lemmas.List.Sums.{position_or_len_is, passes_at_first}
@@ -7,15 +7,17 @@ use Rattle.flow_net.specs.Nets.{arc_at, flag_at, no_arc, IsReverse, IsValidArc, 
 use Rattle.flow_net.specs.declared.Arc.{Arc}
 use Rattle.geo_sign.specs.Tetrahedron.{Tetrahedron, DirectedFacet, tetrahedron, facet, facet_of, facet_at, numbers_of, turned, is_same_facet, is_among}
 use Rattle.geo_sign.specs.Vertices.{Vertices, orientation_of}
-use Rattle.geo_sign.specs.Cells.{IsBefore, IsRisingCell, written}
+use Rattle.geo_sign.specs.Cells.{IsRisingCell, written}
 use Rattle.visibility.specs.Scenes.{Scene}
 use Rattle.visibility.specs.Complexes.{Complex, has_facet, cell_index, cell_of}
-use Rattle.visibility.specs.Votes.{is_fixed, capacity, sink, HasCapacity, IsComplexOf}
+use Rattle.visibility.specs.Votes.{is_fixed, capacity, sink, HasCapacity}
 use Rattle.visibility.specs.Networks.{facet_index, pair_of, arc_of}
-use Rattle.visibility.proofs.Indices.{not_before_itself, at_index, index_has}
+use Rattle.visibility.specs.Listings.{AreOnce, IsListingOf}
+use Rattle.visibility.proofs.Listings.{facets_once, rising_cell, has_capacity, facet_listed}
+use Rattle.visibility.proofs.Indices.{at_index, index_has}
 use Rattle.visibility.proofs.Networks.{IsJoined, joined}
 use Rattle.visibility.proofs.Amounts.{capacity_fits, sink_fits}
-use Rattle.flow_net.specs.declared.votes.TheConstants.{SIGHT_LIMIT}
+use Rattle.flow_net.specs.Weights.{IsSightList}
 
 -- the numbers of two facets that pass the test
 same_means : (f g : DirectedFacet) → is_same_facet f g ≡ true → (f.a ≡ g.a) × (f.b ≡ g.b) × (f.c ≡ g.c)
@@ -90,18 +92,18 @@ written_apart v (a ∷ b ∷ c ∷ d ∷ []) h = by (int_lt (pos 0) (orientation
     by false = record { a_b = omega (arith, h.0); a_c = omega (arith, h.0, h.1, h.2); a_d = omega (arith, h.0, h.1); b_c = omega (arith, h.1, h.2); b_d = omega (arith, h.1); c_d = omega (arith, h.2) }
 
 -- a facet and the one turned round belong to two cells
-cells_differ : (s : Scene) (complex : Complex) (f : List ℕ) → IsComplexOf s complex → IsJoined s complex.cells f → cell_index s.vertices complex.cells (facet_at f) ≢ cell_index s.vertices complex.cells (turned (facet_at f))
+cells_differ : (s : Scene) (complex : Complex) (f : List ℕ) → IsListingOf s complex → IsJoined s complex.cells f → cell_index s.vertices complex.cells (facet_at f) ≢ cell_index s.vertices complex.cells (turned (facet_at f))
 cells_differ s complex f o p e =
     let own : ℕ = cell_index s.vertices complex.cells (facet_at f) in
     let row : List ℕ = get_or complex.cells own [] in
-    let apart : AreApart (written s.vertices row) = written_apart s.vertices row (o.cells_are.cells row (index_has complex.cells own p.own)) in
+    let apart : AreApart (written s.vertices row) = written_apart s.vertices row (rising_cell s complex o row (index_has complex.cells own p.own)) in
     let first : is_among (written s.vertices row) (facet_at f) ≡ true = passes_at_first (λ r. has_facet s.vertices r (facet_at f)) complex.cells [] p.own in
     let second : is_among (written s.vertices row) (turned (facet_at f)) ≡ true =
     subst (λ (k : ℕ). has_facet s.vertices (get_or complex.cells k []) (turned (facet_at f)) ≡ true) (sym e) (passes_at_first (λ r. has_facet s.vertices r (turned (facet_at f))) complex.cells [] p.across) in
     not_both (written s.vertices row) (facet_at f) apart (one_of (written s.vertices row) (facet_at f) first) (one_of (written s.vertices row) (turned (facet_at f)) second)
 
 -- the index of a facet that is listed
-facet_index_at : (facets : List (List ℕ)) (j : ℕ) → AllPairs IsBefore facets → ((k : ℕ) → k < length facets → get_or facets k [] ≡ numbers_of (facet_at (get_or facets k []))) → j < length facets → facet_index facets (facet_at (get_or facets j [])) ≡ j
+facet_index_at : (facets : List (List ℕ)) (j : ℕ) → AreOnce facets → ((k : ℕ) → k < length facets → get_or facets k [] ≡ numbers_of (facet_at (get_or facets k []))) → j < length facets → facet_index facets (facet_at (get_or facets j [])) ≡ j
 facet_index_at facets j r three l =
     position_or_len_is (λ numbers. is_same_facet (facet_at numbers) (facet_at (get_or facets j []))) facets j [] (omega arith)
     (λ k m. false_from_ne_true (is_same_facet (facet_at (get_or facets k [])) (facet_at (get_or facets j []))) (λ h. clash k m (same_facets (facet_at (get_or facets k [])) (facet_at (get_or facets j [])) h)))
@@ -110,10 +112,10 @@ facet_index_at facets j r three l =
     clash : (k : ℕ) → k < j → facet_at (get_or facets k []) ≡ facet_at (get_or facets j []) → ⊥
     clash k m e =
         let same : get_or facets k [] ≡ get_or facets j [] = three k (omega arith) ∙ ap numbers_of e ∙ sym (three j l) in
-        not_before_itself (get_or facets j []) (subst (λ (u : List ℕ). IsBefore u (get_or facets j [])) same (r k j [] m l))
+        r k j [] m l same
 
-three_at : (s : Scene) (complex : Complex) → IsComplexOf s complex → (k : ℕ) → k < length complex.facets → get_or complex.facets k [] ≡ numbers_of (facet_at (get_or complex.facets k []))
-three_at s complex o k l = (o.facets_are.only (get_or complex.facets k []) (index_has complex.facets k l)).three
+three_at : (s : Scene) (complex : Complex) → IsListingOf s complex → (k : ℕ) → k < length complex.facets → get_or complex.facets k [] ≡ numbers_of (facet_at (get_or complex.facets k []))
+three_at s complex o k l = (has_capacity s complex o (get_or complex.facets k []) (index_has complex.facets k l)).three
 
 -- the facet turned round, where it is listed
 record IsPaired (facets : List (List ℕ)) (f : DirectedFacet) : Type 0 where
@@ -122,16 +124,16 @@ record IsPaired (facets : List (List ℕ)) (f : DirectedFacet) : Type 0 where
   is : facet_at (get_or facets at []) ≡ f
   index : facet_index facets f ≡ at
 
-paired : (s : Scene) (complex : Complex) (f : List ℕ) → IsComplexOf s complex → HasCapacity s complex.cells f → is_fixed s.vertices s.scanners (cell_of s.vertices complex.cells (facet_at f)) ≡ false → IsPaired complex.facets (turned (facet_at f))
+paired : (s : Scene) (complex : Complex) (f : List ℕ) → IsListingOf s complex → HasCapacity s complex.cells f → is_fixed s.vertices s.scanners (cell_of s.vertices complex.cells (facet_at f)) ≡ false → IsPaired complex.facets (turned (facet_at f))
 paired s complex f o h own =
     let g : List ℕ = numbers_of (turned (facet_at f)) in
-    let there : Contains complex.facets g = o.facets_are.all g (record { three = refl; own = h.across; across = h.own; free = own }) in
+    let there : Contains complex.facets g = facet_listed s complex o g (record { three = refl; own = h.across; across = h.own; free = own }) in
     let here : get_or complex.facets there.0 [] ≡ g = at_index complex.facets g there in
     record {
       at = there.0;
       in_range = there.1;
       is = ap facet_at here;
-      index = ap (λ (r : List ℕ). facet_index complex.facets (facet_at r)) (sym here) ∙ facet_index_at complex.facets there.0 o.facets_are.rising (three_at s complex o) there.1;
+      index = ap (λ (r : List ℕ). facet_index complex.facets (facet_at r)) (sym here) ∙ facet_index_at complex.facets there.0 (facets_once s complex o) (three_at s complex o) there.1;
     }
 
 abbrev arcs_of : Scene → Complex → List Arc
@@ -161,7 +163,7 @@ turned_back s complex j f g pair e free index =
 some_is : {m n : ℕ} → Some m ≡ Some n → m ≡ n
 some_is h = cc
 
-valid_with : (s : Scene) (complex : Complex) (j : ℕ) (f : List ℕ) → length s.sights ≤ SIGHT_LIMIT → IsComplexOf s complex → HasCapacity s complex.cells f → facet_index complex.facets (facet_at f) ≡ j
+valid_with : (s : Scene) (complex : Complex) (j : ℕ) (f : List ℕ) → IsSightList s.sights → IsListingOf s complex → HasCapacity s complex.cells f → facet_index complex.facets (facet_at f) ≡ j
     → (b : Bool) → is_fixed s.vertices s.scanners (cell_of s.vertices complex.cells (facet_at f)) ≡ b
     → IsValidArc (map (is_fixed s.vertices s.scanners) complex.cells) (arcs_of s complex) j (arc_with s complex (facet_at f) (cond b None (Some (facet_index complex.facets (turned (facet_at f))))))
 valid_with s complex j f few o h index b own =
@@ -205,15 +207,15 @@ valid_with s complex j f few o h index b own =
               (turned_back s complex j (facet_at f) (get_or complex.facets pair.at []) (Some (facet_index complex.facets (turned (facet_at f)))) pair.is h.free index));
         }
 
-valid_arc : (s : Scene) (complex : Complex) (j : ℕ) → length s.sights ≤ SIGHT_LIMIT → IsComplexOf s complex → j < length complex.facets
+valid_arc : (s : Scene) (complex : Complex) (j : ℕ) → IsSightList s.sights → IsListingOf s complex → j < length complex.facets
     → IsValidArc (map (is_fixed s.vertices s.scanners) complex.cells) (arcs_of s complex) j (arc_of s complex (get_or complex.facets j []))
 unfolding arc_of
 valid_arc s complex j few o l =
-    valid_with s complex j (get_or complex.facets j []) few o (o.facets_are.only (get_or complex.facets j []) (index_has complex.facets j l)) (facet_index_at complex.facets j o.facets_are.rising (three_at s complex o) l)
+    valid_with s complex j (get_or complex.facets j []) few o (has_capacity s complex o (get_or complex.facets j []) (index_has complex.facets j l)) (facet_index_at complex.facets j (facets_once s complex o) (three_at s complex o) l)
     (is_fixed s.vertices s.scanners (cell_of s.vertices complex.cells (facet_at (get_or complex.facets j [])))) refl
 
--- the flags, sinks and arcs of a scene with at most 1,048,576 sights make a valid network
-pub network_valid : (s : Scene) (complex : Complex) → length s.sights ≤ SIGHT_LIMIT → IsComplexOf s complex
+-- the flags, sinks and arcs of a scene with few sights make a valid network
+pub network_valid : (s : Scene) (complex : Complex) → IsSightList s.sights → IsListingOf s complex
     → IsValidNet (map (is_fixed s.vertices s.scanners) complex.cells) (map (sink s) complex.cells) (map (arc_of s complex) complex.facets)
 network_valid s complex few o =
     record {

@@ -7,21 +7,21 @@
 --   LabelsAgree, FlowsAgree            what holds by numbers holds over cells and facets, and back
 --   FlagsAreTests, AmountsAreTests     each list of flags or amounts is that of a test or an amount
 --   CapacitiesFit, SinksFit            no capacity and no sink is large
---   LeastCostFits                      nor is the least cost of at most 64 vertices
 --   HasOneBehind s cells               each sight has at most one of these cells behind it
---   LeastCostIsSmall                   then it is below 2^37, however many vertices there are
+--   LeastCostIsSmall                   then no least cost is large, however many vertices there are
 --   IsOrdered n f                      three distinct numbers below n, the smallest first
 --   FacetsAreOrdered                   each facet that has a capacity is written so
 --   OneComplex                         a scene has no two lists of cells and of facets
-use Rattle.std.specs.Prelude.{ℕ, ◌≡◌, ◌≢◌, ◌<◌, ◌≤◌, ◌^◌, ◌↔◌, Bool, List, map, length, slice_index, count_by, AllPairs, Contains}
+use Rattle.std.specs.Prelude.{ℕ, ◌≡◌, ◌≢◌, ◌<◌, ◌≤◌, ◌^◌, ◌↔◌, Bool, List, map, length, slice_index, count_by, Contains}
 use Rattle.std.specs.List.{position_or_len}
 use Rattle.flow_net.specs.declared.Voted.{Voted}
 use Rattle.flow_net.specs.declared.Labels.{Labels}
 use Rattle.flow_net.specs.declared.Flow.{Flow}
 use Rattle.flow_net.specs.Nets.{flag_at}
+use Rattle.flow_net.specs.Weights.{IsSightList}
 use Rattle.flow_net.specs.Flows.{cost_of, value_of, IsAdmissible as IsAdmissibleNet, IsLeastCost as IsLeastCostNet, IsLeastInside as IsLeastInsideNet, IsValidFlow as IsValidFlowNet}
 use Rattle.geo_sign.specs.Tetrahedron.{DirectedFacet, facet_at, numbers_of}
-use Rattle.geo_sign.specs.Cells.{IsBefore, written}
+use Rattle.geo_sign.specs.Cells.{written}
 use Rattle.geo_sign.specs.Sights.{is_behind}
 use Rattle.flow_net.specs.declared.votes.Sight.{Sight}
 use Rattle.visibility.specs.Scenes.{Scene, scanner_point}
@@ -29,8 +29,8 @@ use Rattle.visibility.specs.Complexes.{Complex}
 use Rattle.visibility.specs.Votes.{capacity, sink, IsComplexOf}
 use Rattle.visibility.specs.Cuts.{cost, IsAdmissible, IsLeastCost, IsLeastInside}
 use Rattle.visibility.specs.Flows.{is_equal, value, IsValidFlow}
-use Rattle.visibility.specs.Networks.{complex_of, IsNetworkOf}
-use Rattle.flow_net.specs.declared.votes.TheConstants.{SIGHT_LIMIT}
+use Rattle.visibility.specs.Listings.{AreOnce}
+use Rattle.visibility.specs.Networks.{complex_of, IsNetworkInAnyOrder}
 
 -- a flag for each cell
 abbrev pub labels_of : Complex → (List ℕ → Bool) → Labels
@@ -61,7 +61,7 @@ pub record AgreeAsLabels (s : Scene) (voted : Voted) (inside : List ℕ → Bool
   pub least_inside : IsLeastInsideNet voted.net (labels_of (complex_of voted) inside) ↔ IsLeastInside s (complex_of voted) inside
 
 abbrev pub LabelsAgree : Type 0
-LabelsAgree = (s : Scene) (voted : Voted) (inside : List ℕ → Bool) → IsNetworkOf s voted → AgreeAsLabels s voted inside
+LabelsAgree = (s : Scene) (voted : Voted) (inside : List ℕ → Bool) → IsNetworkInAnyOrder s voted → AgreeAsLabels s voted inside
 
 -- amounts on facets and cells, and the flow by number: they are worth the same, and valid together
 pub record AgreeAsFlows (s : Scene) (voted : Voted) (on_facet on_cell : List ℕ → ℕ) : Type 0 where
@@ -69,28 +69,22 @@ pub record AgreeAsFlows (s : Scene) (voted : Voted) (on_facet on_cell : List ℕ
   pub valid : IsValidFlowNet voted.net (flow_of (complex_of voted) on_facet on_cell) ↔ IsValidFlow s (complex_of voted) on_facet on_cell
 
 abbrev pub FlowsAgree : Type 0
-FlowsAgree = (s : Scene) (voted : Voted) (on_facet on_cell : List ℕ → ℕ) → IsNetworkOf s voted → AgreeAsFlows s voted on_facet on_cell
+FlowsAgree = (s : Scene) (voted : Voted) (on_facet on_cell : List ℕ → ℕ) → IsNetworkInAnyOrder s voted → AgreeAsFlows s voted on_facet on_cell
 
--- flags of rising rows are those of a test of rows
+-- flags of rows that stand once are those of a test of rows
 abbrev pub FlagsAreTests : Type 0
-FlagsAreTests = (rows : List (List ℕ)) (flags : List Bool) → AllPairs IsBefore rows → length flags ≡ length rows → map (test_of rows flags) rows ≡ flags
+FlagsAreTests = (rows : List (List ℕ)) (flags : List Bool) → AreOnce rows → length flags ≡ length rows → map (test_of rows flags) rows ≡ flags
 
--- amounts of rising rows are amounts by row
+-- amounts of rows that stand once are amounts by row
 abbrev pub AmountsAreTests : Type 0
-AmountsAreTests = (rows : List (List ℕ)) (amounts : List ℕ) → AllPairs IsBefore rows → length amounts ≡ length rows → map (amount_of rows amounts) rows ≡ amounts
+AmountsAreTests = (rows : List (List ℕ)) (amounts : List ℕ) → AreOnce rows → length amounts ≡ length rows → map (amount_of rows amounts) rows ≡ amounts
 
--- with at most 1,048,576 sights a capacity and a sink are below 2^37
+-- a capacity and a sink are below 2^48
 abbrev pub CapacitiesFit : Type 0
-CapacitiesFit = (s : Scene) (f : DirectedFacet) → length s.sights ≤ SIGHT_LIMIT → capacity s f < 2 ^ 37
+CapacitiesFit = (s : Scene) (f : DirectedFacet) → IsSightList s.sights → capacity s f < 2 ^ 48
 
 abbrev pub SinksFit : Type 0
-SinksFit = (s : Scene) (row : List ℕ) → length s.sights ≤ SIGHT_LIMIT → sink s row < 2 ^ 37
-
--- with at most 64 vertices besides, the least cost is below 2^60
-abbrev pub LeastCostFits : Type 0
-LeastCostFits =
-    (s : Scene) (complex : Complex) (inside : List ℕ → Bool) → IsComplexOf s complex → s.vertices.count ≤ 64 → length s.sights ≤ SIGHT_LIMIT → IsLeastCost s complex inside →
-    cost s complex inside < 2 ^ 60
+SinksFit = (s : Scene) (row : List ℕ) → IsSightList s.sights → sink s row < 2 ^ 48
 
 -- each sight has at most one of these cells behind it
 abbrev pub HasOneBehind : Scene → List (List ℕ) → Type 0
@@ -98,11 +92,11 @@ HasOneBehind s cells =
     (sight : Sight) → Contains s.sights sight →
     count_by (λ row. is_behind s.vertices sight.vertex (scanner_point s.scanners sight.scanner) (written s.vertices row)) cells ≤ 1
 
--- then the least cost is below 2^37, however many vertices there are
+-- then the least cost is below 2^47, however many vertices there are
 abbrev pub LeastCostIsSmall : Type 0
 LeastCostIsSmall =
-    (s : Scene) (complex : Complex) (inside : List ℕ → Bool) → HasOneBehind s complex.cells → length s.sights ≤ SIGHT_LIMIT → IsLeastCost s complex inside →
-    cost s complex inside < 2 ^ 37
+    (s : Scene) (complex : Complex) (inside : List ℕ → Bool) → HasOneBehind s complex.cells → IsSightList s.sights → IsLeastCost s complex inside →
+    cost s complex inside < 2 ^ 47
 
 -- three distinct numbers below n, the smallest first
 pub record IsOrdered (n : ℕ) (f : List ℕ) : Type 0 where

@@ -3,6 +3,8 @@ pub mod Complexes
 pub mod Votes
 pub mod Cuts
 pub mod Flows
+pub mod Listings
 pub mod Networks
 pub mod Laws
+pub mod ListingLaws
 pub mod AgreementLaws

@@ -2,15 +2,16 @@
 -- on its way from the scanner to the vertex, and favours the cell behind the vertex as inside.
 --
 --   is_fixed v scanners row     the cell has a corner or a scanner, and stays outside
---   crossings s f               how many of the sights cross the directed facet
+--   crossings s f               what the sights that cross the directed facet weigh together
 --   capacity s f                the facet's capacity
---   sights_before s row         how many of the sights the cell is behind
+--   sights_before s row         what the sights that the cell is behind weigh together
 --   sink s row                  the cell's sink
 --   HasCapacity s cells f       a directed facet of a cell with a free cell across
 --   IsFacetList s cells facets  all of these, rising
 --   IsComplexOf s complex       all cells of the scene, and all facets that have a capacity
-use Rattle.std.specs.Prelude.{ℕ, ◌≡◌, ◌+◌, ◌*◌, ◌||◌, nat_lt, Bool, false, List, count_by, AllPairs, Contains}
+use Rattle.std.specs.Prelude.{ℕ, ◌≡◌, ◌+◌, ◌*◌, ◌||◌, nat_lt, Bool, false, List, AllPairs, Contains}
 use Rattle.std.specs.List.{list_any}
+use Rattle.flow_net.specs.Weights.{weight_where}
 use Rattle.geo_sign.specs.Point.{Point}
 use Rattle.geo_sign.specs.Rational.{displaced}
 use Rattle.geo_sign.specs.Tetrahedron.{Tetrahedron, DirectedFacet, facet_at, numbers_of, turned}
@@ -32,19 +33,19 @@ has_scanner v scanners t = list_any (λ q. is_cell_of v (displaced q) t) scanner
 unfoldable pub is_fixed : Vertices → List Point → List ℕ → Bool
 is_fixed v scanners row = has_corner (written v row) || has_scanner v scanners (written v row)
 
--- how many of the sights cross the directed facet, each as often as it occurs
+-- what the sights that cross the directed facet weigh together
 unfoldable pub crossings : Scene → DirectedFacet → ℕ
-crossings s f = count_by (λ sight. is_crossed s.vertices sight.vertex (scanner_point s.scanners sight.scanner) f) s.sights
+crossings s f = weight_where (λ sight. is_crossed s.vertices sight.vertex (scanner_point s.scanners sight.scanner) f) s.sights
 
--- the capacity of a directed facet: a vote for each crossing, and the smoothing
+-- the capacity of a directed facet: as many votes, and the smoothing
 abbrev pub capacity : Scene → DirectedFacet → ℕ
 capacity s f = s.settings.vote * crossings s f + s.settings.smooth
 
--- how many of the sights the cell is behind, each as often as it occurs
+-- what the sights that the cell is behind weigh together
 unfoldable pub sights_before : Scene → List ℕ → ℕ
-sights_before s row = count_by (λ sight. is_behind s.vertices sight.vertex (scanner_point s.scanners sight.scanner) (written s.vertices row)) s.sights
+sights_before s row = weight_where (λ sight. is_behind s.vertices sight.vertex (scanner_point s.scanners sight.scanner) (written s.vertices row)) s.sights
 
--- the sink of a cell: a vote for each of these sights
+-- the sink of a cell: as many votes
 unfoldable pub sink : Scene → List ℕ → ℕ
 sink s row = s.settings.vote * sights_before s row
 

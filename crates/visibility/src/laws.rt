@@ -1,9 +1,13 @@
 //! Laws over the definitions, as the contracts of calls that do nothing.
 
-ghost use Rattle.visibility.specs.Laws.{LabelsAgree, FlowsAgree, FlagsAreTests, AmountsAreTests, CapacitiesFit, SinksFit, LeastCostFits, LeastCostIsSmall, FacetsAreOrdered, OneComplex};
+ghost use Rattle.visibility.specs.Laws.{LabelsAgree, FlowsAgree, FlagsAreTests, AmountsAreTests, CapacitiesFit, SinksFit, LeastCostIsSmall, FacetsAreOrdered, OneComplex};
+ghost use Rattle.visibility.specs.Scenes.{Scene};
+ghost use Rattle.visibility.specs.Complexes.{Complex};
+ghost use Rattle.visibility.specs.Listings.{IsListingOf};
+ghost use Rattle.visibility.specs.ListingLaws.{RisingIsListed, EachOnce, ListingsAgree};
 ghost use Rattle.visibility.specs.AgreementLaws.{ComplexesAgree, ScenesAgree};
 
-/// What holds of the network by numbers holds of cells and directed facets, and back: labels and the test of cells that says the
+/// What holds of the network by numbers holds of cells and directed facets, in whatever order they are listed, and back: labels and the test of cells that says the
 /// same cost the same, and are admissible, of the least cost and the least inside together. A flow and the amounts on facets and
 /// cells that it has are worth the same and valid together. All labels and all flows are reached so.
 pub fn network_is_over_cells()
@@ -13,14 +17,12 @@ pub fn network_is_over_cells()
     ensures amounts { AmountsAreTests }
 {}
 
-/// Each capacity and each sink is below 2^37 where there are at most 1,048,576 sights. The least cost of labels is below 2^60 where
-/// there are at most 64 vertices too: all cells outside cost their sinks, and there are at most 2^24 cells. Where each sight has at
-/// most one cell behind it, the least cost is below 2^37 whatever the number of vertices, since the sinks are a vote for each sight
-/// and cell behind it.
+/// Each capacity and each sink is below 2^48 where there are at most 8,388,608 sights of weights from 1 to 255. Where each sight has
+/// at most one cell behind it, the least cost of labels is below 2^47 whatever the number of vertices: all cells outside cost their
+/// sinks, and these are together at most the vote times the weights of all sights.
 pub fn amounts_fit()
     ensures capacities { CapacitiesFit }
     ensures sinks { SinksFit }
-    ensures least_cost { LeastCostFits }
     ensures small { LeastCostIsSmall }
 {}
 
@@ -36,4 +38,12 @@ pub fn facets_are_listed_once()
 pub fn scenes_agree()
     ensures complexes { ComplexesAgree }
     ensures scenes { ScenesAgree }
+{}
+
+/// Nothing depends on the order in which cells and facets are listed: over two listings of one scene all labels and flows are judged
+/// alike. A listing has each cell and each facet that has a capacity once, and the rising lists are one.
+pub fn order_decides_nothing()
+    ensures rising { (s : Scene) → RisingIsListed s }
+    ensures once { (s : Scene) (listing : Complex) → IsListingOf s listing → EachOnce s listing }
+    ensures alike { ListingsAgree }
 {}

@@ -8,4 +8,6 @@
 
 mod laws;
 
-pub use laws::{amounts_fit, facets_are_listed_once, network_is_over_cells, scenes_agree};
+pub use laws::{
+    amounts_fit, facets_are_listed_once, network_is_over_cells, order_decides_nothing, scenes_agree,
+};

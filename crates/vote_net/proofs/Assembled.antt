@@ -1,24 +1,25 @@
 -- What the lists and tables of the code are together: the network of the scene, which is valid as all networks of scenes are.
 -- Stands on: Nodes.
-use Rattle.std.proofs.Common.{ℕ, ◌*◌, ◌<◌, ◌≤◌, ◌^◌, ◌≡◌, sym, ap, subst, ◌∙◌, arith, Bool, is_some, Option, List, [], length, get_or, map, Contains, unwrap_or}
+use Rattle.std.proofs.Common.{ℕ, ◌*◌, ◌<◌, ◌^◌, ◌≡◌, sym, ap, subst, ◌∙◌, arith, Bool, is_some, Option, List, [], length, get_or, map, Contains, unwrap_or}
 use Rattle.std.specs.List.Sorted.{IsPermutation, IsNonDecreasingBy}
 use Rattle.std.proofs.lemmas.List.{get_or-map, length-map, same_lists}
-use Rattle.std.proofs.lemmas.List.Sorted.{IsPermutation-sym, Contains-permutation}
+use Rattle.std.proofs.lemmas.List.Sorted.{IsPermutation-map, IsPermutation-sym, IsPermutation-trans, Contains-permutation}
 use Rattle.flow_net.specs.Nets.{flag_at, IsValidNet}
 use Rattle.flow_net.specs.declared.Arc.{Arc}
 use Rattle.flow_net.specs.declared.Net.{Net}
 use Rattle.flow_net.specs.declared.votes.Settings.{Settings}
-use Rattle.flow_net.specs.declared.votes.TheConstants.{SIGHT_LIMIT}
 use Rattle.visibility.specs.Scenes.{Scene}
-use Rattle.visibility.specs.Complexes.{Complex}
+use Rattle.geo_sign.specs.Tetrahedron.{DirectedFacet}
+use Rattle.visibility.specs.Complexes.{Complex, cell_of}
 use Rattle.visibility.specs.Votes.{is_fixed, sink, IsComplexOf}
-use Rattle.visibility.specs.Networks.{arc_of, IsNetworkOf}
+use Rattle.visibility.specs.Listings.{IsListingOf}
+use Rattle.visibility.specs.Networks.{arc_of, IsNetworkInAnyOrder, IsNetworkOf}
 use Rattle.visibility.proofs.Validity.{network_valid}
 use Rattle.tetra_store.specs.declared.link.Cell.{Cell}
 use Rattle.tetra_store.specs.Links.{links_of, IsLive}
 use Rattle.vote_net.specs.declared.rows.Row.{Row}
 use Rattle.vote_net.specs.declared.sides.Side.{Side}
-use Rattle.vote_net.specs.Counts.{AreCellsOf, AreFixed, AreCrossings, AreBehind, AreIdsOf, row_of}
+use Rattle.vote_net.specs.Counts.{AreCountsOf, AreIdsOf, row_of}
 use Rattle.vote_net.specs.Gathered.{key_of_row, key_of_side, all_rows, all_open}
 use Rattle.vote_net.specs.Tables.{id_of_row, cell_of_row, facet_of_side, number_of_side, AreApart, AreNumbered, AreArcs, CanJoin, other_of, arc_from}
 use Rattle.vote_net.proofs.CellSides.{across_has}
@@ -26,25 +27,15 @@ use Rattle.vote_net.proofs.Entries.{IsRowAt, IsSideAt, row_is, side_is}
 use Rattle.vote_net.proofs.Stored.{listed, live, live_in_range}
 use Rattle.vote_net.proofs.Nodes as made
 use Rattle.vote_net.proofs.Nodes.{no_row, no_side}
+use Rattle.vote_net.proofs.Sorting.{sorted_of}
 use Rattle.tetra_store.specs.Stored.{live_of}
 
--- the rows and the sides of a store's cells, sorted
-pub record AreSorted (slots : List (Option Cell)) (fixed : List Bool) (rows : List Row) (sides : List Side) : Type 0 where
+-- the rows and the sides of a store's cells, in whatever order
+pub record AreListed (slots : List (Option Cell)) (fixed : List Bool) (rows : List Row) (sides : List Side) : Type 0 where
   pub moved : IsPermutation (all_rows slots) rows
-  pub sorted : IsNonDecreasingBy key_of_row rows
   pub moved_sides : IsPermutation (all_open fixed slots) sides
-  pub sorted_sides : IsNonDecreasingBy key_of_side sides
 
--- what is asked
-pub record IsAsked (s : Scene) (slots : List (Option Cell)) (crossed behind : List ℕ) (fixed : List Bool) : Type 0 where
-  pub cells : AreCellsOf s slots
-  pub few : s.vertices.count ≤ 2 ^ 32
-  pub few_sights : length s.sights ≤ SIGHT_LIMIT
-  pub crossings : AreCrossings s slots crossed
-  pub before : AreBehind s slots behind
-  pub flags : AreFixed s slots fixed
-
-module _ (s : Scene) (slots : List (Option Cell)) (crossed behind : List ℕ) (fixed : List Bool) (rows : List Row) (sides : List Side) (asked : IsAsked s slots crossed behind fixed) (lists : AreSorted slots fixed rows sides) where
+module _ (s : Scene) (slots : List (Option Cell)) (crossed behind : List ℕ) (fixed : List Bool) (rows : List Row) (sides : List Side) (asked : AreCountsOf s slots crossed behind fixed) (lists : AreListed slots fixed rows sides) where
   row_at_is : (r : Row) → Contains rows r → IsRowAt slots r
   row_at_is r h =
       row_is slots r (Contains-permutation rows (all_rows slots) r (IsPermutation-sym (all_rows slots) rows lists.moved) h)
@@ -58,7 +49,7 @@ module _ (s : Scene) (slots : List (Option Cell)) (crossed behind : List ℕ) (f
   ids_below r h = let l = live_in_range slots r.id (row_at_is r h).live in let n = asked.flags.count in omega (arith, l, n)
 
   pub rows_apart : AreApart id_of_row rows
-  rows_apart = made.apart s slots fixed asked.cells asked.few rows lists.moved lists.sorted
+  rows_apart = made.apart s slots fixed asked.cells asked.few rows lists.moved
 
   pub numbers_below : (x : Side) → Contains sides x → number_of_side x < length crossed
   numbers_below x h =
@@ -70,7 +61,7 @@ module _ (s : Scene) (slots : List (Option Cell)) (crossed behind : List ℕ) (f
 
   pub sides_apart : AreApart number_of_side sides
   sides_apart =
-      made.sides_are_apart s slots fixed asked.cells asked.few rows lists.moved lists.sorted asked.flags sides lists.moved_sides lists.sorted_sides
+      made.sides_are_apart s slots fixed asked.cells asked.few rows lists.moved asked.flags sides lists.moved_sides
 
   pub can_join : length crossed < 2 ^ 64 → (x : Side) → Contains sides x → CanJoin slots x
   can_join fits x h =
@@ -87,9 +78,31 @@ module _ (s : Scene) (slots : List (Option Cell)) (crossed behind : List ℕ) (f
   abbrev pub complex : Complex
   complex = record { cells = map cell_of_row rows; facets = map facet_of_side sides }
 
-  complex_is : IsComplexOf s complex
-  complex_is =
-      made.complex_is s slots fixed asked.cells asked.few rows lists.moved lists.sorted asked.flags sides lists.moved_sides lists.sorted_sides
+  -- sorted, they are the rising lists
+  pub complex_is : IsNonDecreasingBy key_of_row rows → IsNonDecreasingBy key_of_side sides → IsComplexOf s complex
+  complex_is sorted sorted_sides =
+      made.complex_is s slots fixed asked.cells asked.few rows lists.moved asked.flags sides lists.moved_sides sorted sorted_sides
+
+  listing_is : IsListingOf s complex
+  listing_is =
+      let r = sorted_of key_of_row rows in
+      let x = sorted_of key_of_side sides in
+      let moved : IsPermutation (all_rows slots) r.0 = IsPermutation-trans (all_rows slots) rows r.0 lists.moved r.1.moved in
+      let moved_sides : IsPermutation (all_open fixed slots) x.0 =
+      IsPermutation-trans (all_open fixed slots) sides x.0 lists.moved_sides x.1.moved in
+      record {
+        complex = record { cells = map cell_of_row r.0; facets = map facet_of_side x.0 };
+        complex_is =
+            made.complex_is s slots fixed asked.cells asked.few r.0 moved asked.flags x.0 moved_sides r.1.sorted x.1.sorted;
+        cells_are = IsPermutation-map cell_of_row r.0 rows (IsPermutation-sym rows r.0 r.1.moved);
+        facets_are = IsPermutation-map facet_of_side x.0 sides (IsPermutation-sym sides x.0 x.1.moved);
+        same_cell = λ f h.
+            let o = made.owner s slots fixed asked.cells asked.few r.0 moved f h in
+            let k = o.2 in
+            subst
+            (λ (g : DirectedFacet). cell_of s.vertices (map cell_of_row rows) g ≡ cell_of s.vertices (map cell_of_row r.0) g) k.2
+            (made.cell_is s slots fixed asked.cells asked.few rows lists.moved o.0 k.0 o.1 k.1 ∙ sym (made.cell_is s slots fixed asked.cells asked.few r.0 moved o.0 k.0 o.1 k.1));
+      }
 
   by_rows : {Y : Type 0} (f : Row → Y) (g : List ℕ → Y) → ((r : Row) → IsRowAt slots r → f r ≡ g (row_of slots r.id))
       → map f rows ≡ map g (map cell_of_row rows)
@@ -98,7 +111,7 @@ module _ (s : Scene) (slots : List (Option Cell)) (crossed behind : List ℕ) (f
       same_lists (map f rows) (map g (map cell_of_row rows)) (n ∙ sym k ∙ sym m)
       (λ i d l.
       let li : i < length rows = omega (arith, l, n) in
-      let p = made.row_at_is s slots fixed asked.cells asked.few rows lists.moved lists.sorted i no_row li in
+      let p = made.row_at_is s slots fixed asked.cells asked.few rows lists.moved i no_row li in
       get_or-map f rows i no_row d li ∙ same (get_or rows i no_row) p ∙ sym
       (ap g (get_or-map cell_of_row rows i no_row [] li ∙ p.is)) ∙ sym
       (get_or-map g (map cell_of_row rows) i [] d (omega (arith, li, k))))
@@ -115,7 +128,7 @@ module _ (s : Scene) (slots : List (Option Cell)) (crossed behind : List ℕ) (f
   arcs_are : (nodes numbers : List ℕ) → AreNumbered id_of_row rows nodes → AreNumbered number_of_side sides numbers
       → map (arc_from slots nodes numbers crossed fixed s.settings) sides ≡ map (arc_of s complex) (map facet_of_side sides)
   arcs_are nodes numbers a b =
-      made.arcs_are s slots fixed asked.cells asked.few rows lists.moved lists.sorted asked.flags sides lists.moved_sides lists.sorted_sides nodes numbers crossed a b asked.crossings
+      made.arcs_are s slots fixed asked.cells asked.few rows lists.moved asked.flags sides lists.moved_sides nodes numbers crossed a b asked.crossings
 
   -- the parts of the network, as they are made
   pub record IsMade (settings : Settings) (flags : List Bool) (sinks : List ℕ) (arcs : List Arc) : Type 0 where
@@ -146,16 +159,30 @@ module _ (s : Scene) (slots : List (Option Cell)) (crossed behind : List ℕ) (f
       subst (λ (x : List Bool). IsValidNet x sinks arcs) (sym (fixed_made settings flags sinks arcs m))
       (subst (λ (y : List ℕ). IsValidNet (map (is_fixed s.vertices s.scanners) (map cell_of_row rows)) y arcs) (sym (sinks_made settings flags sinks arcs m))
       (subst (λ (z : List Arc). IsValidNet (map (is_fixed s.vertices s.scanners) (map cell_of_row rows)) (map (sink s) (map cell_of_row rows)) z) (sym (arcs_made settings flags sinks arcs m))
-      (network_valid s complex asked.few_sights complex_is)))
+      (network_valid s complex asked.few_sights listing_is)))
 
   pub network_is : (settings : Settings) (flags : List Bool) (sinks : List ℕ) (arcs : List Arc) → IsMade settings flags sinks arcs
       → (net : Net) (cells facets : List (List ℕ)) → cells ≡ map cell_of_row rows → facets ≡ map facet_of_side sides
-      → net.fixed ≡ flags → net.sink ≡ sinks → net.arcs ≡ arcs → IsNetworkOf s
+      → net.fixed ≡ flags → net.sink ≡ sinks → net.arcs ≡ arcs → IsNetworkInAnyOrder s
       (record { net = net; cells = cells; facets = facets })
   network_is settings flags sinks arcs m net cells facets c f x y z =
-      subst (λ (u : List (List ℕ)). IsNetworkOf s (record { net = net; cells = u; facets = facets })) (sym c)
-      (subst (λ (u : List (List ℕ)). IsNetworkOf s (record { net = net; cells = map cell_of_row rows; facets = u })) (sym f)
-      (record { complex_is = complex_is; fixed_is = x ∙ fixed_made settings flags sinks arcs m; sink_is = y ∙ sinks_made settings flags sinks arcs m; arcs_are = z ∙ arcs_made settings flags sinks arcs m }))
+      subst (λ (u : List (List ℕ)). IsNetworkInAnyOrder s (record { net = net; cells = u; facets = facets })) (sym c)
+      (subst (λ (u : List (List ℕ)). IsNetworkInAnyOrder s (record { net = net; cells = map cell_of_row rows; facets = u })) (sym f)
+      (record { listing = listing_is; fixed_is = x ∙ fixed_made settings flags sinks arcs m; sink_is = y ∙ sinks_made settings flags sinks arcs m; arcs_are = z ∙ arcs_made settings flags sinks arcs m }))
+
+  pub network_rises : (net : Net) (cells facets : List (List ℕ)) → cells ≡ map cell_of_row rows → facets ≡ map facet_of_side sides
+      → IsNonDecreasingBy key_of_row rows → IsNonDecreasingBy key_of_side sides
+      → IsNetworkInAnyOrder s (record { net = net; cells = cells; facets = facets }) → IsNetworkOf s
+      (record { net = net; cells = cells; facets = facets })
+  network_rises net cells facets c f sorted sorted_sides n =
+      record {
+        complex_is =
+            subst (λ (u : List (List ℕ)). IsComplexOf s (record { cells = u; facets = facets })) (sym c)
+            (subst (λ (u : List (List ℕ)). IsComplexOf s (record { cells = map cell_of_row rows; facets = u })) (sym f) (complex_is sorted sorted_sides));
+        fixed_is = n.fixed_is;
+        sink_is = n.sink_is;
+        arcs_are = n.arcs_are;
+      }
 
   pub ids_are : (cells : List (List ℕ)) (ids : List ℕ) → cells ≡ map cell_of_row rows → ids ≡ map id_of_row rows
       → AreIdsOf slots cells ids
@@ -165,7 +192,7 @@ module _ (s : Scene) (slots : List (Option Cell)) (crossed behind : List ℕ) (f
       let there : (i : ℕ) → i < length rows → get_or ids i 0 ≡ (get_or rows i no_row).id =
       λ i l. ap (λ (u : List ℕ). get_or u i 0) e ∙ get_or-map id_of_row rows i no_row 0 l in
       let at : (i : ℕ) → i < length rows → IsRowAt slots (get_or rows i no_row) =
-      λ i l. made.row_at_is s slots fixed asked.cells asked.few rows lists.moved lists.sorted i no_row l in
+      λ i l. made.row_at_is s slots fixed asked.cells asked.few rows lists.moved i no_row l in
       record {
         count = k ∙ sym m ∙ sym (ap (λ (u : List (List ℕ)). length u) c);
         live = λ i l. subst (IsLive (links_of slots)) (sym (there i (omega (arith, l, k)))) (at i (omega (arith, l, k))).live;

@@ -1,6 +1,6 @@
 -- Counts do not depend on how a facet or a cell is written: each test of a sight says the same of a rotated facet, and of a cell
 -- written anew, and so does the test for a corner.
-use Rattle.std.proofs.Common.{◌≡◌, refl, ap, ap₂, sym, Bool, true, false, ◌||◌, nat_lt, count_by}
+use Rattle.std.proofs.Common.{◌≡◌, refl, ap, ap₂, sym, Bool, true, false, ◌||◌, nat_lt}
 use Rattle.std.specs.List.{list_any}
 use Rattle.geo_sign.specs.Point.{Point}
 use Rattle.geo_sign.specs.Rational.{displaced}
@@ -10,6 +10,7 @@ use Rattle.geo_sign.specs.Writings.{IsRewritten}
 use Rattle.geo_sign.proofs.Rewritings.{carry_value, same_behind, same_cell_of}
 use Rattle.geo_sign.proofs.Rotations.{crossed_rotated}
 use Rattle.flow_net.specs.declared.votes.Sight.{Sight}
+use Rattle.flow_net.specs.Weights.{weight_where}
 use Rattle.visibility.specs.Scenes.{scanner_point}
 use Rattle.visibility.specs.Votes.{crossings, sights_before, is_fixed, has_corner}
 use Rattle.visibility.proofs.Members.{equal}
@@ -22,7 +23,7 @@ use Rattle.vote_net.proofs.Stored.{listed}
 pub facet_count_law : FacetCountLaw
 unfolding crossings
 facet_count_law s f g r =
-    ap (λ (p : Sight → Bool). count_by p s.sights)
+    ap (λ (p : Sight → Bool). weight_where p s.sights)
     (equal (λ (x : Sight). sym (crossed_rotated s.vertices x.vertex (scanner_point s.scanners x.scanner) f g r)))
 
 -- four tests in another order
@@ -56,7 +57,7 @@ cell_count_law s slots cells id h =
     let w : IsRewritten t r = risen_written s.vertices t (cells.cells id (listed slots id h)).positive in
     record {
       before =
-          ap (λ (p : Sight → Bool). count_by p s.sights)
+          ap (λ (p : Sight → Bool). weight_where p s.sights)
           (equal (λ (x : Sight). same_behind s.vertices x.vertex (scanner_point s.scanners x.scanner) t r w));
       fixed =
           ap₂ (λ (m n : Bool). m || n) (corner_same t r w)

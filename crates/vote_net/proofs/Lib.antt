@@ -3,7 +3,8 @@ pub mod CellSides
 pub mod Lists
 pub mod Entries
 pub mod Stored
-pub mod Keys
+pub mod KeyOrders
 pub mod Nodes
+pub mod Sorting
 pub mod Assembled
 pub mod CellCounts

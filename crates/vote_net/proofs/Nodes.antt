@@ -1,7 +1,7 @@
--- Sorted rows are the list of cells, sorted sides the list of facets with a capacity, and what the tables give are the arcs. Rows and
--- facets are apart, and keys keep their order, so both lists rise strictly. A cell is searched for by a facet that it alone has, so
--- what the search finds is the index that the table of nodes has; and so for facets and the table of arcs.
--- Stands on: CellRows, CellSides, Entries, Keys.
+-- Rows are the list of cells and sides the list of facets with a capacity, in whatever order they stand, and what the tables give are
+-- the arcs. A cell is searched for by a facet that it alone has, so what the search finds is the index that the table of nodes has; and
+-- so for facets and the table of arcs. Rows and facets are apart, and keys keep their order, so sorted lists rise strictly.
+-- Stands on: CellRows, CellSides, Entries, KeyOrders.
 use Rattle.std.proofs.Common.{ℕ, zero, suc, ◌+◌, ◌*◌, ◌<◌, ◌≤◌, ◌^◌, ◌≡◌, ◌≢◌, refl, sym, ap, subst, ◌∙◌, inl, inr, ⊎_elim, arith, Bool, true, false, true≢false, cond, Option, Some, None, List, [], length, get_or, map, AllPairs, Contains, unwrap_or}
 use Rattle.std.specs.List.Sorted.{IsPermutation, IsNonDecreasingBy}
 use Rattle.std.proofs.lemmas.Bool.{false_from_ne_true}
@@ -33,7 +33,7 @@ use Rattle.vote_net.specs.Tables.{id_of_row, cell_of_row, facet_of_side, number_
 use Rattle.vote_net.proofs.CellRows.{IsSideOf, risen_row, row_has_side, least_rotated}
 use Rattle.vote_net.proofs.CellSides.{side_facet, one_cell, one_side_of, across_has, has_across, has_is}
 use Rattle.vote_net.proofs.Entries.{IsRowAt, IsSideAt, row_is, row_there, rows_apart, side_is, side_there, sides_apart}
-use Rattle.vote_net.proofs.Keys.{AreSmall, AreSmallOf, rows_before, facets_before}
+use Rattle.vote_net.proofs.KeyOrders.{AreSmall, AreSmallOf, rows_before, facets_before}
 use Rattle.vote_net.proofs.Stored.{listed, live}
 use Rattle.vote_net.proofs.Lists.{apart_permuted}
 
@@ -145,8 +145,8 @@ module _ (s : Scene) (slots : List (Option Cell)) (fixed : List Bool) (cells : A
       (row_law s.vertices (live_of slots) cell cells.listing).one (row_of slots x) x y (listed slots x hx) (listed slots y hy)
       (is_row x hx) (subst (IsRowOf (cell y)) (sym e) (is_row y hy))
 
-  -- ---- sorted sides
-  module _ (sides : List Side) (side_at_is : (i : ℕ) (d : Side) → i < length sides → IsSideAt slots fixed (get_or sides i d)) (sides_are_apart : AreApart number_of_side sides) (sorted_sides : IsNonDecreasingBy key_of_side sides) where
+  -- ---- sides
+  module _ (sides : List Side) (side_at_is : (i : ℕ) (d : Side) → i < length sides → IsSideAt slots fixed (get_or sides i d)) (sides_are_apart : AreApart number_of_side sides) where
     -- sides of one facet are one
     pub one_index : (i j : ℕ) → i < length sides → j < length sides
         → facet_at (get_or sides i no_side).facet ≡ facet_at (get_or sides j no_side).facet → i ≡ j
@@ -178,8 +178,8 @@ module _ (s : Scene) (slots : List (Option Cell)) (fixed : List Bool) (cells : A
     facet_there : (i : ℕ) (d : List ℕ) → i < length sides → get_or (map facet_of_side sides) i d ≡ (get_or sides i no_side).facet
     facet_there i d l = get_or-map facet_of_side sides i no_side d l
 
-    pub facets_rise : AllPairs IsBefore (map facet_of_side sides)
-    facets_rise i j d l m =
+    pub facets_rise : IsNonDecreasingBy key_of_side sides → AllPairs IsBefore (map facet_of_side sides)
+    facets_rise sorted_sides i j d l m =
         let n = length-map sides facet_of_side in
         let lj : j < length sides = omega (arith, m, n) in
         let li : i < length sides = omega (arith, l, lj) in
@@ -199,7 +199,7 @@ module _ (s : Scene) (slots : List (Option Cell)) (fixed : List Bool) (cells : A
         absurd (omega (arith, l, same)))
         (facets_before (facet_at_side x.id x.side) (facet_at_side y.id y.side) (small_facet x.id x.side p.live) (small_facet y.id y.side q.live) key)))
 
-  module _ (rows : List Row) (moved : IsPermutation (all_rows slots) rows) (sorted : IsNonDecreasingBy key_of_row rows) where
+  module _ (rows : List Row) (moved : IsPermutation (all_rows slots) rows) where
     abbrev pub complex_cells : List (List ℕ)
     complex_cells = map cell_of_row rows
 
@@ -225,8 +225,8 @@ module _ (s : Scene) (slots : List (Option Cell)) (fixed : List Bool) (cells : A
     row_here : (i : ℕ) → i < length rows → get_or complex_cells i [] ≡ row_of slots (get_or rows i no_row).id
     row_here i l = get_or-map cell_of_row rows i no_row [] l ∙ (row_at_is i no_row l).is
 
-    rises : AllPairs IsBefore complex_cells
-    rises i j d l m =
+    rises : IsNonDecreasingBy key_of_row rows → AllPairs IsBefore complex_cells
+    rises sorted i j d l m =
         let n = length-map rows cell_of_row in
         let lj : j < length rows = omega (arith, m, n) in
         let li : i < length rows = omega (arith, l, lj) in
@@ -267,8 +267,8 @@ module _ (s : Scene) (slots : List (Option Cell)) (fixed : List Bool) (cells : A
         let lx = live slots z.0 z.1 in
         subst (Contains complex_cells) (one_row (cell z.0) row (row_of slots z.0) z.2 (is_row z.0 lx)) (row_in z.0 lx)
 
-    pub cell_list : IsCellList s.vertices complex_cells
-    cell_list = record { rising = rises; cells = only_cells; all = all_cells }
+    pub cell_list : IsNonDecreasingBy key_of_row rows → IsCellList s.vertices complex_cells
+    cell_list sorted = record { rising = rises sorted; cells = only_cells; all = all_cells }
 
     -- the index of the cell that has a facet
     pub index_is : (x k i : ℕ) → IsLive (links_of slots) x → k < 4 → IsNode x i
@@ -303,7 +303,7 @@ module _ (s : Scene) (slots : List (Option Cell)) (fixed : List Bool) (cells : A
         (c.0, row_of slots x, c.1, c.2, row_has_side s.vertices (cell x) k (positive x h))
 
     -- and who has it
-    owner : (f : DirectedFacet) → HasFacet s.vertices complex_cells f → (x : ℕ) × IsLive (links_of slots) x × IsSideOf (cell x) f
+    pub owner : (f : DirectedFacet) → HasFacet s.vertices complex_cells f → (x : ℕ) × IsLive (links_of slots) x × IsSideOf (cell x) f
     owner f h =
         let len = length-map rows cell_of_row in let l = h.2 in
         let i : h.0 < length rows = omega (arith, l, len) in
@@ -357,7 +357,7 @@ module _ (s : Scene) (slots : List (Option Cell)) (fixed : List Bool) (cells : A
           ap (λ (i : ℕ). facet_row (cell i) z.0.side) z.2 ∙ ap (λ (i : ℕ). facet_row (cell x.0) i) z.3 in
           (z.0, z.1, p.is ∙ at ∙ ap (λ (g : DirectedFacet). numbers_of g) k.2 ∙ sym h.three)
 
-      module _ (sides : List Side) (moved_sides : IsPermutation (all_open fixed slots) sides) (sorted_sides : IsNonDecreasingBy key_of_side sides) where
+      module _ (sides : List Side) (moved_sides : IsPermutation (all_open fixed slots) sides) where
         abbrev pub complex_facets : List (List ℕ)
         complex_facets = map facet_of_side sides
 
@@ -390,15 +390,15 @@ module _ (s : Scene) (slots : List (Option Cell)) (fixed : List Bool) (cells : A
             let n = length-map sides facet_of_side in let l = p.1.below in
             (p.0, omega (arith, l, n), facet_here p.0 f l ∙ ap facet_of_side (p.1.is no_side) ∙ z.2)
 
-        pub facet_list : IsFacetList s complex_cells complex_facets
-        facet_list =
-            record { rising = facets_rise sides side_at_is sides_are_apart sorted_sides; only = only_facets; all = all_facets }
+        pub facet_list : IsNonDecreasingBy key_of_side sides → IsFacetList s complex_cells complex_facets
+        facet_list sorted =
+            record { rising = facets_rise sides side_at_is sides_are_apart sorted; only = only_facets; all = all_facets }
 
         abbrev pub complex : Complex
         complex = record { cells = complex_cells; facets = complex_facets }
 
-        pub complex_is : IsComplexOf s complex
-        complex_is = record { cells_are = cell_list; facets_are = facet_list }
+        pub complex_is : IsNonDecreasingBy key_of_row rows → IsNonDecreasingBy key_of_side sides → IsComplexOf s complex
+        complex_is sorted sorted_sides = record { cells_are = cell_list sorted; facets_are = facet_list sorted_sides }
 
         facet_index_is : (j : ℕ) → j < length sides → facet_index complex_facets (facet_at (get_or sides j no_side).facet) ≡ j
         facet_index_is j l =
@@ -408,7 +408,7 @@ module _ (s : Scene) (slots : List (Option Cell)) (fixed : List Bool) (cells : A
             (λ m lm. false_from_ne_true (is_same_facet (facet_at (get_or complex_facets m [])) f) (λ e.
             let bm : m < length sides = omega (arith, lm, l) in
             let same : m ≡ j =
-            one_index sides side_at_is sides_are_apart sorted_sides m j bm l
+            one_index sides side_at_is sides_are_apart m j bm l
             (sym (ap (λ (r : List ℕ). facet_at r) (facet_here m [] bm)) ∙ same_facets (facet_at (get_or complex_facets m [])) f e) in
             omega (arith, lm, same)))
             (λ _. subst (λ (r : List ℕ). is_same_facet (facet_at r) f ≡ true) (sym (facet_here j [] l)) (is_same_itself f))

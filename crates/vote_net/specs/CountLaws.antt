@@ -3,7 +3,8 @@
 --   FacetCountLaw     the crossings of a facet, from whatever vertex on it is written
 --   AreCellCounts     what the counts by rows are for a cell as the store has it
 --   CellCountLaw      so they are for each live cell
-use Rattle.std.specs.Prelude.{ℕ, ◌≡◌, ◌||◌, List, Option, count_by}
+use Rattle.std.specs.Prelude.{ℕ, ◌≡◌, ◌||◌, List, Option}
+use Rattle.flow_net.specs.Weights.{weight_where}
 use Rattle.geo_sign.specs.Sights.{is_behind}
 use Rattle.geo_sign.specs.Tetrahedron.{DirectedFacet, IsRotated}
 use Rattle.visibility.specs.Scenes.{Scene, scanner_point}
@@ -19,7 +20,7 @@ FacetCountLaw = (s : Scene) (f g : DirectedFacet) → IsRotated f g → crossing
 -- the sights before the cell, and whether it is fixed
 pub record AreCellCounts (s : Scene) (slots : List (Option Cell)) (id : ℕ) : Type 0 where
   pub before : sights_before s (row_of slots id)
-      ≡ count_by (λ sight. is_behind s.vertices sight.vertex (scanner_point s.scanners sight.scanner) ((links_of slots).at id)) s.sights
+      ≡ weight_where (λ sight. is_behind s.vertices sight.vertex (scanner_point s.scanners sight.scanner) ((links_of slots).at id)) s.sights
   pub fixed : is_fixed s.vertices s.scanners (row_of slots id)
       ≡ (has_corner ((links_of slots).at id) || has_scanner s.vertices s.scanners ((links_of slots).at id))
 

@@ -2,13 +2,15 @@
 --
 --   AreCellsOf scene slots  the store has all cells of the scene
 --   row_of slots id         the four vertices of a live cell, in rising order
---   AreCrossings            the sights that cross the facet of each side
---   AreBehind               the sights that each cell is behind
+--   AreCrossings            what the sights that cross the facet of each side weigh
+--   AreBehind               what the sights that each cell is behind weigh
 --   AreFixed                which cells are fixed
 --   AreIdsOf                the cells' numbers in the store, in the order of their rows
-use Rattle.std.specs.Prelude.{ℕ, ◌≡◌, ◌<◌, ◌≤◌, ◌+◌, ◌*◌, Bool, List, [], Option, length, slice_index, slice_index_or}
+--   AreCountsOf             what a network is made of: all cells, not too many, and their counts
+use Rattle.std.specs.Prelude.{ℕ, ◌≡◌, ◌<◌, ◌≤◌, ◌+◌, ◌*◌, ◌^◌, Bool, List, [], Option, length, slice_index, slice_index_or}
 use Rattle.geo_sign.specs.Tetrahedron.{DirectedFacet, facet_of, IsRotated}
 use Rattle.flow_net.specs.Nets.{flag_at}
+use Rattle.flow_net.specs.Weights.{IsSightList}
 use Rattle.visibility.specs.Scenes.{Scene}
 use Rattle.visibility.specs.Votes.{crossings, sights_before, is_fixed}
 use Rattle.cell_laws.specs.LinkLaws.{AreAllCells}
@@ -46,3 +48,12 @@ pub record AreIdsOf (slots : List (Option Cell)) (rows : List (List ℕ)) (ids :
   pub count : length ids ≡ length rows
   pub live : (k : ℕ) → k < length ids → IsLive (links_of slots) (slice_index ids k)
   pub row : (k : ℕ) → k < length ids → slice_index_or rows k [] ≡ row_of slots (slice_index ids k)
+
+-- in all
+pub record AreCountsOf (s : Scene) (slots : List (Option Cell)) (crossed behind : List ℕ) (fixed : List Bool) : Type 0 where
+  pub cells : AreCellsOf s slots
+  pub few : s.vertices.count ≤ 2 ^ 32
+  pub few_sights : IsSightList s.sights
+  pub crossings : AreCrossings s slots crossed
+  pub before : AreBehind s slots behind
+  pub flags : AreFixed s slots fixed

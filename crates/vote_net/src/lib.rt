@@ -1,12 +1,14 @@
 //! The network of linked Delaunay cells: a node for each cell, an arc for each directed facet with a free cell across.
 //!
-//! What sights vote for is counted elsewhere, by the numbers that cells have in the store. Here the nodes and arcs are put in order and
-//! numbered: `rows` lists the cells, `sides` the facets, `tables` finds their indices, `arcs` makes the arcs, and `network` the whole.
+//! What sights vote for is counted elsewhere, by the numbers that cells have in the store. Here the nodes and arcs are
+//! listed and numbered, in the store's order or in the rising one: `rows` lists the cells, `sides` the facets, `tables` finds their
+//! indices, `arcs` makes the arcs, and `network` the whole.
 //! `cells` is the list of all cells, and `laws` says what the counts are however a cell is written.
 #![tactic(auto)]
 
 mod arcs;
 mod cells;
+mod keys;
 mod laws;
 mod network;
 mod rows;
@@ -16,8 +18,9 @@ mod tables;
 mod tests;
 
 pub use cells::rising_cells;
+pub use keys::{cell_key, facet_key};
 pub use laws::{cell_count_law, facet_count_law, stored_cells_law};
-pub use network::{Counted, assemble};
+pub use network::{Counted, assemble, assemble_rising};
 pub use sides::{Side, sorted_cut};
 use std::alloc::AllocError;
 

@@ -1,17 +1,18 @@
 //! The network: a node for each cell, an arc for each directed facet with a free cell across.
 
-ghost use Rattle.std.specs.Prelude.{◌≡◌, ◌≤◌, ◌*◌, ◌^◌, IfOk, map, length, slice_index};
+ghost use Rattle.std.specs.Prelude.{◌≡◌, ◌*◌, IfOk, map, slice_index};
+ghost use Rattle.std.specs.List.Sorted.{IsPermutation};
 ghost use Rattle.flow_net.specs.Nets.{flag_at};
-ghost use Rattle.flow_net.specs.declared.votes.TheConstants.{SIGHT_LIMIT};
 ghost use Rattle.visibility.specs.Scenes.{Scene};
-ghost use Rattle.visibility.specs.Networks.{IsNetworkOf};
-ghost use Rattle.vote_net.specs.Counts.{AreCellsOf, AreCrossings, AreBehind, AreFixed, AreIdsOf};
-ghost use Rattle.vote_net.specs.Tables.{id_of_row, facet_of_side};
+ghost use Rattle.visibility.specs.Networks.{IsNetworkInAnyOrder, IsNetworkOf};
+ghost use Rattle.vote_net.specs.Counts.{AreCountsOf, AreIdsOf};
+ghost use Rattle.vote_net.specs.Gathered.{all_rows, all_open};
+ghost use Rattle.vote_net.specs.Tables.{id_of_row, cell_of_row, facet_of_side};
 
 use crate::NoMemory;
 use crate::arcs::{arcs_of, votes};
-use crate::rows::{Row, cells_of, sorted_rows};
-use crate::sides::{Side, flag, sorted_sides};
+use crate::rows::{Row, cells_of, rows, sorted_rows};
+use crate::sides::{Side, flag, open_sides, sorted_sides};
 use crate::tables::entry;
 use flow_net::{Net, Sequence, Settings, Voted};
 use std::alloc::{AllocError, Global};
@@ -65,12 +66,52 @@ fn sinks_of(
         .collect(alloc)
 }
 
-/// The network of a scene, whose cells are those of the store.
+/// The network over rows and sides in their order: a node for each row, an arc for each side.
+fn network_over(
+    alloc: Global,
+    t: &Tetra,
+    rows: &[Row],
+    sides: Vec<Side>,
+    crossed: &[u32],
+    behind: &[u32],
+    fixed: &[bool],
+    settings: Settings,
+) -> Result<Counted, NoMemory>
+    ghost scene: { Scene }
+    requires counts { AreCountsOf scene t.now.slots crossed.now behind.now fixed.now }
+    requires settings { scene.settings ≡ settings }
+    requires rows { IsPermutation (all_rows t.now.slots) rows.now }
+    requires sides { IsPermutation (all_open fixed.now t.now.slots) sides.items }
+    ensures network { IfOk result (λ counted. IsNetworkInAnyOrder scene counted.voted) }
+    ensures ids { IfOk result (λ counted. AreIdsOf t.now.slots counted.voted.cells counted.ids.items) }
+    ensures cells { IfOk result (λ counted. counted.voted.cells ≡ map cell_of_row rows.now) }
+    ensures facets { IfOk result (λ counted. counted.voted.facets ≡ map facet_of_side sides.items) }
+{
+    if rows.len() > u32::MAX as usize || sides.len() > u32::MAX as usize {
+        return Err(AllocError);
+    }
+    let arcs = arcs_of(alloc, t, rows, &sides, crossed, fixed, settings)?;
+    let facets = facets_of(alloc, sides)?;
+    let net = Net::new(
+        Sequence::from(fixed_of(alloc, rows, fixed)?),
+        Sequence::from(sinks_of(alloc, rows, behind, settings)?),
+        Sequence::from(arcs),
+    );
+    let voted = Voted {
+        net,
+        cells: Sequence::from(cells_of(alloc, rows)?),
+        facets: Sequence::from(facets),
+    };
+    let ids = ids_of(alloc, rows)?;
+    Ok(Counted { voted, ids })
+}
+
+/// The network of a scene, whose cells are those of the store, in the store's order.
 ///
-/// It is made from counts by the cells' numbers in the store: at 4 * id + side of `crossed` the sights that cross the directed facet of
-/// a side, at id of `behind` those that the cell is behind, and at id of `fixed` whether it has a corner or a scanner. Nodes are in the
-/// order of their cells' rising numbers, arcs in that of their facets from the least number on. The only error is want of memory, which
-/// also stands for 2^32 cells or facets and more.
+/// It is made from counts by the cells' numbers in the store: at 4 * id + side of `crossed` what the sights weigh together that cross
+/// the directed facet of a side, at id of `behind` those that the cell is behind, and at id of `fixed` whether it has a corner or a
+/// scanner. Nodes are in the order of their cells' numbers, arcs in that of their cells and sides, so that nodes and arcs that are near
+/// in space are mostly near in the lists. The only error is want of memory, which also stands for 2^32 cells or facets and more.
 pub fn assemble(
     alloc: Global,
     t: &Tetra,
@@ -80,33 +121,33 @@ pub fn assemble(
     settings: Settings,
 ) -> Result<Counted, NoMemory>
     ghost scene: { Scene }
-    requires cells { AreCellsOf scene t.now.slots }
-    requires few { scene.vertices.count ≤ 2 ^ 32 }
-    requires few_sights { length scene.sights ≤ SIGHT_LIMIT }
+    requires counts { AreCountsOf scene t.now.slots crossed.now behind.now fixed.now }
     requires settings { scene.settings ≡ settings }
-    requires crossed { AreCrossings scene t.now.slots crossed.now }
-    requires behind { AreBehind scene t.now.slots behind.now }
-    requires fixed { AreFixed scene t.now.slots fixed.now }
+    ensures network { IfOk result (λ counted. IsNetworkInAnyOrder scene counted.voted) }
+    ensures ids { IfOk result (λ counted. AreIdsOf t.now.slots counted.voted.cells counted.ids.items) }
+{
+    let rows = rows(alloc, t)?;
+    let sides = open_sides(alloc, t, fixed, crossed.len())?;
+    network_over(alloc, t, &rows, sides, crossed, behind, fixed, settings)
+}
+
+/// The same network with nodes in the order of their cells' rising numbers, and arcs in that of their facets from the least number on:
+/// the one order that does not depend on how the store numbers its cells. Both lists are sorted, which takes longer than all else here.
+pub fn assemble_rising(
+    alloc: Global,
+    t: &Tetra,
+    crossed: &[u32],
+    behind: &[u32],
+    fixed: &[bool],
+    settings: Settings,
+) -> Result<Counted, NoMemory>
+    ghost scene: { Scene }
+    requires counts { AreCountsOf scene t.now.slots crossed.now behind.now fixed.now }
+    requires settings { scene.settings ≡ settings }
     ensures network { IfOk result (λ counted. IsNetworkOf scene counted.voted) }
     ensures ids { IfOk result (λ counted. AreIdsOf t.now.slots counted.voted.cells counted.ids.items) }
 {
     let rows = sorted_rows(alloc, t)?;
     let sides = sorted_sides(alloc, t, fixed, crossed.len())?;
-    if rows.len() > u32::MAX as usize || sides.len() > u32::MAX as usize {
-        return Err(AllocError);
-    }
-    let arcs = arcs_of(alloc, t, &rows, &sides, crossed, fixed, settings)?;
-    let facets = facets_of(alloc, sides)?;
-    let net = Net::new(
-        Sequence::from(fixed_of(alloc, &rows, fixed)?),
-        Sequence::from(sinks_of(alloc, &rows, behind, settings)?),
-        Sequence::from(arcs),
-    );
-    let voted = Voted {
-        net,
-        cells: Sequence::from(cells_of(alloc, &rows)?),
-        facets: Sequence::from(facets),
-    };
-    let ids = ids_of(alloc, &rows)?;
-    Ok(Counted { voted, ids })
+    network_over(alloc, t, &rows, sides, crossed, behind, fixed, settings)
 }

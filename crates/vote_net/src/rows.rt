@@ -4,10 +4,11 @@ ghost use Rattle.std.specs.Prelude.{◌≡◌, IfOk, map};
 ghost use Rattle.std.specs.List.Sorted.{IsPermutation, IsNonDecreasingBy};
 ghost use Rattle.tetra_store.specs.Links.{tetrahedron_from};
 ghost use Rattle.vote_net.specs.CellRows.{low, high, risen, row_from};
-ghost use Rattle.vote_net.specs.Gathered.{row_key, key_of_row, all_rows};
+ghost use Rattle.vote_net.specs.Gathered.{key_of_row, all_rows};
 ghost use Rattle.vote_net.specs.Tables.{cell_of_row};
 
 use crate::NoMemory;
+use crate::keys::cell_key;
 use std::alloc::Global;
 use tetra_store::{CellId, Tetra};
 
@@ -16,18 +17,6 @@ use tetra_store::{CellId, Tetra};
 pub(crate) struct Row {
     pub(crate) cell: [u32; 4],
     pub(crate) id: CellId,
-}
-
-impl Row {
-    /// A number by which rows are sorted.
-    fn key(&self) -> u128
-        ensures { result ≡ row_key self.now.cell }
-    {
-        let [a, b, c, d] = self.cell;
-        let first = u64::from(a) * 4_294_967_296 + u64::from(b);
-        let last = u64::from(c) * 4_294_967_296 + u64::from(d);
-        u128::from(first) * 18_446_744_073_709_551_616 + u128::from(last)
-    }
 }
 
 /// Two numbers in order.
@@ -52,7 +41,7 @@ fn rising(v: [u32; 4]) -> [u32; 4]
 }
 
 /// The live cells, by rising id.
-fn rows(alloc: Global, t: &Tetra) -> Result<Vec<Row>, NoMemory>
+pub(crate) fn rows(alloc: Global, t: &Tetra) -> Result<Vec<Row>, NoMemory>
     ensures { IfOk result (λ rows. rows.items ≡ all_rows t.now.slots) }
 {
     let mut rows = Vec::with_capacity(alloc, t.number_limit())?;
@@ -71,7 +60,7 @@ fn sort_rows(rows: &mut [Row])
     ensures moved { IsPermutation rows.old rows.new }
     ensures sorted { IsNonDecreasingBy key_of_row rows.new }
 {
-    rows.sort_unstable_by_key(|row| row.key());
+    rows.sort_unstable_by_key(|row| cell_key(row.cell));
 }
 
 /// The live cells in the order of their numbers.

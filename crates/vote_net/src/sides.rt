@@ -6,9 +6,10 @@ ghost use Rattle.geo_sign.specs.Tetrahedron.{facet_at, numbers_of};
 ghost use Rattle.flow_net.specs.Nets.{flag_at};
 ghost use Rattle.tetra_store.specs.Links.{tetrahedron_from, next_in};
 ghost use Rattle.vote_net.specs.CellRows.{least_first as least_first_in, facet_row as facet_row_in};
-ghost use Rattle.vote_net.specs.Gathered.{side_if_open, open_at, cut_at, facet_key, key_of_side, all_open, all_cut};
+ghost use Rattle.vote_net.specs.Gathered.{side_if_open, open_at, cut_at, key_of_side, all_open, all_cut};
 
 use crate::NoMemory;
+use crate::keys::facet_key;
 use std::alloc::Global;
 use tetra_store::{Cell, CellId, Tetra};
 
@@ -21,17 +22,6 @@ pub struct Side {
     pub side: u8,
     /// The cell by its number in the store.
     pub id: CellId,
-}
-
-impl Side {
-    /// A number by which sides are sorted.
-    fn key(&self) -> u128
-        ensures { result ≡ facet_key self.now.facet }
-    {
-        let [a, b, c] = self.facet;
-        let last = u64::from(b) * 4_294_967_296 + u64::from(c);
-        u128::from(a) * 18_446_744_073_709_551_616 + u128::from(last)
-    }
 }
 
 /// Whether a list of flags has a cell.
@@ -108,7 +98,12 @@ fn push_open(sides: &mut Vec<Side>, fixed: &[bool], id: CellId, cell: &Cell) -> 
 }
 
 /// The sides with a free cell across, by rising id and side, in a list with room for so many.
-fn open_sides(alloc: Global, t: &Tetra, fixed: &[bool], room: usize) -> Result<Vec<Side>, NoMemory>
+pub(crate) fn open_sides(
+    alloc: Global,
+    t: &Tetra,
+    fixed: &[bool],
+    room: usize,
+) -> Result<Vec<Side>, NoMemory>
     ensures { IfOk result (λ sides. sides.items ≡ all_open fixed.now t.now.slots) }
 {
     let mut sides = Vec::with_capacity(alloc, room)?;
@@ -124,7 +119,7 @@ fn sort_sides(sides: &mut [Side])
     ensures moved { IsPermutation sides.old sides.new }
     ensures sorted { IsNonDecreasingBy key_of_side sides.new }
 {
-    sides.sort_unstable_by_key(|side| side.key());
+    sides.sort_unstable_by_key(|side| facet_key(side.facet));
 }
 
 /// The sides with a free cell across, in the order of their facets. There is room for so many from the first on.

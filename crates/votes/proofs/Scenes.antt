@@ -2,7 +2,7 @@
 -- tests look at nothing but where vertices are, so they say the same of the store's vertices and of all vertices of the points. And no
 -- count depends on how a facet or a cell is written (`facet_count_law`, `cell_count_law` of vote_net), so those of the cells as the
 -- store has them are those of facets from any vertex on and of rows.
-use Rattle.std.proofs.Common.{ℕ, ◌<◌, ◌≤◌, ◌+◌, ◌^◌, ◌≡◌, refl, sym, ap, subst, ◌∙◌, arith, Bool, true, false, cond, ◌||◌, List, ◌++◌, length, slice_index_or, count_by}
+use Rattle.std.proofs.Common.{ℕ, ◌<◌, ◌≤◌, ◌+◌, ◌^◌, ◌≡◌, refl, sym, ap, subst, ◌∙◌, arith, Bool, true, false, cond, ◌||◌, List, ◌++◌, length, slice_index_or}
 use Rattle.std.specs.List.{list_any}
 use Rattle.std.specs.List.Sorted.{IsPermutation}
 use Rattle.std.proofs.lemmas.List.{length-append}
@@ -18,19 +18,19 @@ use Rattle.geo_sign.specs.Vertices.{Vertices, corners, point_of}
 use Rattle.flow_net.specs.Nets.{flag_at}
 use Rattle.flow_net.specs.declared.votes.Settings.{Settings}
 use Rattle.flow_net.specs.declared.votes.Sight.{Sight}
-use Rattle.flow_net.specs.declared.votes.TheConstants.{SIGHT_LIMIT}
+use Rattle.flow_net.specs.Weights.{IsSightList, weight_where}
 use Rattle.visibility.specs.Scenes.{Scene, scene_of, scanner_point}
 use Rattle.visibility.specs.Votes.{has_corner, crossings}
 use Rattle.visibility.proofs.Members.{equal}
 use Rattle.tetra_store.specs.Links.{links_of, IsLive}
 use Rattle.tetra_store.specs.Store.{Store, IsStore, vertices_at, vertices_of}
 use Rattle.tetra_store.specs.Delaunay.{IsDelaunay}
-use Rattle.vote_net.specs.Counts.{AreCellsOf, AreCrossings, AreBehind, AreFixed}
+use Rattle.vote_net.specs.Counts.{AreCellsOf, AreCrossings, AreBehind, AreFixed, AreCountsOf}
 use Rattle.vote_net.proofs.CellCounts.{facet_count_law, cell_count_law}
 use Rattle.vote_net.proofs.Stored.{stored_cells_law}
 use Rattle.votes.specs.Counts.{added_by, sum_where, AreCounted}
 use Rattle.votes.proofs.Flags.{holds}
-use Rattle.votes.proofs.Tallies.{sum_is_count}
+use Rattle.votes.proofs.Tallies.{sum_is_weight}
 
 -- ---- the order of the sights
 pub counted_anyhow : (s : Store) (scanners : List Point) (sights walked : List Sight) (crossed behind : List ℕ) →
@@ -103,8 +103,8 @@ module _ (s : Store) (points scanners : List Point) (sights : List Sight) (setti
         count = h.crossed_fits;
         at = λ id k f live l r.
             h.facets id k live l
-            ∙ (sum_is_count _ sights
-            ∙ (ap (λ (test : Sight → Bool). count_by test sights) (equal (λ (x : Sight). crossed_is x.vertex (scanner_point scanners x.scanner) (facet_of (at id) k)))
+            ∙ (sum_is_weight _ sights
+            ∙ (ap (λ (test : Sight → Bool). weight_where test sights) (equal (λ (x : Sight). crossed_is x.vertex (scanner_point scanners x.scanner) (facet_of (at id) k)))
             ∙ facet_count_law scene (facet_of (at id) k) f r));
       }
 
@@ -114,8 +114,8 @@ module _ (s : Store) (points scanners : List Point) (sights : List Sight) (setti
         count = h.behind_fits;
         at = λ id live.
             h.cells id live
-            ∙ (sum_is_count _ sights
-            ∙ (ap (λ (test : Sight → Bool). count_by test sights) (equal (λ (x : Sight). behind_is x.vertex (scanner_point scanners x.scanner) (at id)))
+            ∙ (sum_is_weight _ sights
+            ∙ (ap (λ (test : Sight → Bool). weight_where test sights) (equal (λ (x : Sight). behind_is x.vertex (scanner_point scanners x.scanner) (at id)))
             ∙ sym (cell_count_law scene s.slots cells_are id live).before));
       }
 
@@ -133,12 +133,11 @@ module _ (s : Store) (points scanners : List Point) (sights : List Sight) (setti
 
   pub all_asked : (given : Scene) → given ≡ scene → (crossed behind : List ℕ) (flags : List Bool) →
       AreCounted s scanners sights crossed behind → length s.slots ≤ length flags →
-      ((id : ℕ) → IsLive (links_of s.slots) id → flag_at flags id ≡ (has_corner (at id) || holds s scanners id)) → length sights ≤ SIGHT_LIMIT →
-      AreCellsOf given s.slots × (given.vertices.count ≤ 2 ^ 32 × (length given.sights ≤ SIGHT_LIMIT × (given.settings ≡ settings × (AreCrossings given s.slots crossed × (AreBehind given s.slots behind × AreFixed given s.slots flags)))))
+      ((id : ℕ) → IsLive (links_of s.slots) id → flag_at flags id ≡ (has_corner (at id) || holds s scanners id)) → IsSightList sights →
+      AreCountsOf given s.slots crossed behind flags
   all_asked given is crossed behind flags h l f few =
-      subst
-      (λ (z : Scene). AreCellsOf z s.slots × (z.vertices.count ≤ 2 ^ 32 × (length z.sights ≤ SIGHT_LIMIT × (z.settings ≡ settings × (AreCrossings z s.slots crossed × (AreBehind z s.slots behind × AreFixed z s.slots flags))))))
-      (sym is) (cells_are, (count, (few, (refl, (crossings_are crossed behind h, (behind_are crossed behind h, fixed_are flags l f))))))
+      subst (λ (z : Scene). AreCountsOf z s.slots crossed behind flags) (sym is)
+      (record { cells = cells_are; few = count; few_sights = few; crossings = crossings_are crossed behind h; before = behind_are crossed behind h; flags = fixed_are flags l f })
     where
       count : 8 + length points ≤ 2 ^ 32
       count = let n = store.vertices.few in let m = ap length e in let k = count_of points in omega (arith, n, m, k)

@@ -1,15 +1,15 @@
--- The counters after some of the sights. They are what these add, to begin with nothing; a counter stays below the number of sights times
--- what one of them adds, so it has room for one more.
-use Rattle.std.proofs.Common.{ℕ, zero, suc, ◌<◌, ◌≤◌, ◌+◌, ◌*◌, ◌^◌, ◌≡◌, refl, sym, ap, ap₂, subst, ◌∙◌, arith, Bool, ◌&&◌, cond, List, [], ◌∷◌, length, take, get_or, slice_index, slice_index_or}
-use Rattle.std.specs.List.{count_by}
+-- The counters after some of the sights. They are what these add, to begin with nothing; a counter stays below
+-- what all sights weigh, so it has room for one more.
+use Rattle.std.proofs.Common.{ℕ, ◌<◌, ◌≤◌, ◌+◌, ◌*◌, ◌^◌, ◌≡◌, sym, ap, ap₂, subst, ◌∙◌, arith, Bool, ◌&&◌, cond, List, length, take, get_or, slice_index, slice_index_or}
 use Rattle.std.proofs.lemmas.List.{take_all}
-use Rattle.std.proofs.lemmas.List.Sums.{count_by-le-length, sum_by_more}
+use Rattle.std.proofs.lemmas.List.Sums.{sum_by_more}
 use Rattle.geo_sign.specs.Point.{Point, origin}
 use Rattle.geo_sign.specs.Rational.{displaced}
 use Rattle.geo_sign.specs.Sights.{is_crossed, is_behind}
 use Rattle.geo_sign.specs.Tetrahedron.{facet_of}
 use Rattle.flow_net.specs.declared.votes.Sight.{Sight}
-use Rattle.flow_net.specs.declared.votes.TheConstants.{SIGHT_LIMIT}
+use Rattle.flow_net.specs.Weights.{IsWeighed, IsSightList, weight_where}
+use Rattle.flow_net.proofs.WeightLemmas.{weight_is_sum, weight_so_far}
 use Rattle.visibility.specs.Scenes.{scanner_point}
 use Rattle.tetra_store.specs.Links.{links_of}
 use Rattle.tetra_store.specs.Store.{Store, vertices_of}
@@ -29,38 +29,29 @@ pub record IsTally (s : Store) (scanners : List Point) (sights : List Sight) (n 
   pub cells : (id : ℕ) → slice_index behind id ≡ sum_where (is_before s scanners id) (take n sights)
 
 -- ---- a counter has room while there are few sights
--- what sights add together is how many they are
-pub sum_is_count : (test : Sight → Bool) (sights : List Sight) → sum_where test sights ≡ count_by test sights
-sum_is_count test sights = refl
+-- what sights add together is what they weigh
+pub sum_is_weight : (test : Sight → Bool) (sights : List Sight) → sum_where test sights ≡ weight_where test sights
+sum_is_weight test sights = sym (weight_is_sum test sights)
 
-few_taken : {X : Type 0} (n : ℕ) (xs : List X) → length (take n xs) ≤ length xs
-few_taken zero [] = omega arith
-few_taken zero (x ∷ xs) = omega arith
-few_taken (suc n) [] = omega arith
-few_taken (suc n) (x ∷ xs) = let r = few_taken n xs in by r
-  where
-    by : length (take n xs) ≤ length xs → suc (length (take n xs)) ≤ suc (length xs)
-    by r = omega (arith, r)
-
-small : (test : Sight → Bool) (n : ℕ) (sights : List Sight) (sight : Sight) → length sights ≤ SIGHT_LIMIT →
+small : (test : Sight → Bool) (n : ℕ) (sights : List Sight) (sight : Sight) → IsSightList sights → IsWeighed sight →
     sum_where test (take n sights) + added_by sight < 2 ^ 32
-small test n sights sight l =
-    let a = count_by-le-length test (take n sights) in let b = few_taken n sights in let c = sum_is_count test (take n sights) in
-    omega (arith, a, b, c, l)
+small test n sights sight l w =
+    let a = weight_so_far test sights n l in let c = sum_is_weight test (take n sights) in let d = w.at_most in
+    omega (arith, a, c, d)
 
 pub facet_room : (s : Store) (scanners : List Point) (sights : List Sight) (n : ℕ) (crossed behind : List ℕ) →
-    IsTally s scanners sights n crossed behind → length sights ≤ SIGHT_LIMIT → (sight : Sight) →
+    IsTally s scanners sights n crossed behind → IsSightList sights → (sight : Sight) → IsWeighed sight →
     (id k : ℕ) → k < 4 → slice_index crossed (4 * id + k) + added_by sight < 2 ^ 32
-facet_room s scanners sights n crossed behind h l sight id k m = let a = h.facets id k m in let b = small (crosses s scanners id k) n sights sight l in omega (arith, a, b)
+facet_room s scanners sights n crossed behind h l sight w id k m = let a = h.facets id k m in let b = small (crosses s scanners id k) n sights sight l w in omega (arith, a, b)
 
 pub cell_room : (s : Store) (scanners : List Point) (sights : List Sight) (n : ℕ) (crossed behind : List ℕ) →
-    IsTally s scanners sights n crossed behind → length sights ≤ SIGHT_LIMIT → (sight : Sight) →
+    IsTally s scanners sights n crossed behind → IsSightList sights → (sight : Sight) → IsWeighed sight →
     (id : ℕ) → slice_index behind id + added_by sight < 2 ^ 32
-cell_room s scanners sights n crossed behind h l sight id = let a = h.cells id in let b = small (is_before s scanners id) n sights sight l in omega (arith, a, b)
+cell_room s scanners sights n crossed behind h l sight w id = let a = h.cells id in let b = small (is_before s scanners id) n sights sight l w in omega (arith, a, b)
 
 -- ---- a sight more
 abbrev pub sight_at : List Sight → ℕ → Sight
-sight_at sights n = get_or sights n (record { vertex = 0; scanner = 0 })
+sight_at sights n = get_or sights n (record { vertex = 0; scanner = 0; weight = 0 })
 
 pub one_more : (s : Store) (scanners : List Point) (sights : List Sight) (n : ℕ) (crossed behind new_crossed new_behind : List ℕ) (q : Point) (amount : ℕ) →
     IsTally s scanners sights n crossed behind → n < length sights →
@@ -81,7 +72,7 @@ one_more s scanners sights n crossed behind new_crossed new_behind q amount h l 
 
     more : (test : Sight → Bool) →
         sum_where test (take (n + 1) sights) ≡ sum_where test (take n sights) + cond (test (sight_at sights n)) (added_by (sight_at sights n)) 0
-    more test = sum_by_more (λ sight. cond (test sight) (added_by sight) 0) sights n (record { vertex = 0; scanner = 0 }) l
+    more test = sum_by_more (λ sight. cond (test sight) (added_by sight) 0) sights n (record { vertex = 0; scanner = 0; weight = 0 }) l
 
 -- ---- all of them
 pub all_counted : (s : Store) (scanners : List Point) (sights : List Sight) (n : ℕ) (crossed behind : List ℕ) →

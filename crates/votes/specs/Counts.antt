@@ -27,9 +27,9 @@ pub record IsInRange (v : Vertices) (scanners : List Point) (sight : Sight) : Ty
   pub data_vertex : 8 ≤ sight.vertex
   pub scanner : sight.scanner < length scanners
 
--- every sight counts once
+-- its weight
 abbrev pub added_by : Sight → ℕ
-added_by sight = 1
+added_by sight = sight.weight
 
 -- what the sights that pass a test add together
 abbrev pub sum_where : (Sight → Bool) → List Sight → ℕ

@@ -4,13 +4,13 @@ ghost use Rattle.std.specs.Prelude.{◌≡◌, ◌<◌, ◌≤◌, ◌++◌, ℕ
 ghost use Rattle.geo_sign.specs.declared.point.TheConstants.{DATA_LIMIT};
 ghost use Rattle.geo_sign.specs.Point.{IsWithin};
 ghost use Rattle.geo_sign.specs.Vertices.{corners};
-ghost use Rattle.flow_net.specs.declared.votes.TheConstants.{SIGHT_LIMIT};
+ghost use Rattle.flow_net.specs.Weights.{IsSightList};
 ghost use Rattle.visibility.specs.Scenes.{Scene, scene_of};
-ghost use Rattle.visibility.specs.Networks.{IsNetworkOf};
+ghost use Rattle.visibility.specs.Networks.{IsNetworkInAnyOrder, IsNetworkOf};
 ghost use Rattle.tetra_store.specs.Delaunay.{IsDelaunay};
 ghost use Rattle.tetra_store.specs.Links.{links_of};
 ghost use Rattle.tetra_store.specs.Store.{vertices_of};
-ghost use Rattle.vote_net.specs.Counts.{AreIdsOf};
+ghost use Rattle.vote_net.specs.Counts.{AreCountsOf, AreIdsOf};
 ghost use Rattle.votes.specs.Counts.{IsInRange, AreScannerCells, AreCounted};
 
 use crate::NoMemory;
@@ -21,7 +21,14 @@ use flow_net::{Settings, Sight};
 use geo_sign::Point;
 use std::alloc::Global;
 use tetra_store::{CellId, Tetra};
-use vote_net::{Counted, assemble};
+use vote_net::{Counted, assemble, assemble_rising};
+
+/// What is counted, by the numbers that cells have in the store: what sights add, and which cells are fixed.
+#[derive(Drop)]
+struct Votes {
+    counts: Counts,
+    fixed: Vec<bool>,
+}
 
 /// The counts of the sights, which are walked in another order. That order is let go of before it returns.
 fn counts_of(
@@ -33,7 +40,7 @@ fn counts_of(
 ) -> Result<Counts, NoMemory>
     requires delaunay { IsDelaunay (vertices_of t.now) (links_of t.now.slots) }
     requires sights { All (IsInRange (vertices_of t.now) scanners.now) sights.now }
-    requires few { length sights.now ≤ SIGHT_LIMIT }
+    requires few { IsSightList sights.now }
     requires data_points { All (IsWithin DATA_LIMIT) scanners.now }
     requires cells { AreScannerCells t.now scanners.now cells.now }
     ensures { IfOk result (λ counts. AreCounted t.now scanners.now sights.now counts.crossed.items counts.behind.items) }
@@ -42,11 +49,41 @@ fn counts_of(
     count_sights(alloc, t, scanners, cells, &walked)
 }
 
+/// What the sights vote for and which cells are fixed. The cells of the scanners are let go of before it returns.
+fn votes_of(
+    alloc: Global,
+    t: &Tetra,
+    points: &[Point],
+    sights: &[Sight],
+    scanners: &[Point],
+    settings: Settings,
+) -> Result<Votes, NoMemory>
+    ghost scene: { Scene }
+    requires scene { scene ≡ scene_of points.now scanners.now sights.now settings }
+    requires points { t.now.points ≡ corners ++ points.now }
+    requires inserted { (u : ℕ) → u < length t.now.points → slice_index_or t.now.inserted u false ≡ true }
+    requires delaunay { IsDelaunay (vertices_of t.now) (links_of t.now.slots) }
+    requires sights { All (IsInRange (vertices_of t.now) scanners.now) sights.now }
+    requires few_sights { IsSightList sights.now }
+    requires data_points { All (IsWithin DATA_LIMIT) scanners.now }
+    ensures counts { IfOk result (λ votes. AreCountsOf scene t.now.slots votes.counts.crossed.items votes.counts.behind.items votes.fixed.items) }
+    ensures settings { scene.settings ≡ settings }
+{
+    t.facts();
+    let _points = points;
+    let _settings = settings;
+    let cells = scanner_cells(alloc, t, scanners)?;
+    let fixed = fixed_cells(alloc, t, scanners, &cells)?;
+    let counts = counts_of(alloc, t, scanners, &cells, sights)?;
+    Ok(Votes { counts, fixed })
+}
+
 /// The network of the cells of these points, by a walk along each sight.
 ///
 /// All points have to be inserted, and the cells Delaunay, as `delaunay::build` leaves them. A sight's scanner is its index in
-/// `scanners`, equal sights count as often as they were seen, and a scanner that sees nothing fixes its cell as well. The only error is
-/// want of memory, which also stands for 2^32 cells or facets and more.
+/// `scanners`, equal sights count as often as they were seen, each by its weight, and a scanner that sees nothing fixes its cell as well.
+/// Nodes and arcs are in the order in which the store has cells and sides. The only error is want of memory, which also stands for 2^32
+/// cells or facets and more.
 pub fn count_votes(
     alloc: Global,
     t: &Tetra,
@@ -61,15 +98,49 @@ pub fn count_votes(
     requires inserted { (u : ℕ) → u < length t.now.points → slice_index_or t.now.inserted u false ≡ true }
     requires delaunay { IsDelaunay (vertices_of t.now) (links_of t.now.slots) }
     requires sights { All (IsInRange (vertices_of t.now) scanners.now) sights.now }
-    requires few_sights { length sights.now ≤ SIGHT_LIMIT }
+    requires few_sights { IsSightList sights.now }
+    requires data_points { All (IsWithin DATA_LIMIT) scanners.now }
+    ensures network { IfOk result (λ counted. IsNetworkInAnyOrder scene counted.voted) }
+    ensures ids { IfOk result (λ counted. AreIdsOf t.now.slots counted.voted.cells counted.ids.items) }
+{
+    let votes = votes_of(alloc, t, points, sights, scanners, settings)?;
+    assemble(
+        alloc,
+        t,
+        &votes.counts.crossed,
+        &votes.counts.behind,
+        &votes.fixed,
+        settings,
+    )
+}
+
+/// The same network with its cells and facets in rising order, which takes longer.
+pub fn count_votes_rising(
+    alloc: Global,
+    t: &Tetra,
+    points: &[Point],
+    sights: &[Sight],
+    scanners: &[Point],
+    settings: Settings,
+) -> Result<Counted, NoMemory>
+    ghost scene: { Scene }
+    requires scene { scene ≡ scene_of points.now scanners.now sights.now settings }
+    requires points { t.now.points ≡ corners ++ points.now }
+    requires inserted { (u : ℕ) → u < length t.now.points → slice_index_or t.now.inserted u false ≡ true }
+    requires delaunay { IsDelaunay (vertices_of t.now) (links_of t.now.slots) }
+    requires sights { All (IsInRange (vertices_of t.now) scanners.now) sights.now }
+    requires few_sights { IsSightList sights.now }
     requires data_points { All (IsWithin DATA_LIMIT) scanners.now }
     ensures network { IfOk result (λ counted. IsNetworkOf scene counted.voted) }
     ensures ids { IfOk result (λ counted. AreIdsOf t.now.slots counted.voted.cells counted.ids.items) }
 {
-    t.facts();
-    let _points = points;
-    let cells = scanner_cells(alloc, t, scanners)?;
-    let fixed = fixed_cells(alloc, t, scanners, &cells)?;
-    let counts = counts_of(alloc, t, scanners, &cells, sights)?;
-    assemble(alloc, t, &counts.crossed, &counts.behind, &fixed, settings)
+    let votes = votes_of(alloc, t, points, sights, scanners, settings)?;
+    assemble_rising(
+        alloc,
+        t,
+        &votes.counts.crossed,
+        &votes.counts.behind,
+        &votes.fixed,
+        settings,
+    )
 }

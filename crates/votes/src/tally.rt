@@ -5,7 +5,7 @@ ghost use Rattle.geo_sign.specs.declared.point.TheConstants.{DATA_LIMIT};
 ghost use Rattle.geo_sign.specs.Point.{origin, IsWithin};
 ghost use Rattle.geo_sign.specs.Rational.{displaced};
 ghost use Rattle.geo_sign.specs.Vertices.{Has};
-ghost use Rattle.flow_net.specs.declared.votes.TheConstants.{SIGHT_LIMIT};
+ghost use Rattle.flow_net.specs.Weights.{IsSightList};
 ghost use Rattle.tetra_store.specs.Delaunay.{IsDelaunay};
 ghost use Rattle.tetra_store.specs.Links.{links_of};
 ghost use Rattle.tetra_store.specs.Store.{vertices_of};
@@ -30,12 +30,11 @@ pub(crate) struct Counts {
     pub behind: Vec<u32>,
 }
 
-/// What a sight adds to each facet that it crosses and to the cell behind it: every sight counts once.
+/// What a sight adds to each facet that it crosses and to the cell behind it: its weight.
 fn added_by(sight: Sight) -> u32
     ensures { result ≡ added_by_sight sight }
 {
-    let _sight = sight;
-    1
+    sight.weight
 }
 
 /// Where a scanner stands.
@@ -95,8 +94,8 @@ fn count_behind(t: &Tetra, v: u32, s: Point, added: u32, before: &mut [u32])
     before[id.number()] += added;
 }
 
-/// Counts for each directed facet the sights that cross it, and for each cell those that it is behind, where the cells of the scanners
-/// are known. It takes memory for the counters alone, four of 32 bits for each number of a cell and one more.
+/// Adds for each directed facet the weights of the sights that cross it, and for each cell of those that it is behind, where the cells
+/// of the scanners are known. It takes memory for the counters alone, four of 32 bits for each number of a cell and one more.
 pub(crate) fn count_sights(
     alloc: Global,
     t: &Tetra,
@@ -106,7 +105,7 @@ pub(crate) fn count_sights(
 ) -> Result<Counts, NoMemory>
     requires delaunay { IsDelaunay (vertices_of t.now) (links_of t.now.slots) }
     requires sights { All (IsInRange (vertices_of t.now) scanners.now) sights.now }
-    requires few { length sights.now ≤ SIGHT_LIMIT }
+    requires few { IsSightList sights.now }
     requires data_points { All (IsWithin DATA_LIMIT) scanners.now }
     requires cells { AreScannerCells t.now scanners.now cells.now }
     ensures { IfOk result (λ counts. AreCounted t.now scanners.now sights.now counts.crossed.items counts.behind.items) }

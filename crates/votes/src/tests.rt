@@ -1,5 +1,5 @@
-//! `count_votes` over built cells beside the plain network, on scans whose sights go through other cells, stand twice, or have scanners
-//! in one cell; and the first facet that a sight through the cell of four points crosses.
+//! `count_votes` and `count_votes_rising` over built cells beside the plain network, on scans whose sights go through other cells, stand
+//! twice, or have scanners in one cell; and the first facet that a sight through the cell of four points crosses.
 
 ghost use Rattle.std.specs.Prelude.{◌≡◌, ◌<◌, ℕ, All, IfOk, IsTrue, length, get_or};
 ghost use Rattle.geo_sign.specs.declared.point.TheConstants.{DATA_LIMIT};
@@ -7,11 +7,11 @@ ghost use Rattle.geo_sign.specs.Point.{origin, IsWithin};
 ghost use Rattle.tetra_store.specs.Store.{vertices_of};
 ghost use Rattle.votes.specs.Counts.{IsInRange};
 
-use crate::count_votes;
+use crate::{count_votes, count_votes_rising};
 use delaunay::build;
-use flow_net::{Settings, Sight, Voted};
+use flow_net::{Settings, Sight, Voted, are_sights};
 use geo_sign::Point;
-use plain_net::plain_net;
+use plain_net::{is_same_in_any_order, plain_net};
 use sight::walk;
 use std::alloc::{AllocError, Global};
 use std::test::Fail;
@@ -87,15 +87,16 @@ fn is_same(one: &Voted, other: &Voted) -> bool {
         && one.net.arcs.as_slice() == other.net.arcs.as_slice()
 }
 
-/// The network by walks along the sights. None where points are not distinct data points or too many, or sights out of range.
+/// The network by walks along the sights, with its cells and facets in rising order and in the store's. None where points are not
+/// distinct data points or too many, or sights out of range or of no weight.
 fn walked(
     alloc: Global,
     points: &[Point],
     sights: &[Sight],
     scanners: &[Point],
     settings: Settings,
-) -> Result<Option<Voted>, AllocError> {
-    if points.len() > 48 || sights.len() > 1000 {
+) -> Result<Option<(Voted, Voted)>, AllocError> {
+    if points.len() > 48 || !are_sights(sights) {
         return Ok(None);
     }
     if !are_data(points) || !are_distinct(points) || !are_data(scanners) {
@@ -105,11 +106,12 @@ fn walked(
     if !are_in_range(&t, scanners, sights) {
         return Ok(None);
     }
-    let counted = count_votes(alloc, &t, points, sights, scanners, settings)?;
-    Ok(Some(counted.voted))
+    let rising = count_votes_rising(alloc, &t, points, sights, scanners, settings)?;
+    let stored = count_votes(alloc, &t, points, sights, scanners, settings)?;
+    Ok(Some((rising.voted, stored.voted)))
 }
 
-/// Whether it is the one by tests of each facet against each sight.
+/// Whether it is the one by tests of each facet against each sight, in both orders.
 fn agrees(
     alloc: Global,
     points: &[Point],
@@ -117,12 +119,12 @@ fn agrees(
     scanners: &[Point],
 ) -> Result<bool, Fail> {
     let settings = Settings::new(8, 1).ok_or("settings")?;
-    if points.len() > 48 || sights.len() > 1000 {
+    if points.len() > 48 || !are_sights(sights) {
         return Ok(false);
     }
-    let voted = walked(alloc, points, sights, scanners, settings)?.ok_or("a scan")?;
+    let (rising, stored) = walked(alloc, points, sights, scanners, settings)?.ok_or("a scan")?;
     let plain = plain_net(alloc, points, sights, scanners, settings)?;
-    Ok(is_same(&voted, &plain))
+    Ok(is_same(&rising, &plain) && is_same_in_any_order(&plain, &stored))
 }
 
 /// The point with these coordinates.
@@ -153,15 +155,19 @@ fn five_scanners() -> Result<[Point; 5], Fail> {
     ])
 }
 
-/// The sights of the four points from the scanners beyond them, and the one through the cell.
-fn five_sights() -> [Sight; 5] {
-    let sight = |vertex, scanner| Sight { vertex, scanner };
+/// The sights of the four points from the scanners beyond them, of weight 1, and the one through the cell.
+fn five_sights(weight: u32) -> [Sight; 5] {
+    let sight = |vertex, scanner, weight| Sight {
+        vertex,
+        scanner,
+        weight,
+    };
     [
-        sight(8, 0),
-        sight(9, 1),
-        sight(10, 2),
-        sight(11, 3),
-        sight(8, 4),
+        sight(8, 0, 1),
+        sight(9, 1, 1),
+        sight(10, 2, 1),
+        sight(11, 3, 1),
+        sight(8, 4, weight),
     ]
 }
 
@@ -191,8 +197,8 @@ fn scattered(alloc: Global, first: u64, count: u64) -> Result<Vec<Point>, Fail> 
 fn four_points_and_a_sight_through_their_cell_agree(rt: HostRuntime) -> Result<(), Fail> {
     let points = four_points()?;
     let scanners = five_scanners()?;
-    assert!(rt; agrees(rt.alloc(), &points, &five_sights()[..4], &scanners)?);
-    assert!(rt; agrees(rt.alloc(), &points, &five_sights(), &scanners)?);
+    assert!(rt; agrees(rt.alloc(), &points, &five_sights(1)[..4], &scanners)?);
+    assert!(rt; agrees(rt.alloc(), &points, &five_sights(255), &scanners)?);
     Ok(())
 }
 
@@ -200,21 +206,20 @@ fn four_points_and_a_sight_through_their_cell_agree(rt: HostRuntime) -> Result<(
 fn a_sight_through_the_cell_raises_the_facet_that_it_enters(rt: HostRuntime) -> Result<(), Fail> {
     let settings = Settings::new(8, 1).ok_or("settings")?;
     let scanners = five_scanners()?;
-    let voted = walked(
-        rt.alloc(),
-        &four_points()?,
-        &five_sights(),
-        &scanners,
-        settings,
-    )?
-    .ok_or("a scan")?;
+    let points = four_points()?;
     let facets = [[8, 9, 10], [8, 10, 11], [8, 11, 9], [9, 11, 10]];
-    assert_eq!(rt; voted.facets.as_slice(), facets.as_slice());
-    let arcs = voted.net.arcs.as_slice();
-    for (arc, cap) in arcs.iter().zip([1, 1, 1, 9]) {
-        assert_eq!(rt; arc.cap, cap);
-        let inner = voted.cells.as_slice().get(arc.to).copied();
-        assert_eq!(rt; inner, Some([8, 9, 10, 11]));
+    for (weight, entered) in [(1, 9), (3, 25)] {
+        let sights = five_sights(weight);
+        let (voted, _stored) = walked(rt.alloc(), &points, &sights, &scanners, settings)?.ok_or(
+            "a scan",
+        )?;
+        assert_eq!(rt; voted.facets.as_slice(), facets.as_slice());
+        let arcs = voted.net.arcs.as_slice();
+        for (arc, cap) in arcs.iter().zip([1, 1, 1, entered]) {
+            assert_eq!(rt; arc.cap, cap);
+            let inner = voted.cells.as_slice().get(arc.to).copied();
+            assert_eq!(rt; inner, Some([8, 9, 10, 11]));
+        }
     }
     Ok(())
 }
@@ -235,10 +240,11 @@ fn the_cube_seen_from_both_sides_agrees(rt: HostRuntime) -> Result<(), Fail> {
     }
     // each point from the scanner beyond it, twice, and from the one beyond the point opposite to it
     for k in 0..8 {
-        for scanner in [k, 7 - k, k] {
+        for (scanner, weight) in [(k, 1), (7 - k, 9), (k, 3)] {
             sights.push(Sight {
                 vertex: 8 + k,
                 scanner,
+                weight,
             })?;
         }
     }
@@ -257,6 +263,7 @@ fn scattered_points_seen_from_scattered_scanners_agree(rt: HostRuntime) -> Resul
             sights.push(Sight {
                 vertex: 8 + k,
                 scanner,
+                weight: 1 + 10 * k,
             })?;
         }
     }
@@ -272,9 +279,12 @@ fn a_scanner_that_sees_nothing_fixes_its_cell(rt: HostRuntime) -> Result<(), Fai
     let sights = [Sight {
         vertex: 8,
         scanner: 0,
+        weight: 1,
     }];
     assert!(rt; agrees(rt.alloc(), &points, &sights, &scanners)?);
-    let voted = walked(rt.alloc(), &points, &sights, &scanners, settings)?.ok_or("a scan")?;
+    let (voted, _stored) = walked(rt.alloc(), &points, &sights, &scanners, settings)?.ok_or(
+        "a scan",
+    )?;
     assert_eq!(rt; voted.facets.as_slice().len(), 0);
     Ok(())
 }

@@ -1,12 +1,15 @@
 use Rattle.std.proofs.Common.{ℕ, ◌≡◌, ◌<◌, List, All, refl, ap, sym, subst, ◌∙◌, arith, ◌++◌, length, get_or}
+use Rattle.flow_net.specs.Weights.{IsSightList}
 use Rattle.geo_sign.specs.Point.{Point, IsWithin, origin}
 use Rattle.geo_sign.specs.Vertices.{corners}
 use Rattle.geo_sign.specs.declared.point.TheConstants.{DATA_LIMIT}
 use Rattle.scan.specs.Views.{rows_of}
 use Rattle.scan.specs.declared.scan.Scan.{Scan}
+use Rattle.visibility.specs.Scenes.{Scene}
+use Rattle.visibility.specs.Networks.{IsNetworkInAnyOrder}
 use Rattle.solution.specs.Scans.{points_of}
 use Rattle.solution.proofs.ScanScenes.{is_scan, points_within, points_apart}
-use Rattle.solution.proofs.SightLists.{few_points, few_sights, network_of_rows}
+use Rattle.solution.proofs.SightLists.{few_points, few_sights, scene_of_scan}
 use Rattle.recon_build.proofs.Stored.{sights_in_range, all_cells, store_is}
 use Rattle.recon_build.proofs.network.network.Goals as goal
 
@@ -41,7 +44,7 @@ count_votes-requires c =
             (
               sights_in_range c.args.scan.now c.in_ok-tetra.tetra c.deref-2.result.now c.deref-4.result.now c.deref-3.result.now points stored c.in_ok-tetra.ensures.inserted c.deref-4.ensures.value (c.deref-3.ensures.value ∙ c.in_ok-seen.ensures.sights),
               (
-                omega (arith, ap length c.deref-3.ensures.value, ap length c.in_ok-seen.ensures.sights, few_sights c.args.scan.now),
+                subst IsSightList (sym (c.deref-3.ensures.value ∙ c.in_ok-seen.ensures.sights)) (few_sights c.args.scan.now),
                 subst (All (IsWithin DATA_LIMIT)) (sym c.deref-4.ensures.value) c.args.scan.now.scanners_are_data,
               ),
             ),
@@ -62,5 +65,5 @@ returns-clause-store c =
 
 pub returns-clause-network : goal.returns-clause-network
 returns-clause-network c =
-    network_of_rows c.args.scan.now c.args.settings c.deref-2.result.now c.deref-4.result.now c.deref-3.result.now c.in_ok-counted.counted.voted (c.deref-2.ensures.value ∙ c.in_ok-seen.ensures.points) c.deref-4.ensures.value
+    scene_of_scan c.args.scan.now c.args.settings c.deref-2.result.now c.deref-4.result.now c.deref-3.result.now (λ (s : Scene). IsNetworkInAnyOrder s c.in_ok-counted.counted.voted) (c.deref-2.ensures.value ∙ c.in_ok-seen.ensures.points) c.deref-4.ensures.value
     (c.deref-3.ensures.value ∙ c.in_ok-seen.ensures.sights) c.in_ok-counted.ensures.network

@@ -1,18 +1,21 @@
-use Rattle.std.proofs.Common.{ℕ, ◌≡◌, ◌<◌, ◌^◌, refl, ap, sym, ◌∙◌, arith, Bool, List, length, map, filter}
+use Rattle.std.proofs.Common.{ℕ, ◌≡◌, ◌<◌, ◌≤◌, ◌^◌, refl, ap, sym, subst, ◌∙◌, arith, Bool, List, length, map, filter}
+use Rattle.std.specs.List.Sorted.{IsPermutation}
 use Rattle.cert_text.specs.declared.certificate.FlowRow.{FlowRow}
 use Rattle.cert_text.specs.declared.certificate.SinkRow.{SinkRow}
 use Rattle.visibility.proofs.Networks.{node_count, arc_count}
 use Rattle.scan.specs.ScanRows.{ScanRows}
 use Rattle.scan.specs.Views.{rows_of}
-use Rattle.visibility.specs.Laws.{test_of}
-use Rattle.visibility.specs.Networks.{complex_of}
+use Rattle.visibility.specs.Laws.{test_of, amount_of}
+use Rattle.visibility.specs.Networks.{complex_of, IsNetworkInAnyOrder}
 use Rattle.visibility.specs.Scenes.{Scene}
 use Rattle.solution.specs.Scans.{points_of, scene_of_rows}
 use Rattle.solution.specs.Solutions.{flow_rows, sink_rows}
 use Rattle.solution.proofs.Certificates.{flags_are, on_arcs_are, at_nodes_are, certificate_is}
 use Rattle.solution.proofs.SightLists.{row_count, few_vertices, few_sights}
+use Rattle.flow_net.specs.declared.Voted.{Voted}
+use Rattle.recon_build.proofs.SortedRows.{inside_are, flow_are, sinks_are}
 use Rattle.recon_build.proofs.Stored.{corner_count}
-use Rattle.recon_build.proofs.WellFormed.{well_formed, fit_counts}
+use Rattle.recon_build.proofs.WellFormed.{well_formed, fit_counts, version_of}
 use Rattle.recon_build.proofs.solving.certificate.Goals as goal
 
 pub returns-clause-counts : goal.returns-clause-counts
@@ -27,24 +30,34 @@ returns-clause-counts c =
     }
 
 pub returns-clause-states : goal.returns-clause-states
-returns-clause-states c =
-    certificate_is (scene_of_rows (rows_of c.args.scan.now) c.args.settings) c.args.voted.now c.args.labels.now c.args.flow.now _ c.requires.network c.requires.labels c.requires.flow c.requires.equal
-    c.least_cost.ensures
-    (inside_is _ _ _ _ _ _ c.as_slice-cells.ensures c.as_slice.ensures (flags_are (scene_of_rows (rows_of c.args.scan.now) c.args.settings) c.args.voted.now c.args.labels.now c.requires.network c.requires.labels) c.in_ok-inside_rows.ensures)
-    (flow_is _ _ _ _ _ _ c.as_slice-2.ensures c.as_slice-3.ensures (on_arcs_are (scene_of_rows (rows_of c.args.scan.now) c.args.settings) c.args.voted.now c.args.flow.now c.requires.network c.requires.flow) c.in_ok-flow_rows.ensures)
-    (sink_is _ _ _ _ _ _ c.as_slice-cells.ensures c.as_slice-4.ensures (at_nodes_are (scene_of_rows (rows_of c.args.scan.now) c.args.settings) c.args.voted.now c.args.flow.now c.requires.network c.requires.flow) c.in_ok-sink_rows.ensures)
+returns-clause-states c listing =
+    let s : Scene = scene_of_rows (rows_of c.args.scan.now) c.args.settings in
+    let voted : Voted = c.args.voted.now in
+    let network : IsNetworkInAnyOrder s voted =
+    record { listing = listing; fixed_is = c.requires.network.fixed_is; sink_is = c.requires.network.sink_is; arcs_are = c.requires.network.arcs_are } in
+    let few : s.vertices.count ≤ 2 ^ 32 = omega (arith, few_vertices c.args.scan.now c.args.settings) in
+    certificate_is s voted c.args.labels.now c.args.flow.now _ network c.requires.labels c.requires.flow c.requires.equal c.least_cost.ensures
+    (inside_are s few (complex_of voted) listing (test_of voted.cells c.args.labels.now.inside) _
+    (inside_moved _ _ _ _ _ _ c.as_slice-cells.ensures c.as_slice.ensures (flags_are s voted c.args.labels.now network c.requires.labels) c.in_ok-inside_rows.ensures.moved)
+    c.in_ok-inside_rows.ensures.sorted)
+    (flow_are s few (complex_of voted) listing (amount_of voted.facets c.args.flow.now.on_arc) _
+    (flow_moved _ _ _ _ _ _ c.as_slice-2.ensures c.as_slice-3.ensures (on_arcs_are s voted c.args.flow.now network c.requires.flow) c.in_ok-flow_rows.ensures.moved)
+    c.in_ok-flow_rows.ensures.sorted)
+    (sinks_are s few (complex_of voted) listing (amount_of voted.cells c.args.flow.now.on_sink) _
+    (sinks_moved _ _ _ _ _ _ c.as_slice-cells.ensures c.as_slice-4.ensures (at_nodes_are s voted c.args.flow.now network c.requires.flow) c.in_ok-sink_rows.ensures.moved)
+    c.in_ok-sink_rows.ensures.sorted)
   where
-    inside_is : (rows cells given : List (List ℕ)) (flags inside : List Bool) (test : List ℕ → Bool) → given ≡ cells → inside ≡ flags → map test cells ≡ flags
-        → ((t : List ℕ → Bool) → map t given ≡ inside → rows ≡ filter t given) → rows ≡ filter test cells
-    inside_is rows cells given flags inside test a b e f = f test (ap (map test) a ∙ (e ∙ sym b)) ∙ ap (filter test) a
+    inside_moved : (rows cells given : List (List ℕ)) (flags inside : List Bool) (test : List ℕ → Bool) → given ≡ cells → inside ≡ flags → map test cells ≡ flags
+        → ((t : List ℕ → Bool) → map t given ≡ inside → IsPermutation (filter t given) rows) → IsPermutation (filter test cells) rows
+    inside_moved rows cells given flags inside test a b e f = subst (λ (list : List (List ℕ)). IsPermutation (filter test list) rows) a (f test (ap (map test) a ∙ (e ∙ sym b)))
 
-    flow_is : (rows : List FlowRow) (facets given : List (List ℕ)) (amounts on_arc : List ℕ) (on : List ℕ → ℕ) → given ≡ facets → amounts ≡ on_arc → map on facets ≡ on_arc
-        → ((t : List ℕ → ℕ) → map t given ≡ amounts → rows ≡ flow_rows given t) → rows ≡ flow_rows facets on
-    flow_is rows facets given amounts on_arc on a b e f = f on (ap (map on) a ∙ (e ∙ sym b)) ∙ ap (λ (list : List (List ℕ)). flow_rows list on) a
+    flow_moved : (rows : List FlowRow) (facets given : List (List ℕ)) (amounts on_arc : List ℕ) (on : List ℕ → ℕ) → given ≡ facets → amounts ≡ on_arc → map on facets ≡ on_arc
+        → ((t : List ℕ → ℕ) → map t given ≡ amounts → IsPermutation (flow_rows given t) rows) → IsPermutation (flow_rows facets on) rows
+    flow_moved rows facets given amounts on_arc on a b e f = subst (λ (list : List (List ℕ)). IsPermutation (flow_rows list on) rows) a (f on (ap (map on) a ∙ (e ∙ sym b)))
 
-    sink_is : (rows : List SinkRow) (cells given : List (List ℕ)) (amounts on_sink : List ℕ) (at : List ℕ → ℕ) → given ≡ cells → amounts ≡ on_sink → map at cells ≡ on_sink
-        → ((t : List ℕ → ℕ) → map t given ≡ amounts → rows ≡ sink_rows given t) → rows ≡ sink_rows cells at
-    sink_is rows cells given amounts on_sink at a b e f = f at (ap (map at) a ∙ (e ∙ sym b)) ∙ ap (λ (list : List (List ℕ)). sink_rows list at) a
+    sinks_moved : (rows : List SinkRow) (cells given : List (List ℕ)) (amounts on_sink : List ℕ) (at : List ℕ → ℕ) → given ≡ cells → amounts ≡ on_sink → map at cells ≡ on_sink
+        → ((t : List ℕ → ℕ) → map t given ≡ amounts → IsPermutation (sink_rows given t) rows) → IsPermutation (sink_rows cells at) rows
+    sinks_moved rows cells given amounts on_sink at a b e f = subst (λ (list : List (List ℕ)). IsPermutation (sink_rows list at) rows) a (f at (ap (map at) a ∙ (e ∙ sym b)))
 
 pub inside_rows-requires : goal.inside_rows-requires
 inside_rows-requires c =
@@ -63,14 +76,14 @@ returns-clause-well_formed c =
     let rows : ScanRows = rows_of c.args.scan.now in
     let s : Scene = scene_of_rows rows c.args.settings in
     let cost : c.least_cost.result < 2 ^ 64 = omega (arith, c.least_cost.type_inv) in
-    well_formed s (complex_of c.args.voted.now) (test_of c.args.voted.now.cells c.args.labels.now.inside) _ c.requires.network.complex_is (few_vertices c.args.scan.now c.args.settings) (few_sights c.args.scan.now)
+    well_formed s c.requires.network.listing.complex (test_of c.args.voted.now.cells c.args.labels.now.inside) _ c.requires.network.listing.complex_is (few_vertices c.args.scan.now c.args.settings) (few_sights c.args.scan.now) (version_of c.args.stamp)
     (fit_counts _ c.args.scan.now c.args.settings (returns-clause-counts c) cost)
     (record {
       inside = omega (arith, c.in_ok-inside_rows.field-0.ok, c.in_ok-inside_rows.field-0.small);
       flow = omega (arith, c.in_ok-flow_rows.field-0.ok, c.in_ok-flow_rows.field-0.small);
       sink = omega (arith, c.in_ok-sink_rows.field-0.ok, c.in_ok-sink_rows.field-0.small);
     })
-    (returns-clause-states c)
+    (returns-clause-states c c.requires.network.listing)
 
 pub overflow_sub-result : goal.overflow_sub-result
 overflow_sub-result c = omega (arith, c.vertex_count.ensures, corner_count c.args.tetra.now (points_of (rows_of c.args.scan.now)) c.requires.points)

@@ -14,7 +14,9 @@ use Rattle.visibility.specs.Cuts.{cut_facets, IsAdmissible}
 use Rattle.visibility.specs.Laws.{test_of}
 use Rattle.visibility.specs.Networks.{complex_of}
 use Rattle.visibility.specs.Scenes.{Scene}
+use Rattle.visibility.specs.Listings.{IsListingOf}
 use Rattle.visibility.specs.Votes.{IsComplexOf}
+use Rattle.visibility.proofs.ListingAgreements.{with_rising}
 use Rattle.visibility.proofs.Networks.{node_count}
 use Rattle.vote_net.specs.Counts.{AreCellsOf, AreIdsOf}
 use Rattle.recon_build.proofs.Stored.{corner_count}
@@ -23,7 +25,7 @@ use Rattle.recon_build.proofs.solving.solve_over.Goals as goal
 -- what the mesh is made of
 abbrev IsCut : Store → (ids : List ℕ) (inside : List Bool) → Scene → Complex → Type 0
 IsCut t ids inside s complex =
-    AreCellsOf s t.slots × (s.vertices.count ≡ length t.points) × IsComplexOf s complex × AreIdsOf t.slots complex.cells ids × (length inside ≡ length complex.cells) ×
+    AreCellsOf s t.slots × (s.vertices.count ≡ length t.points) × IsListingOf s complex × AreIdsOf t.slots complex.cells ids × (length inside ≡ length complex.cells) ×
     IsAdmissible s complex (test_of complex.cells inside)
 
 -- of a scene and a complex that have names of their own
@@ -39,19 +41,19 @@ facets-requires g c =
     named g.cutting s (complex_of c.args.counted.voted) c.requires.0 c.requires.1.0 (IsCut c.args.tetra c.deref.result.now c.in_ok-labels.labels.inside) (
       c.requires.1.1.1.0,
       sym (corner_count c.args.tetra (points_of (rows_of c.args.scan.now)) c.requires.1.1.0.points),
-      network.complex_is,
+      network.listing,
       subst (AreIdsOf c.args.tetra.slots c.args.counted.voted.cells) (sym c.deref.ensures.value) c.requires.1.1.1.1.1,
       c.in_ok-labels.ensures.least.least_cost.admissible.count ∙ node_count s c.args.counted.voted network,
-      least.least_cost.admissible,
+      ((with_rising s (complex_of c.args.counted.voted) network.listing).admissible _).1 least.least_cost.admissible,
     ) in
     (cut.0, (cut.1, (cut.2, (cut.3, (cut.4, cut.5)))))
 
 -- the facets are those of the scene and the complex by any name
-cut_same : (cutting : Cutting) (s : Scene) (complex : Complex) (inside : List Bool) → cutting.scene ≡ s → cutting.complex ≡ complex
-    → cut_facets cutting.scene.vertices cutting.complex (test_of cutting.complex.cells inside) ≡ cut_facets s.vertices complex (test_of complex.cells inside)
-cut_same cutting s complex inside e f =
-    ap (λ (t : Scene). cut_facets t.vertices cutting.complex (test_of cutting.complex.cells inside)) e
-    ∙ ap (λ (x : Complex). cut_facets s.vertices x (test_of x.cells inside)) f
+cut_same : (cutting : Cutting) (s : Scene) (complex rising : Complex) (inside : List Bool) → cutting.scene ≡ s → cutting.complex ≡ complex
+    → cut_facets cutting.scene.vertices rising (test_of cutting.complex.cells inside) ≡ cut_facets s.vertices rising (test_of complex.cells inside)
+cut_same cutting s complex rising inside e f =
+    ap (λ (t : Scene). cut_facets t.vertices rising (test_of cutting.complex.cells inside)) e
+    ∙ ap (λ (x : Complex). cut_facets s.vertices rising (test_of x.cells inside)) f
 
 -- so the mesh is of these points and facets
 mesh_is : (mesh : Mesh) (given points : List Point) (cut facets : List (List ℕ)) → given ≡ points → cut ≡ facets → mesh.points.items ≡ (mesh_of given cut).points → mesh.faces.items ≡ (mesh_of given cut).faces
@@ -66,13 +68,15 @@ pub returns-clause-solution : goal.returns-clause-solution
 returns-clause-solution g c =
     let s : Scene = scene_of_rows (rows_of c.args.scan.now) c.args.settings in
     let network = c.requires.1.1.1.1.0 in
+    let rising : IsComplexOf g.cutting.scene network.listing.complex = subst (λ (x : Scene). IsComplexOf x network.listing.complex) (sym c.requires.0) network.listing.complex_is in
     record {
-      complex = complex_of c.args.counted.voted;
+      complex = network.listing.complex;
       inside = test_of c.args.counted.voted.cells c.in_ok-labels.labels.inside;
-      complex_is = network.complex_is;
+      complex_is = network.listing.complex_is;
       least = least_inside_is s c.args.counted.voted c.in_ok-labels.labels network c.in_ok-labels.ensures.least;
       mesh_is = mesh_is c.in_ok-mesh.mesh c.args.tetra.points (corners ++ points_of (rows_of c.args.scan.now)) _ _ c.requires.1.1.0.points
-          (cut_same g.cutting s (complex_of c.args.counted.voted) c.in_ok-labels.labels.inside c.requires.0 c.requires.1.0) c.in_ok-mesh.ensures.points c.in_ok-mesh.ensures.faces;
+          (cut_same g.cutting s (complex_of c.args.counted.voted) network.listing.complex c.in_ok-labels.labels.inside c.requires.0 c.requires.1.0)
+          (c.in_ok-mesh.ensures.points network.listing.complex rising) (c.in_ok-mesh.ensures.faces network.listing.complex rising);
       counts = c.in_ok-cert.ensures.counts;
-      certificate = c.in_ok-cert.ensures.states;
+      certificate = c.in_ok-cert.ensures.states network.listing;
     }

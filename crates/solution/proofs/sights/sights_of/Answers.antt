@@ -20,7 +20,7 @@ loop-row-preserved c =
     let scanners = c.deref-scanner-items.ensures.value ∙ sym (scanners-vertex_rows c.args.scan.now.points.items c.args.scan.now.seen_by.items c.args.scan.now.one_each) in
     let within : c.loop-row.row < length rows = omega (arith, c.loop-row-test.true, ap length c.deref-scanner-items.ensures.value, row_count c.args.scan.now, c.args.scan.now.one_each) in
     c.in_ok-push.ensures.items
-    ∙ ap (λ sights. sights ++ (record { vertex = 8 + get_or c.args.of_row.now c.loop-row.row 0; scanner = get_or c.deref-scanner-items.result.now c.loop-row.row 0 }) ∷ []) c.loop-row.invariant
+    ∙ ap (λ sights. sights ++ (record { vertex = 8 + get_or c.args.of_row.now c.loop-row.row 0; scanner = get_or c.deref-scanner-items.result.now c.loop-row.row 0; weight = 1 }) ∷ []) c.loop-row.invariant
     ∙ sym (sights_more points rows c.args.of_row.now c.deref-scanner-items.result.now c.loop-row.row c.requires scanners within)
 
 pub returns : goal.returns

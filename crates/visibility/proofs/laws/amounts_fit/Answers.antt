@@ -1,5 +1,4 @@
 use Rattle.visibility.proofs.Amounts.{capacity_fits, sink_fits}
-use Rattle.visibility.proofs.LeastCost.{least_cost_fits}
 use Rattle.visibility.proofs.SightCosts.{least_cost_is_small}
 use Rattle.visibility.proofs.laws.amounts_fit.Goals as goal
 
@@ -8,9 +7,6 @@ returns-clause-capacities c = capacity_fits
 
 pub returns-clause-sinks : goal.returns-clause-sinks
 returns-clause-sinks c = sink_fits
-
-pub returns-clause-least_cost : goal.returns-clause-least_cost
-returns-clause-least_cost c = least_cost_fits
 
 pub returns-clause-small : goal.returns-clause-small
 returns-clause-small c = least_cost_is_small

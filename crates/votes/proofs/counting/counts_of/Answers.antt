@@ -3,6 +3,7 @@ use Rattle.std.specs.List.Sorted.{IsPermutation}
 use Rattle.std.proofs.lemmas.List.Sorted.{All-permutation, length_permutation}
 use Rattle.std.proofs.lemmas.Result.{IfOk-weaker}
 use Rattle.flow_net.specs.declared.votes.Sight.{Sight}
+use Rattle.flow_net.specs.Weights.{IsWeighed}
 use Rattle.tetra_store.specs.Store.{vertices_of}
 use Rattle.votes.specs.declared.tally.Counts.{Counts}
 use Rattle.votes.specs.Counts.{IsInRange, AreCounted}
@@ -18,7 +19,7 @@ pub count_sights-requires-clause-few : goal.count_sights-requires-clause-few
 count_sights-requires-clause-few c =
     let walked : IsPermutation c.args.sights.now c.deref.result.now = subst (λ (z : List Sight). IsPermutation c.args.sights.now z) (sym c.deref.ensures.value) c.in_ok-walked.ensures in
     let n : length c.deref.result.now ≡ length c.args.sights.now = length_permutation c.args.sights.now c.deref.result.now walked in
-    omega (arith, n, c.requires.few)
+    record { few = omega (arith, n, c.requires.few.few); weighed = All-permutation IsWeighed c.args.sights.now c.deref.result.now walked c.requires.few.weighed }
 
 pub returns : goal.returns
 returns c =

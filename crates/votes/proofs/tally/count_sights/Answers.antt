@@ -10,7 +10,7 @@ count_crossed-requires-clause-room c =
     let a = c.args in let l = c.loop-sight in let x = sight_at a.sights.now l.sight-index in
     let room : (id k : ℕ) → k < 4 → slice_index l.crossed.items (4 * id + k) + c.added_by-added.result < 2 ^ 32 =
     subst (λ (n : ℕ). (id k : ℕ) → k < 4 → slice_index l.crossed.items (4 * id + k) + n < 2 ^ 32) (sym c.added_by-added.ensures)
-    (facet_room a.t.now a.scanners.now a.sights.now l.sight-index l.crossed.items l.behind.items l.invariant c.requires.few x) in
+    (facet_room a.t.now a.scanners.now a.sights.now l.sight-index l.crossed.items l.behind.items l.invariant c.requires.few x (c.requires.few.weighed l.sight-index _ (omega (arith, c.loop-sight-test.true)))) in
     subst (λ (xs : List ℕ). (id k : ℕ) → k < 4 → slice_index xs (4 * id + k) + c.added_by-added.result < 2 ^ 32) (sym c.deref_mut.ensures.value) room
 
 pub count_behind-requires-clause-room : goal.count_behind-requires-clause-room
@@ -18,7 +18,7 @@ count_behind-requires-clause-room c =
     let a = c.args in let l = c.loop-sight in let x = sight_at a.sights.now l.sight-index in
     let room : (id : ℕ) → slice_index l.behind.items id + c.added_by-added.result < 2 ^ 32 =
     subst (λ (n : ℕ). (id : ℕ) → slice_index l.behind.items id + n < 2 ^ 32) (sym c.added_by-added.ensures)
-    (cell_room a.t.now a.scanners.now a.sights.now l.sight-index l.crossed.items l.behind.items l.invariant c.requires.few x) in
+    (cell_room a.t.now a.scanners.now a.sights.now l.sight-index l.crossed.items l.behind.items l.invariant c.requires.few x (c.requires.few.weighed l.sight-index _ (omega (arith, c.loop-sight-test.true)))) in
     subst (λ (xs : List ℕ). (id : ℕ) → slice_index xs id + c.added_by-added.result < 2 ^ 32) (sym c.deref_mut-in-loop-sight.ensures.value) room
 
 pub loop-sight-preserved : goal.loop-sight-preserved

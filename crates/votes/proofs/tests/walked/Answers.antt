@@ -16,6 +16,27 @@ count_votes-requires c = (
         (
           c.are_in_range.ensures c.if-not-are_in_range.false,
           (
+            c.are_sights.ensures.0 (c.if-not-are_sights.false),
+            (λ k d l. subst (λ (p : Point). IsWithin DATA_LIMIT p) (get_or_default c.args.scanners.now k origin d l) (c.if-not-are_data-2.ensures refl k l)),
+          ),
+        ),
+      ),
+    ),
+  ),
+)
+
+pub count_votes_rising-requires : goal.count_votes_rising-requires
+count_votes_rising-requires c = (
+  refl,
+  (
+    c.in_ok-t.ensures.points,
+    (
+      c.in_ok-t.ensures.inserted,
+      (
+        c.in_ok-t.ensures.delaunay,
+        (
+          c.are_in_range.ensures c.if-not-are_in_range.false,
+          (
             omega (arith, c.if-sights-gt1000.false),
             (λ k d l. subst (λ (p : Point). IsWithin DATA_LIMIT p) (get_or_default c.args.scanners.now k origin d l) (c.if-not-are_data-2.ensures refl k l)),
           ),
