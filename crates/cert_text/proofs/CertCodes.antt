@@ -1,5 +1,5 @@
 -- The text of a certificate says which certificate it is.
-use Rattle.std.proofs.Common.{ℕ, ◌≡◌, ◌<◌, ◌^◌, refl, ap, sym, ◌∙◌, arith, List, [], ◌∷◌, ◌++◌, length, append_assoc}
+use Rattle.std.proofs.Common.{ℕ, Option, ◌≡◌, ◌<◌, ◌^◌, refl, ap, sym, ◌∙◌, arith, List, [], ◌∷◌, ◌++◌, length, append_assoc}
 use Rattle.std.specs.List.{flat_map, All}
 use Rattle.line_text.specs.Numbers.{ended, counted}
 use Rattle.line_text.specs.Facets.{facet_fields}
@@ -8,8 +8,10 @@ use Rattle.line_text.proofs.FacetForms.{facet_code}
 use Rattle.cert_text.specs.declared.certificate.FlowRow.{FlowRow}
 use Rattle.cert_text.specs.declared.certificate.SinkRow.{SinkRow}
 use Rattle.cert_text.specs.Rows.{IsCellRow, IsFlowRow, IsSinkRow}
+use Rattle.cert_text.specs.Stamps.{StampView}
 use Rattle.cert_text.specs.Certificates.{Counts, Claim, FitCounts, IsWellFormed}
-use Rattle.cert_text.specs.Texts.{title, points_word, scanners_word, sights_word, vote_word, smooth_word, cost_word, inside_word, flow_word, sink_word, end_line, cell_fields, cell_line, flow_line, sink_line, head_text, cert_text}
+use Rattle.cert_text.specs.Texts.{version_text, points_word, scanners_word, sights_word, vote_word, smooth_word, cost_word, inside_word, flow_word, sink_word, end_line, cell_fields, cell_line, flow_line, sink_line, counts_text, cert_text}
+use Rattle.cert_text.proofs.StampCodes.{version_code}
 
 -- ---- cells
 abbrev pub four : (a b c d : ℕ) → List ℕ
@@ -80,14 +82,13 @@ list_code P line word code xs ys r s a b h k e =
 counts : (a b c d e f : ℕ) → Counts
 counts a b c d e f = record { points = a; scanners = b; sights = c; vote = d; smooth = e; cost = f }
 
-pub head_parts : (c : Counts) (r : List ℕ) → head_text c ++ r ≡ title ++ (counted points_word c.points ++ (counted scanners_word c.scanners ++ (counted sights_word c.sights ++ (counted vote_word c.vote ++ (counted smooth_word c.smooth ++ (counted cost_word c.cost ++ r))))))
-head_parts c r = simp append_assoc
+pub counts_parts : (c : Counts) (r : List ℕ) → counts_text c ++ r ≡ counted points_word c.points ++ (counted scanners_word c.scanners ++ (counted sights_word c.sights ++ (counted vote_word c.vote ++ (counted smooth_word c.smooth ++ (counted cost_word c.cost ++ r)))))
+counts_parts c r = simp append_assoc
 
-pub head_code : IsCode FitCounts head_text
+pub counts_code : IsCode FitCounts counts_text
 unfolding counts
-head_code v w r s a b e =
-    let t = behind_same title _ _ (sym (head_parts v r) ∙ e ∙ head_parts w s) in
-    let m = counted_code points_word v.points w.points _ _ (omega (arith, a.points)) (omega (arith, b.points)) t in
+counts_code v w r s a b e =
+    let m = counted_code points_word v.points w.points _ _ (omega (arith, a.points)) (omega (arith, b.points)) (sym (counts_parts v r) ∙ e ∙ counts_parts w s) in
     let n = counted_code scanners_word v.scanners w.scanners _ _ (omega (arith, a.scanners)) (omega (arith, b.scanners)) m.1 in
     let o = counted_code sights_word v.sights w.sights _ _ (omega (arith, a.sights)) (omega (arith, b.sights)) n.1 in
     let p = counted_code vote_word v.vote w.vote _ _ (omega (arith, a.vote)) (omega (arith, b.vote)) o.1 in
@@ -101,25 +102,28 @@ head_code v w r s a b e =
       u.1,
     )
 
-claim : Counts → List (List ℕ) → List FlowRow → List SinkRow → Claim
-claim h i f s = record { counts = h; inside = i; flow = f; sink = s }
+claim : Option StampView → Counts → List (List ℕ) → List FlowRow → List SinkRow → Claim
+claim v h i f s = record { stamp = v; counts = h; inside = i; flow = f; sink = s }
 
-pub cert_parts : (c : Claim) (r : List ℕ) → cert_text c ++ r ≡ head_text c.counts ++ ((counted inside_word (length c.inside) ++ flat_map cell_line c.inside) ++ ((counted flow_word (length c.flow) ++ flat_map flow_line c.flow) ++ ((counted sink_word (length c.sink) ++ flat_map sink_line c.sink) ++ (end_line ++ r))))
+pub cert_parts : (c : Claim) (r : List ℕ) → cert_text c ++ r ≡ version_text c.stamp ++ (counts_text c.counts ++ ((counted inside_word (length c.inside) ++ flat_map cell_line c.inside) ++ ((counted flow_word (length c.flow) ++ flat_map flow_line c.flow) ++ ((counted sink_word (length c.sink) ++ flat_map sink_line c.sink) ++ (end_line ++ r)))))
 cert_parts c r =
-    append_assoc (head_text c.counts) _ r
-    ∙ ap (λ (t : List ℕ). head_text c.counts ++ t) (append_assoc (counted inside_word (length c.inside) ++ flat_map cell_line c.inside) _ r
+    append_assoc (version_text c.stamp) _ r
+    ∙ ap (λ (t : List ℕ). version_text c.stamp ++ t) (append_assoc (counts_text c.counts) _ r
+    ∙ ap (λ (t : List ℕ). counts_text c.counts ++ t) (append_assoc (counted inside_word (length c.inside) ++ flat_map cell_line c.inside) _ r
     ∙ ap (λ (t : List ℕ). (counted inside_word (length c.inside) ++ flat_map cell_line c.inside) ++ t) (append_assoc (counted flow_word (length c.flow) ++ flat_map flow_line c.flow) _ r
-    ∙ ap (λ (t : List ℕ). (counted flow_word (length c.flow) ++ flat_map flow_line c.flow) ++ t) (append_assoc (counted sink_word (length c.sink) ++ flat_map sink_line c.sink) end_line r)))
+    ∙ ap (λ (t : List ℕ). (counted flow_word (length c.flow) ++ flat_map flow_line c.flow) ++ t) (append_assoc (counted sink_word (length c.sink) ++ flat_map sink_line c.sink) end_line r))))
 
 pub cert_code : IsCode IsWellFormed cert_text
 unfolding claim
 cert_code v w r s a b e =
-    let h = head_code v.counts w.counts _ _ a.counts b.counts (sym (cert_parts v r) ∙ e ∙ cert_parts w s) in
+    let n = version_code v.stamp w.stamp _ _ a.stamp b.stamp (sym (cert_parts v r) ∙ e ∙ cert_parts w s) in
+    let h = counts_code v.counts w.counts _ _ a.counts b.counts n.1 in
     let i = list_code IsCellRow cell_line inside_word (cell_code 10 (omega arith)) v.inside w.inside _ _ a.inside.few b.inside.few a.inside.each b.inside.each h.1 in
     let f = list_code IsFlowRow flow_line flow_word flow_code v.flow w.flow _ _ a.flow.few b.flow.few a.flow.each b.flow.each i.1 in
     let k = list_code IsSinkRow sink_line sink_word sink_code v.sink w.sink _ _ a.sink.few b.sink.few a.sink.each b.sink.each f.1 in (
-      ap (λ (x : Counts). claim x v.inside v.flow v.sink) h.0
-          ∙ (ap (λ (x : List (List ℕ)). claim w.counts x v.flow v.sink) i.0
-          ∙ (ap (λ (x : List FlowRow). claim w.counts w.inside x v.sink) f.0 ∙ ap (λ (x : List SinkRow). claim w.counts w.inside w.flow x) k.0)),
+      ap (λ (x : Option StampView). claim x v.counts v.inside v.flow v.sink) n.0
+          ∙ (ap (λ (x : Counts). claim w.stamp x v.inside v.flow v.sink) h.0
+          ∙ (ap (λ (x : List (List ℕ)). claim w.stamp w.counts x v.flow v.sink) i.0
+          ∙ (ap (λ (x : List FlowRow). claim w.stamp w.counts w.inside x v.sink) f.0 ∙ ap (λ (x : List SinkRow). claim w.stamp w.counts w.inside w.flow x) k.0))),
       behind_same end_line r s k.1,
     )

@@ -1,5 +1,7 @@
+pub mod StampCodes
+pub mod StampRefused
 pub mod CertCodes
 pub mod FieldForms
 pub mod OneRefusal
-pub mod HeadLemmas
+pub mod CountLemmas
 pub mod WholeLemmas

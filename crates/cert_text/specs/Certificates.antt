@@ -1,14 +1,22 @@
 -- What a certificate states, and when it is well formed.
 --
---   Claim           the numbers and the rows of a certificate
+--   stamp_view s    the digest, the unit and the fixed scanner of a stamp
+--   Claim           the stamp, the numbers and the rows of a certificate
 --   claim_of c      those that a certificate states
 --   IsWellFormed c  the rows are of their forms and rise
-use Rattle.std.specs.Prelude.{ℕ, ◌<◌, ◌^◌, List, All, AllPairs, length, map}
+use Rattle.std.specs.Prelude.{ℕ, ◌<◌, ◌^◌, List, Option, All, AllPairs, length, map}
+use Rattle.std.specs.Option.{option_map}
 use Rattle.line_text.specs.Rising.{IsBefore}
 use Rattle.cert_text.specs.declared.certificate.Certificate.{Certificate}
 use Rattle.cert_text.specs.declared.certificate.FlowRow.{FlowRow}
 use Rattle.cert_text.specs.declared.certificate.SinkRow.{SinkRow}
+use Rattle.cert_text.specs.declared.stamp.Stamp.{Stamp}
+use Rattle.cert_text.specs.Stamps.{StampView, IsVersion}
 use Rattle.cert_text.specs.Rows.{IsCellRow, IsFlowRow, IsSinkRow}
+
+-- what a stamp says
+abbrev pub stamp_view : Stamp → StampView
+stamp_view s = record { digest = s.digest; unit = s.unit; fixed = s.fixed }
 
 -- the numbers that head a certificate
 pub record Counts : Type 0 where
@@ -19,8 +27,9 @@ pub record Counts : Type 0 where
   pub smooth : ℕ
   pub cost : ℕ
 
--- counts, a cost, the cells that are inside, and a flow
+-- a stamp or none, counts, a cost, the cells that are inside, and a flow
 pub record Claim : Type 0 where
+  pub stamp : Option StampView
   pub counts : Counts
   pub inside : List (List ℕ)
   pub flow : List FlowRow
@@ -30,6 +39,7 @@ pub record Claim : Type 0 where
 abbrev pub claim_of : Certificate → Claim
 claim_of c =
     record {
+      stamp = option_map stamp_view c.stamp;
       counts = record { points = c.points; scanners = c.scanners; sights = c.sights; vote = c.vote; smooth = c.smooth; cost = c.cost };
       inside = c.inside.items;
       flow = c.flow.items;
@@ -63,8 +73,9 @@ pub record IsSinkList (rows : List SinkRow) : Type 0 where
   pub each : All IsSinkRow rows
   pub rising : AllPairs IsBefore (map (λ r. r.cell) rows)
 
--- the numbers fit, the rows are of their forms, and the three lists rise strictly
+-- the stamp is one, the numbers fit, the rows are of their forms, and the three lists rise strictly
 pub record IsWellFormed (c : Claim) : Type 0 where
+  pub stamp : IsVersion c.stamp
   pub counts : FitCounts c.counts
   pub inside : AreCellRows c.inside
   pub flow : IsFlowList c.flow

@@ -1,4 +1,4 @@
--- The numbers that are read before the lists.
+-- The counts, the weights and the cost that are read before the lists.
 use Rattle.cert_text.specs.declared.read.Heading.{Heading}
 use Rattle.cert_text.specs.Certificates.{Counts}
 

@@ -1,3 +1,4 @@
+pub mod Stamps
 pub mod Rows
 pub mod Certificates
 pub mod Texts

@@ -2,20 +2,28 @@
 --
 --   cert_refusal l            the refusal of a line as one of a certificate
 --   OrNoMemory r P            want of memory, or the fact
---   RefusedHead text r        one of the seven lines before the lists is refused
+--   RefusedLine, AtLine       a line of a form is refused; or it is good and something is said of what is behind
+--   RefusedStamp text r       one of the three lines of a stamp is refused
+--   RefusedVersion text r     the first line is neither title, or the stamp behind it is refused
+--   counts_line s             the line of the first count
+--   RefusedCounts n text r    one of the six lines from line n on is refused
 --   AtInside, AtFlow, AtSink  from one of the lists on
 --   AtEnd                     from the last line on
+--   AtCounts                  from the first count on
 --   AtCertificate             the whole text, line by line
 --   IsRefused text r          the text is refused so
-use Rattle.std.specs.Prelude.{ℕ, ◌≡◌, ◌-◌, ◌^◌, List}
+use Rattle.std.specs.Prelude.{ℕ, ◌≡◌, ◌+◌, ◌-◌, ◌^◌, ◌++◌, Option, Some, None, List}
+use Rattle.line_text.specs.Numbers.{BeginsWithNone}
 use Rattle.line_text.specs.declared.refusal.LineRefusal.{LineRefusal}
 use Rattle.line_text.specs.declared.refusal.LineRefusal.TheVariants as lines
-use Rattle.line_text.specs.Refusals.{line_after, RefusedNumber, AtPart, AtWord, AtNumber, AtList, IsBehindEnd}
+use Rattle.line_text.specs.Refusals.{line_after, IsCutOrBad, RefusedNumber, AtPart, AtWord, AtNumber, AtList, IsBehindEnd}
 use Rattle.cert_text.specs.declared.refusal.CertRefusal.{CertRefusal}
 use Rattle.cert_text.specs.declared.refusal.CertRefusal.TheVariants.{BadLine, Order, CertCut, NoMemory}
+use Rattle.num_text.specs.declared.decimal.TheConstants.{UNIT_LIMIT}
+use Rattle.cert_text.specs.Stamps.{StampView, IsDigest, IsFixed, IsVersion}
 use Rattle.cert_text.specs.Rows.{IsCellRow, IsFlowRow, IsSinkRow, cell_order, flow_order, sink_order}
 use Rattle.cert_text.specs.Certificates.{FitCounts}
-use Rattle.cert_text.specs.Texts.{title, points_word, scanners_word, sights_word, vote_word, smooth_word, cost_word, inside_word, flow_word, sink_word, end_line, cell_line, flow_line, sink_line, head_text}
+use Rattle.cert_text.specs.Texts.{title, stamped_title, unit_word, scan_line, fixed_line, version_text, points_word, scanners_word, sights_word, vote_word, smooth_word, cost_word, inside_word, flow_word, sink_word, end_line, cell_line, flow_line, sink_line, counts_text}
 
 -- the refusal of a line as one of a certificate
 abbrev pub cert_refusal : LineRefusal → CertRefusal
@@ -29,16 +37,39 @@ abbrev pub OrNoMemory : CertRefusal → Type 0 → Type 0
 OrNoMemory NoMemory P = Unit {0}
 OrNoMemory _ P = P
 
--- one of the seven lines before the lists is refused
-abbrev pub RefusedHead : List ℕ → LineRefusal → Type 0
-RefusedHead text r =
-    AtWord title 1 text r (λ a.
-    AtNumber points_word 0 (2 ^ 32 - 1) 2 a r (λ _ b.
-    AtNumber scanners_word 0 (2 ^ 32 - 1) 3 b r (λ _ c.
-    AtNumber sights_word 0 (2 ^ 32 - 1) 4 c r (λ _ d.
-    AtNumber vote_word 0 (2 ^ 32 - 1) 5 d r (λ _ e.
-    AtNumber smooth_word 0 (2 ^ 32 - 1) 6 e r (λ _ f.
-    RefusedNumber cost_word 0 (2 ^ 64 - 1) 7 f r))))))
+-- line n is not of the form
+abbrev pub RefusedLine : {A : Type 0} → (A → Type 0) → (A → List ℕ) → ℕ → List ℕ → LineRefusal → Type 0
+RefusedLine IsForm line_of n text r = BeginsWithNone IsForm line_of text × IsCutOrBad n text r
+
+-- line n, of the form
+abbrev pub AtLine : {A : Type 0} → (A → Type 0) → (A → List ℕ) → ℕ → List ℕ → LineRefusal → (A → List ℕ → Type 0) → Type 0
+AtLine IsForm line_of n text r = AtPart IsForm line_of text (RefusedLine IsForm line_of n text r)
+
+-- one of the lines of a stamp, from line 2 on, is refused
+abbrev pub RefusedStamp : List ℕ → LineRefusal → Type 0
+RefusedStamp text r =
+    AtLine IsDigest scan_line 2 text r (λ _ a.
+    AtNumber unit_word 1 UNIT_LIMIT 3 a r (λ _ b.
+    RefusedLine IsFixed fixed_line 4 b r))
+
+-- the first line is of neither version, or it is of the second and its stamp is refused
+abbrev pub RefusedVersion : List ℕ → LineRefusal → Type 0
+RefusedVersion text r = ((rest : List ℕ) → ¬ (text ≡ title ++ rest)) × AtWord stamped_title 1 text r (λ a. RefusedStamp a r)
+
+-- the line of the first count: a stamp has three lines
+abbrev pub counts_line : Option StampView → ℕ
+counts_line None = 2
+counts_line (Some s) = 5
+
+-- one of the six lines of numbers, from line n on, is refused
+abbrev pub RefusedCounts : ℕ → List ℕ → LineRefusal → Type 0
+RefusedCounts n text r =
+    AtNumber points_word 0 (2 ^ 32 - 1) n text r (λ _ b.
+    AtNumber scanners_word 0 (2 ^ 32 - 1) (n + 1) b r (λ _ c.
+    AtNumber sights_word 0 (2 ^ 32 - 1) (n + 2) c r (λ _ d.
+    AtNumber vote_word 0 (2 ^ 32 - 1) (n + 3) d r (λ _ e.
+    AtNumber smooth_word 0 (2 ^ 32 - 1) (n + 4) e r (λ _ f.
+    RefusedNumber cost_word 0 (2 ^ 64 - 1) (n + 5) f r)))))
 
 -- line n and what follows: the last line, and nothing behind it
 abbrev pub AtEnd : ℕ → List ℕ → LineRefusal → Type 0
@@ -54,9 +85,13 @@ AtFlow n text r = AtList IsFlowRow flow_line flow_order flow_word n text r (λ m
 abbrev pub AtInside : ℕ → List ℕ → LineRefusal → Type 0
 AtInside n text r = AtList IsCellRow cell_line cell_order inside_word n text r (λ m rest. AtFlow m rest r)
 
--- the whole text: the lines before the lists, the three lists, the last line
+-- line n and what follows, from the first count on
+abbrev pub AtCounts : ℕ → List ℕ → LineRefusal → Type 0
+AtCounts n text r = AtPart FitCounts counts_text text (RefusedCounts n text r) (λ _ rest. AtInside (n + 6) rest r)
+
+-- the whole text: the version and its stamp, the lines of numbers, the three lists, the last line
 abbrev pub AtCertificate : List ℕ → LineRefusal → Type 0
-AtCertificate text r = AtPart FitCounts head_text text (RefusedHead text r) (λ _ rest. AtInside 8 rest r)
+AtCertificate text r = AtPart IsVersion version_text text (RefusedVersion text r) (λ stamp rest. AtCounts (counts_line stamp) rest r)
 
 -- the text is refused so: the first line, in order, that is cut, not of its form, out of order, or behind the end
 abbrev pub IsRefused : List ℕ → CertRefusal → Type 0

@@ -1,20 +1,43 @@
--- The text of a certificate, version 1.
+-- The text of a certificate, in its two versions.
 --
---   title, points_word, .., end_line  the fixed words of its lines
+--   title, stamped_title              the first line of a certificate without a stamp, and of one with a stamp
+--   scan_word, .., end_line           the fixed words of the other lines
+--   scan_line d                       the line of the digest of a scan's file
+--   fixed_line p                      the line of the fixed scanner
+--   stamp_text s, version_text s      the lines of a stamp; the first line, and they where there is a stamp
 --   cell_fields c end                 a cell's numbers, and the byte behind the last
 --   cell_line, flow_line, sink_line   the lines of the rows
---   head_text c                       the lines before the lists
+--   counts_text c                     the lines between these and the lists
 --   cert_text c                       the text
-use Rattle.std.specs.Prelude.{ℕ, List, [], ◌∷◌, ◌++◌, length, codes}
+use Rattle.std.specs.Prelude.{ℕ, Option, Some, None, List, [], ◌∷◌, ◌++◌, length, codes}
 use Rattle.std.specs.List.{flat_map}
+use Rattle.hex.specs.Hex.{encode_lower}
+use Rattle.geo_sign.specs.Point.{Point}
 use Rattle.line_text.specs.Numbers.{space, line_feed, ended, counted}
 use Rattle.line_text.specs.Facets.{facet_fields}
+use Rattle.mesh_ply.specs.Texts.{point_line}
 use Rattle.cert_text.specs.declared.certificate.FlowRow.{FlowRow}
 use Rattle.cert_text.specs.declared.certificate.SinkRow.{SinkRow}
+use Rattle.cert_text.specs.Stamps.{StampView}
 use Rattle.cert_text.specs.Certificates.{Counts, Claim}
 
 unfoldable pub title : List ℕ
 title = codes "recon certificate 1\n"
+
+unfoldable pub stamped_title : List ℕ
+stamped_title = codes "recon certificate 2\n"
+
+unfoldable pub scan_word : List ℕ
+scan_word = codes "scan "
+
+unfoldable pub unit_word : List ℕ
+unit_word = codes "unit "
+
+unfoldable pub scanner_word : List ℕ
+scanner_word = codes "scanner "
+
+unfoldable pub none_line : List ℕ
+none_line = codes "none\n"
 
 unfoldable pub points_word : List ℕ
 points_word = codes "points "
@@ -63,15 +86,38 @@ flow_line r = facet_fields r.facet space ++ ended r.amount line_feed
 abbrev pub sink_line : SinkRow → List ℕ
 sink_line r = cell_fields r.cell space ++ ended r.amount line_feed
 
--- the lines before the lists
-abbrev pub head_text : Counts → List ℕ
-head_text c =
-    title ++ (counted points_word c.points ++ (counted scanners_word c.scanners ++ (counted sights_word c.sights ++ (counted vote_word c.vote ++ (counted smooth_word c.smooth ++ counted cost_word c.cost)))))
+-- the digest in lower-case hexadecimal digits, two a byte
+abbrev pub scan_line : List ℕ → List ℕ
+scan_line digest = scan_word ++ (encode_lower digest ++ line_feed ∷ [])
 
--- the lines of the three lists, each with its length before it, and the last line
+-- x y z, or a word that says that there is none
+abbrev pub place_line : Option Point → List ℕ
+place_line None = none_line
+place_line (Some p) = point_line p
+
+-- where all points were seen from
+abbrev pub fixed_line : Option Point → List ℕ
+fixed_line fixed = scanner_word ++ place_line fixed
+
+-- the lines of the digest, the unit and the fixed scanner
+abbrev pub stamp_text : StampView → List ℕ
+stamp_text s = scan_line s.digest ++ (counted unit_word s.unit ++ fixed_line s.fixed)
+
+-- the first line, which says which version it is, and the stamp where there is one
+abbrev pub version_text : Option StampView → List ℕ
+version_text None = title
+version_text (Some s) = stamped_title ++ stamp_text s
+
+-- the lines of the counts, the weights and the cost
+abbrev pub counts_text : Counts → List ℕ
+counts_text c =
+    counted points_word c.points ++ (counted scanners_word c.scanners ++ (counted sights_word c.sights ++ (counted vote_word c.vote ++ (counted smooth_word c.smooth ++ counted cost_word c.cost))))
+
+-- the lines before the lists, those of the three lists, each with its length before it, and the last line
 abbrev pub cert_text : Claim → List ℕ
 cert_text c =
-    head_text c.counts
+    version_text c.stamp
+    ++ (counts_text c.counts
     ++ ((counted inside_word (length c.inside) ++ flat_map cell_line c.inside)
     ++ ((counted flow_word (length c.flow) ++ flat_map flow_line c.flow)
-    ++ ((counted sink_word (length c.sink) ++ flat_map sink_line c.sink) ++ end_line)))
+    ++ ((counted sink_word (length c.sink) ++ flat_map sink_line c.sink) ++ end_line))))

@@ -1,5 +1,6 @@
 //! What a certificate is.
 
+use crate::Stamp;
 use std::alloc::AllocError;
 
 /// Want of memory.
@@ -25,7 +26,7 @@ pub struct SinkRow {
     pub amount: u64,
 }
 
-/// Labels and a flow, with the counts and weights of the scan that they belong to.
+/// Labels and a flow, with the stamp, the counts and the weights of the scan that they belong to.
 ///
 /// A cell is its four vertex numbers, a directed facet its three. What has no row is 0, and
 /// a cell without a row in `inside` is outside. A certificate is *well formed* where the
@@ -34,6 +35,8 @@ pub struct SinkRow {
 /// number.
 #[derive(Debug, Drop)]
 pub struct Certificate {
+    /// Which scan it belongs to. A certificate of the first version doesn't say.
+    pub stamp: Option<Stamp>,
     /// How many distinct points the scan has.
     pub points: u32,
     /// How many scanners.

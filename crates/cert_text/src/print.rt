@@ -5,11 +5,10 @@ ghost use Rattle.std.specs.List.{flat_map};
 ghost use Rattle.line_text.specs.Numbers.{space, counted};
 ghost use Rattle.line_text.specs.Facets.{facet_fields};
 ghost use Rattle.cert_text.specs.Certificates.{claim_of, IsWellFormed};
-ghost use Rattle.cert_text.specs.Texts.{inside_word, flow_word, sink_word, end_line, cell_fields, cell_line, flow_line, sink_line, head_text, cert_text};
+ghost use Rattle.cert_text.specs.Texts.{inside_word, flow_word, sink_word, end_line, cell_fields, cell_line, flow_line, sink_line, counts_text, cert_text};
 
-use crate::words::{
-    cost, end_mark, first_line, flow, inside, points, scanners, sights, sink, smooth, vote,
-};
+use crate::stamp_print::push_version;
+use crate::words::{cost, end_mark, flow, inside, points, scanners, sights, sink, smooth, vote};
 use crate::{Certificate, FlowRow, NoMemory, SinkRow};
 use line_text::{push_counted, push_number};
 
@@ -100,12 +99,11 @@ fn push_sink_rows(out: &mut Vec<u8>, rows: &[SinkRow]) -> Result<(), NoMemory>
     Ok(())
 }
 
-// The lines before the lists.
-fn push_head(out: &mut Vec<u8>, cert: &Certificate) -> Result<(), NoMemory>
-    ensures ok { OnOk result (out.new.items ≡ out.old.items ++ head_text (claim_of cert.now).counts) }
+// The lines of the counts, the weights and the cost.
+fn push_counts(out: &mut Vec<u8>, cert: &Certificate) -> Result<(), NoMemory>
+    ensures ok { OnOk result (out.new.items ≡ out.old.items ++ counts_text (claim_of cert.now).counts) }
     ensures kept { OnErr result (take (length out.old.items) out.new.items ≡ out.old.items) }
 {
-    out.extend_from_slice(first_line())?;
     push_counted(out, points(), u64::from(cert.points))?;
     push_counted(out, scanners(), u64::from(cert.scanners))?;
     push_counted(out, sights(), u64::from(cert.sights))?;
@@ -146,7 +144,8 @@ fn push_parts(out: &mut Vec<u8>, cert: &Certificate) -> Result<(), NoMemory>
     ensures ok { OnOk result (out.new.items ≡ out.old.items ++ cert_text (claim_of cert.now)) }
     ensures kept { OnErr result (take (length out.old.items) out.new.items ≡ out.old.items) }
 {
-    push_head(out, cert)?;
+    push_version(out, cert.stamp)?;
+    push_counts(out, cert)?;
     push_inside(out, &cert.inside)?;
     push_flow(out, &cert.flow)?;
     push_sink(out, &cert.sink)?;
@@ -155,7 +154,8 @@ fn push_parts(out: &mut Vec<u8>, cert: &Certificate) -> Result<(), NoMemory>
 }
 
 /// Adds the text of a well-formed certificate at the end of `out`: a line that names the
-/// format, six lines of a word and a number, then the inside cells, the flow over facets
+/// format and its version, the three lines of the stamp where there is one, six lines of a
+/// word and a number, then the inside cells, the flow over facets
 /// and the flow into sinks, each list with its length before it, and the line `end`. Each
 /// line is ended by LF, one space stands between words, and numbers are decimal without
 /// leading zeros.

@@ -10,21 +10,20 @@ ghost use Rattle.line_text.specs.Refusals.{line_after, WithMemory, RefusedNumber
 ghost use Rattle.line_text.specs.Rising.{IsBefore};
 ghost use Rattle.cert_text.specs.Rows.{IsCellRow, IsFlowRow, IsSinkRow, cell_order, flow_order, sink_order};
 ghost use Rattle.cert_text.specs.Certificates.{Claim, claim_of, FitCounts, IsWellFormed};
-ghost use Rattle.cert_text.specs.Texts.{inside_word, flow_word, sink_word, cell_line, flow_line, sink_line, head_text, cert_text};
-ghost use Rattle.cert_text.specs.Refusals.{OrNoMemory, RefusedHead, AtCertificate, IsRefused};
+ghost use Rattle.cert_text.specs.Texts.{inside_word, flow_word, sink_word, cell_line, flow_line, sink_line, counts_text, cert_text};
+ghost use Rattle.cert_text.specs.Refusals.{OrNoMemory, RefusedCounts, AtCertificate, IsRefused};
 ghost use Rattle.cert_text.specs.declared.refusal.CertRefusal.{CertRefusal};
 ghost use Rattle.cert_text.specs.Headings.{counts_of};
 
 use crate::fields::{cell_line_first, flow_line_first, sink_line_first};
 use crate::refusal::refusal_of_cert;
-use crate::words::{
-    cost, end_mark, first_line, flow, inside, points, scanners, sights, sink, smooth, vote,
-};
+use crate::stamp_read::{counts_line, read_version};
+use crate::words::{cost, end_mark, flow, inside, points, scanners, sights, sink, smooth, vote};
 use crate::{CertRefusal, Certificate, FlowRow, SinkRow};
 use line_text::{LineRefusal, number_line, refusal_of, word_line};
 use std::alloc::Global;
 
-// The numbers before the lists.
+// The counts, the weights and the cost.
 #[derive(Clone, Copy)]
 struct Heading {
     points: u32,
@@ -44,18 +43,18 @@ fn small_line<'a>(text: &'a [u8], word: &[u8], line: u64) -> Result<(u32, &'a [u
     Ok((n as u32, rest))
 }
 
-// The seven lines before the lists.
-fn read_heading(text: &[u8]) -> Result<(Heading, &[u8]), LineRefusal>
-    ensures ok { IfOk result (λ read. FitCounts (counts_of read.0) × (text.now ≡ head_text (counts_of read.0) ++ read.1.now)) }
-    ensures refused { IfErr result (RefusedHead text.now) }
+// The six lines of numbers, which begin at this line.
+fn read_counts(text: &[u8], line: u64) -> Result<(Heading, &[u8]), LineRefusal>
+    requires { line < 6 }
+    ensures ok { IfOk result (λ read. FitCounts (counts_of read.0) × (text.now ≡ counts_text (counts_of read.0) ++ read.1.now)) }
+    ensures refused { IfErr result (RefusedCounts line text.now) }
 {
-    let rest = word_line(text, first_line(), 1)?;
-    let (points, rest) = small_line(rest, points(), 2)?;
-    let (scanners, rest) = small_line(rest, scanners(), 3)?;
-    let (sights, rest) = small_line(rest, sights(), 4)?;
-    let (vote, rest) = small_line(rest, vote(), 5)?;
-    let (smooth, rest) = small_line(rest, smooth(), 6)?;
-    let (cost, rest) = number_line(rest, cost(), 0, u64::MAX, 7)?;
+    let (points, rest) = small_line(text, points(), line)?;
+    let (scanners, rest) = small_line(rest, scanners(), line + 1)?;
+    let (sights, rest) = small_line(rest, sights(), line + 2)?;
+    let (vote, rest) = small_line(rest, vote(), line + 3)?;
+    let (smooth, rest) = small_line(rest, smooth(), line + 4)?;
+    let (cost, rest) = number_line(rest, cost(), 0, u64::MAX, line + 5)?;
     let heading = Heading {
         points,
         scanners,
@@ -255,8 +254,13 @@ fn read_lines(alloc: Global, bytes: &[u8]) -> Result<Certificate, LineRefusal>
     ensures ok { IfOk result (λ cert. IsWellFormed (claim_of cert) × (bytes.now ≡ cert_text (claim_of cert))) }
     ensures refused { IfErr result (λ r. WithMemory r (AtCertificate bytes.now r)) }
 {
-    let (heading, rest) = read_heading(bytes)?;
-    let (inside, rest, line) = read_inside(alloc, rest, 8)?;
+    let (stamp, rest) = match read_version(bytes) {
+        Ok(read) => read,
+        Err(refusal) => return Err(refusal),
+    };
+    let line = counts_line(&stamp);
+    let (heading, rest) = read_counts(rest, line)?;
+    let (inside, rest, line) = read_inside(alloc, rest, line + 6)?;
     let (flow, rest, line) = read_flow(alloc, rest, line)?;
     let (sink, rest, line) = read_sink(alloc, rest, line)?;
     let rest = word_line(rest, end_mark(), line)?;
@@ -264,6 +268,7 @@ fn read_lines(alloc: Global, bytes: &[u8]) -> Result<Certificate, LineRefusal>
         return Err(LineRefusal::BadLine(line.saturating_add(1)));
     }
     Ok(Certificate {
+        stamp,
         points: heading.points,
         scanners: heading.scanners,
         sights: heading.sights,

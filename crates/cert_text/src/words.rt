@@ -1,13 +1,48 @@
 //! The fixed words of a certificate's lines.
 
 ghost use Rattle.std.specs.Prelude.{◌≡◌};
-ghost use Rattle.cert_text.specs.Texts.{title, points_word, scanners_word, sights_word, vote_word, smooth_word, cost_word, inside_word, flow_word, sink_word, end_line};
+ghost use Rattle.cert_text.specs.Texts.{title, stamped_title, scan_word, unit_word, scanner_word, none_line, points_word, scanners_word, sights_word, vote_word, smooth_word, cost_word, inside_word, flow_word, sink_word, end_line};
 
 #[tactic(auto, unfolding(crate::specs::Texts::title))]
 pub fn first_line() -> &'static [u8]
     ensures { result.now ≡ title }
 {
     b"recon certificate 1\n"
+}
+
+#[tactic(auto, unfolding(crate::specs::Texts::stamped_title))]
+pub fn stamped_first_line() -> &'static [u8]
+    ensures { result.now ≡ stamped_title }
+{
+    b"recon certificate 2\n"
+}
+
+#[tactic(auto, unfolding(crate::specs::Texts::scan_word))]
+pub fn scan() -> &'static [u8]
+    ensures { result.now ≡ scan_word }
+{
+    b"scan "
+}
+
+#[tactic(auto, unfolding(crate::specs::Texts::unit_word))]
+pub fn unit() -> &'static [u8]
+    ensures { result.now ≡ unit_word }
+{
+    b"unit "
+}
+
+#[tactic(auto, unfolding(crate::specs::Texts::scanner_word))]
+pub fn scanner() -> &'static [u8]
+    ensures { result.now ≡ scanner_word }
+{
+    b"scanner "
+}
+
+#[tactic(auto, unfolding(crate::specs::Texts::none_line))]
+pub fn no_place() -> &'static [u8]
+    ensures { result.now ≡ none_line }
+{
+    b"none\n"
 }
 
 #[tactic(auto, unfolding(crate::specs::Texts::points_word))]

@@ -20,6 +20,6 @@ mod whole_number;
 
 pub use decimal::{SCALED_LIMIT, UNIT_LIMIT, scaled};
 pub use laws::printed_numbers_are_read;
-pub use print::{NoMemory, push_whole};
+pub use print::{NoMemory, push_natural, push_whole};
 pub use refusal::NumRefusal;
 pub use whole_number::whole;

@@ -1,6 +1,6 @@
 //! Whole numbers printed as decimal text, by `itoa`.
 
-ghost use Rattle.std.specs.Prelude.{◌≡◌, ◌++◌, OnOk, OnErr};
+ghost use Rattle.std.specs.Prelude.{◌≡◌, ◌++◌, OnOk, OnErr, decimal};
 ghost use Rattle.std.specs.Fmt.{signed_decimal};
 
 use itoa::Buffer;
@@ -19,4 +19,16 @@ pub fn push_whole(out: &mut Vec<u8>, n: i128) -> Result<(), NoMemory>
 {
     let mut buffer = Buffer::new();
     out.extend_from_slice(buffer.format(n).as_bytes())
+}
+
+/// Adds the decimal text of a number that is not negative, without leading zeros, at the end of `out`, as
+/// [`push_whole`] does.
+///
+/// After `NoMemory`, `out` is as it was.
+pub fn push_natural(out: &mut Vec<u8>, n: u128) -> Result<(), NoMemory>
+    ensures printed { OnOk result (out.new.items ≡ out.old.items ++ decimal n) }
+    ensures kept { OnErr result (out.new.items ≡ out.old.items) }
+{
+    let mut digits = Buffer::new();
+    out.extend_from_slice(digits.format(n).as_bytes())
 }

@@ -1,6 +1,6 @@
 //! Values from outside: numbers worked out by hand, and the printed text of some.
 
-use crate::{NumRefusal, push_whole, scaled, whole};
+use crate::{NumRefusal, push_natural, push_whole, scaled, whole};
 use std::test::*;
 
 #[test]
@@ -54,7 +54,10 @@ fn numbers_are_printed_behind_what_stands_there(rt: HostRuntime) -> Result<(), F
     push_whole(&mut text, -40)?;
     push_whole(&mut text, 0)?;
     push_whole(&mut text, i128::MAX)?;
-    let expected: &[u8] = b"x -400170141183460469231731687303715884105727";
+    push_natural(&mut text, 0)?;
+    push_natural(&mut text, u128::MAX)?;
+    let expected: &[u8] =
+        b"x -4001701411834604692317316873037158841057270340282366920938463463374607431768211455";
     assert!(rt; text.as_slice() == expected);
     Ok(())
 }

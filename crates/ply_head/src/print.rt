@@ -131,11 +131,11 @@ fn header_text(alloc: Global, head: &Header) -> Result<Vec<u8>, NoMemory>
 /// Adds the printed header at the end of `out`: `ply`, the `format` line, each element's
 /// line with those of its properties behind it, and `end_header`.
 ///
-/// The text is made beside `out` first, so that after `NoMemory`, `out` is as it was.
-pub fn push_head(alloc: Global, out: &mut Vec<u8>, head: &Header) -> Result<(), NoMemory>
+/// The text is made beside `out` first, from the same allocator, so that after `NoMemory`, `out` is as it was.
+pub fn push_head(out: &mut Vec<u8>, head: &Header) -> Result<(), NoMemory>
     ensures printed { OnOk result (out.new.items ≡ out.old.items ++ spelling head.now) }
     ensures kept { OnErr result (out.new.items ≡ out.old.items) }
 {
-    let text = header_text(alloc, head)?;
+    let text = header_text(*out.allocator(), head)?;
     out.extend_from_slice(text.as_slice())
 }

@@ -89,7 +89,7 @@ fn a_header_is_printed_as_it_was_read(rt: HostRuntime) -> Result<(), Fail> {
     let (head, position) = read_head(rt.alloc(), PLAIN).ok().ok_or("the plain header")?;
     assert!(rt; position == PLAIN.len());
     let mut text = Vec::from_slice(rt.alloc(), b"before ")?;
-    push_head(rt.alloc(), &mut text, &head)?;
+    push_head(&mut text, &head)?;
     assert!(rt; text.as_slice().starts_with(b"before ply\n"));
     assert!(rt; text.as_slice().ends_with(PLAIN));
     Ok(())
@@ -101,7 +101,7 @@ fn other_spellings_are_printed_in_the_first(rt: HostRuntime) -> Result<(), Fail>
     assert!(rt; position + 4 == TOOL.len());
     assert!(rt; head.kind == Kind::BinaryBig);
     let mut text = Vec::new(rt.alloc());
-    push_head(rt.alloc(), &mut text, &head)?;
+    push_head(&mut text, &head)?;
     let expected: &[u8] =
         b"ply\nformat binary_big_endian 1.0\nelement vertex 7\nproperty float x\nelement face 0\nproperty list uchar int vertex_indices\nend_header\n";
     assert!(rt; text.as_slice() == expected);

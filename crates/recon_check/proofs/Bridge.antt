@@ -22,9 +22,10 @@ use Rattle.visibility.specs.Complexes.{Complex}
 use Rattle.visibility.specs.Votes.{is_fixed, capacity}
 use Rattle.visibility.specs.Cuts.{IsAdmissible}
 use Rattle.visibility.specs.Laws.{labels_of, flow_of, test_of, AgreeAsLabels, AgreeAsFlows}
-use Rattle.visibility.specs.Networks.{complex_of, arc_of, IsNetworkOf}
+use Rattle.visibility.specs.Networks.{complex_of, arc_of, IsNetworkInAnyOrder}
 use Rattle.visibility.proofs.Flows.{flows_agree, amounts_in, amounts_out}
 use Rattle.visibility.proofs.Labels.{labels_agree}
+use Rattle.visibility.proofs.ListingAgreements.{with_rising}
 use Rattle.visibility.proofs.Networks.{node_count, arc_count, fixed_at, sink_at as sink_of_node, arc_is}
 use Rattle.recon_check.specs.Claims.{is_inside, AreThere, NoneOf}
 use Rattle.recon_check.specs.Faults.{IsFixedInside, IsOverCapacity, sink_limit, IsOverSink, entering, leaving, IsUnbalanced, IsNotLeast, IsWithinFacets, IsWithinLimits, IsCertified, IsBest}
@@ -49,47 +50,47 @@ on_arc_at voted claim j l = get_or-map (flow_on claim) voted.facets j [] 0 l
 on_sink_at : (voted : Voted) (claim : Claim) (k : ℕ) → k < length voted.cells → get_or (flow_by voted claim).on_sink k 0 ≡ sink_at claim (get_or voted.cells k [])
 on_sink_at voted claim k l = get_or-map (sink_at claim) voted.cells k [] 0 l
 
-cap_at : (s : Scene) (voted : Voted) (j : ℕ) → IsNetworkOf s voted → j < length voted.facets → (arc_at voted.net.arcs j).cap ≡ capacity s (facet_at (get_or voted.facets j []))
+cap_at : (s : Scene) (voted : Voted) (j : ℕ) → IsNetworkInAnyOrder s voted → j < length voted.facets → (arc_at voted.net.arcs j).cap ≡ capacity s (facet_at (get_or voted.facets j []))
 unfolding arc_of
 cap_at s voted j n l = ap (λ (a : Arc). a.cap) (arc_is s voted j n l)
 
-limit_at : (s : Scene) (voted : Voted) (k : ℕ) → IsNetworkOf s voted → k < length voted.cells → sink_limit_net voted.net k ≡ sink_limit s (get_or voted.cells k [])
+limit_at : (s : Scene) (voted : Voted) (k : ℕ) → IsNetworkInAnyOrder s voted → k < length voted.cells → sink_limit_net voted.net k ≡ sink_limit s (get_or voted.cells k [])
 limit_at s voted k n l =
     ap (λ (b : Bool). cond b 0 (get_or voted.net.sink k 0)) (fixed_at s voted k n l)
     ∙ ap (λ (amount : ℕ). cond (is_fixed s.vertices s.scanners (get_or voted.cells k [])) 0 amount) (sink_of_node s voted k n l)
 
-entering_at : (s : Scene) (voted : Voted) (claim : Claim) (k : ℕ) → IsNetworkOf s voted → k < length voted.cells → amount_in_net voted.net.arcs (flow_by voted claim).on_arc k ≡ entering s (complex_of voted) claim (get_or voted.cells k [])
+entering_at : (s : Scene) (voted : Voted) (claim : Claim) (k : ℕ) → IsNetworkInAnyOrder s voted → k < length voted.cells → amount_in_net voted.net.arcs (flow_by voted claim).on_arc k ≡ entering s (complex_of voted) claim (get_or voted.cells k [])
 entering_at s voted claim k n l = amounts_in s voted (flow_on claim) k n l
 
-leaving_at : (s : Scene) (voted : Voted) (claim : Claim) (k : ℕ) → IsNetworkOf s voted → k < length voted.cells → total_out voted.net (flow_by voted claim) k ≡ leaving s (complex_of voted) claim (get_or voted.cells k [])
+leaving_at : (s : Scene) (voted : Voted) (claim : Claim) (k : ℕ) → IsNetworkInAnyOrder s voted → k < length voted.cells → total_out voted.net (flow_by voted claim) k ≡ leaving s (complex_of voted) claim (get_or voted.cells k [])
 leaving_at s voted claim k n l = let a = amounts_out s voted (flow_on claim) k n l in let b = on_sink_at voted claim k l in omega arith
 
 -- ---- each fault by number and over cells and facets
-fixed_stands : (s : Scene) (voted : Voted) (claim : Claim) → IsNetworkOf s voted → Stands voted.cells (IsFixedInsideNet voted.net (labels_by voted claim)) (IsFixedInside s claim)
+fixed_stands : (s : Scene) (voted : Voted) (claim : Claim) → IsNetworkInAnyOrder s voted → Stands voted.cells (IsFixedInsideNet voted.net (labels_by voted claim)) (IsFixedInside s claim)
 fixed_stands s voted claim n = record {
   to_rows = λ k l h. (sym (fixed_at s voted k n l) ∙ h.0, sym (inside_at voted claim k l) ∙ h.1);
   to_numbers = λ k l h. (fixed_at s voted k n l ∙ h.0, inside_at voted claim k l ∙ h.1);
 }
 
-capacity_stands : (s : Scene) (voted : Voted) (claim : Claim) → IsNetworkOf s voted → Stands voted.facets (IsOverCapacityNet voted.net (flow_by voted claim)) (IsOverCapacity s claim)
+capacity_stands : (s : Scene) (voted : Voted) (claim : Claim) → IsNetworkInAnyOrder s voted → Stands voted.facets (IsOverCapacityNet voted.net (flow_by voted claim)) (IsOverCapacity s claim)
 capacity_stands s voted claim n = record {
   to_rows = λ j l h. omega (arith, h, cap_at s voted j n l, on_arc_at voted claim j l);
   to_numbers = λ j l h. omega (arith, h, cap_at s voted j n l, on_arc_at voted claim j l);
 }
 
-sink_stands : (s : Scene) (voted : Voted) (claim : Claim) → IsNetworkOf s voted → Stands voted.cells (IsOverSinkNet voted.net (flow_by voted claim)) (IsOverSink s claim)
+sink_stands : (s : Scene) (voted : Voted) (claim : Claim) → IsNetworkInAnyOrder s voted → Stands voted.cells (IsOverSinkNet voted.net (flow_by voted claim)) (IsOverSink s claim)
 sink_stands s voted claim n = record {
   to_rows = λ k l h. omega (arith, h, limit_at s voted k n l, on_sink_at voted claim k l);
   to_numbers = λ k l h. omega (arith, h, limit_at s voted k n l, on_sink_at voted claim k l);
 }
 
-balance_stands : (s : Scene) (voted : Voted) (claim : Claim) → IsNetworkOf s voted → Stands voted.cells (IsUnbalancedNet voted.net (flow_by voted claim)) (IsUnbalanced s (complex_of voted) claim)
+balance_stands : (s : Scene) (voted : Voted) (claim : Claim) → IsNetworkInAnyOrder s voted → Stands voted.cells (IsUnbalancedNet voted.net (flow_by voted claim)) (IsUnbalanced s (complex_of voted) claim)
 balance_stands s voted claim n = record {
   to_rows = λ k l h. (sym (fixed_at s voted k n l) ∙ h.0, λ e. h.1 (entering_at s voted claim k n l ∙ e ∙ sym (leaving_at s voted claim k n l)));
   to_numbers = λ k l h. (fixed_at s voted k n l ∙ h.0, λ e. h.1 (sym (entering_at s voted claim k n l) ∙ e ∙ leaving_at s voted claim k n l));
 }
 
-least_stands : (s : Scene) (voted : Voted) (claim : Claim) → IsNetworkOf s voted → Stands voted.cells (IsNotLeastNet voted.net (labels_by voted claim)) (IsNotLeast s (complex_of voted) claim)
+least_stands : (s : Scene) (voted : Voted) (claim : Claim) → IsNetworkInAnyOrder s voted → Stands voted.cells (IsNotLeastNet voted.net (labels_by voted claim)) (IsNotLeast s (complex_of voted) claim)
 least_stands s voted claim n = record {
   to_rows = λ k l h least best.
       let agree : AgreeAsLabels s voted least = labels_agree s voted least n in
@@ -97,7 +98,7 @@ least_stands s voted claim n = record {
       (sym (inside_at voted claim k l) ∙ apart.0, sym (get_or-map least voted.cells k [] false l) ∙ apart.1);
   to_numbers = λ k l h least best.
       let flags : map (test_of voted.cells least.inside) voted.cells ≡ least.inside = flags_are s voted least n best in
-      let apart = h (test_of voted.cells least.inside) (least_inside_is s voted least n best) in
+      let apart = h (test_of voted.cells least.inside) (((with_rising s (complex_of voted) n.listing).least_inside (test_of voted.cells least.inside)).1 (least_inside_is s voted least n best)) in
       (inside_at voted claim k l ∙ apart.0, ap (λ (list : List Bool). flag_at list k) (sym flags) ∙ get_or-map (test_of voted.cells least.inside) voted.cells k [] false l ∙ apart.1);
 }
 
@@ -107,23 +108,23 @@ admissible_from s complex claim none = record {
   none_fixed = λ row there fixed. false_from_ne_true (is_inside claim row) (λ inside. none row there (fixed, inside));
 }
 
-none_fixed : (s : Scene) (voted : Voted) (claim : Claim) → IsNetworkOf s voted → NoneBelow (length voted.net.fixed) (IsFixedInsideNet voted.net (labels_by voted claim)) → NoneOf voted.cells (IsFixedInside s claim)
+none_fixed : (s : Scene) (voted : Voted) (claim : Claim) → IsNetworkInAnyOrder s voted → NoneBelow (length voted.net.fixed) (IsFixedInsideNet voted.net (labels_by voted claim)) → NoneOf voted.cells (IsFixedInside s claim)
 none_fixed s voted claim n none = none_over voted.cells (length voted.net.fixed) (IsFixedInsideNet voted.net (labels_by voted claim)) (IsFixedInside s claim) (node_count s voted n) (fixed_stands s voted claim n) none
 
-within_facets : (s : Scene) (voted : Voted) (claim : Claim) → IsNetworkOf s voted → AreThere (complex_of voted) claim → AreWithinArcs voted.net (labels_by voted claim) (flow_by voted claim) → IsWithinFacets s (complex_of voted) claim
+within_facets : (s : Scene) (voted : Voted) (claim : Claim) → IsNetworkInAnyOrder s voted → AreThere (complex_of voted) claim → AreWithinArcs voted.net (labels_by voted claim) (flow_by voted claim) → IsWithinFacets s (complex_of voted) claim
 within_facets s voted claim n there h = record {
   there = there;
   none_fixed = none_fixed s voted claim n h.none_fixed;
   within_capacity = none_over voted.facets (length voted.net.arcs) (IsOverCapacityNet voted.net (flow_by voted claim)) (IsOverCapacity s claim) (arc_count s voted n) (capacity_stands s voted claim n) h.within_caps;
 }
 
-within_limits : (s : Scene) (voted : Voted) (claim : Claim) → IsNetworkOf s voted → AreThere (complex_of voted) claim → AreWithinLimits voted.net (labels_by voted claim) (flow_by voted claim) → IsWithinLimits s (complex_of voted) claim
+within_limits : (s : Scene) (voted : Voted) (claim : Claim) → IsNetworkInAnyOrder s voted → AreThere (complex_of voted) claim → AreWithinLimits voted.net (labels_by voted claim) (flow_by voted claim) → IsWithinLimits s (complex_of voted) claim
 within_limits s voted claim n there h = record {
   within_facets = within_facets s voted claim n there h.within_arcs;
   within_sink = none_over voted.cells (length voted.net.fixed) (IsOverSinkNet voted.net (flow_by voted claim)) (IsOverSink s claim) (node_count s voted n) (sink_stands s voted claim n) h.within_sinks;
 }
 
-certified : (s : Scene) (voted : Voted) (claim : Claim) → IsNetworkOf s voted → AreThere (complex_of voted) claim → IsCertifiedNet voted.net (labels_by voted claim) (flow_by voted claim) → IsCertified s (complex_of voted) claim
+certified : (s : Scene) (voted : Voted) (claim : Claim) → IsNetworkInAnyOrder s voted → AreThere (complex_of voted) claim → IsCertifiedNet voted.net (labels_by voted claim) (flow_by voted claim) → IsCertified s (complex_of voted) claim
 certified s voted claim n there h =
     let labels : AgreeAsLabels s voted (is_inside claim) = labels_agree s voted (is_inside claim) n in
     let flows : AgreeAsFlows s voted (flow_on claim) (sink_at claim) = flows_agree s voted (flow_on claim) (sink_at claim) n in
@@ -135,7 +136,7 @@ certified s voted claim n there h =
     }
 
 -- ---- a verdict by number is a reason over cells and facets, or the labels are the best
-pub verdict_reason : (rows : ScanRows) (s : Scene) (voted : Voted) (claim : Claim) (mesh : List ℕ) (verdict : Verdict) → IsNetworkOf s voted → AreThere (complex_of voted) claim
+pub verdict_reason : (rows : ScanRows) (s : Scene) (voted : Voted) (claim : Claim) (mesh : List ℕ) (verdict : Verdict) → IsNetworkInAnyOrder s voted → AreThere (complex_of voted) claim
     → IsVerdict voted.net (labels_by voted claim) (flow_by voted claim) verdict → MatchOption (reason_at voted verdict) (IsBest s (complex_of voted) claim) (IsReason rows s (complex_of voted) claim mesh)
 verdict_reason rows s voted claim mesh verdicts.Yes n there h =
     let labels : AgreeAsLabels s voted (is_inside claim) = labels_agree s voted (is_inside claim) n in
@@ -175,7 +176,7 @@ verdict_reason rows s voted claim mesh (verdicts.NotLeast v) n there h =
     (certified s voted claim n there h.0, first_over voted.cells (length voted.net.fixed) v (IsNotLeastNet voted.net (labels_by voted claim)) (IsNotLeast s (complex_of voted) claim) (node_count s voted n) (least_stands s voted claim n) h.1)
 
 -- the same of labels and a flow that are those of the claim
-pub reason_is : (rows : ScanRows) (s : Scene) (voted : Voted) (claim : Claim) (mesh : List ℕ) (verdict : Verdict) (labels : Labels) (flow : Flow) (found : Option Reason) → IsNetworkOf s voted → AreThere (complex_of voted) claim
+pub reason_is : (rows : ScanRows) (s : Scene) (voted : Voted) (claim : Claim) (mesh : List ℕ) (verdict : Verdict) (labels : Labels) (flow : Flow) (found : Option Reason) → IsNetworkInAnyOrder s voted → AreThere (complex_of voted) claim
     → labels ≡ labels_by voted claim → flow ≡ flow_by voted claim → IsVerdict voted.net labels flow verdict → found ≡ reason_at voted verdict → MatchOption found (IsBest s (complex_of voted) claim) (IsReason rows s (complex_of voted) claim mesh)
 reason_is rows s voted claim mesh verdict labels flow found n there a b h is =
     subst (λ (o : Option Reason). MatchOption o (IsBest s (complex_of voted) claim) (IsReason rows s (complex_of voted) claim mesh)) (sym is)

@@ -3,6 +3,7 @@ pub mod Firsts
 pub mod Bridge
 pub mod Lists
 pub mod Solutions
+pub mod OneStamp
 pub mod Uniqueness
 pub mod Whole
 pub mod FirstCounts

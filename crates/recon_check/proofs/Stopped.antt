@@ -1,5 +1,5 @@
 -- What is said of a stop.
-use Rattle.std.proofs.Common.{◌≡◌, Result, Err, IfErr, sym, subst, ◌∙◌, ap}
+use Rattle.std.proofs.Common.{◌≡◌, Result, Ok, Err, IfErr, sym, subst, ◌∙◌, ap}
 use Rattle.std.specs.Result.{IsErrAnd}
 use Rattle.std.proofs.lemmas.Result.{err_from_is_err_and}
 use Rattle.recon_check.specs.Stops.{StopsFor}
@@ -17,3 +17,8 @@ passed_on {T} r stop P err h =
 pub stop_weaker : (stop : Stop) (P Q : Reason → Type 0) → ((reason : Reason) → P reason → Q reason) → StopsFor P stop → StopsFor Q stop
 stop_weaker (Fault reason) P Q f h = f reason h
 stop_weaker NoMemory P Q f h = tt
+
+-- and where there may be none
+pub result_weaker : {T : Type 0} (r : Result T Stop) (P Q : Reason → Type 0) → ((reason : Reason) → P reason → Q reason) → IfErr r (StopsFor P) → IfErr r (StopsFor Q)
+result_weaker (Ok x) P Q f h = tt
+result_weaker (Err stop) P Q f h = stop_weaker stop P Q f h

@@ -22,8 +22,10 @@ use Rattle.visibility.specs.Cuts.{cost, cut_facets, IsAdmissible}
 use Rattle.visibility.specs.Laws.{test_of, row_index, AgreeAsLabels}
 use Rattle.visibility.specs.Networks.{complex_of, IsNetworkOf}
 use Rattle.visibility.specs.Votes.{IsComplexOf}
+use Rattle.visibility.specs.Listings.{IsListingOf}
 use Rattle.visibility.proofs.Labels.{labels_agree}
-use Rattle.visibility.proofs.Indices.{at_index, row_index_at}
+use Rattle.visibility.proofs.Listings.{rising_listing, in_any_order}
+use Rattle.visibility.proofs.Indices.{at_index, once_rising, row_index_at}
 use Rattle.vote_net.specs.Counts.{AreCellsOf, AreIdsOf}
 use Rattle.recon_check.specs.Answers.{best_surface}
 use Rattle.recon_check.specs.Claims.{is_inside}
@@ -38,7 +40,7 @@ test_agrees : (complex : Complex) (inside : List ℕ → Bool) → AllPairs IsBe
 test_agrees complex inside rising row there =
     let here : get_or complex.cells there.0 [] ≡ row = at_index complex.cells row there in
     ap (λ (r : List ℕ). flag_at (map inside complex.cells) (row_index complex.cells r)) (sym here)
-    ∙ ap (flag_at (map inside complex.cells)) (row_index_at complex.cells there.0 rising there.1)
+    ∙ ap (flag_at (map inside complex.cells)) (row_index_at complex.cells there.0 (once_rising complex.cells rising) there.1)
     ∙ get_or-map inside complex.cells there.0 [] false there.1 ∙ ap inside here
 
 -- the mesh of the labels is the surface of the claim
@@ -74,7 +76,7 @@ abbrev pub CanBeCut : Network → List ℕ → Labels → Cutting → Type 0
 CanBeCut network ids labels cutting =
     AreCellsOf cutting.scene network.linked.slots
     × ((cutting.scene.vertices.count ≡ length network.linked.points)
-    × (IsComplexOf cutting.scene cutting.complex
+    × (IsListingOf cutting.scene cutting.complex
     × (AreIdsOf network.linked.slots cutting.complex.cells ids
     × ((length labels.inside ≡ length cutting.complex.cells)
     × IsAdmissible cutting.scene cutting.complex (test_of cutting.complex.cells labels.inside)))))
@@ -88,7 +90,7 @@ can_be_cut rows settings network claim cutting ids labels is same ids_are labels
       (
         omega (arith, ap length is.points, length-append corners (points_of rows)),
         (
-          is.voted.complex_is,
+          rising_listing (scene_of_rows rows settings) (complex_of network.counted.voted) is.voted.complex_is,
           (
             subst (AreIdsOf network.linked.slots network.counted.voted.cells) (sym ids_are) is.ids,
             (
@@ -103,11 +105,11 @@ can_be_cut rows settings network claim cutting ids labels is same ids_are labels
 -- the labels cost what the claim's labels cost
 pub cost_is : (s : Scene) (voted : Voted) (claim : Claim) (labels : Labels) → IsNetworkOf s voted → labels ≡ labels_by voted claim → cost_of voted.net labels ≡ cost s (complex_of voted) (is_inside claim)
 cost_is s voted claim labels network same =
-    let agree : AgreeAsLabels s voted (is_inside claim) = labels_agree s voted (is_inside claim) network in
+    let agree : AgreeAsLabels s voted (is_inside claim) = labels_agree s voted (is_inside claim) (in_any_order s voted network) in
     ap (λ (l : Labels). cost_of voted.net l) same ∙ agree.cost_is
 
 -- and are the least inside with them
 pub least_is : (s : Scene) (voted : Voted) (claim : Claim) (labels : Labels) → IsNetworkOf s voted → labels ≡ labels_by voted claim → IsBest s (complex_of voted) claim → IsLeastInsideNet voted.net labels
 least_is s voted claim labels network same best =
-    let agree : AgreeAsLabels s voted (is_inside claim) = labels_agree s voted (is_inside claim) network in
+    let agree : AgreeAsLabels s voted (is_inside claim) = labels_agree s voted (is_inside claim) (in_any_order s voted network) in
     subst (λ (l : Labels). IsLeastInsideNet voted.net l) (sym same) (agree.least_inside.1 best.least)

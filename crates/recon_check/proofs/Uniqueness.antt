@@ -3,6 +3,7 @@ use Rattle.std.proofs.Common.{ℕ, ◌≡◌, ◌<◌, ◌≤◌, ◌⊎◌, inl
 use Rattle.std.specs.Bool.{⊤}
 use Rattle.std.proofs.lemmas.Bool.{cases_lt, false≢true}
 use Rattle.std.proofs.lemmas.List.Elements.{All-contains}
+use Rattle.cert_text.specs.Stamps.{StampView}
 use Rattle.cert_text.specs.Certificates.{Claim, IsWellFormed}
 use Rattle.cert_text.specs.Refusals.{IsRefused}
 use Rattle.cert_text.specs.Texts.{cert_text}
@@ -24,7 +25,9 @@ use Rattle.visibility.specs.Votes.{is_fixed, capacity, sink}
 use Rattle.visibility.specs.Cuts.{cost, IsAdmissible, IsLeastInside}
 use Rattle.visibility.specs.Flows.{value, IsValidFlow}
 use Rattle.visibility.proofs.Ordered.{one_complex}
-use Rattle.recon_check.specs.Answers.{best_surface, surface_text, IsShown, stated_count, count_here, earlier, IsOtherCount, IsReason, IsFault, IsFaultOver, HasCertificate, IsShownWith, IsAnswer}
+use Rattle.recon_check.specs.Answers.{best_surface, surface_text, IsShown, stated_count, count_here, earlier, IsOtherCount, IsReason, IsFault, IsFaultOver, IsFaultHere, HasCertificate, IsShownWith, IsAnswer}
+use Rattle.recon_check.specs.Stamps.{IsStampedFor, IsOtherStamp}
+use Rattle.recon_check.proofs.OneStamp.{not_other, one_stamp}
 use Rattle.recon_check.specs.Claims.{is_inside, facets_of, cells_of, IsStray, AreThere, NoneOf}
 use Rattle.recon_check.specs.Differences.{IsFirstDifference}
 use Rattle.recon_check.specs.Faults.{IsFixedInside, IsOverCapacity, sink_limit, IsOverSink, entering as entering_of, leaving as leaving_of, IsUnbalanced, IsNotLeast, IsWithinFacets, IsWithinLimits, IsCertified, IsBest}
@@ -32,7 +35,7 @@ use Rattle.recon_check.specs.Laws.{OneAnswer}
 use Rattle.recon_check.specs.declared.answer.Answer.{Answer}
 use Rattle.recon_check.specs.declared.answer.Answer.TheVariants.{Yes, No}
 use Rattle.recon_check.specs.declared.answer.Reason.{Reason}
-use Rattle.recon_check.specs.declared.answer.Reason.TheVariants.{CertLine, CertOrder, CertCut, OtherCounts, NoSuchCell, NoSuchFacet, NoSuchSink, FixedInside, OverCapacity, OverSink, Unbalanced, NotEqual, NotLeast, WrongCost, MeshDiffers}
+use Rattle.recon_check.specs.declared.answer.Reason.TheVariants.{CertLine, CertOrder, CertCut, OtherScan, OtherUnit, OtherFixed, OtherCounts, NoSuchCell, NoSuchFacet, NoSuchSink, FixedInside, OverCapacity, OverSink, Unbalanced, NotEqual, NotLeast, WrongCost, MeshDiffers}
 use Rattle.recon_check.specs.declared.answer.Which.{Which}
 use Rattle.recon_check.specs.declared.answer.Which.TheVariants.{Points, Scanners, Sights, Vote, Smooth}
 use Rattle.recon_check.proofs.Bridge.{admissible_from}
@@ -83,6 +86,9 @@ fails : (rows : ScanRows) (s : Scene) (complex : Complex) (claim : Claim) (mesh 
 fails rows s complex claim mesh (CertLine n) h p = absurd h
 fails rows s complex claim mesh (CertOrder n) h p = absurd h
 fails rows s complex claim mesh CertCut h p = absurd h
+fails rows s complex claim mesh (OtherScan a b) h p = absurd h
+fails rows s complex claim mesh (OtherUnit a b) h p = absurd h
+fails rows s complex claim mesh (OtherFixed a b) h p = absurd h
 fails rows s complex claim mesh (OtherCounts which a b) h p = absurd h
 fails rows s complex claim mesh (NoSuchCell k) h p = not_stray complex.cells claim.inside k p h
 fails rows s complex claim mesh (NoSuchFacet k) h p = not_stray complex.facets (facets_of claim) k p h.1
@@ -177,6 +183,9 @@ unfolding level
 passes_before rows s complex claim mesh (CertLine n) h earlier l = absurd h
 passes_before rows s complex claim mesh (CertOrder n) h earlier l = absurd h
 passes_before rows s complex claim mesh CertCut h earlier l = absurd h
+passes_before rows s complex claim mesh (OtherScan a b) h earlier l = absurd h
+passes_before rows s complex claim mesh (OtherUnit a b) h earlier l = absurd h
+passes_before rows s complex claim mesh (OtherFixed a b) h earlier l = absurd h
 passes_before rows s complex claim mesh (OtherCounts which a b) h earlier l = absurd h
 passes_before rows s complex claim mesh (NoSuchCell k) h earlier l = absurd (omega arith)
 passes_before rows s complex claim mesh (NoSuchFacet k) h earlier l = by_first rows s complex claim mesh h.0 earlier l
@@ -195,6 +204,9 @@ unfolding level
 level_of rows s complex claim mesh (CertLine n) h = absurd h
 level_of rows s complex claim mesh (CertOrder n) h = absurd h
 level_of rows s complex claim mesh CertCut h = absurd h
+level_of rows s complex claim mesh (OtherScan a b) h = absurd h
+level_of rows s complex claim mesh (OtherUnit a b) h = absurd h
+level_of rows s complex claim mesh (OtherFixed a b) h = absurd h
 level_of rows s complex claim mesh (OtherCounts which a b) h = absurd h
 level_of rows s complex claim mesh _ h = omega arith
 
@@ -210,6 +222,9 @@ unfolding level
 same_kind rows s complex claim mesh (CertLine n) other e h k = absurd h
 same_kind rows s complex claim mesh (CertOrder n) other e h k = absurd h
 same_kind rows s complex claim mesh CertCut other e h k = absurd h
+same_kind rows s complex claim mesh (OtherScan a b) other e h k = absurd h
+same_kind rows s complex claim mesh (OtherUnit a b) other e h k = absurd h
+same_kind rows s complex claim mesh (OtherFixed a b) other e h k = absurd h
 same_kind rows s complex claim mesh (OtherCounts which a b) other e h k = absurd h
 same_kind rows s complex claim mesh (NoSuchCell i) (NoSuchCell j) e h k = ap NoSuchCell (one_first (length claim.inside) i j (IsStray complex.cells claim.inside) h k)
 same_kind rows s complex claim mesh (NoSuchFacet i) (NoSuchFacet j) e h k = ap NoSuchFacet (one_first (length (facets_of claim)) i j (IsStray complex.facets (facets_of claim)) h.1 k.1)
@@ -348,9 +363,9 @@ shown_no_fault rows settings mesh claim reason shown h = by (count_or_over rows 
 
 -- ---- one answer
 -- what an answer says of what a certificate states
-abbrev Holds : ScanRows → Settings → List ℕ → Claim → Answer → Type 0
-Holds rows settings mesh claim (Yes inside faces least) = IsShownWith rows settings mesh inside faces least claim
-Holds rows settings mesh claim (No reason) = IsFault rows settings mesh claim reason
+abbrev Holds : ScanRows → Settings → StampView → List ℕ → Claim → Answer → Type 0
+Holds rows settings stamp mesh claim (Yes inside faces least) = IsStampedFor stamp claim × IsShownWith rows settings mesh inside faces least claim
+Holds rows settings stamp mesh claim (No reason) = IsFaultHere rows settings stamp mesh claim reason
 
 one_shown : (rows : ScanRows) (settings : Settings) (mesh : List ℕ) (claim : Claim) (a b c a' b' c' : ℕ) → IsShownWith rows settings mesh a b c claim → IsShownWith rows settings mesh a' b' c' claim → Yes a b c ≡ Yes a' b' c'
 one_shown rows settings mesh claim a b c a' b' c' h k =
@@ -360,11 +375,16 @@ one_shown rows settings mesh claim a b c a' b' c' h k =
     let costs : c ≡ c' = h.cost_is ∙ sym k.cost_is in
     cc
 
-one_holds : (rows : ScanRows) (settings : Settings) (mesh : List ℕ) (claim : Claim) (answer other : Answer) → Holds rows settings mesh claim answer → Holds rows settings mesh claim other → answer ≡ other
-one_holds rows settings mesh claim (Yes a b c) (Yes a' b' c') h k = one_shown rows settings mesh claim a b c a' b' c' h k
-one_holds rows settings mesh claim (Yes a b c) (No reason) h k = absurd (shown_no_fault rows settings mesh claim reason h.shown k)
-one_holds rows settings mesh claim (No reason) (Yes a b c) h k = absurd (shown_no_fault rows settings mesh claim reason k.shown h)
-one_holds rows settings mesh claim (No reason) (No other) h k = ap No (one_fault rows settings mesh claim reason other h k)
+one_holds : (rows : ScanRows) (settings : Settings) (stamp : StampView) (mesh : List ℕ) (claim : Claim) (answer other : Answer) → Holds rows settings stamp mesh claim answer → Holds rows settings stamp mesh claim other → answer ≡ other
+one_holds rows settings stamp mesh claim (Yes a b c) (Yes a' b' c') h k = one_shown rows settings mesh claim a b c a' b' c' h.1 k.1
+one_holds rows settings stamp mesh claim (Yes a b c) (No reason) h (inl k) = absurd (not_other stamp claim reason h.0 k)
+one_holds rows settings stamp mesh claim (Yes a b c) (No reason) h (inr k) = absurd (shown_no_fault rows settings mesh claim reason (h.1).shown k.1)
+one_holds rows settings stamp mesh claim (No reason) (Yes a b c) (inl h) k = absurd (not_other stamp claim reason k.0 h)
+one_holds rows settings stamp mesh claim (No reason) (Yes a b c) (inr h) k = absurd (shown_no_fault rows settings mesh claim reason (k.1).shown h.1)
+one_holds rows settings stamp mesh claim (No reason) (No other) (inl h) (inl k) = ap No (one_stamp stamp claim reason other h k)
+one_holds rows settings stamp mesh claim (No reason) (No other) (inl h) (inr k) = absurd (not_other stamp claim reason k.0 h)
+one_holds rows settings stamp mesh claim (No reason) (No other) (inr h) (inl k) = absurd (not_other stamp claim other h.0 k)
+one_holds rows settings stamp mesh claim (No reason) (No other) (inr h) (inr k) = ap No (one_fault rows settings mesh claim reason other h.1 k.1)
 
 -- the answer where the text is refused
 refused_answer : CertRefusal → Answer
@@ -378,25 +398,25 @@ record IsRefusedSo (cert : List ℕ) (answer : Answer) : Type 0 where
   refused : IsRefused cert refusal
   answer_is : answer ≡ refused_answer refusal
 
-refused_or_holds : (rows : ScanRows) (settings : Settings) (mesh cert : List ℕ) (answer : Answer) → IsAnswer rows settings mesh cert answer → IsRefusedSo cert answer ⊎ HasCertificate cert (λ claim. Holds rows settings mesh claim answer)
+refused_or_holds : (rows : ScanRows) (settings : Settings) (stamp : StampView) (mesh cert : List ℕ) (answer : Answer) → IsAnswer rows settings stamp mesh cert answer → IsRefusedSo cert answer ⊎ HasCertificate cert (λ claim. Holds rows settings stamp mesh claim answer)
 unfolding refused_answer
-refused_or_holds rows settings mesh cert (Yes a b c) h = inr h
-refused_or_holds rows settings mesh cert (No (CertLine n)) h = inl (record { refusal = refusals.BadLine n; refused = h; answer_is = refl })
-refused_or_holds rows settings mesh cert (No (CertOrder n)) h = inl (record { refusal = refusals.Order n; refused = h; answer_is = refl })
-refused_or_holds rows settings mesh cert (No CertCut) h = inl (record { refusal = refusals.CertCut; refused = h; answer_is = refl })
-refused_or_holds rows settings mesh cert (No reason) h = inr h
+refused_or_holds rows settings stamp mesh cert (Yes a b c) h = inr h
+refused_or_holds rows settings stamp mesh cert (No (CertLine n)) h = inl (record { refusal = refusals.BadLine n; refused = h; answer_is = refl })
+refused_or_holds rows settings stamp mesh cert (No (CertOrder n)) h = inl (record { refusal = refusals.Order n; refused = h; answer_is = refl })
+refused_or_holds rows settings stamp mesh cert (No CertCut) h = inl (record { refusal = refusals.CertCut; refused = h; answer_is = refl })
+refused_or_holds rows settings stamp mesh cert (No reason) h = inr h
 
 -- a text has one claim
 one_claim : (cert : List ℕ) (claim other : Claim) → IsWellFormed claim → IsWellFormed other → cert ≡ cert_text claim → cert ≡ cert_text other → claim ≡ other
 one_claim cert claim other w v a b = (cert_code claim other [] [] w v (ap (λ (text : List ℕ). text ++ []) (sym a ∙ b))).0
 
 pub one_answer : OneAnswer
-one_answer rows settings mesh cert answer other h k = by (refused_or_holds rows settings mesh cert answer h) (refused_or_holds rows settings mesh cert other k)
+one_answer rows settings stamp mesh cert answer other h k = by (refused_or_holds rows settings stamp mesh cert answer h) (refused_or_holds rows settings stamp mesh cert other k)
   where
-    by : IsRefusedSo cert answer ⊎ HasCertificate cert (λ claim. Holds rows settings mesh claim answer) → IsRefusedSo cert other ⊎ HasCertificate cert (λ claim. Holds rows settings mesh claim other) → answer ≡ other
+    by : IsRefusedSo cert answer ⊎ HasCertificate cert (λ claim. Holds rows settings stamp mesh claim answer) → IsRefusedSo cert other ⊎ HasCertificate cert (λ claim. Holds rows settings stamp mesh claim other) → answer ≡ other
     by (inl a) (inl b) = a.answer_is ∙ ap refused_answer (refused_once cert a.refusal b.refusal a.refused b.refused) ∙ sym b.answer_is
     by (inl a) (inr b) = absurd (printed_not_refused b.claim a.refusal cert b.well_formed b.text_is a.refused)
     by (inr a) (inl b) = absurd (printed_not_refused a.claim b.refusal cert a.well_formed a.text_is b.refused)
     by (inr a) (inr b) =
-        one_holds rows settings mesh a.claim answer other a.holds
-        (subst (λ (claim : Claim). Holds rows settings mesh claim other) (one_claim cert b.claim a.claim b.well_formed a.well_formed b.text_is a.text_is) b.holds)
+        one_holds rows settings stamp mesh a.claim answer other a.holds
+        (subst (λ (claim : Claim). Holds rows settings stamp mesh claim other) (one_claim cert b.claim a.claim b.well_formed a.well_formed b.text_is a.text_is) b.holds)

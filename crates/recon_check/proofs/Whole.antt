@@ -1,5 +1,6 @@
 -- Answers from what is known of the two texts.
-use Rattle.std.proofs.Common.{ℕ, ◌≡◌, refl, List, length}
+use Rattle.std.proofs.Common.{ℕ, ◌≡◌, inl, inr, refl, List, length}
+use Rattle.cert_text.specs.Stamps.{StampView}
 use Rattle.cert_text.specs.Certificates.{Claim, IsWellFormed}
 use Rattle.cert_text.specs.Texts.{cert_text}
 use Rattle.flow_net.specs.declared.votes.Settings.{Settings}
@@ -9,39 +10,43 @@ use Rattle.solution.specs.Solutions.{HasCounts, IsSolution}
 use Rattle.scan.specs.ScanRows.{ScanRows}
 use Rattle.visibility.specs.Complexes.{Complex}
 use Rattle.visibility.specs.Votes.{IsComplexOf}
-use Rattle.recon_check.specs.Answers.{surface_text, IsReason, IsFault, IsAccepted, IsAnswer}
+use Rattle.recon_check.specs.Answers.{surface_text, IsReason, IsFault, IsFaultHere, IsAccepted, IsAnswer}
+use Rattle.recon_check.specs.Stamps.{IsStampedFor, IsOtherStamp}
 use Rattle.recon_check.specs.declared.answer.Answer.TheVariants.{Yes, No}
 use Rattle.recon_check.specs.declared.answer.Reason.{Reason}
 use Rattle.recon_check.specs.declared.answer.Reason.TheVariants.{CertLine, CertOrder, CertCut, OtherCounts}
 use Rattle.recon_check.proofs.Uniqueness.{one_answer}
 
 -- texts of a solution are answered by Yes
-pub built_yes : (rows : ScanRows) (settings : Settings) (mesh cert : List ℕ) (surface : Surface) (claim : Claim) → IsSolution rows settings surface claim → IsWellFormed claim → mesh ≡ surface_text surface → cert ≡ cert_text claim
-    → IsAnswer rows settings mesh cert (Yes (length claim.inside) (length surface.faces) claim.counts.cost)
-built_yes rows settings mesh cert surface claim solution formed mesh_is cert_is = record {
+pub built_yes : (rows : ScanRows) (settings : Settings) (stamp : StampView) (mesh cert : List ℕ) (surface : Surface) (claim : Claim) → IsSolution rows settings surface claim → IsWellFormed claim → IsStampedFor stamp claim → mesh ≡ surface_text surface → cert ≡ cert_text claim
+    → IsAnswer rows settings stamp mesh cert (Yes (length claim.inside) (length surface.faces) claim.counts.cost)
+built_yes rows settings stamp mesh cert surface claim solution formed stamped mesh_is cert_is = record {
   claim = claim;
   well_formed = formed;
   text_is = cert_is;
-  holds = record { shown = record { surface = surface; mesh_is = mesh_is; solution = solution }; inside_is = refl; faces_is = refl; cost_is = refl };
+  holds = (stamped, record { shown = record { surface = surface; mesh_is = mesh_is; solution = solution }; inside_is = refl; faces_is = refl; cost_is = refl });
 }
 
-pub accepted_yes : (rows : ScanRows) (settings : Settings) (mesh cert : List ℕ) (h : IsAccepted rows settings mesh cert)
-    → IsAnswer rows settings mesh cert (Yes (length h.claim.inside) (length h.holds.surface.faces) h.claim.counts.cost)
-accepted_yes rows settings mesh cert h = built_yes rows settings mesh cert h.holds.surface h.claim h.holds.solution h.well_formed h.holds.mesh_is h.text_is
+pub accepted_yes : (rows : ScanRows) (settings : Settings) (stamp : StampView) (mesh cert : List ℕ) (h : IsAccepted rows settings stamp mesh cert)
+    → IsAnswer rows settings stamp mesh cert (Yes (length h.claim.inside) (length (h.holds.1).surface.faces) h.claim.counts.cost)
+accepted_yes rows settings stamp mesh cert h = built_yes rows settings stamp mesh cert (h.holds.1).surface h.claim (h.holds.1).solution h.well_formed h.holds.0 (h.holds.1).mesh_is h.text_is
 
 -- what is answered by a reason is not accepted
-pub not_accepted : (rows : ScanRows) (settings : Settings) (mesh cert : List ℕ) (reason : Reason) → IsAnswer rows settings mesh cert (No reason) → IsAccepted rows settings mesh cert → ⊥
-not_accepted rows settings mesh cert reason h accepted =
-    let same : No reason ≡ Yes (length accepted.claim.inside) (length accepted.holds.surface.faces) accepted.claim.counts.cost =
-    one_answer rows settings mesh cert (No reason) _ h (accepted_yes rows settings mesh cert accepted) in
+pub not_accepted : (rows : ScanRows) (settings : Settings) (stamp : StampView) (mesh cert : List ℕ) (reason : Reason) → IsAnswer rows settings stamp mesh cert (No reason) → IsAccepted rows settings stamp mesh cert → ⊥
+not_accepted rows settings stamp mesh cert reason h accepted =
+    let same : No reason ≡ Yes (length accepted.claim.inside) (length (accepted.holds.1).surface.faces) accepted.claim.counts.cost =
+    one_answer rows settings stamp mesh cert (No reason) _ h (accepted_yes rows settings stamp mesh cert accepted) in
     cc
 
--- a fault of what the certificate states is the answer
-pub fault_answer : (rows : ScanRows) (settings : Settings) (mesh cert : List ℕ) (claim : Claim) (reason : Reason) → IsWellFormed claim → cert ≡ cert_text claim → IsFault rows settings mesh claim reason → IsAnswer rows settings mesh cert (No reason)
-fault_answer rows settings mesh cert claim (CertLine n) formed text h = absurd h.reason_is
-fault_answer rows settings mesh cert claim (CertOrder n) formed text h = absurd h.reason_is
-fault_answer rows settings mesh cert claim CertCut formed text h = absurd h.reason_is
-fault_answer rows settings mesh cert claim reason formed text h = record { claim = claim; well_formed = formed; text_is = text; holds = h }
+-- the first fault of a certificate is the answer
+pub fault_answer : (rows : ScanRows) (settings : Settings) (stamp : StampView) (mesh cert : List ℕ) (claim : Claim) (reason : Reason) → IsWellFormed claim → cert ≡ cert_text claim → IsFaultHere rows settings stamp mesh claim reason → IsAnswer rows settings stamp mesh cert (No reason)
+fault_answer rows settings stamp mesh cert claim (CertLine n) formed text (inl h) = absurd h.part
+fault_answer rows settings stamp mesh cert claim (CertLine n) formed text (inr h) = absurd (h.1).reason_is
+fault_answer rows settings stamp mesh cert claim (CertOrder n) formed text (inl h) = absurd h.part
+fault_answer rows settings stamp mesh cert claim (CertOrder n) formed text (inr h) = absurd (h.1).reason_is
+fault_answer rows settings stamp mesh cert claim CertCut formed text (inl h) = absurd h.part
+fault_answer rows settings stamp mesh cert claim CertCut formed text (inr h) = absurd (h.1).reason_is
+fault_answer rows settings stamp mesh cert claim reason formed text h = record { claim = claim; well_formed = formed; text_is = text; holds = h }
 
 -- the first fault over the scan's cells and facets is a fault
 pub reason_fault : (rows : ScanRows) (settings : Settings) (complex : Complex) (mesh : List ℕ) (claim : Claim) → HasCounts claim rows settings → IsComplexOf (scene_of_rows rows settings) complex

@@ -9,12 +9,14 @@
 --   IsOtherCount rows settings claim which a b    the first number that differs
 --   IsReason rows s complex claim mesh reason     the first fault of what a certificate with the scan's numbers states
 --   IsFaultOver, IsFault rows settings mesh ..    the first fault of what a certificate states
+--   IsFaultHere rows settings stamp mesh ..       its stamp is another, or this is the first fault of what it states
 --   HasCertificate cert P                         a certificate has the text, and something holds of what it states
---   IsAccepted rows settings mesh cert            the two texts are those of a solution
+--   IsAccepted rows settings stamp mesh cert      the two texts are those of a solution, and the stamp is this one
 --   IsShownWith rows settings mesh a b c claim    and these are its inside cells, faces and cost
---   IsAnswer rows settings mesh cert answer       the answer
+--   IsAnswer rows settings stamp mesh cert ..     the answer
 --   IsYes answer                                  the answer is Yes
-use Rattle.std.specs.Prelude.{ℕ, ◌≡◌, ◌≢◌, ◌++◌, Bool, List, [], ◌∷◌, All, Contains, length, ⊤}
+use Rattle.std.specs.Prelude.{ℕ, ◌≡◌, ◌≢◌, ◌⊎◌, ◌++◌, Bool, List, [], ◌∷◌, All, Contains, length, ⊤}
+use Rattle.cert_text.specs.Stamps.{StampView}
 use Rattle.cert_text.specs.Certificates.{Claim, IsWellFormed}
 use Rattle.cert_text.specs.Refusals.{IsRefused}
 use Rattle.cert_text.specs.Texts.{cert_text}
@@ -36,6 +38,7 @@ use Rattle.visibility.specs.Flows.{value, IsValidFlow}
 use Rattle.recon_check.specs.Claims.{is_inside, facets_of, cells_of, IsStray, AreThere, IsFirstOf}
 use Rattle.recon_check.specs.Differences.{IsFirstDifference}
 use Rattle.recon_check.specs.Faults.{IsFixedInside, IsOverCapacity, sink_limit, IsOverSink, entering, leaving, IsUnbalanced, IsNotLeast, IsWithinFacets, IsWithinLimits, IsCertified, IsBest}
+use Rattle.recon_check.specs.Stamps.{IsStampedFor, IsOtherStamp}
 use Rattle.recon_check.specs.declared.answer.Answer.{Answer}
 use Rattle.recon_check.specs.declared.answer.Answer.TheVariants.{Yes, No}
 use Rattle.recon_check.specs.declared.answer.Reason.{Reason}
@@ -130,6 +133,10 @@ abbrev pub IsFault : ScanRows → Settings → List ℕ → Claim → Reason →
 IsFault rows settings mesh claim (OtherCounts which stated here) = IsOtherCount rows settings claim which stated here
 IsFault rows settings mesh claim reason = IsFaultOver rows settings mesh claim reason
 
+-- the stamp's first part that is another, or else the first fault of what the certificate states
+abbrev pub IsFaultHere : ScanRows → Settings → StampView → List ℕ → Claim → Reason → Type 0
+IsFaultHere rows settings stamp mesh claim reason = IsOtherStamp stamp claim reason ⊎ (IsStampedFor stamp claim × IsFault rows settings mesh claim reason)
+
 -- the text is that of a well-formed certificate, and something holds of what it states
 pub record HasCertificate (cert : List ℕ) (P : Claim → Type 0) : Type 0 where
   pub claim : Claim
@@ -137,9 +144,10 @@ pub record HasCertificate (cert : List ℕ) (P : Claim → Type 0) : Type 0 wher
   pub text_is : cert ≡ cert_text claim
   pub holds : P claim
 
--- the two texts are those of a solution: there are a surface and a claim with these texts that solve the scan
-abbrev pub IsAccepted : ScanRows → Settings → (mesh cert : List ℕ) → Type 0
-IsAccepted rows settings mesh cert = HasCertificate cert (IsShown rows settings mesh)
+-- the two texts are those of a solution: there are a surface and a claim with these texts that solve the scan, and the claim has no
+-- stamp or this one
+abbrev pub IsAccepted : ScanRows → Settings → StampView → (mesh cert : List ℕ) → Type 0
+IsAccepted rows settings stamp mesh cert = HasCertificate cert (λ claim. IsStampedFor stamp claim × IsShown rows settings mesh claim)
 
 -- the two texts are those of a solution with so many inside cells and faces, and of this cost
 pub record IsShownWith (rows : ScanRows) (settings : Settings) (mesh : List ℕ) (inside faces least : ℕ) (claim : Claim) : Type 0 where
@@ -148,14 +156,15 @@ pub record IsShownWith (rows : ScanRows) (settings : Settings) (mesh : List ℕ)
   pub faces_is : faces ≡ length shown.surface.faces
   pub cost_is : least ≡ claim.counts.cost
 
--- Yes is a solution, with the numbers of its inside cells and faces and its cost. Else it is the first reason: the
--- certificate is no text of a certificate, or the first fault of what it states.
-abbrev pub IsAnswer : ScanRows → Settings → (mesh cert : List ℕ) → Answer → Type 0
-IsAnswer rows settings mesh cert (Yes inside faces least) = HasCertificate cert (IsShownWith rows settings mesh inside faces least)
-IsAnswer rows settings mesh cert (No (CertLine n)) = IsRefused cert (refusals.BadLine n)
-IsAnswer rows settings mesh cert (No (CertOrder n)) = IsRefused cert (refusals.Order n)
-IsAnswer rows settings mesh cert (No CertCut) = IsRefused cert refusals.CertCut
-IsAnswer rows settings mesh cert (No reason) = HasCertificate cert (λ claim. IsFault rows settings mesh claim reason)
+-- Yes is a solution and no other stamp, with the numbers of its inside cells and faces and its cost. Else it is the first reason: the
+-- certificate is no text of a certificate, its stamp is another, or the first fault of what it states.
+abbrev pub IsAnswer : ScanRows → Settings → StampView → (mesh cert : List ℕ) → Answer → Type 0
+IsAnswer rows settings stamp mesh cert (Yes inside faces least) =
+    HasCertificate cert (λ claim. IsStampedFor stamp claim × IsShownWith rows settings mesh inside faces least claim)
+IsAnswer rows settings stamp mesh cert (No (CertLine n)) = IsRefused cert (refusals.BadLine n)
+IsAnswer rows settings stamp mesh cert (No (CertOrder n)) = IsRefused cert (refusals.Order n)
+IsAnswer rows settings stamp mesh cert (No CertCut) = IsRefused cert refusals.CertCut
+IsAnswer rows settings stamp mesh cert (No reason) = HasCertificate cert (λ claim. IsFaultHere rows settings stamp mesh claim reason)
 
 -- the answer is Yes
 abbrev pub IsYes : Answer → Type 0

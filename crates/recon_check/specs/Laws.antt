@@ -2,6 +2,7 @@
 --
 --   OneAnswer     no mesh and certificate have two answers
 use Rattle.std.specs.Prelude.{ℕ, ◌≡◌, List}
+use Rattle.cert_text.specs.Stamps.{StampView}
 use Rattle.flow_net.specs.declared.votes.Settings.{Settings}
 use Rattle.scan.specs.ScanRows.{ScanRows}
 use Rattle.recon_check.specs.Answers.{IsAnswer}
@@ -10,5 +11,5 @@ use Rattle.recon_check.specs.declared.answer.Answer.{Answer}
 -- no mesh and certificate have two answers
 abbrev pub OneAnswer : Type 0
 OneAnswer =
-    (rows : ScanRows) (settings : Settings) (mesh cert : List ℕ) (answer other : Answer) → IsAnswer rows settings mesh cert answer
-    → IsAnswer rows settings mesh cert other → answer ≡ other
+    (rows : ScanRows) (settings : Settings) (stamp : StampView) (mesh cert : List ℕ) (answer other : Answer) → IsAnswer rows settings stamp mesh cert answer
+    → IsAnswer rows settings stamp mesh cert other → answer ≡ other

@@ -1,6 +1,7 @@
 pub mod Claims
 pub mod Faults
 pub mod Differences
+pub mod Stamps
 pub mod Answers
 pub mod Networks
 pub mod Stops

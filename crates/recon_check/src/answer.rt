@@ -1,4 +1,6 @@
-//! The answers of a check of a mesh and a certificate. It stands on nothing else.
+//! The answers of a check of a mesh and a certificate. It stands on the points of `geo_sign`.
+
+use geo_sign::Point;
 
 /// A number that a certificate states about the scan that it belongs to.
 #[derive(Clone, Copy, Debug, PartialEq, Eq)]
@@ -27,6 +29,28 @@ pub enum Reason {
     CertOrder(u64),
     /// The certificate ends before an expected line does.
     CertCut,
+    /// The certificate belongs to the scan of another file. Only a certificate that has a stamp says so, here and in the
+    /// next two.
+    OtherScan {
+        /// The digest of the file that it belongs to.
+        stated: [u8; 32],
+        /// The digest of the file that was read.
+        here: [u8; 32],
+    },
+    /// The certificate was made in another unit.
+    OtherUnit {
+        /// The unit that it states.
+        stated: u32,
+        /// The unit of this run.
+        here: u32,
+    },
+    /// The certificate was made with another fixed scanner, or one of the two has none.
+    OtherFixed {
+        /// The fixed scanner that it states, in scaled units.
+        stated: Option<Point>,
+        /// That of this run.
+        here: Option<Point>,
+    },
     /// The certificate belongs to another scan or to other weights: the first of the numbers that differs.
     OtherCounts {
         /// The number.

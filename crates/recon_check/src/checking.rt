@@ -1,7 +1,8 @@
 //! The check of a mesh and a certificate. It stands on all other files.
 
 ghost use Rattle.std.specs.Prelude.{◌≡◌, ◌↔◌, ℕ, List, IfOk, IfErr, OnOk, length};
-ghost use Rattle.cert_text.specs.Certificates.{claim_of, Claim, IsWellFormed};
+ghost use Rattle.cert_text.specs.Certificates.{claim_of, stamp_view, Claim, IsWellFormed};
+ghost use Rattle.cert_text.specs.Stamps.{StampView};
 ghost use Rattle.cert_text.specs.Texts.{cert_text};
 ghost use Rattle.mesh_ply.specs.Meshes.{IsMesh, Surface};
 ghost use Rattle.solution.specs.Scans.{scene_of_rows};
@@ -16,15 +17,17 @@ ghost use Rattle.recon_check.specs.Answers.{surface_text, IsFault, IsShownWith, 
 ghost use Rattle.recon_check.specs.Claims.{is_inside};
 ghost use Rattle.recon_check.specs.Faults.{IsBest};
 ghost use Rattle.recon_check.specs.Networks.{cutting_of, IsBestSurface, IsNetworkOfScan};
+ghost use Rattle.recon_check.specs.Stamps.{IsStampedFor};
 ghost use Rattle.recon_check.specs.Stops.{StopsFor};
 
 use crate::counts::other_count;
 use crate::flows::best_labels;
 use crate::network::{Network, network_of};
+use crate::stamps::other_stamp;
 use crate::stop::Stop;
 use crate::texts::first_difference;
 use crate::{Answer, NoMemory, Reason};
-use cert_text::{CertRefusal, Certificate, read_cert};
+use cert_text::{CertRefusal, Certificate, Stamp, read_cert};
 use flow_net::{Labels, Settings, Voted};
 use mesh_ply::{Mesh, push_mesh};
 use scan::Scan;
@@ -48,7 +51,7 @@ struct Shown {
 fn certificate(alloc: Global, bytes: &[u8]) -> Result<Certificate, Stop>
     ensures formed { IfOk result (λ cert. IsWellFormed (claim_of cert)) }
     ensures text { IfOk result (λ cert. bytes.now ≡ cert_text (claim_of cert)) }
-    ensures refused { (rows : ScanRows) (settings : Settings) (mesh : List ℕ) → IfErr result (StopsFor (λ reason. IsAnswer rows settings mesh bytes.now (Answer.No reason))) }
+    ensures refused { (rows : ScanRows) (settings : Settings) (stamp : StampView) (mesh : List ℕ) → IfErr result (StopsFor (λ reason. IsAnswer rows settings stamp mesh bytes.now (Answer.No reason))) }
 {
     match read_cert(alloc, bytes) {
         Ok(cert) => Ok(cert),
@@ -158,42 +161,48 @@ fn shown_by_certificate(
     shown_over(alloc, scan, settings, network, mesh, cert)
 }
 
-/// The numbers of the surface whose text the mesh is, where the certificate whose text `cert` is shows it best.
+/// The numbers of the surface whose text the mesh is, where the certificate whose text `cert` is shows it best and has no stamp or
+/// this one.
 fn shown_by_texts(
     alloc: Global,
     scan: &Scan,
     settings: Settings,
+    stamp: &Stamp,
     mesh: &[u8],
     cert: &[u8],
 ) -> Result<Shown, Stop>
-    ensures shown { IfOk result (λ shown. IsAnswer (rows_of scan.now) settings mesh.now cert.now (Answer.Yes shown.inside shown.faces shown.cost)) }
-    ensures fault { IfErr result (StopsFor (λ reason. IsAnswer (rows_of scan.now) settings mesh.now cert.now (Answer.No reason))) }
+    ensures shown { IfOk result (λ shown. IsAnswer (rows_of scan.now) settings (stamp_view stamp.now) mesh.now cert.now (Answer.Yes shown.inside shown.faces shown.cost)) }
+    ensures fault { IfErr result (StopsFor (λ reason. IsAnswer (rows_of scan.now) settings (stamp_view stamp.now) mesh.now cert.now (Answer.No reason))) }
 {
     let stated = certificate(alloc, cert)?;
-    shown_by_certificate(alloc, scan, settings, mesh, &stated)
+    match other_stamp(stamp, &stated) {
+        Some(reason) => Err(Stop::Fault(reason)),
+        None => shown_by_certificate(alloc, scan, settings, mesh, &stated),
+    }
 }
 
 /// Whether a mesh and a certificate, by their texts, are the best surface of a scan at these settings and the certificate
-/// that shows it, or else the first reason why they are not, in the order of the variants of [`Reason`].
+/// that shows it, with no stamp or this one, or else the first reason why they are not, in the order of the variants of [`Reason`].
 ///
 /// `Yes` comes exactly where there are a surface and a well-formed certificate with these texts that solve the scan: the
 /// mesh has the directed facets between outside and inside Delaunay cells, under the least-inside labels of smallest
 /// sight-line cost, and the certificate has the scan's numbers, that cost, the inside cells, and a valid flow of that value.
-/// Nothing about either text is assumed. So whatever `solve_scan` makes, printed by `push_mesh` and `push_cert`, is
-/// answered by `Yes`. The only error is want of memory.
+/// A stamp is compared before anything else that the certificate states. Nothing about either text is assumed. So whatever
+/// `solve_scan` makes without a stamp or with this one, printed by `push_mesh` and `push_cert`, is answered by `Yes`. The only error is want of memory.
 pub fn check_all(
     alloc: Global,
     scan: &Scan,
     settings: Settings,
+    stamp: &Stamp,
     mesh: &[u8],
     cert: &[u8],
 ) -> Result<Answer, NoMemory>
-    ensures answer { IfOk result (IsAnswer (rows_of scan.now) settings mesh.now cert.now) }
-    ensures only { (answer : Answer) → IsAnswer (rows_of scan.now) settings mesh.now cert.now answer → IfOk result (λ given. given ≡ answer) }
-    ensures yes { IfOk result (λ answer. IsYes answer ↔ IsAccepted (rows_of scan.now) settings mesh.now cert.now) }
-    ensures built { (surface : Surface) (claim : Claim) → IsSolution (rows_of scan.now) settings surface claim → IsWellFormed claim → mesh.now ≡ surface_text surface → cert.now ≡ cert_text claim → IfOk result (λ answer. answer ≡ Answer.Yes (length claim.inside) (length surface.faces) claim.counts.cost) }
+    ensures answer { IfOk result (IsAnswer (rows_of scan.now) settings (stamp_view stamp.now) mesh.now cert.now) }
+    ensures only { (answer : Answer) → IsAnswer (rows_of scan.now) settings (stamp_view stamp.now) mesh.now cert.now answer → IfOk result (λ given. given ≡ answer) }
+    ensures yes { IfOk result (λ answer. IsYes answer ↔ IsAccepted (rows_of scan.now) settings (stamp_view stamp.now) mesh.now cert.now) }
+    ensures built { (surface : Surface) (claim : Claim) → IsSolution (rows_of scan.now) settings surface claim → IsWellFormed claim → IsStampedFor (stamp_view stamp.now) claim → mesh.now ≡ surface_text surface → cert.now ≡ cert_text claim → IfOk result (λ answer. answer ≡ Answer.Yes (length claim.inside) (length surface.faces) claim.counts.cost) }
 {
-    match shown_by_texts(alloc, scan, settings, mesh, cert) {
+    match shown_by_texts(alloc, scan, settings, stamp, mesh, cert) {
         Ok(shown) => Ok(Answer::Yes {
             inside: shown.inside,
             faces: shown.faces,

@@ -14,7 +14,7 @@ use solution::Seen;
 use std::alloc::Global;
 use tetra_store::Tetra;
 use vote_net::Counted;
-use votes::count_votes;
+use votes::count_votes_rising;
 
 /// The cells of a scan and the network over them.
 #[derive(Drop)]
@@ -38,7 +38,7 @@ pub fn network_of(
 {
     let linked = build(alloc, &seen.points)?;
     linked.facts();
-    let counted = count_votes(
+    let counted = count_votes_rising(
         alloc,
         &linked,
         &seen.points,

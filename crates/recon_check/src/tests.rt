@@ -1,6 +1,7 @@
 //! What no contract says: the answers at a known scan and its mesh and certificate, and that memory is enough.
 
 use crate::{Answer, Reason, Which, check_all};
+use cert_text::Stamp;
 use flow_net::Settings;
 use scan::read_scan;
 use std::alloc::Global;
@@ -27,11 +28,18 @@ fn replaced(alloc: Global, text: &str, part: &str, other: &str) -> Result<String
     Ok(whole)
 }
 
+// The stamp of the runs here.
+const STAMP: Stamp = Stamp {
+    digest: [0; 32],
+    unit: 1,
+    fixed: None,
+};
+
 // The answer for a scan, where a sight weighs `vote` and a facet 1, and for a certificate.
 fn answer(alloc: Global, scan: &str, vote: u32, mesh: &[u8], cert: &str) -> Result<Answer, Fail> {
     let scan = read_scan(alloc, scan.as_bytes(), 1, None)?;
     let settings = Settings::new(vote, 1).ok_or("settings")?;
-    Ok(check_all(alloc, &scan, settings, mesh, cert.as_bytes())?)
+    Ok(check_all(alloc, &scan, settings, &STAMP, mesh, cert.as_bytes())?)
 }
 
 #[test]
@@ -134,5 +142,74 @@ fn a_surface_is_accepted_where_it_is_best(rt: HostRuntime) -> Result<(), Fail> {
         "recon certificate 1\npoints 4\nscanners 4\nsights 4\nvote 8\nsmooth 1\ncost 4\ninside 1\n8 9 10 11\nflow 0\nsink 0\nend\n";
     let fixed = Answer::No(Reason::FixedInside { cell });
     assert_eq!(rt; answer(alloc, &within, 8, mesh, without_flow)?, fixed);
+    Ok(())
+}
+
+// The certificate in the second version, with these three lines behind its first.
+fn stamped(alloc: Global, scan: &str, unit: &str, scanner: &str) -> Result<String, Fail> {
+    let mut first = String::from_str(alloc, "certificate 2\n")?;
+    first.push_str(scan)?;
+    first.push_str(unit)?;
+    first.push_str(scanner)?;
+    replaced(alloc, CERT, "certificate 1\n", &first)
+}
+
+#[test]
+fn a_stamp_is_compared_before_the_counts(rt: HostRuntime) -> Result<(), Fail> {
+    let own = "scan 0000000000000000000000000000000000000000000000000000000000000000\n";
+    let other = "scan 0000000000000000000000000000000000000000000000000000000000000001\n";
+    let mut digest = [0; 32];
+    digest[31] = 1;
+    let here = [0; 32];
+    let place = geo_sign::Point::data(0, -1, 17);
+    let cases = [
+        (
+            other,
+            "unit 2\n",
+            "scanner 0 -1 17\n",
+            Reason::OtherScan {
+                stated: digest,
+                here,
+            },
+        ),
+        (
+            own,
+            "unit 2\n",
+            "scanner 0 -1 17\n",
+            Reason::OtherUnit { stated: 2, here: 1 },
+        ),
+        (
+            own,
+            "unit 1\n",
+            "scanner 0 -1 17\n",
+            Reason::OtherFixed {
+                stated: place,
+                here: None,
+            },
+        ),
+        (
+            own,
+            "unit 1\n",
+            "scanner none\n",
+            Reason::OtherCounts {
+                which: Which::Points,
+                stated: 5,
+                here: 4,
+            },
+        ),
+    ];
+    for (scan, unit, scanner, reason) in cases {
+        let text = stamped(rt.alloc(), scan, unit, scanner)?;
+        let cert = replaced(rt.alloc(), &text, "points 4", "points 5")?;
+        let found = answer(rt.alloc(), SCAN, 8, MESH.as_bytes(), &cert)?;
+        assert_eq!(rt; found, Answer::No(reason), "{scan}{unit}{scanner}");
+    }
+    let text = stamped(rt.alloc(), own, "unit 1\n", "scanner none\n")?;
+    let yes = Answer::Yes {
+        inside: 1,
+        faces: 4,
+        cost: 4,
+    };
+    assert_eq!(rt; answer(rt.alloc(), SCAN, 8, MESH.as_bytes(), &text)?, yes);
     Ok(())
 }

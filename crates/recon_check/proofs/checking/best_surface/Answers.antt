@@ -1,6 +1,13 @@
+use Rattle.std.proofs.Common.{◌≡◌, subst, sym}
 use Rattle.cert_text.specs.Certificates.{claim_of}
 use Rattle.scan.specs.Views.{rows_of}
+use Rattle.flow_net.specs.declared.votes.Settings.{Settings}
+use Rattle.scan.specs.ScanRows.{ScanRows}
+use Rattle.surface.specs.Labelled.{Cutting}
 use Rattle.visibility.specs.Networks.{complex_of}
+use Rattle.visibility.specs.Votes.{IsComplexOf}
+use Rattle.recon_check.specs.Networks.{cutting_of, IsNetworkOfScan}
+use Rattle.recon_check.specs.declared.network.Network.{Network}
 use Rattle.recon_check.specs.Answers.{IsFault}
 use Rattle.recon_check.proofs.Stopped.{passed_on}
 use Rattle.recon_check.proofs.Surfaces.{can_be_cut, surface_is}
@@ -15,6 +22,10 @@ facets-requires g c =
     can_be_cut (rows_of c.args.scan.now) c.args.settings c.args.network (claim_of c.args.cert.now) g.cutting c.deref.result.now c.in_ok-labels.labels
     c.requires.1.0 c.requires.0 c.deref.ensures.value c.in_ok-labels.ensures.labels c.in_ok-labels.ensures.best.certified.admissible
 
+-- what is cut is the complex of the scene
+cut_of : {rows : ScanRows} {settings : Settings} {network : Network} {cutting : Cutting} → cutting ≡ cutting_of rows settings network → IsNetworkOfScan rows settings network → IsComplexOf cutting.scene cutting.complex
+cut_of same is = subst (λ (k : Cutting). IsComplexOf k.scene k.complex) (sym same) is.voted.complex_is
+
 pub returns-clause-surface : goal.returns-clause-surface
 returns-clause-surface g c = record {
   complex = complex_of c.args.network.counted.voted;
@@ -23,5 +34,5 @@ returns-clause-surface g c = record {
   best = c.in_ok-labels.ensures.best;
   cost_is = c.in_ok-labels.ensures.cost;
   surface_is = surface_is (rows_of c.args.scan.now) c.args.settings c.args.network (claim_of c.args.cert.now) g.cutting c.in_ok-labels.labels c.in_ok-facets.field-0
-      c.requires.1.0 c.requires.0 c.in_ok-labels.ensures.labels c.in_ok-facets.ensures.points c.in_ok-facets.ensures.faces;
+      c.requires.1.0 c.requires.0 c.in_ok-labels.ensures.labels (c.in_ok-facets.ensures.points g.cutting.complex (cut_of c.requires.0 c.requires.1.0)) (c.in_ok-facets.ensures.faces g.cutting.complex (cut_of c.requires.0 c.requires.1.0));
 }

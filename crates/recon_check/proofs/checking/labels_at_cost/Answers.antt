@@ -8,6 +8,7 @@ use Rattle.visibility.specs.Networks.{complex_of}
 use Rattle.visibility.specs.Scenes.{Scene}
 use Rattle.recon_check.specs.Answers.{IsReason, IsFault}
 use Rattle.recon_check.proofs.Stopped.{passed_on, stop_weaker}
+use Rattle.visibility.proofs.Listings.{in_any_order}
 use Rattle.recon_check.proofs.Surfaces.{cost_is, least_is}
 use Rattle.recon_check.proofs.Whole.{reason_fault}
 use Rattle.recon_check.proofs.checking.labels_at_cost.Goals as goal
@@ -21,6 +22,9 @@ returns-in_err-labels-clause-fault c = λ mesh.
     passed_on c.from_residual.result c.in_err-labels.field-0.0 (IsFault rows c.args.settings mesh claim) c.from_residual.ensures.1
     (stop_weaker c.in_err-labels.field-0.0 (IsReason rows s complex claim mesh) (IsFault rows c.args.settings mesh claim)
     (reason_fault rows c.args.settings complex mesh claim c.requires.counts c.requires.network.complex_is) (c.in_err-labels.ensures.fault rows s mesh c.requires.network))
+
+pub least_cost-cost-requires-clause-network : goal.least_cost-cost-requires-clause-network
+least_cost-cost-requires-clause-network c = in_any_order (scene_of_rows (rows_of c.args.scan.now) c.args.settings) c.args.voted c.requires.network
 
 pub least_cost-cost-requires-clause-labels : goal.least_cost-cost-requires-clause-labels
 least_cost-cost-requires-clause-labels c =

@@ -1,0 +1,59 @@
+-- A stamp has one first part that differs, and none where it is that of this run.
+use Rattle.std.proofs.Common.{ℕ, ◌≡◌, ap, sym, subst, ◌∙◌, Option, Some, List}
+use Rattle.geo_sign.specs.Point.{Point}
+use Rattle.cert_text.specs.Stamps.{StampView}
+use Rattle.cert_text.specs.Certificates.{Claim}
+use Rattle.recon_check.specs.Stamps.{IsStampedFor, IsOtherPart, IsOtherStamp}
+use Rattle.recon_check.specs.declared.answer.Reason.{Reason}
+use Rattle.recon_check.specs.declared.answer.Reason.TheVariants.{OtherScan, OtherUnit, OtherFixed}
+
+-- no part of a stamp differs from itself
+no_part : (here stated : StampView) (reason : Reason) → stated ≡ here → IsOtherPart here stated reason → ⊥
+no_part here stated (OtherScan a b) same h = h.2 (h.0 ∙ ap (λ (s : StampView). s.digest) same ∙ sym h.1)
+no_part here stated (OtherUnit a b) same h = h.3 (h.1 ∙ ap (λ (s : StampView). s.unit) same ∙ sym h.2)
+no_part here stated (OtherFixed p q) same h = h.4 (h.2 ∙ ap (λ (s : StampView). s.fixed) same ∙ sym h.3)
+no_part here stated _ same h = absurd h
+
+pub not_other : (here : StampView) (claim : Claim) (reason : Reason) → IsStampedFor here claim → IsOtherStamp here claim reason → ⊥
+not_other here claim reason stamped other = no_part here other.stated reason (stamped other.stated other.stamp_is) other.part
+
+one_part : (here stated : StampView) (reason other : Reason) → IsOtherPart here stated reason → IsOtherPart here stated other → reason ≡ other
+one_part here stated (OtherScan a b) (OtherScan c d) h k =
+    let first : a ≡ c = h.0 ∙ sym k.0 in
+    let second : b ≡ d = h.1 ∙ sym k.1 in
+    cc
+one_part here stated (OtherScan a b) (OtherUnit c d) h k = absurd (h.2 (h.0 ∙ k.0 ∙ sym h.1))
+one_part here stated (OtherScan a b) (OtherFixed p q) h k = absurd (h.2 (h.0 ∙ k.0 ∙ sym h.1))
+one_part here stated (OtherScan a b) _ h k = absurd k
+one_part here stated (OtherUnit a b) (OtherScan c d) h k = absurd (k.2 (k.0 ∙ h.0 ∙ sym k.1))
+one_part here stated (OtherUnit a b) (OtherUnit c d) h k =
+    let first : a ≡ c = h.1 ∙ sym k.1 in
+    let second : b ≡ d = h.2 ∙ sym k.2 in
+    cc
+one_part here stated (OtherUnit a b) (OtherFixed p q) h k = absurd (h.3 (h.1 ∙ k.1 ∙ sym h.2))
+one_part here stated (OtherUnit a b) _ h k = absurd k
+one_part here stated (OtherFixed p q) (OtherScan c d) h k = absurd (k.2 (k.0 ∙ h.0 ∙ sym k.1))
+one_part here stated (OtherFixed p q) (OtherUnit c d) h k = absurd (k.3 (k.1 ∙ h.1 ∙ sym k.2))
+one_part here stated (OtherFixed p q) (OtherFixed a b) h k =
+    let first : p ≡ a = h.2 ∙ sym k.2 in
+    let second : q ≡ b = h.3 ∙ sym k.3 in
+    cc
+one_part here stated (OtherFixed p q) _ h k = absurd k
+one_part here stated _ other h k = absurd h
+
+some_same : {A : Type 0} (a b : A) → Some a ≡ Some b → a ≡ b
+some_same a b e = cc
+
+pub one_stamp : (here : StampView) (claim : Claim) (reason other : Reason) → IsOtherStamp here claim reason → IsOtherStamp here claim other → reason ≡ other
+one_stamp here claim reason other h k =
+    let same : k.stated ≡ h.stated = some_same k.stated h.stated (sym k.stamp_is ∙ h.stamp_is) in
+    one_part here h.stated reason other h.part (subst (λ (s : StampView). IsOtherPart here s other) same k.part)
+
+stamp_with : List ℕ → ℕ → Option Point → StampView
+stamp_with d u p = record { digest = d; unit = u; fixed = p }
+
+-- two stamps with the same parts
+pub stamp_same : (a b : StampView) → a.digest ≡ b.digest → a.unit ≡ b.unit → a.fixed ≡ b.fixed → a ≡ b
+unfolding stamp_with
+stamp_same a b digest unit fixed =
+    ap (λ (d : List ℕ). stamp_with d a.unit a.fixed) digest ∙ (ap (λ (u : ℕ). stamp_with b.digest u a.fixed) unit ∙ ap (λ (p : Option Point). stamp_with b.digest b.unit p) fixed)
