@@ -15,7 +15,7 @@ use Rattle.recon_cmd.specs.declared.status.Status.TheVariants.{Done, No, BadWord
 use Rattle.recon_cmd.proofs.ScanReplies.{ReadsScan, ToFiles, cells_scan, build_scan, unread_status}
 
 -- the status of the answer that these bytes have
-ended : (asked : Asked) (input : List ℕ) (options : Options) (Answers : ScanRows → Answer → Type 0) → ReadsScan asked input options Answers
+ended : (asked : Asked) (input : List ℕ) (options : Options) (Answers : List ℕ → ScanRows → Answer → Type 0) → ReadsScan asked input options Answers
     → (bytes : List ℕ) (told new : Told) (status : Status) → told.files input ≡ Some bytes → EndsWith (Some asked) status told new
     → (answer : Answer) × ScanAnswer options Answers bytes answer × (answer.status ≡ status)
 ended asked input options Answers reads bytes told new status has ends = with_answer (reads.unpack told.files ends.answer ends.answers)
@@ -53,17 +53,17 @@ pub unread_not_done : (options : Options) (bytes : List ℕ) (answer : Answer) �
 unread_not_done options bytes answer is unread = let status : answer.status ≡ Refused = unread_status options bytes answer unread in cc
 
 -- an accepted scan is not refused, and a refused one is not done
-not_refused : (asked : Asked) (input : List ℕ) (options : Options) (Answers : ScanRows → Answer → Type 0) → ReadsScan asked input options Answers
+not_refused : (asked : Asked) (input : List ℕ) (options : Options) (Answers : List ℕ → ScanRows → Answer → Type 0) → ReadsScan asked input options Answers
     → (bytes : List ℕ) (scan : ScanRows) (answer : Answer) → length bytes ≤ file_limit → read_as options bytes ≡ Ok scan → answer.status ≡ Refused → ScanAnswer options Answers bytes answer → ⊥
 not_refused asked input options Answers reads bytes scan answer within read is (inl unread) = not_unread options bytes scan within read (why_unread options bytes answer unread)
-not_refused asked input options Answers reads bytes scan answer within read is (inr answered) = let status : answer.status ≡ Done = reads.done answered.scan answer answered.answers in cc
+not_refused asked input options Answers reads bytes scan answer within read is (inr answered) = let status : answer.status ≡ Done = reads.done bytes answered.scan answer answered.answers in cc
 
-not_done : (asked : Asked) (input : List ℕ) (options : Options) (Answers : ScanRows → Answer → Type 0) → ReadsScan asked input options Answers
+not_done : (asked : Asked) (input : List ℕ) (options : Options) (Answers : List ℕ → ScanRows → Answer → Type 0) → ReadsScan asked input options Answers
     → (bytes : List ℕ) (answer : Answer) → WhyUnread options bytes → answer.status ≡ Done → ScanAnswer options Answers bytes answer → ⊥
 not_done asked input options Answers reads bytes answer why is (inl unread) = unread_not_done options bytes answer is unread
 not_done asked input options Answers reads bytes answer why is (inr answered) = not_unread options bytes answered.scan answered.within answered.read why
 
-done_if_accepted : (asked : Asked) (input : List ℕ) (options : Options) (Answers : ScanRows → Answer → Type 0) → ReadsScan asked input options Answers → IsDoneIfAccepted asked options input
+done_if_accepted : (asked : Asked) (input : List ℕ) (options : Options) (Answers : List ℕ → ScanRows → Answer → Type 0) → ReadsScan asked input options Answers → IsDoneIfAccepted asked options input
 done_if_accepted asked input options Answers reads = λ bytes scan status before after runs within read.
     by_status bytes scan status before after within read runs.told runs.file runs.no_failure runs.outcome.fits runs.outcome.faults (told_then asked status runs.told before after runs.tells runs.outcome.tells)
   where
@@ -80,7 +80,7 @@ done_if_accepted asked input options Answers reads = λ bytes scan status before
     by_status bytes scan Failed before after within read told has none fits faults tells = absurd (none faults)
     by_status bytes scan NoMemory before after within read told has none fits faults tells = inr refl
 
-refused_if_refused : (asked : Asked) (input : List ℕ) (options : Options) (Answers : ScanRows → Answer → Type 0) → ReadsScan asked input options Answers → IsRefusedIfRefused asked options input
+refused_if_refused : (asked : Asked) (input : List ℕ) (options : Options) (Answers : List ℕ → ScanRows → Answer → Type 0) → ReadsScan asked input options Answers → IsRefusedIfRefused asked options input
 refused_if_refused asked input options Answers reads = λ bytes status before after runs why.
     by_status bytes status before after why runs.told runs.file runs.no_failure runs.outcome.fits runs.outcome.faults (told_then asked status runs.told before after runs.tells runs.outcome.tells)
   where
@@ -98,10 +98,10 @@ refused_if_refused asked input options Answers reads = λ bytes status before af
     by_status bytes NoMemory before after why told has none fits faults tells = inr refl
 
 pub accepted_is_done : AcceptedIsDone
-accepted_is_done = λ names options. done_if_accepted (cells names options) names.input options (WritesCells names.output) (cells_scan names options)
+accepted_is_done = λ names options. done_if_accepted (cells names options) names.input options (λ _. WritesCells names.output) (cells_scan names options)
 
 pub refused_is_refused : RefusedIsRefused
-refused_is_refused = λ names options. refused_if_refused (cells names options) names.input options (WritesCells names.output) (cells_scan names options)
+refused_is_refused = λ names options. refused_if_refused (cells names options) names.input options (λ _. WritesCells names.output) (cells_scan names options)
 
 pub accepted_is_built : AcceptedIsBuilt
 accepted_is_built = λ names options. done_if_accepted (build names options) names.input options (WritesSurface names options) (build_scan names options)

@@ -23,6 +23,7 @@ use Rattle.recon_cmd.specs.Answers.{Answer, AnswerOf, Demonstrates, default_opti
 use Rattle.recon_cmd.specs.Lines.{build_line, demo_line}
 use Rattle.recon_cmd.specs.Outcome.{StatusFits}
 use Rattle.recon_cmd.specs.Replies.{answer_of}
+use Rattle.recon_cmd.specs.Stamps.{stamp_for}
 use Rattle.recon_cmd.specs.Steps.{IsAnswered, IsReplied}
 use Rattle.recon_cmd.specs.Words.{demo}
 use Rattle.recon_cmd.specs.declared.answer.Reply.{Reply}
@@ -62,10 +63,11 @@ pub demonstrated : (count seed : ℕ) (scan : ScanRows) (settings : Settings) (s
     → length (plain_text (generated count seed)) ≤ file_limit → read_as default_options (plain_text (generated count seed)) ≡ Ok scan
     → settings.vote ≡ 8 → settings.smooth ≡ 1
     → IsSolution scan settings (surface_of solved.mesh) (claim_of solved.cert) → IsMesh solved.mesh.points.items solved.mesh.faces.items → IsWellFormed (claim_of solved.cert)
+    → (claim_of solved.cert).stamp ≡ Some (stamp_for default_options (plain_text (generated count seed)))
     → built ≡ build_line (claim_of solved.cert).counts (length solved.cert.inside.items) (length solved.mesh.faces.items)
     → line ≡ demo_line count seed built
     → Demonstrates count seed (record { status = Done; reads = 0; writes = []; line = line })
-demonstrated count seed scan settings solved built line within read vote smooth solution valid well_formed said is =
+demonstrated count seed scan settings solved built line within read vote smooth solution valid well_formed stamped said is =
     let mesh = surface_of solved.mesh in
     let claim = claim_of solved.cert in
     record {
@@ -89,6 +91,7 @@ demonstrated count seed scan settings solved built line within read vote smooth 
           solution = solution;
           valid = valid;
           well_formed = well_formed;
+          stamped = stamped;
           is = refl;
         };
       });

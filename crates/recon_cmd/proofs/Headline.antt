@@ -32,7 +32,7 @@ done_so names options bytes answer is answers =
 holds : (names : SurfaceNames) (options : Options) (bytes : List ℕ) (answer : Answer) (old new : Told) → bytes_eq names.mesh names.cert ≡ false → old.files names.input ≡ Some bytes
     → IsCarriedOut answer.writes answer.line old new → ScanAnswered options (WritesSurface names options) bytes answer → HoldsTheBest names options old new
 holds names options bytes answer old new differ has carried answered =
-    let done : WritesSurface names options answered.scan answer = answered.answers in
+    let done : WritesSurface names options bytes answered.scan answer = answered.answers in
     let mesh_bytes : List ℕ = mesh_text done.mesh.points done.mesh.faces in
     let cert_bytes : List ℕ = cert_text done.claim in
     let files : new.files ≡ with_file names.cert cert_bytes (with_file names.mesh mesh_bytes old.files) = carried.files ∙ ap (λ (a : Answer). all_written a.writes old.files) done.is in
@@ -49,6 +49,7 @@ holds names options bytes answer old new differ has carried answered =
       claim = done.claim;
       solution = done.solution;
       well_formed = done.well_formed;
+      stamped = done.stamped;
       mesh_file = ap (λ (f : Files). f names.mesh) files ∙ (file_there names.cert cert_bytes names.mesh (with_file names.mesh mesh_bytes old.files) differ ∙ file_here names.mesh mesh_bytes old.files);
       cert_file = ap (λ (f : Files). f names.cert) files ∙ file_here names.cert cert_bytes (with_file names.mesh mesh_bytes old.files);
       others = λ name a b. ap (λ (f : Files). f name) files

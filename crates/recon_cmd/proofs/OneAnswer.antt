@@ -34,19 +34,19 @@ unread_one options bytes answer other (inr a) (inr b) =
     a.is ∙ (ap (λ (l : List ℕ). refusal 1 l) line ∙ sym b.is)
 
 -- two answers to one file
-answers_one : (options : Options) (Answers : ScanRows → Answer → Type 0) (Same : Answer → Answer → Type 0) (bytes : List ℕ) (answer other : Answer)
-    → (answer ≡ other → Same answer other) → ((scan : ScanRows) → Answers scan answer → Answers scan other → Same answer other)
+answers_one : (options : Options) (Answers : List ℕ → ScanRows → Answer → Type 0) (Same : Answer → Answer → Type 0) (bytes : List ℕ) (answer other : Answer)
+    → (answer ≡ other → Same answer other) → ((bytes : List ℕ) (scan : ScanRows) → Answers bytes scan answer → Answers bytes scan other → Same answer other)
     → ScanAnswer options Answers bytes answer → ScanAnswer options Answers bytes other → Same answer other
 answers_one options Answers Same bytes answer other equal each (inl a) (inl b) = equal (unread_one options bytes answer other a b)
 answers_one options Answers Same bytes answer other equal each (inl a) (inr b) = absurd (not_unread options bytes b.scan b.within b.read (why_unread options bytes answer a))
 answers_one options Answers Same bytes answer other equal each (inr a) (inl b) = absurd (not_unread options bytes a.scan a.within a.read (why_unread options bytes other b))
 answers_one options Answers Same bytes answer other equal each (inr a) (inr b) =
     let scan : b.scan ≡ a.scan = cc (a.read, b.read) in
-    each a.scan a.answers (subst (λ (s : ScanRows). Answers s other) scan b.answers)
+    each bytes a.scan a.answers (subst (λ (s : ScanRows). Answers bytes s other) scan b.answers)
 
 -- two answers where the files are these
-pub files_one : (input : List ℕ) (options : Options) (Answers : ScanRows → Answer → Type 0) (Same : Answer → Answer → Type 0) (files : Files) (answer other : Answer)
-    → (answer ≡ other → Same answer other) → ((scan : ScanRows) → Answers scan answer → Answers scan other → Same answer other)
+pub files_one : (input : List ℕ) (options : Options) (Answers : List ℕ → ScanRows → Answer → Type 0) (Same : Answer → Answer → Type 0) (files : Files) (answer other : Answer)
+    → (answer ≡ other → Same answer other) → ((bytes : List ℕ) (scan : ScanRows) → Answers bytes scan answer → Answers bytes scan other → Same answer other)
     → ToFiles input options Answers files answer → ToFiles input options Answers files other → Same answer other
 files_one input options Answers Same files answer other equal each (bytes, has, a) (others, there, b) =
     let same : others ≡ bytes = cc (has, there) in
@@ -72,8 +72,8 @@ same_settings a b vote smooth =
         ∙ (ap (λ (t : a.vote ≤ WEIGHT_LIMIT). settings a.vote a.smooth p t a.smooth_at_most) (le_prop a.vote_at_most q)
         ∙ ap (λ (t : a.smooth ≤ WEIGHT_LIMIT). settings a.vote a.smooth p q t) (le_prop a.smooth_at_most r))
 
-surfaces_one : (names : SurfaceNames) (options : Options) (scan : ScanRows) (answer other : Answer) → WritesSurface names options scan answer → WritesSurface names options scan other → DifferInFlows names answer other
-surfaces_one names options scan answer other a b =
+surfaces_one : (names : SurfaceNames) (options : Options) (bytes : List ℕ) (scan : ScanRows) (answer other : Answer) → WritesSurface names options bytes scan answer → WritesSurface names options bytes scan other → DifferInFlows names answer other
+surfaces_one names options bytes scan answer other a b =
     let settings : b.settings ≡ a.settings = same_settings b.settings a.settings (b.vote ∙ sym a.vote) (b.smooth ∙ sym a.smooth) in
     let solution : IsSolution scan a.settings b.mesh b.claim = subst (λ (s : Settings). IsSolution scan s b.mesh b.claim) settings b.solution in
     let same : IsSame a.mesh a.claim b.mesh b.claim = solution_law scan a.settings a.mesh b.mesh a.claim b.claim a.solution solution in
@@ -83,14 +83,15 @@ surfaces_one names options scan answer other a b =
       other_claim = b.claim;
       shown = a.is;
       other_shown = subst (λ (m : Surface). Shows names.mesh names.cert m b.claim other) (sym same.mesh_is) b.is;
+      stamp_is = a.stamped ∙ sym b.stamped;
       counts_are = same.counts_are;
       inside_is = same.inside_is;
     }
 
 pub cells_answer_is_one : CellsAnswerIsOne
 cells_answer_is_one = λ names options files answer other a b.
-    files_one names.input options (WritesCells names.output) (λ x y. x ≡ y) files answer other (λ e. e) (λ scan h k. cells_one names.output scan answer other h k) a b
+    files_one names.input options (λ _. WritesCells names.output) (λ x y. x ≡ y) files answer other (λ e. e) (λ bytes scan h k. cells_one names.output scan answer other h k) a b
 
 pub build_answer_is_one : BuildAnswerIsOneButForFlows
 build_answer_is_one = λ names options files answer other a b.
-    files_one names.input options (WritesSurface names options) (λ x y. (x ≡ y) ⊎ DifferInFlows names x y) files answer other inl (λ scan h k. inr (surfaces_one names options scan answer other h k)) a b
+    files_one names.input options (WritesSurface names options) (λ x y. (x ≡ y) ⊎ DifferInFlows names x y) files answer other inl (λ bytes scan h k. inr (surfaces_one names options bytes scan answer other h k)) a b

@@ -1,5 +1,5 @@
 -- How long the plain text of a scan is at most.
-use Rattle.std.proofs.Common.{ℕ, ◌+◌, ◌*◌, ◌≤◌, List, [], ◌∷◌, ◌++◌, length, ℤ, pos, negsuc, All, arith, decimal, unsigned_abs}
+use Rattle.std.proofs.Common.{ℕ, ◌+◌, ◌*◌, ◌≡◌, ◌≤◌, List, [], ◌∷◌, ◌++◌, codes, length, ℤ, pos, negsuc, All, arith, decimal, unsigned_abs, refl, subst, sym}
 use Rattle.std.specs.Fmt.{signed_decimal}
 use Rattle.std.specs.List.{flat_map}
 use Rattle.std.proofs.lemmas.Fmt.{length-decimal-le, length_signed_le}
@@ -7,7 +7,8 @@ use Rattle.std.proofs.lemmas.List.{length-append}
 use Rattle.std.proofs.lemmas.List.Elements.{All-head, All-tail}
 use Rattle.geo_sign.specs.Point.{Point, IsWithin}
 use Rattle.scan.specs.ScanRows.{VertexRow, ScanRows, point_limit, scanner_limit, IsVertexRow, IsScan}
-use Rattle.scan.specs.PlainForm.{before_vertex_count, before_scanner_count, after_counts, header, coordinates, vertex_line, scanner_line, plain_text, line_feed, space}
+use Rattle.ply_head.specs.Spelling.{spelling}
+use Rattle.scan.specs.PlainForm.{header, coordinates, vertex_line, scanner_line, plain_text, line_feed, space}
 use Rattle.recon_cmd.specs.Answers.{file_limit}
 use Rattle.geo_sign.specs.declared.point.TheConstants.{DATA_LIMIT}
 
@@ -62,12 +63,29 @@ scanner_lines_fit (p ∷ places) all =
       scanner_lines_fit places (All-tail (IsWithin DATA_LIMIT) p places all),
     )
 
+-- the fixed parts of a header: up to the count of vertex rows, from there up to the count of scanner rows, and the rest
+unfoldable before_vertex_count : List ℕ
+before_vertex_count = codes "ply\nformat ascii 1.0\nelement vertex "
+
+unfoldable before_scanner_count : List ℕ
+before_scanner_count = codes "property int x\nproperty int y\nproperty int z\nproperty int scanner\nelement scanner "
+
+unfoldable after_counts : List ℕ
+after_counts = codes "property int x\nproperty int y\nproperty int z\nend_header\n"
+
+abbrev parts : ℕ → ℕ → List ℕ
+parts vertices scanners = before_vertex_count ++ (decimal vertices ++ (line_feed ∷ (before_scanner_count ++ (decimal scanners ++ (line_feed ∷ after_counts)))))
+
+header_is : (vertices scanners : ℕ) → parts vertices scanners ≡ header vertices scanners
+unfolding before_vertex_count before_scanner_count after_counts spelling
+header_is vertices scanners = refl
+
 fixed_texts : length before_vertex_count + length before_scanner_count + length after_counts ≤ 250
 unfolding before_vertex_count before_scanner_count after_counts
 fixed_texts = omega arith
 
-header_fits : (vertices scanners : ℕ) → vertices ≤ point_limit → scanners ≤ scanner_limit → length (header vertices scanners) ≤ 270
-header_fits vertices scanners few few_scanners =
+parts_fit : (vertices scanners : ℕ) → vertices ≤ point_limit → scanners ≤ scanner_limit → length (parts vertices scanners) ≤ 270
+parts_fit vertices scanners few few_scanners =
     omega (
       arith,
       length-append before_vertex_count (decimal vertices ++ (line_feed ∷ (before_scanner_count ++ (decimal scanners ++ (line_feed ∷ after_counts))))),
@@ -78,6 +96,10 @@ header_fits vertices scanners few few_scanners =
       count_fits scanners (omega (arith, few_scanners)),
       fixed_texts,
     )
+
+header_fits : (vertices scanners : ℕ) → vertices ≤ point_limit → scanners ≤ scanner_limit → length (header vertices scanners) ≤ 270
+header_fits vertices scanners few few_scanners =
+    subst (λ (text : List ℕ). length text ≤ 270) (header_is vertices scanners) (parts_fit vertices scanners few few_scanners)
 
 -- the plain text of a scan is within the limit of files
 pub plain_text_fits : (rows : ScanRows) → IsScan rows → length (plain_text rows) ≤ file_limit

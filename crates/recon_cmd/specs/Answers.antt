@@ -12,14 +12,18 @@
 --   WritesCells output scan answer   the answer that writes the cells of a scan
 --   WritesSurface names options ..   the answer that writes the best surface of a scan and its certificate
 --   FileTooLong reads line bytes answer    a file is too long, and this many were read
---   HasVerdict options scan mesh cert answer    the verdict on a mesh and a certificate
+--   HasVerdict output options ..      the verdict on a mesh and a certificate, and what follows from it
 --   CertAnswer, MeshAnswer           the answer to the bytes of a certificate, and to those of a mesh
+--   restamped stamp claim            a certificate with this stamp
+--   IsConcluded output ..            what follows from a verdict: it is said, or a certificate is written
+--   CheckAnswer names output ..      the answer of `check` and of `upgrade` to a scan
 --   default_options                  what a command is told where no word says otherwise
 --   Demonstrates count seed answer   what `build` says of a generated scan
 --   AnswerOf asked files answer      the answer of a command, or of words that are none, where the files are these
 --   most_reads asked                 how many files a command reads at most
 use Rattle.std.specs.Prelude.{◌≡◌, ◌⊎◌, ℕ, ◌≤◌, ◌<◌, List, [], ◌∷◌, length, Option, Some, None, Result, Ok, Err}
 use Rattle.cert_text.specs.Certificates.{Claim, IsWellFormed}
+use Rattle.cert_text.specs.Stamps.{StampView}
 use Rattle.cert_text.specs.Texts.{cert_text}
 use Rattle.flow_net.specs.declared.votes.Settings.{Settings}
 use Rattle.geo_sign.specs.Vertices.{vertices_of}
@@ -34,11 +38,13 @@ use Rattle.scan.specs.ScanRows.{ScanRows}
 use Rattle.scan.specs.declared.refusal.ScanRefusal.{ScanRefusal}
 use Rattle.solution.specs.Scans.{points_of}
 use Rattle.solution.specs.Solutions.{IsSolution}
-use Rattle.recon_check.specs.Answers.{IsAnswer}
+use Rattle.recon_check.specs.Answers.{HasCertificate, IsAnswer}
 use Rattle.recon_check.specs.declared.answer.Answer.{Answer as Verdict}
-use Rattle.recon_cmd.specs.Lines.{bad_words_line, too_long_scan_line, too_long_mesh_line, too_long_cert_line, cells_line, cells_text, build_line, demo_line}
+use Rattle.recon_check.specs.declared.answer.Answer.TheVariants as verdicts
+use Rattle.recon_cmd.specs.Lines.{bad_words_line, too_long_scan_line, too_long_mesh_line, too_long_cert_line, cells_line, cells_text, build_line, upgraded_line, demo_line}
 use Rattle.recon_cmd.specs.Options.{Options}
 use Rattle.recon_cmd.specs.Refusals.{refusal_line}
+use Rattle.recon_cmd.specs.Stamps.{stamp_for}
 use Rattle.recon_cmd.specs.Verdicts.{verdict_line, verdict_status}
 use Rattle.recon_cmd.specs.Words.{Asked, SurfaceNames, cells, build, check, demo}
 use Rattle.recon_cmd.specs.declared.status.Status.{Status}
@@ -89,15 +95,15 @@ pub record ScanRefused (options : Options) (bytes : List ℕ) (answer : Answer) 
 abbrev pub IsUnread : Options → (bytes : List ℕ) → Answer → Type 0
 IsUnread options bytes answer = ScanTooLong bytes answer ⊎ ScanRefused options bytes answer
 
--- the bytes are a scan, which is answered so
-pub record ScanAnswered (options : Options) (Answers : ScanRows → Answer → Type 0) (bytes : List ℕ) (answer : Answer) : Type 0 where
+-- the bytes are a scan, and the two are answered so
+pub record ScanAnswered (options : Options) (Answers : List ℕ → ScanRows → Answer → Type 0) (bytes : List ℕ) (answer : Answer) : Type 0 where
   pub within : length bytes ≤ file_limit
   pub scan : ScanRows
   pub read : read_as options bytes ≡ Ok scan
-  pub answers : Answers scan answer
+  pub answers : Answers bytes scan answer
 
--- the answer of a command to the bytes of the scan that it reads: a refusal, or what it answers to that scan
-abbrev pub ScanAnswer : Options → (ScanRows → Answer → Type 0) → (bytes : List ℕ) → Answer → Type 0
+-- the answer of a command to the bytes of the scan that it reads: a refusal, or what it answers to them and that scan
+abbrev pub ScanAnswer : Options → (List ℕ → ScanRows → Answer → Type 0) → (bytes : List ℕ) → Answer → Type 0
 ScanAnswer options Answers bytes answer = IsUnread options bytes answer ⊎ ScanAnswered options Answers bytes answer
 
 -- the cells of the scan are written
@@ -111,9 +117,9 @@ pub record WritesCells (output : List ℕ) (scan : ScanRows) (answer : Answer) :
     line = cells_line (length (points_of scan)) (length rows);
   }
 
--- the best surface of the scan at the weights of these options is written, with the certificate that shows it best: the
--- mesh first
-pub record WritesSurface (names : SurfaceNames) (options : Options) (scan : ScanRows) (answer : Answer) : Type 0 where
+-- the best surface of the scan at the weights of these options is written, with the certificate that shows it best and is stamped
+-- with the scan's file: the mesh first
+pub record WritesSurface (names : SurfaceNames) (options : Options) (bytes : List ℕ) (scan : ScanRows) (answer : Answer) : Type 0 where
   pub settings : Settings
   pub vote : settings.vote ≡ options.vote
   pub smooth : settings.smooth ≡ options.smooth
@@ -122,6 +128,7 @@ pub record WritesSurface (names : SurfaceNames) (options : Options) (scan : Scan
   pub solution : IsSolution scan settings mesh claim
   pub valid : IsMesh mesh.points mesh.faces
   pub well_formed : IsWellFormed claim
+  pub stamped : claim.stamp ≡ Some (stamp_for options bytes)
   pub is : answer ≡ record {
     status = Done;
     reads = 1;
@@ -134,27 +141,42 @@ pub record FileTooLong (reads : ℕ) (line bytes : List ℕ) (answer : Answer) :
   pub longer : file_limit < length bytes
   pub is : answer ≡ refusal reads line
 
+-- the certificate with this stamp, whichever it had
+abbrev pub restamped : StampView → Claim → Claim
+restamped stamp claim = record claim { stamp = Some stamp }
+
+-- The verdict is said. Where it is yes and there is a file to write, the certificate is written there with this stamp, and its
+-- cost is said.
+abbrev pub IsConcluded : (output : Option (List ℕ)) → StampView → (cert : List ℕ) → Verdict → Answer → Type 0
+IsConcluded (Some output) stamp cert (verdicts.Yes inside faces cost) answer =
+    HasCertificate cert (λ claim. answer ≡ record { status = Done; reads = 3; writes = (output, cert_text (restamped stamp claim)) ∷ []; line = upgraded_line cost })
+IsConcluded output stamp cert verdict answer = answer ≡ record { status = verdict_status verdict; reads = 3; writes = []; line = verdict_line verdict }
+
 -- the mesh and the certificate are the best surface of the scan at the weights of these options and the certificate that
--- shows it best, or the first reason why they are not is said
-pub record HasVerdict (options : Options) (scan : ScanRows) (mesh cert : List ℕ) (answer : Answer) : Type 0 where
+-- shows it best, without a stamp or with this one, or the first reason why they are not is said
+pub record HasVerdict (output : Option (List ℕ)) (options : Options) (stamp : StampView) (scan : ScanRows) (mesh cert : List ℕ) (answer : Answer) : Type 0 where
   pub settings : Settings
   pub vote : settings.vote ≡ options.vote
   pub smooth : settings.smooth ≡ options.smooth
   pub verdict : Verdict
-  pub holds : IsAnswer scan settings mesh cert verdict
-  pub is : answer ≡ record { status = verdict_status verdict; reads = 3; writes = []; line = verdict_line verdict }
+  pub holds : IsAnswer scan settings stamp mesh cert verdict
+  pub is : IsConcluded output stamp cert verdict answer
 
--- the file of the certificate is too long, or there is a verdict
-pub record CertAnswer (names : SurfaceNames) (options : Options) (scan : ScanRows) (mesh : List ℕ) (files : Files) (answer : Answer) : Type 0 where
+-- the file of the certificate is too long, or it decides
+pub record CertAnswer (names : SurfaceNames) (Decides : (cert : List ℕ) → Answer → Type 0) (files : Files) (answer : Answer) : Type 0 where
   pub cert : List ℕ
   pub there : files names.cert ≡ Some cert
-  pub answers : FileTooLong 3 too_long_cert_line cert answer ⊎ ((length cert ≤ file_limit) × HasVerdict options scan mesh cert answer)
+  pub answers : FileTooLong 3 too_long_cert_line cert answer ⊎ ((length cert ≤ file_limit) × Decides cert answer)
 
--- the file of the mesh is too long, or the certificate decides
-pub record MeshAnswer (names : SurfaceNames) (options : Options) (scan : ScanRows) (files : Files) (answer : Answer) : Type 0 where
+-- the file of the mesh is too long, or it and the certificate decide
+pub record MeshAnswer (names : SurfaceNames) (Decide : (mesh cert : List ℕ) → Answer → Type 0) (files : Files) (answer : Answer) : Type 0 where
   pub mesh : List ℕ
   pub there : files names.mesh ≡ Some mesh
-  pub answers : FileTooLong 2 too_long_mesh_line mesh answer ⊎ ((length mesh ≤ file_limit) × CertAnswer names options scan mesh files answer)
+  pub answers : FileTooLong 2 too_long_mesh_line mesh answer ⊎ ((length mesh ≤ file_limit) × CertAnswer names (Decide mesh) files answer)
+
+-- the mesh and the certificate decide which verdict there is
+abbrev pub CheckAnswer : SurfaceNames → (output : Option (List ℕ)) → Options → Files → (bytes : List ℕ) → ScanRows → Answer → Type 0
+CheckAnswer names output options files bytes scan = MeshAnswer names (HasVerdict output options (stamp_for options bytes) scan) files
 
 -- what a command is told where no word says otherwise
 abbrev pub default_options : Options
@@ -172,11 +194,11 @@ pub record Demonstrates (count seed : ℕ) (answer : Answer) : Type 0 where
 abbrev pub AnswerOf : Option Asked → Files → Answer → Type 0
 AnswerOf None files answer = answer ≡ bad_words_answer
 AnswerOf (Some (cells names options)) files answer =
-    (bytes : List ℕ) × (files names.input ≡ Some bytes) × ScanAnswer options (WritesCells names.output) bytes answer
+    (bytes : List ℕ) × (files names.input ≡ Some bytes) × ScanAnswer options (λ _. WritesCells names.output) bytes answer
 AnswerOf (Some (build names options)) files answer =
     (bytes : List ℕ) × (files names.input ≡ Some bytes) × ScanAnswer options (WritesSurface names options) bytes answer
-AnswerOf (Some (check names options)) files answer =
-    (bytes : List ℕ) × (files names.input ≡ Some bytes) × ScanAnswer options (λ scan. MeshAnswer names options scan files) bytes answer
+AnswerOf (Some (check names output options)) files answer =
+    (bytes : List ℕ) × (files names.input ≡ Some bytes) × ScanAnswer options (CheckAnswer names output options files) bytes answer
 AnswerOf (Some (demo count seed)) files answer = Demonstrates count seed answer
 
 -- how many files a command reads at most
@@ -184,5 +206,5 @@ abbrev pub most_reads : Option Asked → ℕ
 most_reads None = 0
 most_reads (Some (cells names options)) = 1
 most_reads (Some (build names options)) = 1
-most_reads (Some (check names options)) = 3
+most_reads (Some (check names output options)) = 3
 most_reads (Some (demo count seed)) = 0

@@ -1,8 +1,8 @@
--- The steps of `check` after its scan: the reading of the mesh and then of the certificate, and the verdict.
+-- The steps of `check` and `upgrade` after their scan: the reading of the mesh and then of the certificate, and the verdict.
 --
---   IsCheckReply names options Answers reply before    the reply is one of these answers
+--   IsCheckReply names output options Answers reply before    the reply is one of these answers
 --   ReadsOn done most Answers before after             what is read behind so many files
-use Rattle.std.specs.Prelude.{◌≡◌, ℕ, ◌+◌, ◌≤◌, false, Some, IfSome}
+use Rattle.std.specs.Prelude.{◌≡◌, ℕ, List, ◌+◌, ◌≤◌, false, Option, Some, IfSome}
 use Rattle.host.specs.State.{State, Files}
 use Rattle.host.specs.Whole.{apart_from_left}
 use Rattle.recon_cmd.specs.Answers.{Answer}
@@ -13,9 +13,9 @@ use Rattle.recon_cmd.specs.Steps.{IsAnswered}
 use Rattle.recon_cmd.specs.Words.{SurfaceNames, check}
 use Rattle.recon_cmd.specs.declared.answer.Reply.{Reply}
 
--- the reply has a status that `check` may end with, and is one of these answers to the files
-pub record IsCheckReply (names : SurfaceNames) (options : Options) (Answers : Files → Answer → Type 0) (reply : Reply) (before : State) : Type 0 where
-  pub fits : StatusFits reply.status (Some (check names options))
+-- the reply has a status that `check` and `upgrade` may end with, and is one of these answers to the files
+pub record IsCheckReply (names : SurfaceNames) (output : Option (List ℕ)) (options : Options) (Answers : Files → Answer → Type 0) (reply : Reply) (before : State) : Type 0 where
+  pub fits : StatusFits reply.status (Some (check names output options))
   pub answered : IsAnswered reply.status
   pub answers : IfSome before.told (λ told. (reads : ℕ) × Answers told.files (answer_of reads reply))
 

@@ -1,6 +1,6 @@
 -- What stands after a run of `build` that is done.
 --
---   HoldsTheBest names options old new    mesh and certificate are those of a solution of the scan that was read
+--   HoldsTheBest names options old new    mesh and certificate are those of a solution of the scan that was read, and it is stamped so
 --   DoneIsBest                            a run of `build` that is done leaves such files
 use Rattle.std.specs.Prelude.{◌≡◌, ◌≢◌, ℕ, ◌≤◌, List, ◌++◌, length, Some, Ok}
 use Rattle.cert_text.specs.Certificates.{Claim, IsWellFormed}
@@ -15,12 +15,14 @@ use Rattle.recon_cmd.specs.Answers.{file_limit, read_as}
 use Rattle.recon_cmd.specs.Lines.{build_line}
 use Rattle.recon_cmd.specs.Options.{Options}
 use Rattle.recon_cmd.specs.Outcome.{Outcome}
+use Rattle.recon_cmd.specs.Stamps.{stamp_for}
 use Rattle.recon_cmd.specs.Words.{SurfaceNames, build, command_of}
 use Rattle.recon_cmd.specs.declared.status.Status.TheVariants.{Done}
 
 -- The input was a scan under these options. The mesh file is the text of the facets between inside and outside cells under
 -- the least-inside labels of least cost, and the certificate is a text that has those labels and a valid flow whose value
--- is that cost. No other file changed, and the line was said.
+-- is that cost, and that belongs to these bytes, this unit and this fixed scanner. No other file changed, and the line was
+-- said.
 pub record HoldsTheBest (names : SurfaceNames) (options : Options) (old new : Told) : Type 0 where
   pub bytes : List ℕ
   pub input : old.files names.input ≡ Some bytes
@@ -34,6 +36,7 @@ pub record HoldsTheBest (names : SurfaceNames) (options : Options) (old new : To
   pub claim : Claim
   pub solution : IsSolution scan settings mesh claim
   pub well_formed : IsWellFormed claim
+  pub stamped : claim.stamp ≡ Some (stamp_for options bytes)
   pub mesh_file : new.files names.mesh ≡ Some (mesh_text mesh.points mesh.faces)
   pub cert_file : new.files names.cert ≡ Some (cert_text claim)
   pub others : (name : List ℕ) → name ≢ names.mesh → name ≢ names.cert → new.files name ≡ old.files name

@@ -61,13 +61,14 @@ CellsAnswerIsOne =
     (names : Names) (options : Options) (files : Files) (answer other : Answer) → AnswerOf (Some (cells names options)) files answer
     → AnswerOf (Some (cells names options)) files other → answer ≡ other
 
--- the answers write one surface, and certificates that state the same counts, cost and inside cells
+-- the answers write one surface, and certificates that have the same stamp and state the same counts, cost and inside cells
 pub record DifferInFlows (names : SurfaceNames) (answer other : Answer) : Type 0 where
   pub mesh : Surface
   pub claim : Claim
   pub other_claim : Claim
   pub shown : Shows names.mesh names.cert mesh claim answer
   pub other_shown : Shows names.mesh names.cert mesh other_claim other
+  pub stamp_is : claim.stamp ≡ other_claim.stamp
   pub counts_are : claim.counts ≡ other_claim.counts
   pub inside_is : claim.inside ≡ other_claim.inside
 

@@ -9,6 +9,7 @@ pub mod Options
 pub mod Outcome
 pub mod Refusals
 pub mod Replies
+pub mod Stamps
 pub mod Status
 pub mod Verdicts
 pub mod Steps

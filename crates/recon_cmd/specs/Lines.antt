@@ -5,6 +5,7 @@
 --   cells_line points cells                               the line of `cells`
 --   labelled label number                                 a label, and a number behind it
 --   build_line counts inside faces                        the line of `build`
+--   upgraded_line cost                                    the line of `upgrade` where it says yes
 --   demo_line count seed line                             the line of `demo`, before the line of `build`
 --   row_line numbers                                      numbers between single spaces, as a line
 --   cells_text rows                                       the text of cells
@@ -38,6 +39,10 @@ unfoldable pub build_line : Counts → (inside faces : ℕ) → List ℕ
 build_line counts inside faces =
     labelled (codes "points ") counts.points ++ labelled (codes " scanners ") counts.scanners ++ labelled (codes " sights ") counts.sights
     ++ labelled (codes " inside ") inside ++ labelled (codes " faces ") faces ++ labelled (codes " cost ") counts.cost ++ (10 ∷ [])
+
+-- `upgraded cost C`
+unfoldable pub upgraded_line : (cost : ℕ) → List ℕ
+upgraded_line cost = labelled (codes "upgraded cost ") cost ++ (10 ∷ [])
 
 -- `demo N SEED `, and then a line
 unfoldable pub demo_line : (count seed : ℕ) → (line : List ℕ) → List ℕ

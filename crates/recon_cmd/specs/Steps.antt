@@ -2,13 +2,15 @@
 --
 --   IsAnswered status                  a status that an answer may have
 --   IsReplied asked reply before       the reply is the command's answer
+--   Bytes                              bytes that the program holds
 --   IsUnderstood, IsReading            what the bytes of a scan, and those of the named file, come to
 --   ReadsFor asked before after        what the making of a reply does to the host
 --   StopsFor result before after       the count of faults, by whether there is a reply
 --   IsWritten writes before after      files were written, and nothing was said yet
 --   CarriesAllOut, StopsOnTheWay       an answer was carried out, or a call failed on the way
 --   CarriesOut                         one of the two
-use Rattle.std.specs.Prelude.{◌≡◌, ◌⊎◌, ℕ, ◌+◌, ◌≤◌, List, ⊤, false, length, Option, Some, IfSome, Result, Ok, Err}
+use Rattle.std.specs.Prelude.{◌≡◌, ◌⊎◌, ℕ, ◌+◌, ◌≤◌, List, Vec, ⊤, false, length, Option, Some, IfSome, Result, Ok, Err}
+use Rattle.std.specs.declared.alloc.Global.{Global}
 use Rattle.host.specs.Counts.{Rose}
 use Rattle.host.specs.State.{State, Told}
 use Rattle.host.specs.Whole.{apart_from_left}
@@ -41,9 +43,13 @@ pub record IsReplied (asked : Asked) (reply : Reply) (before : State) : Type 0 w
   pub answered : IsAnswered reply.status
   pub answers : IfSome before.told (λ told. (reads : ℕ) × AnswerOf (Some asked) told.files (answer_of reads reply))
 
--- the scan that the bytes of its file are, or the line that refuses them
+-- bytes that the program holds
+abbrev pub Bytes : Type 0
+Bytes = Vec ℕ Global
+
+-- the bytes of the file and the scan that they are, or the line that refuses them
 abbrev pub IsUnderstood : (bytes : List ℕ) → Options → Reading → Type 0
-IsUnderstood bytes options (readings.Scan scan) = (length bytes ≤ file_limit) × (read_as options bytes ≡ Ok (rows_of scan))
+IsUnderstood bytes options (readings.Scan scan held) = (held.items ≡ bytes) × (length bytes ≤ file_limit) × (read_as options bytes ≡ Ok (rows_of scan))
 IsUnderstood bytes options (readings.Refused line) = IsUnread options bytes (refusal 1 (line_bytes line))
 
 -- the bytes of the named file are understood so

@@ -1,11 +1,12 @@
 -- The words of a command line, and what they ask for.
 --
 --   Names                 the names of `cells IN OUT`
---   SurfaceNames          the names of `build IN MESH CERT` and of `check IN MESH CERT`
+--   SurfaceNames          the names of `build IN MESH CERT`, of `check IN MESH CERT`, and the first three of `upgrade`
 --   Asked                 a command with its names and options
 --   are_names names       none is empty, and no two are one
 --   cells_of, build_of    what the words behind `cells` and behind `build` ask for
---   check_of, demo_of     what the words behind `check` and behind `demo` ask for
+--   check_of, upgrade_of  what the words behind `check` and behind `upgrade` ask for
+--   demo_of               what the words behind `demo` ask for
 --   seed_of text          the number that a seed is, if it is one
 --   command_of words      the command that the words are, if they are one
 --   asked command         what a command of the program is
@@ -28,7 +29,7 @@ pub record Names : Type 0 where
   pub input : List ℕ
   pub output : List ℕ
 
--- the names of `build IN MESH CERT` and of `check IN MESH CERT`
+-- the names of `build IN MESH CERT`, of `check IN MESH CERT`, and the first three of `upgrade IN MESH CERT OUT`
 pub record SurfaceNames : Type 0 where
   pub input : List ℕ
   pub mesh : List ℕ
@@ -38,7 +39,8 @@ pub record SurfaceNames : Type 0 where
 pub data Asked : Type 0 where
   cells : Names → Options → Asked
   build : SurfaceNames → Options → Asked
-  check : SurfaceNames → Options → Asked
+  -- `upgrade` where there is a file to write, and `check` where there is none
+  check : SurfaceNames → (output : Option (List ℕ)) → Options → Asked
   -- how many rows, and what their generator starts from
   demo : (count seed : ℕ) → Asked
 
@@ -79,9 +81,17 @@ build_of words = None
 abbrev pub check_of : List (List ℕ) → Option Asked
 check_of (input ∷ mesh ∷ cert ∷ words) =
     if are_names (input ∷ mesh ∷ cert ∷ [])
-    then option_map (check (record { input = input; mesh = mesh; cert = cert })) (options_of build_keys words)
+    then option_map (check (record { input = input; mesh = mesh; cert = cert }) None) (options_of build_keys words)
     else None
 check_of words = None
+
+-- four names, and then options in any order
+abbrev pub upgrade_of : List (List ℕ) → Option Asked
+upgrade_of (input ∷ mesh ∷ cert ∷ output ∷ words) =
+    if are_names (input ∷ mesh ∷ cert ∷ output ∷ [])
+    then option_map (check (record { input = input; mesh = mesh; cert = cert }) (Some output)) (options_of build_keys words)
+    else None
+upgrade_of words = None
 
 -- the number that 1 to 20 digits are, if it is below 2 ^ 64
 abbrev pub seed_of : List ℕ → Option ℕ
@@ -102,8 +112,9 @@ command_of (word ∷ words) =
     if bytes_eq word (codes "cells") then cells_of words
     else (if bytes_eq word (codes "build") then build_of words
     else (if bytes_eq word (codes "check") then check_of words
+    else (if bytes_eq word (codes "upgrade") then upgrade_of words
     else (if bytes_eq word (codes "demo") then demo_of words
-    else None)))
+    else None))))
 
 -- the names of `cells` that the program holds
 abbrev pub cells_names : CellsNames → Names
@@ -113,13 +124,17 @@ cells_names names = record { input = names.input.now; output = names.output.now 
 abbrev pub build_names : BuildNames → SurfaceNames
 build_names names = record { input = names.input.now; mesh = names.mesh.now; cert = names.cert.now }
 
--- the names of `check` that the program holds
+-- the first three names of `check` and `upgrade` that the program holds
 abbrev pub check_names : CheckNames → SurfaceNames
 check_names names = record { input = names.input.now; mesh = names.mesh.now; cert = names.cert.now }
+
+-- the file that is written, if one is
+abbrev pub output_of : CheckNames → Option (List ℕ)
+output_of names = option_map (λ name. name.now) names.output
 
 -- what a command of the program is
 abbrev pub asked : Command → Asked
 asked (commands.Cells names options) = cells (cells_names names) (options_view options)
 asked (commands.Build names options) = build (build_names names) (options_view options)
-asked (commands.Check names options) = check (check_names names) (options_view options)
+asked (commands.Check names options) = check (check_names names) (output_of names) (options_view options)
 asked (commands.Demo made) = demo made.count made.seed

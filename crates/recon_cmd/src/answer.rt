@@ -10,6 +10,7 @@ mod check;
 mod demo;
 mod reading;
 mod refusals;
+mod stamps;
 
 use crate::status::Status;
 use crate::words::Command;

@@ -1,6 +1,6 @@
 //! Laws over the definitions, for a reader of `run`'s contract: functions with empty bodies, whose contracts are the
 //! laws.
-ghost use Rattle.recon_cmd.specs.CheckLaws.{CheckIsExact, RefusedIsNotChecked, BuiltIsAccepted, CheckAnswerIsOne, DemoAnswerIsOne};
+ghost use Rattle.recon_cmd.specs.CheckLaws.{CheckIsExact, RefusedIsNotChecked, BuiltIsAccepted, CheckAnswerIsOne, DemoAnswerIsOne, StampedIsKept};
 ghost use Rattle.recon_cmd.specs.Headline.{DoneIsBest};
 ghost use Rattle.recon_cmd.specs.Laws.{AcceptedIsDone, RefusedIsRefused, AcceptedIsBuilt, RefusedIsNotBuilt, CellsAnswerIsOne, BuildAnswerIsOneButForFlows};
 
@@ -24,9 +24,9 @@ pub fn a_surface_that_was_built_is_best()
     ensures { DoneIsBest }
 {}
 
-/// Where the files are given, `cells` has one answer, and so have `check` and `demo`. Two answers of `build` are one, or
-/// write one surface and say one line, and their certificates state the same counts, cost and inside cells: only the flows
-/// may differ.
+/// Where the files are given, `cells` has one answer, and so have `check`, `upgrade` and `demo`. Two answers of `build` are one,
+/// or write one surface and say one line, and their certificates have one stamp and state the same counts, cost and inside
+/// cells: only the flows may differ.
 pub fn a_command_has_one_answer()
     ensures cells { CellsAnswerIsOne }
     ensures build { BuildAnswerIsOneButForFlows }
@@ -35,15 +35,22 @@ pub fn a_command_has_one_answer()
 {}
 
 /// Where the host tells its files and no call fails, `check` says yes exactly where none of its three files is longer than
-/// the limit, the first is a scan, and the other two are a solution of it at these weights. It says no exactly where they
-/// are readable and no solution, and refuses exactly where they are not readable; or it finds no memory.
+/// the limit, the first is a scan, and the other two are a solution of it at these weights, of which the certificate has no
+/// stamp or that of these bytes, this unit and this fixed scanner. It says no exactly where they are readable and not so, and
+/// refuses exactly where they are not readable; or it finds no memory. The same holds of `upgrade`.
 pub fn a_check_says_what_its_files_are()
     ensures exact { CheckIsExact }
     ensures refused { RefusedIsNotChecked }
 {}
 
-/// Where `build` was done, and `check` with the same names and options follows, in which no call fails, it says yes of the
-/// two files, if they are no longer than the limit, or finds no memory.
+/// Where `build` was done, and `check` or `upgrade` with the same names and options follows, in which no call fails, it says yes
+/// of the two files, if they are no longer than the limit, or finds no memory.
 pub fn a_surface_that_was_built_is_accepted()
     ensures { BuiltIsAccepted }
+{}
+
+/// A certificate that has the stamp of this run, and of which `upgrade` says yes, is written as it is. So what `upgrade` wrote it
+/// writes again, byte for byte.
+pub fn an_upgraded_certificate_is_kept()
+    ensures { StampedIsKept }
 {}

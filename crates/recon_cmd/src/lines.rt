@@ -3,7 +3,7 @@
 ghost use Rattle.std.specs.Prelude.{◌≡◌, ◌++◌, ◌∷◌, [], IfOk, OnOk, decimal, length};
 ghost use Rattle.std.specs.List.{flat_map};
 ghost use Rattle.cert_text.specs.Certificates.{claim_of};
-ghost use Rattle.recon_cmd.specs.Lines.{bad_words_line, too_long_scan_line, too_long_mesh_line, too_long_cert_line, cells_line, labelled, build_line, demo_line, cells_text, row_line};
+ghost use Rattle.recon_cmd.specs.Lines.{bad_words_line, too_long_scan_line, too_long_mesh_line, too_long_cert_line, cells_line, labelled, build_line, upgraded_line, demo_line, cells_text, row_line};
 
 mod refusals;
 mod verdicts;
@@ -13,7 +13,7 @@ use cert_text::Certificate;
 use num_text::push_whole;
 pub use refusals::line_of_refusal;
 use std::alloc::Global;
-pub use verdicts::line_of_verdict;
+pub use verdicts::{line_of_reason, line_of_yes};
 
 /// What is said where the words are no command.
 #[tactic(auto, unfolding(crate::specs::Lines::bad_words_line))]
@@ -73,6 +73,17 @@ pub fn line_of_build(alloc: Global, cert: &Certificate, faces: usize) -> Result<
     push_labelled(&mut line, b" inside ", cert.inside.len() as u64)?;
     push_labelled(&mut line, b" faces ", faces as u64)?;
     push_labelled(&mut line, b" cost ", cert.cost)?;
+    line.push(b'\n')?;
+    Ok(line)
+}
+
+/// The line of `upgrade` where it says yes: the cost of the labels.
+#[tactic(auto, unfolding(crate::specs::Lines::upgraded_line))]
+pub fn line_of_upgrade(alloc: Global, cost: u64) -> Result<Vec<u8>, NoMemory>
+    ensures { IfOk result (λ line. line.items ≡ upgraded_line cost) }
+{
+    let mut line = Vec::new(alloc);
+    push_labelled(&mut line, b"upgraded cost ", cost)?;
     line.push(b'\n')?;
     Ok(line)
 }

@@ -7,7 +7,11 @@ mod build;
 mod cells;
 mod check;
 mod demo;
+mod failures;
+mod limits;
+mod memory;
 mod refusals;
+mod upgrade;
 mod words;
 
 use crate::run;
@@ -125,9 +129,31 @@ fn plain(alloc: Global, points: &[&str], scanners: &[&str]) -> Result<String, Fa
 const FOUR: &str =
     "ply\nformat ascii 1.0\nelement vertex 4\nproperty int x\nproperty int y\nproperty int z\nproperty int scanner\nelement scanner 4\nproperty int x\nproperty int y\nproperty int z\nend_header\n100 100 100 0\n100 -100 -100 1\n-100 100 -100 2\n-100 -100 100 3\n1000 1000 1000\n1000 -1000 -1000\n-1000 1000 -1000\n-1000 -1000 1000\n";
 
+// The best surface of these four points at the weights 8 and 1, and its certificate: the flow is the only valid one of value 4.
+const FOUR_MESH: &str =
+    "ply\nformat ascii 1.0\nelement vertex 4\nproperty int x\nproperty int y\nproperty int z\nelement face 4\nproperty list uchar int vertex_indices\nend_header\n100 100 100\n100 -100 -100\n-100 100 -100\n-100 -100 100\n3 0 1 2\n3 0 2 3\n3 0 3 1\n3 1 3 2\n";
+
+const FOUR_CERT: &str =
+    "recon certificate 1\npoints 4\nscanners 4\nsights 4\nvote 8\nsmooth 1\ncost 4\ninside 1\n8 9 10 11\nflow 4\n8 9 10 1\n8 10 11 1\n8 11 9 1\n9 11 10 1\nsink 1\n8 9 10 11 4\nend\n";
+
 // The same four points as a scan tool writes them, without scanners.
 const FOUR_OF_A_TOOL: &str =
     "ply\r\nformat ascii 1.0\r\ncomment made by a scan tool\r\nobj_info num_cols 2\r\nelement vertex 4\r\nproperty float x\r\nproperty float y\r\nproperty float z\r\nproperty float confidence\r\nelement face 1\r\nproperty list uchar int vertex_indices\r\nend_header\r\n0.1 0.1 0.1 0.5\n0.1 -0.1 -0.1 0.5\n-0.1 0.1 -0.1 1\n-1e-1 -0.1 0.1 1\n3 0 1 2\n";
+
+// What `sha256sum` says of the file of the four points, and of the file without a point.
+const FOUR_DIGEST: &str = "807df695fa3763ef3a9f43d82fed2c3150d7b3c85294745a5288348690943785";
+
+const NO_POINT_DIGEST: &str = "f39a3283b74ec161fd146213fe5eae5ea262877f591c1eecc11caf1bd1e5467a";
+
+// A certificate of the first version in its second, for a file with this digest that was read in the unit 1.
+fn stamped(alloc: Global, cert: &str, digest: &str) -> Result<String, Fail> {
+    match cert.strip_prefix("recon certificate 1\n") {
+        Some(behind) => Ok(format!(in alloc;
+            "recon certificate 2\nscan {digest}\nunit 1\nscanner none\n{behind}"
+        )?),
+        None => Err(Fail::new("no certificate of the first version")),
+    }
+}
 
 const NO_POINT: &str =
     "ply\nformat ascii 1.0\nelement vertex 0\nproperty int x\nproperty int y\nproperty int z\nproperty int scanner\nelement scanner 1\nproperty int x\nproperty int y\nproperty int z\nend_header\n0 0 0\n";

@@ -1,7 +1,7 @@
 //! The words of a command line, understood without taking memory. It stands on the options.
 ghost use Rattle.std.specs.Prelude.{◌≡◌, [], ◌∷◌, IfSome, IfNone, None, Some, map, string_bytes};
 ghost use Rattle.std.specs.Option.{option_map};
-ghost use Rattle.recon_cmd.specs.Words.{are_names, asked, build_of, cells_of, check_of, command_of, demo_of};
+ghost use Rattle.recon_cmd.specs.Words.{are_names, asked, build_of, cells_of, check_of, command_of, demo_of, upgrade_of};
 
 mod demo;
 
@@ -34,7 +34,7 @@ pub struct BuildNames<'a> {
     pub cert: &'a str,
 }
 
-/// The names of `check IN MESH CERT`.
+/// The names of `check IN MESH CERT` and of `upgrade IN MESH CERT OUT`.
 #[derive(Clone, Copy, Debug)]
 pub struct CheckNames<'a> {
     /// The scan that is read.
@@ -43,6 +43,8 @@ pub struct CheckNames<'a> {
     pub mesh: &'a str,
     /// The certificate that is checked.
     pub cert: &'a str,
+    /// The file that the certificate is written to with the stamp of this run: `upgrade` has one, and `check` has none.
+    pub output: Option<&'a str>,
 }
 
 /// A command with its names and options.
@@ -52,7 +54,8 @@ pub enum Command<'a> {
     Cells(CellsNames<'a>, Options),
     /// `build IN MESH CERT`: the best surface of a scan, and the certificate that shows it best.
     Build(BuildNames<'a>, Options),
-    /// `check IN MESH CERT`: whether a mesh is the best surface of a scan, and a certificate shows it best.
+    /// `check IN MESH CERT`: whether a mesh is the best surface of a scan, and a certificate shows it best. And
+    /// `upgrade IN MESH CERT OUT`: where it is so, the certificate with the stamp of this run is written.
     Check(CheckNames<'a>, Options),
     /// `demo N SEED`: what `build` says of a scan that is made from a number.
     Demo(Demo),
@@ -69,6 +72,7 @@ pub enum Command<'a> {
 /// | `cells IN OUT` | `unit=`, `scanner=` |
 /// | `build IN MESH CERT` | `unit=`, `vote=`, `smooth=`, `scanner=` |
 /// | `check IN MESH CERT` | `unit=`, `vote=`, `smooth=`, `scanner=` |
+/// | `upgrade IN MESH CERT OUT` | `unit=`, `vote=`, `smooth=`, `scanner=` |
 /// | `demo N SEED` | none; N is 1 to 1,048,576 in 1 to 10 digits, SEED at most 2^64 - 1 in 1 to 20 |
 pub fn understand(words: &[String]) -> Option<Command<'_>>
     ensures some { IfSome result (λ command. command_of (map string_bytes words.now) ≡ Some (asked command)) }
@@ -81,6 +85,7 @@ pub fn understand(words: &[String]) -> Option<Command<'_>>
         "cells" => cells_command(words),
         "build" => build_command(words),
         "check" => check_command(words),
+        "upgrade" => upgrade_command(words),
         "demo" => demo_command(words),
         _ => None,
     }
@@ -138,6 +143,32 @@ fn check_command(words: &[String]) -> Option<Command<'_>>
         input: input.as_str(),
         mesh: mesh.as_str(),
         cert: cert.as_str(),
+        output: None,
+    };
+    Some(Command::Check(names, options))
+}
+
+// What the words behind `upgrade` ask for.
+fn upgrade_command(words: &[String]) -> Option<Command<'_>>
+    ensures { option_map asked result ≡ upgrade_of (map string_bytes words.now) }
+{
+    let [input, mesh, cert, output, words @ ..] = words else {
+        return None;
+    };
+    if !are_four_names(
+        input.as_str(),
+        mesh.as_str(),
+        cert.as_str(),
+        output.as_str(),
+    ) {
+        return None;
+    }
+    let options = understand_options(&BUILD_KEYS, words)?;
+    let names = CheckNames {
+        input: input.as_str(),
+        mesh: mesh.as_str(),
+        cert: cert.as_str(),
+        output: Some(output.as_str()),
     };
     Some(Command::Check(names, options))
 }
@@ -166,4 +197,11 @@ fn are_three_names(a: &str, b: &str, c: &str) -> bool
     ensures { result ≡ are_names (a.now ∷ b.now ∷ c.now ∷ []) }
 {
     !a.is_empty() && !b.is_empty() && !c.is_empty() && a != b && a != c && b != c
+}
+
+// Whether none of four names is empty, and no two are one.
+fn are_four_names(a: &str, b: &str, c: &str, d: &str) -> bool
+    ensures { result ≡ are_names (a.now ∷ b.now ∷ c.now ∷ d.now ∷ []) }
+{
+    !a.is_empty() && a != b && a != c && a != d && are_three_names(b, c, d)
 }

@@ -14,6 +14,7 @@ ghost use Rattle.recon_cmd.specs.Words.{build, build_names};
 use crate::NoMemory;
 use crate::answer::reading::{Reading, read_input};
 use crate::answer::refusals::refusal;
+use crate::answer::stamps::stamp_of;
 use crate::answer::{Line, Reply, Stop, Text};
 use crate::lines::line_of_build;
 use crate::options::Options;
@@ -43,7 +44,7 @@ pub fn reply_to_build<'a, H: Host>(
         Err(stop) => return Err(stop),
     };
     match reading {
-        Reading::Scan(scan) => match reply_to_scan(alloc, &scan, names, options) {
+        Reading::Scan(scan, bytes) => match reply_to_scan(alloc, &scan, bytes, names, options) {
             Ok(reply) => Ok(reply),
             Err(_) => Err(Stop::NoMemory),
         },
@@ -51,16 +52,18 @@ pub fn reply_to_build<'a, H: Host>(
     }
 }
 
-// The answer to a scan.
+// The answer to a scan and the bytes of its file, which are let go before it is solved.
 fn reply_to_scan<'a>(
     alloc: Global,
     scan: &Scan,
+    bytes: Vec<u8>,
     names: &BuildNames<'a>,
     options: &Options,
 ) -> Result<Reply<'a>, NoMemory>
-    ensures { IfOk result (λ reply. WritesSurface (build_names names.now) (options_view options.now) (rows_of scan.now) (answer_of 1 reply)) }
+    ensures { IfOk result (λ reply. WritesSurface (build_names names.now) (options_view options.now) bytes.items (rows_of scan.now) (answer_of 1 reply)) }
 {
-    let solved = solve_scan(alloc, scan, options.settings)?;
+    let stamp = stamp_of(bytes, options.unit, options.fixed);
+    let solved = solve_scan(alloc, scan, options.settings, Some(stamp))?;
     reply_of(alloc, &solved, names.mesh, names.cert)
 }
 

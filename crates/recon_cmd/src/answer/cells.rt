@@ -45,7 +45,7 @@ pub fn reply_to_cells<'a, H: Host>(
         Err(stop) => return Err(stop),
     };
     match reading {
-        Reading::Scan(scan) => match reply_to_scan(alloc, &scan, names.output) {
+        Reading::Scan(scan, _) => match reply_to_scan(alloc, &scan, names.output) {
             Ok(reply) => Ok(reply),
             Err(_) => Err(Stop::NoMemory),
         },

@@ -8,6 +8,7 @@ ghost use Rattle.recon_cmd.specs.Answers.{Demonstrates, default_options, file_li
 ghost use Rattle.recon_cmd.specs.Replies.{answer_of};
 
 use crate::NoMemory;
+use crate::answer::stamps::stamp_of;
 use crate::answer::{Line, Reply};
 use crate::lines::{line_of_build, line_of_demo};
 use crate::status::Status;
@@ -28,12 +29,13 @@ const SMOOTH: u32 = 1;
 pub fn reply_to_demo<'a>(alloc: Global, demo: Demo) -> Result<Reply<'a>, NoMemory>
     ensures { IfOk result (λ reply. Demonstrates demo.count demo.seed (answer_of 0 reply)) }
 {
-    let scan = reread_scan(alloc, demo)?;
+    let (scan, text) = reread_scan(alloc, demo)?;
+    let stamp = stamp_of(text, 1, None);
     let settings = Settings {
         vote: VOTE,
         smooth: SMOOTH,
     };
-    let solved = solve_scan(alloc, &scan, settings)?;
+    let solved = solve_scan(alloc, &scan, settings, Some(stamp))?;
     let built = line_of_build(alloc, &solved.cert, solved.mesh.faces.len())?;
     let line = line_of_demo(alloc, demo.count, demo.seed, &built)?;
     Ok(Reply {
@@ -43,16 +45,17 @@ pub fn reply_to_demo<'a>(alloc: Global, demo: Demo) -> Result<Reply<'a>, NoMemor
     })
 }
 
-// The scan that the plain text of the generated one is read as.
-fn reread_scan(alloc: Global, demo: Demo) -> Result<Scan, NoMemory>
-    ensures read { IfOk result (λ scan. read_as default_options (plain_text (generated demo.count demo.seed)) ≡ Ok (rows_of scan)) }
+// The scan that the plain text of the generated one is read as, and that text.
+fn reread_scan(alloc: Global, demo: Demo) -> Result<(Scan, Vec<u8>), NoMemory>
+    ensures read { IfOk result (λ read. read_as default_options (plain_text (generated demo.count demo.seed)) ≡ Ok (rows_of read.0)) }
+    ensures text { IfOk result (λ read. read.1.items ≡ plain_text (generated demo.count demo.seed)) }
     ensures within { OnOk result (length (plain_text (generated demo.count demo.seed)) ≤ file_limit) }
 {
     let scan = gen_scan(alloc, demo.count, demo.seed)?;
     let mut text = Vec::new(alloc);
     push_scan(&mut text, &scan)?;
     match read_scan(alloc, &text, 1, None) {
-        Ok(read) => Ok(read),
+        Ok(read) => Ok((read, text)),
         Err(why) => match why {
             ScanRefusal::NoMemory => Err(AllocError),
             // A printed scan is read.

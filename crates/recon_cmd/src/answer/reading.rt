@@ -19,8 +19,8 @@ pub const FILE_LIMIT: u64 = 4_294_967_296;
 /// What the reading of a scan comes to.
 #[derive(Drop)]
 pub enum Reading {
-    /// The scan of the file.
-    Scan(Scan),
+    /// The scan of the file, and the file's bytes.
+    Scan(Scan, Vec<u8>),
     /// The file is refused, and this line says why.
     Refused(Line),
 }
@@ -45,19 +45,19 @@ pub fn read_input<H: Host>(
         Err(ReadRefusal::Failed) => return Err(Stop::Failed),
         Err(ReadRefusal::NoMemory) => return Err(Stop::NoMemory),
     };
-    match understand_scan(alloc, &bytes, options) {
+    match understand_scan(alloc, bytes, options) {
         Ok(reading) => Ok(reading),
         Err(_) => Err(Stop::NoMemory),
     }
 }
 
 // What the bytes of a scan's file come to.
-fn understand_scan(alloc: Global, bytes: &[u8], options: &Options) -> Result<Reading, NoMemory>
-    requires { length bytes.now ≤ file_limit }
-    ensures { IfOk result (IsUnderstood bytes.now (options_view options.now)) }
+fn understand_scan(alloc: Global, bytes: Vec<u8>, options: &Options) -> Result<Reading, NoMemory>
+    requires { length bytes.items ≤ file_limit }
+    ensures { IfOk result (IsUnderstood bytes.items (options_view options.now)) }
 {
-    match read_scan(alloc, bytes, options.unit, options.fixed) {
-        Ok(scan) => Ok(Reading::Scan(scan)),
+    match read_scan(alloc, &bytes, options.unit, options.fixed) {
+        Ok(scan) => Ok(Reading::Scan(scan, bytes)),
         Err(why) => Ok(Reading::Refused(Line::Made(line_of_refusal(alloc, why)?))),
     }
 }

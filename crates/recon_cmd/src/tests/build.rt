@@ -1,7 +1,8 @@
 //! Runs of `build`: the surface of small scans, the texts of some of them, and that a run stops at a failure.
 
 use super::{
-    FOUR, FOUR_OF_A_TOOL, NO_POINT, ended, is_text, plain, run_on, run_with, wrote_nothing,
+    FOUR, FOUR_CERT, FOUR_DIGEST, FOUR_MESH, FOUR_OF_A_TOOL, NO_POINT, NO_POINT_DIGEST, ended,
+    is_text, plain, run_on, run_with, stamped, wrote_nothing,
 };
 use host::HostCall;
 use std::alloc::Global;
@@ -97,13 +98,6 @@ const CUBE_SCANNERS: [&str; 8] = [
     "1000 1000 1000",
 ];
 
-pub const FOUR_MESH: &str =
-    "ply\nformat ascii 1.0\nelement vertex 4\nproperty int x\nproperty int y\nproperty int z\nelement face 4\nproperty list uchar int vertex_indices\nend_header\n100 100 100\n100 -100 -100\n-100 100 -100\n-100 -100 100\n3 0 1 2\n3 0 2 3\n3 0 3 1\n3 1 3 2\n";
-
-// The flow is the only valid one of value 4.
-pub const FOUR_CERT: &str =
-    "recon certificate 1\npoints 4\nscanners 4\nsights 4\nvote 8\nsmooth 1\ncost 4\ninside 1\n8 9 10 11\nflow 4\n8 9 10 1\n8 10 11 1\n8 11 9 1\n9 11 10 1\nsink 1\n8 9 10 11 4\nend\n";
-
 // The same flow, of the weight 1 for a sight, is worth the empty inside.
 const LIGHT_CERT: &str =
     "recon certificate 1\npoints 4\nscanners 4\nsights 4\nvote 1\nsmooth 1\ncost 4\ninside 0\nflow 4\n8 9 10 1\n8 10 11 1\n8 11 9 1\n9 11 10 1\nsink 1\n8 9 10 11 4\nend\n";
@@ -118,7 +112,7 @@ const CUBE_FACES: &str =
     "3 0 1 4\n3 0 2 1\n3 0 4 2\n3 1 2 3\n3 1 3 5\n3 1 5 4\n3 2 4 6\n3 2 6 3\n3 3 6 7\n3 3 7 5\n3 4 5 6\n3 5 7 6\n";
 
 const CUBE_INSIDE: &str =
-    "recon certificate 1\npoints 8\nscanners 8\nsights 8\nvote 8\nsmooth 1\ncost 12\ninside 6\n8 9 10 12\n9 10 11 12\n9 11 12 13\n10 11 12 14\n11 12 13 14\n11 13 14 15\nflow ";
+    "points 8\nscanners 8\nsights 8\nvote 8\nsmooth 1\ncost 12\ninside 6\n8 9 10 12\n9 10 11 12\n9 11 12 13\n10 11 12 14\n11 12 13 14\n11 13 14 15\nflow ";
 
 #[test]
 fn small_scans_say_their_counts_and_their_cost(rt: HostRuntime) -> Result<(), Fail> {
@@ -185,27 +179,27 @@ fn small_scans_say_their_counts_and_their_cost(rt: HostRuntime) -> Result<(), Fa
 fn a_surface_is_written_with_its_certificate(rt: HostRuntime) -> Result<(), Fail> {
     let alloc = rt.alloc();
     let of_a_tool: [&str; 6] = ["build", "in", "mesh", "cert", "scanner=1,1,1", "unit=1000"];
-    let cases: [(&[&str], &str, &str, &str, Option<&str>); 4] = [
+    let cases: [(&[&str], &str, &str, &str, Option<(&str, &str)>); 4] = [
         (
             &WORDS,
             NO_POINT,
             "points 0 scanners 1 sights 0 inside 0 faces 0 cost 0\n",
             NO_MESH,
-            Some(NO_POINT_CERT),
+            Some((NO_POINT_CERT, NO_POINT_DIGEST)),
         ),
         (
             &WORDS,
             FOUR,
             "points 4 scanners 4 sights 4 inside 1 faces 4 cost 4\n",
             FOUR_MESH,
-            Some(FOUR_CERT),
+            Some((FOUR_CERT, FOUR_DIGEST)),
         ),
         (
             &LIGHT,
             FOUR,
             "points 4 scanners 4 sights 4 inside 0 faces 0 cost 4\n",
             NO_MESH,
-            Some(LIGHT_CERT),
+            Some((LIGHT_CERT, FOUR_DIGEST)),
         ),
         (
             &of_a_tool,
@@ -219,8 +213,9 @@ fn a_surface_is_written_with_its_certificate(rt: HostRuntime) -> Result<(), Fail
         let ran = run_on(alloc, words, Some(text.as_bytes()))?;
         assert!(rt; ended(&ran, 0, said), "{said:?}");
         assert!(rt; is_text(&ran.mesh, Some(mesh)), "{said:?}");
-        if cert.is_some() {
-            assert!(rt; is_text(&ran.cert, cert), "{said:?}");
+        if let Some((cert, digest)) = cert {
+            let cert = stamped(alloc, cert, digest)?;
+            assert!(rt; is_text(&ran.cert, Some(cert.as_str())), "{said:?}");
         }
     }
     Ok(())
@@ -270,14 +265,19 @@ fn a_binary_scan_is_built_unless_it_needs_floats(rt: HostRuntime) -> Result<(), 
     Ok(())
 }
 
-// Whether a file begins or ends with this text.
-fn begins_with(file: &Option<Vec<u8>>, text: &str) -> bool {
+// Whether a certificate is of the second version, and goes on so behind its stamp.
+fn states(file: &Option<Vec<u8>>, text: &str) -> bool {
     match file {
-        Some(bytes) => bytes.starts_with(text.as_bytes()),
+        Some(bytes) => match bytes.strip_prefix(b"recon certificate 2\n".as_slice()) {
+            // The lines of a digest, of the unit 1 and of no scanner.
+            Some(behind) => behind.len() > 90 && behind[90..].starts_with(text.as_bytes()),
+            None => false,
+        },
         None => false,
     }
 }
 
+// Whether a file ends with this text.
 fn ends_with(file: &Option<Vec<u8>>, text: &str) -> bool {
     match file {
         Some(bytes) => bytes.ends_with(text.as_bytes()),
@@ -299,7 +299,7 @@ fn the_cells_of_the_cube_are_those_of_the_tie_rule(rt: HostRuntime) -> Result<()
         )
     );
     assert!(rt; ends_with(&ran.mesh, CUBE_FACES));
-    assert!(rt; begins_with(&ran.cert, CUBE_INSIDE));
+    assert!(rt; states(&ran.cert, CUBE_INSIDE));
     Ok(())
 }
 

@@ -1,7 +1,6 @@
 //! Runs of `check`: the verdict on a mesh and a certificate, one line for each reason, and what was built.
 
-use super::build::{FOUR_CERT, FOUR_MESH};
-use super::{FOUR, PIECE, Ran, ended, owned, written};
+use super::{FOUR, FOUR_CERT, FOUR_MESH, PIECE, Ran, ended, owned, written};
 use crate::run;
 use gen_scan::gen_scan;
 use host::MemHost;
@@ -12,7 +11,7 @@ use std::test::Fail;
 const WORDS: [&str; 4] = ["check", "in", "mesh", "cert"];
 
 // A run over the files `in`, `mesh` and `cert`, of which the last two need not be there.
-fn check(
+pub fn check(
     alloc: Global,
     words: &[&str],
     input: &[u8],
@@ -44,7 +43,7 @@ fn copied(alloc: Global, bytes: Option<&[u8]>) -> Result<Option<Vec<u8>>, Fail> 
 }
 
 // A text, with another part in the place of the first one like this.
-fn with_part(alloc: Global, text: &str, old: &str, new: &str) -> Result<String, Fail> {
+pub fn with_part(alloc: Global, text: &str, old: &str, new: &str) -> Result<String, Fail> {
     match text.split_once(old) {
         Some((before, behind)) => Ok(format!(in alloc; "{before}{new}{behind}")?),
         None => Err(Fail::new("the text has no such part")),

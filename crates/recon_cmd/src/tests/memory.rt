@@ -1,0 +1,168 @@
+//! Want of memory: where an allocation fails the answer says so, nothing of the try is left, and the next one is right.
+//!
+//! Where there is memory each call is made once. `tools/fail_alloc.py` makes each allocation of these tests fail in turn; one
+//! fails a run, so a second try has memory.
+ghost use Rattle.cert_text.specs.Certificates.{claim_of, IsWellFormed};
+ghost use Rattle.mesh_ply.specs.Meshes.{IsMesh};
+ghost use Rattle.std.specs.Prelude.{◌≡◌, false, IfOk};
+ghost use Rattle.host.specs.Memory.{state_of};
+
+use super::{FOUR, FOUR_CERT, FOUR_DIGEST, FOUR_MESH};
+use crate::{NoMemory, run};
+use cert_text::push_cert;
+use flow_net::Settings;
+use host::MemHost;
+use mesh_ply::push_mesh;
+use recon_build::{Solved, solve_scan};
+use scan::{Scan, ScanRefusal, push_scan, read_scan};
+use std::alloc::Global;
+use std::test::Fail;
+
+const BUILD: [&str; 4] = ["build", "in", "mesh", "cert"];
+
+const CHECK: [&str; 4] = ["check", "in", "mesh", "cert"];
+
+// What `build` says of the four points, and what `check` says behind it.
+const BUILT: &[u8] = b"points 4 scanners 4 sights 4 inside 1 faces 4 cost 4\n";
+
+const CHECKED: &[u8] =
+    b"points 4 scanners 4 sights 4 inside 1 faces 4 cost 4\nyes inside 1 faces 4 cost 4\n";
+
+// What there is before the two runs: the host, the words of each, and the certificate that `build` is to write.
+#[derive(Drop)]
+struct Beginning {
+    host: MemHost,
+    build: Vec<String>,
+    check: Vec<String>,
+    cert: String,
+}
+
+// The words as a command line has them.
+fn words_of(alloc: Global, words: &[&str]) -> Result<Vec<String>, NoMemory> {
+    let mut owned = Vec::new(alloc);
+    for word in words {
+        owned.push(String::from_str(alloc, word)?)?;
+    }
+    Ok(owned)
+}
+
+// The four points, and outputs that hold something else.
+fn begin(alloc: Global) -> Result<Beginning, NoMemory>
+    ensures { IfOk result (λ before. (state_of before.host).writing ≡ false) }
+{
+    let files = vec![in alloc;
+        (
+            String::from_str(alloc, "in")?,
+            Some(FOUR.as_bytes().to_vec(alloc)?)
+        ),
+        (
+            String::from_str(alloc, "mesh")?,
+            Some(b"old".to_vec(alloc)?)
+        ),
+        (
+            String::from_str(alloc, "cert")?,
+            Some(b"old".to_vec(alloc)?)
+        ),
+    ]?;
+    let mut cert = String::from_str(alloc, "recon certificate 2\nscan ")?;
+    cert.push_str(FOUR_DIGEST)?;
+    cert.push_str("\nunit 1\nscanner none\n")?;
+    cert.push_str(
+        FOUR_CERT
+            .strip_prefix("recon certificate 1\n")
+            .unwrap_or(""),
+    )?;
+    Ok(Beginning {
+        host: MemHost::new(alloc, files, 100, 4096, Vec::new(alloc))?,
+        build: words_of(alloc, &BUILD)?,
+        check: words_of(alloc, &CHECK)?,
+        cert,
+    })
+}
+
+// The same, made again where there was no memory.
+fn begin_or_again(alloc: Global) -> Result<Beginning, NoMemory>
+    ensures { IfOk result (λ before. (state_of before.host).writing ≡ false) }
+{
+    match begin(alloc) {
+        Ok(before) => Ok(before),
+        Err(_) => begin(alloc),
+    }
+}
+
+// Whether the outputs have these bytes, and this was said.
+fn shows(host: &MemHost, mesh: &str, cert: &str, said: &[u8]) -> bool {
+    host.file("mesh") == Some(mesh.as_bytes())
+        && host.file("cert") == Some(cert.as_bytes())
+        && host.said() == said
+        && host.fault_count() == 0
+}
+
+#[test]
+fn a_command_without_memory_leaves_all_as_it_was(rt: HostRuntime) -> Result<(), Fail> {
+    let alloc = rt.alloc();
+    let mut before = begin_or_again(alloc)?;
+    let mut status = run(alloc, &before.build, &mut before.host);
+    if status == 5 {
+        assert!(rt; shows(&before.host, "old", "old", b""));
+        status = run(alloc, &before.build, &mut before.host);
+    }
+    assert!(rt; status == 0 && shows(&before.host, FOUR_MESH, &before.cert, BUILT));
+    status = run(alloc, &before.check, &mut before.host);
+    if status == 5 {
+        assert!(rt; shows(&before.host, FOUR_MESH, &before.cert, BUILT));
+        status = run(alloc, &before.check, &mut before.host);
+    }
+    assert!(rt; status == 0 && shows(&before.host, FOUR_MESH, &before.cert, CHECKED));
+    Ok(())
+}
+
+// The scan of the four points.
+fn scan_of(alloc: Global) -> Result<Scan, ScanRefusal> {
+    match read_scan(alloc, FOUR.as_bytes(), 1, None) {
+        Ok(scan) => Ok(scan),
+        Err(_) => read_scan(alloc, FOUR.as_bytes(), 1, None),
+    }
+}
+
+// Its surface, of the weights 8 and 1.
+fn solved_of(alloc: Global, scan: &Scan) -> Result<Solved, NoMemory>
+    ensures valid { IfOk result (λ solved. IsMesh solved.mesh.points.items solved.mesh.faces.items) }
+    ensures well_formed { IfOk result (λ solved. IsWellFormed (claim_of solved.cert)) }
+{
+    let settings = Settings { vote: 8, smooth: 1 };
+    match solve_scan(alloc, scan, settings, None) {
+        Ok(solved) => Ok(solved),
+        Err(_) => solve_scan(alloc, scan, settings, None),
+    }
+}
+
+// Each text is added to one that has no room behind it.
+#[test]
+fn a_text_without_memory_is_as_it_was(rt: HostRuntime) -> Result<(), Fail> {
+    let alloc = rt.alloc();
+    let scan = scan_of(alloc)?;
+    let solved = solved_of(alloc, &scan)?;
+    let mut text = Vec::new(alloc);
+    if push_scan(&mut text, &scan).is_err() {
+        assert!(rt; text.is_empty());
+        push_scan(&mut text, &scan)?;
+    }
+    assert!(rt; text.as_slice() == FOUR.as_bytes());
+    let count = text.len();
+    if push_mesh(&mut text, &solved.mesh).is_err() {
+        assert!(rt; text.len() == count);
+        push_mesh(&mut text, &solved.mesh)?;
+    }
+    let count = text.len();
+    if push_cert(&mut text, &solved.cert).is_err() {
+        assert!(rt; text.len() == count);
+        push_cert(&mut text, &solved.cert)?;
+    }
+    let behind = text.strip_prefix(FOUR.as_bytes()).ok_or("another scan")?;
+    let last = behind
+        .strip_prefix(FOUR_MESH.as_bytes())
+        .ok_or("another mesh")?;
+    assert!(rt; last == FOUR_CERT.as_bytes());
+    Ok(())
+}
