@@ -1,0 +1,57 @@
+//! Calls of `cell` and `across`.
+
+ghost use Rattle.std.specs.Prelude.{◌≡◌};
+ghost use Rattle.tetra_store.specs.Links.{links_of, IsLive};
+
+use tetra_store::{CellId, Tetra};
+
+/// What calls came to: how many there were, and the sum of what they answered.
+#[derive(Clone, Copy, Debug, Default, PartialEq, Eq)]
+pub(crate) struct Answers {
+    pub calls: u64,
+    pub sum: u64,
+}
+
+impl Answers {
+    /// With one call more, which answered a number.
+    pub(crate) fn and(self, number: usize) -> Answers {
+        Answers {
+            calls: self.calls.wrapping_add(1),
+            sum: self.sum.wrapping_add(number as u64),
+        }
+    }
+
+    /// With those of other calls.
+    pub(crate) fn with(self, others: Answers) -> Answers {
+        Answers {
+            calls: self.calls.wrapping_add(others.calls),
+            sum: self.sum.wrapping_add(others.sum),
+        }
+    }
+}
+
+/// The next of a row of numbers with no pattern in their high bits.
+fn next_number(number: u64) -> u64 {
+    number
+        .wrapping_mul(6_364_136_223_846_793_005)
+        .wrapping_add(1_442_695_040_888_963_407)
+}
+
+/// Reads a cell and goes across one of its sides, so many times, each time a side that has no pattern. On a wall it stays. It sums the
+/// numbers of the cells and of their first vertices.
+pub(crate) fn go_round(t: &Tetra, from: CellId, steps: u64) -> Answers
+    requires { IsLive (links_of t.now.slots) from }
+{
+    let mut at = from;
+    let mut answers = Answers::default();
+    let mut number = 7;
+    for _step in 0..steps {
+        let first = t.cell(at).v[0] as usize;
+        answers = answers.and(at.number().wrapping_add(first));
+        number = next_number(number);
+        if let Some(next) = t.across(at, (number / 1_099_511_627_776 % 4) as u8) {
+            at = next;
+        }
+    }
+    answers
+}

@@ -1,0 +1,85 @@
+//! Walks along the sights of a scan.
+
+ghost use Rattle.std.specs.Prelude.{◌≡◌, ◌≤◌, IsTrue};
+ghost use Rattle.geo_sign.specs.declared.point.TheConstants.{DATA_LIMIT};
+ghost use Rattle.geo_sign.specs.Point.{IsWithin};
+ghost use Rattle.geo_sign.specs.Vertices.{Has};
+ghost use Rattle.sight.specs.Walks.{IsEndCell};
+ghost use Rattle.tetra_store.specs.Delaunay.{IsDelaunay};
+ghost use Rattle.tetra_store.specs.Links.{links_of};
+ghost use Rattle.tetra_store.specs.Store.{vertices_of};
+
+use crate::NoMemory;
+use crate::calls::Answers;
+use geo_sign::Point;
+use sight::walk_into;
+use std::alloc::Global;
+use tetra_store::{CellId, Tetra};
+use tetra_walk::locate_scanner;
+
+/// Whether a vertex is an inserted data point.
+pub(crate) fn is_data(t: &Tetra, v: u32) -> bool
+    ensures { IsTrue result → (8 ≤ v) × Has (vertices_of t.now) v }
+{
+    v >= 8 && v < t.vertex_count() && t.is_inserted(v)
+}
+
+/// The number of a cell at a vertex, and 0 where it has none.
+fn place_of(t: &Tetra, v: u32) -> usize {
+    if is_data(t, v) {
+        t.cell_at(v).number()
+    } else {
+        0
+    }
+}
+
+/// The vertices that a scanner sees, those near each other mostly one after another: by the numbers of cells at them. `of_row` has the
+/// index of each row's point, and `scanner_of` the number of its scanner.
+pub(crate) fn seen_by(
+    alloc: Global,
+    t: &Tetra,
+    of_row: &[u32],
+    scanner_of: &[u32],
+    scanner: u32,
+) -> Result<Vec<u32>, NoMemory> {
+    let mut seen = Vec::new(alloc);
+    for (point, other) in of_row.iter().zip(scanner_of) {
+        if *other == scanner {
+            seen.push(point.saturating_add(8))?;
+        }
+    }
+    seen.sort_unstable_by_key(|v| place_of(t, *v));
+    Ok(seen)
+}
+
+/// Walks along a sight, whose scanner's cell is known, and sums the numbers of the sides through which it comes into cells.
+fn walk_from(t: &Tetra, v: u32, s: Point, end: CellId) -> Answers
+    requires delaunay { IsDelaunay (vertices_of t.now) (links_of t.now.slots) }
+    requires inserted { Has (vertices_of t.now) v }
+    requires data_vertex { 8 ≤ v }
+    requires data_point { IsWithin DATA_LIMIT s }
+    requires end { IsEndCell t.now s end }
+{
+    let mut answers = Answers::default();
+    let mut along = walk_into(t, v, s, end);
+    while let Some(_crossing) = along.next() {
+        let number = along.end_cell().number().wrapping_mul(4);
+        answers = answers.and(number.wrapping_add(along.entered()));
+    }
+    answers
+}
+
+/// Walks along the sights of these vertices to a scanner.
+pub(crate) fn walk_all(t: &Tetra, vertices: &[u32], s: Point) -> Answers
+    requires delaunay { IsDelaunay (vertices_of t.now) (links_of t.now.slots) }
+    requires data_point { IsWithin DATA_LIMIT s }
+{
+    let end = locate_scanner(t, s);
+    let mut answers = Answers::default();
+    for v in vertices {
+        if is_data(t, *v) {
+            answers = answers.with(walk_from(t, *v, s, end));
+        }
+    }
+    answers
+}

@@ -1,0 +1,11 @@
+pub mod Counts
+pub mod Differences
+pub mod FaceEdges
+pub mod EdgeCounts
+pub mod Crossed
+pub mod Ranks
+pub mod Matching
+pub mod Steps
+pub mod Following
+pub mod AllRings
+pub mod Totals

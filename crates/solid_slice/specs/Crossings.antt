@@ -1,0 +1,47 @@
+-- The faces that go through the height, by the edges on which they do.
+--
+--   goes_up points h u v         whether u is below the height and v above
+--   key_of_crossing c            the number of a crossing's edge
+--   the_crossed c                its face
+--   crossings_at edge f          the crossing of face f on this edge, if there is one
+--   listed k crossings           the faces of the crossings whose edge has this number
+--   faces_up, faces_down         the first n faces that go up, or down, on the edge from u below to v above
+--   AreCrossings points faces h n ups downs   the crossings of the first n faces, upwards and downwards
+use Rattle.std.specs.Prelude.{ℕ, ◌≡◌, ◌<◌, ◌^◌, ◌==◌, ◌&&◌, not, Bool, Option, None, Some, List, [], ◌∷◌, map, filter, ℤ}
+use Rattle.geo_sign.specs.Point.{Point}
+use Rattle.mesh_ply.specs.Meshes.{below}
+use Rattle.solid_slice.specs.Edges.{has_edge}
+use Rattle.solid_slice.specs.Cuts.{is_above, face_at}
+use Rattle.solid_slice.specs.Pairs.{key_of, key_of_pair}
+use Rattle.solid_slice.specs.declared.pair.Pair.{Pair}
+use Rattle.solid_slice.specs.declared.crossings.Crossing.{Crossing}
+
+abbrev pub goes_up : List Point → ℤ → (u v : ℕ) → Bool
+goes_up points h u v = not (is_above points h u) && is_above points h v
+
+abbrev pub key_of_crossing : Crossing → ℕ
+key_of_crossing c = key_of_pair c.edge
+
+abbrev pub the_crossed : Crossing → ℕ
+the_crossed c = c.face
+
+-- the crossing of face f on this edge, if there is one
+abbrev pub crossings_at : Option Pair → ℕ → List Crossing
+crossings_at None f = []
+crossings_at (Some edge) f = record { edge = edge; face = f } ∷ []
+
+-- the faces of the crossings whose edge has this number
+abbrev pub listed : ℕ → List Crossing → List ℕ
+listed k crossings = map the_crossed (filter (λ c. key_of_crossing c == k) crossings)
+
+-- whether face f goes up on the edge from u to v, and whether it goes down on that from v to u
+abbrev pub is_upward : List Point → List (List ℕ) → ℤ → (u v f : ℕ) → Bool
+is_upward points faces h u v f = goes_up points h u v && has_edge u v (face_at faces f)
+
+abbrev pub is_downward : List Point → List (List ℕ) → ℤ → (u v f : ℕ) → Bool
+is_downward points faces h u v f = goes_up points h u v && has_edge v u (face_at faces f)
+
+-- by edge, in face order
+pub record AreCrossings (points : List Point) (faces : List (List ℕ)) (h : ℤ) (n : ℕ) (ups downs : List Crossing) : Type 0 where
+  pub upward : (u v : ℕ) → v < 2 ^ 32 → listed (key_of u v) ups ≡ filter (is_upward points faces h u v) (below n)
+  pub downward : (u v : ℕ) → v < 2 ^ 32 → listed (key_of u v) downs ≡ filter (is_downward points faces h u v) (below n)

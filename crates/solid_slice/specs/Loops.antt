@@ -1,0 +1,41 @@
+-- The loops of cut faces.
+--
+--   IsNext points faces h f g     g is the next face of f
+--   IsLoop points faces h ring    the ring's faces, each the next of the one before, round the ring, the smallest first
+--   the_face s, ring_faces r      the faces of a ring's steps
+--   AreLoops points faces h rings each cut face in exactly one ring, once, and the rings by rising first faces
+use Rattle.std.specs.Prelude.{ℕ, ◌≡◌, ◌+◌, ◌-◌, ◌<◌, ◌≤◌, ◌==◌, List, [], length, take, slice_index, slice_index_or, map, All, count_by, if◌then◌else◌, ℤ}
+use Rattle.std.specs.List.{concat}
+use Rattle.geo_sign.specs.Point.{Point}
+use Rattle.solid_slice.specs.Edges.{edge_count}
+use Rattle.solid_slice.specs.Cuts.{face_at, is_cut_at, IsUpEdge, IsDownEdge}
+use Rattle.solid_slice.specs.declared.step.Step.{Step}
+use Rattle.solid_slice.specs.declared.step.Ring.{Ring}
+
+-- The up edge of g is the reverse of the down edge of f, and as many faces before f have this down edge as faces before g
+-- have the up edge: where f is the i-th of its down edge, g is the i-th of its up edge.
+pub record IsNext (points : List Point) (faces : List (List ℕ)) (h : ℤ) (f g : ℕ) : Type 0 where
+  pub upper : ℕ
+  pub lower : ℕ
+  pub down : IsDownEdge points h (face_at faces f) upper lower
+  pub up : IsUpEdge points h (face_at faces g) lower upper
+  pub rank : edge_count upper lower (take f faces) ≡ edge_count lower upper (take g faces)
+
+-- each face is the next of the one before, round the ring, and the smallest is first
+pub record IsLoop (points : List Point) (faces : List (List ℕ)) (h : ℤ) (ring : List ℕ) : Type 0 where
+  pub some : 0 < length ring
+  pub next : (k : ℕ) → k + 1 < length ring → IsNext points faces h (slice_index ring k) (slice_index ring (k + 1))
+  pub closed : IsNext points faces h (slice_index ring (length ring - 1)) (slice_index ring 0)
+  pub smallest : All (λ f. slice_index ring 0 ≤ f) ring
+
+abbrev pub the_face : Step → ℕ
+the_face s = s.face
+
+abbrev pub ring_faces : Ring → List ℕ
+ring_faces r = map the_face r.steps.items
+
+-- each ring is a loop, each cut face stands in the rings once and no other face at all, and first faces rise
+pub record AreLoops (points : List Point) (faces : List (List ℕ)) (h : ℤ) (rings : List (List ℕ)) : Type 0 where
+  pub each : All (IsLoop points faces h) rings
+  pub once : (f : ℕ) → count_by (λ g. g == f) (concat rings) ≡ (if is_cut_at points faces h f then 1 else 0)
+  pub in_order : (j k : ℕ) → j < k → k < length rings → slice_index (slice_index_or rings j []) 0 < slice_index (slice_index_or rings k []) 0

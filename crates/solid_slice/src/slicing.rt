@@ -1,0 +1,37 @@
+//! Slices of meshes.
+
+ghost use Rattle.std.specs.Prelude.{◌≤◌, IfOk, IfErr, length, map, sum_by};
+ghost use Rattle.mesh_ply.specs.Texts.{IsPrinted};
+ghost use Rattle.solid_slice.specs.Edges.{IsBalanced};
+ghost use Rattle.solid_slice.specs.Slices.{steps_of, IsSlice};
+ghost use Rattle.solid_slice.specs.Refusals.{IsRefused};
+
+use crate::balance::check_balance;
+use crate::crossings::matched_crossings;
+use crate::rings::rings_of;
+use crate::step::Ring;
+use crate::successors::successors;
+use crate::{Mesh, SliceRefusal};
+use std::alloc::Global;
+
+/// The loops in which the plane at `height + 1/2` cuts a valid mesh.
+///
+/// Each cut face stands in one ring, once, with the point on its up edge. Round a ring each face is followed by its next
+/// face: with the down edge from u to v, and being the i-th in face order of the faces that have it, by the i-th of those
+/// with the edge from v to u. A ring begins with its smallest face, and the rings stand by rising first faces.
+///
+/// `Unbalanced` exactly where some directed edge occurs another number of times than its reverse: then no loops need close.
+/// `NoMemory` says nothing of the mesh.
+pub fn slice(alloc: Global, mesh: &Mesh, height: i32) -> Result<Vec<Ring>, SliceRefusal>
+    requires { IsPrinted mesh.now.points.items mesh.now.faces.items }
+    ensures balanced { IfOk result (λ _. IsBalanced mesh.now.faces.items) }
+    ensures slice { IfOk result (λ rings. IsSlice mesh.now.points.items mesh.now.faces.items height (map steps_of rings.items)) }
+    ensures few { IfOk result (λ rings. sum_by (λ ring. length ring) (map steps_of rings.items) ≤ length mesh.now.faces.items) }
+    ensures refused { IfErr result (λ refusal. IsRefused mesh.now.faces.items refusal) }
+{
+    check_balance(alloc, mesh)?;
+    let crossings = matched_crossings(alloc, mesh, height)?;
+    let next = successors(alloc, mesh, height, &crossings)?;
+    let rings = rings_of(alloc, mesh, height, &next)?;
+    Ok(rings)
+}
