@@ -24,9 +24,12 @@ test:
 	@echo "rt ci (every proof, every edit that must be refused, every test), then the tests of tools/: about an hour"
 	bash .ci/run
 
-# Times build and check on scans of 10,000 to 1,000,000 points and prints the table of docs/performance.md (some tens of minutes;
-# the scans are made the first time). BESIDE=PROGRAM times another program of the same words run by run with it.
+# Times calls of linked cells and walks along sights at 100,000 points, then build and check on scans of 10,000 to 1,000,000 points,
+# and prints the table of docs/performance.md (some tens of minutes; the scans are made the first time). BESIDE=PROGRAM times another
+# program of the same words run by run with it.
 bench: recon
+	@echo "times of calls of linked cells and of walks along sights, 100,000 points"
+	cd crates/cell_bench && rt run -- 100000
 	@echo "times of build and check at growing sizes, into bench_scans/"
 	python3 tools/bench.py ./recon bench_scans $(if $(BESIDE),beside=$(BESIDE))
 

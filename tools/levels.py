@@ -7,6 +7,8 @@ import pathlib
 import re
 import sys
 
+from report import reported
+
 TOP = pathlib.Path(__file__).resolve().parent.parent
 
 
@@ -40,10 +42,7 @@ def main():
     faults = [f"{name} is at level {at}, above {most}" for name, at in levels.items() if at > most]
     faults += [f"docs/layers.md has level {told.get(name)} for {name}, which is at {at}" for name, at in levels.items() if told.get(name) != at]
     faults += [f"docs/layers.md names {name}, which crates.txt does not" for name in told if name not in levels]
-    for it in faults:
-        print(f"levels: {it}")
-    print(f"levels: {len(levels)} crates, {max(levels.values())} levels, at most {most}")
-    return 1 if faults else 0
+    return reported("levels", faults, f"{len(levels)} crates, {max(levels.values())} levels, at most {most}")
 
 
 if __name__ == "__main__":

@@ -8,6 +8,8 @@ import pathlib
 import re
 import sys
 
+from report import reported
+
 TOP = pathlib.Path(__file__).resolve().parent.parent
 NAME = re.compile(r"[a-z0-9]+(_[a-z0-9]+)+")
 
@@ -44,10 +46,8 @@ def main():
     if sys.argv[1:] == ["list"]:
         for crate in sorted({path.parent.parent.name for path in paths}):
             print(f"{crate}: " + ", ".join(path.stem for path in paths if path.parent.parent.name == crate))
-    for it in faults:
-        print(f"wrong bodies: {it}")
-    print(f"wrong bodies: {len(paths)} in {len({path.parent.parent for path in paths})} crates, {len(known & {word for _, word in named()})} named in docs/promises.md")
-    return 1 if faults else 0
+    summary = f"{len(paths)} in {len({path.parent.parent for path in paths})} crates, {len(known & {word for _, word in named()})} named in docs/promises.md"
+    return reported("wrong bodies", faults, summary)
 
 
 if __name__ == "__main__":

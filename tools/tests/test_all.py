@@ -48,6 +48,32 @@ def test_meshes_in_the_numbers_of_the_scan():
     refuses('mesh_to_floats', 'no mesh', 'in.ply', 'out.ply')
 
 
+SLICE = 'loops 1\nloop 4\n0 200 40000 400\n2 40000 200 400\n3 -200 -40000 400\n1 -40000 -200 400\n'
+
+
+def test_slices_in_the_numbers_of_the_scan():
+    line = 'read 1 loop of 4 points of in.txt; left out nothing; wrote as many to out.csv'
+    write('in.txt', SLICE)
+    says('slice_to_csv', line, 'in.txt', 'out.csv')
+    equal(read('out.csv'), 'loop,face,x,y\n0,0,0.5,100\n0,2,100,0.5\n0,3,-0.5,-100\n0,1,-100,-0.5\n')
+    says('slice_to_csv', line, 'in.txt', 'out.csv', 'unit=3', 'origin=500000,-1,0')
+    equal(read('out.csv').splitlines()[1], '0,0,500000.166666666666666666666667,32.3333333333333333333333333333')
+    says('slice_to_svg', line.replace('csv', 'svg'), 'in.txt', 'out.svg', 'unit=10')
+    equal(read('out.svg').splitlines()[1:], ['<path fill="#f2cfa2" fill-rule="evenodd" stroke="#333333" stroke-width="0.1" '
+                                             'd="M0.05 -10 L10 -0.05 L-0.05 10 L-10 0.05 Z"/>', '</svg>'])
+    equal('viewBox="-11 -11 22 22"' in read('out.svg'), True)
+    write('in.txt', 'loops 0\n')
+    says('slice_to_csv', 'read 0 loops of 0 points of in.txt; left out nothing; wrote as many to out.csv', 'in.txt', 'out.csv')
+    refuses('slice_to_svg', 'nothing to draw', 'in.txt', 'out.svg', out='out.svg')
+    spoiled = ((SLICE[:-18], 'cut: `A X Y D` is missing behind line 5'), (SLICE[:-1], 'cut: line 6'), (MESH, 'line 1 is not'),
+               (SLICE + '\n', 'line 7 stands behind'), (SLICE.replace(' 400\n2', ' 0\n2'), 'line 3 is not'),
+               ('loops 1\n', 'cut: `loop N` is missing'))
+    for text, why in spoiled:
+        write('in.txt', text)
+        refuses('slice_to_csv', why, 'in.txt', 'out.csv', out='out.csv')
+        refuses('slice_to_svg', why, 'in.txt', 'out.svg', out='out.svg')
+
+
 def test_files_that_are_cut_anywhere_are_refused():
     faces = 'element face 1\nproperty list uchar int vertex_indices'
     text = head(2, 'float x, float y, float z')[:-11] + faces + '\nend_header\n1 2 3\n4.25 5 67\n3 0 1 12\n'
@@ -112,7 +138,8 @@ def test_a_last_line_without_end():
 
 
 def test_help_and_words():
-    for program in ('floats_to_text', 'thin', 'clip', 'surround', 'mesh_to_floats', 'ptx_to_ply', 'stations_to_ply', 'make_scan'):
+    for program in ('floats_to_text', 'thin', 'clip', 'surround', 'mesh_to_floats', 'slice_to_csv', 'slice_to_svg', 'ptx_to_ply',
+                    'stations_to_ply', 'make_scan'):
         status, said, error = call(program, '--help')
         equal((status, error, f'{program}.py' in said), (0, '', True))
         equal(call(program, 'a', 'b', 'c', 'd=e', 'f=g')[0] in (1, 2), True)

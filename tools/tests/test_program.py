@@ -1,5 +1,6 @@
 """The built program as the system runs it: statuses, lines and files, files that are cut or spoiled, and memory by what is
 there. They run where `recon` is built (see run.py)."""
+import hashlib
 import os
 import random
 import resource
@@ -11,7 +12,7 @@ from helpers import RECON, ROOT, equal, read, write
 EXAMPLES = os.path.join(ROOT, 'examples')
 LIMIT = 200 * 2 ** 20
 # What may stand behind a number that a command ends with, where no host fails and there is memory.
-LINES = {0: ('points ', 'yes ', 'demo '), 1: ('no ',), 2: ('refused words\n',), 3: ('refused ',)}
+LINES = {0: ('points ', 'yes ', 'demo ', 'upgraded '), 1: ('no ',), 2: ('refused words\n',), 3: ('refused ',)}
 
 
 def example(name):
@@ -55,6 +56,33 @@ def test_each_status():
     equal(os.path.exists('other'), False)
     ends(['build', 'none.ply', 'mesh.ply', 'cert'], 4, '', kept)
     ends(['build', 'scan.ply', 'no_folder/mesh.ply', 'cert'], 4, '', kept)
+
+
+def test_stamps():
+    scan = example('tetrahedron.ply')
+    write('scan', scan)
+    recon('build', 'scan', 'mesh', 'cert')
+    cert = data('cert')
+    digest = hashlib.sha256(scan).hexdigest()
+    front = f'recon certificate 2\nscan {digest}\nunit 1\nscanner none\n'.encode()
+    equal(cert[:len(front)], front)
+    write('old', b'recon certificate 1\n' + cert[len(front):])
+    ends(['check', 'scan', 'mesh', 'old'], 0, 'yes inside 1 faces 4 cost 4\n')
+    ends(['upgrade', 'scan', 'mesh', 'old', 'new'], 0, 'upgraded cost 4\n', ['scan', 'mesh', 'old'])
+    equal(data('new'), cert)
+    ends(['upgrade', 'scan', 'mesh', 'new', 'again'], 0, 'upgraded cost 4\n', ['new'])
+    equal(data('again'), cert)
+    ends(['check', 'scan', 'mesh', 'new', 'unit=2'], 1, 'no 17 other_unit stated 1 here 2\n')
+    write('longer', scan + b' ')
+    here = hashlib.sha256(scan + b' ').hexdigest()
+    ends(['check', 'longer', 'mesh', 'new'], 1, f'no 16 other_scan stated {digest} here {here}\n')
+    ends(['upgrade', 'longer', 'mesh', 'new', 'other'], 1, f'no 16 other_scan stated {digest} here {here}\n')
+    write('spoiled', cert.replace(digest.encode(), digest.upper().encode()))
+    ends(['check', 'scan', 'mesh', 'spoiled'], 1, 'no 1 cert_line line 2\n')
+    ends(['upgrade', 'scan', 'mesh', 'spoiled', 'other'], 1, 'no 1 cert_line line 2\n')
+    ends(['upgrade', 'scan', 'mesh', 'new'], 2, 'refused words\n')
+    equal(os.path.exists('other'), False)
+    ends(['upgrade', 'scan', 'mesh', 'new', 'no_folder/other'], 4, '')
 
 
 def test_words_that_are_no_text():
@@ -136,6 +164,10 @@ def test_binary_scans_of_each_type():
                         both.append((answer, data('out')))
                     equal(both[0], both[1])
                     equal(both[0][0][0], 0)
+                # The certificate is that of the text, the last that was built.
+                equal(recon('check', 'text', 'out', 'cert', 'vote=9', 'smooth=2')[0], 0)
+                equal(recon('check', 'binary', 'out', 'cert', 'vote=9', 'smooth=2', f'unit={unit}')[1][:17], 'no 16 other_scan ')
+                recon('build', 'binary', 'out', 'cert', 'vote=9', 'smooth=2', f'unit={unit}')
                 equal(recon('check', 'binary', 'out', 'cert', 'vote=9', 'smooth=2', f'unit={unit}')[0], 0)
 
 
@@ -144,6 +176,7 @@ def test_options_of_cells_and_check():
     options = ['unit=1000', 'scanner=1,1,1']
     equal(recon('build', 'scan', 'mesh', 'cert', *options), (0, 'points 4 scanners 1 sights 4 inside 1 faces 4 cost 28\n'))
     equal(recon('check', 'scan', 'mesh', 'cert', *reversed(options)), (0, 'yes inside 1 faces 4 cost 28\n'))
+    equal(recon('check', 'scan', 'mesh', 'cert', options[0], 'scanner=2,2,2')[1], 'no 18 other_fixed stated 1000 1000 1000 here 2000 2000 2000\n')
     equal(recon('cells', 'scan', 'out', *options)[0], 0)
     cells = data('out')
     equal(recon('cells', 'scan', 'out', 'unit=1', 'scanner=1,1,1'), (0, 'points 1 cells 12\n'))
@@ -165,11 +198,46 @@ def test_cost_over_32_bits():
     equal(recon('check', 'scan', 'mesh', 'cert', *options), (0, f'yes {line}'))
 
 
+DECIMALS = b"""ply
+format ascii 1.0
+comment a comment
+obj_info some words
+
+element nothing 4294967295
+element scanner 1
+property double z
+property double y
+property float x
+element vertex 2
+property float confidence
+property double x
+property double y
+property int scanner
+property double z
+end_header
+9 9e0 -9
+.5 -1.25e2 +3. 0 .4E+1
+nan 1 2 0 30
+"""
+
+
 def scans():
-    """Small scans of each kind, all of which are read."""
-    text = example('tetrahedron.ply')
-    return [text, text.replace(b'\n', b'\r\n'), example('one_point.ply'), with_lists('<'), with_lists('>'),
-            header('ascii', WITH_LIST) + b'2 1 2 100 5 -100 0\n0 -100 5 -100 0\n0 0 1000']
+    """Small scans of each kind, each with the options under which it is read."""
+    text, none = example('tetrahedron.ply'), header('ascii', [('vertex', 0, POINT + ['int scanner']), ('scanner', 1, POINT)])
+    lists = header('ascii', WITH_LIST) + b'2 1 2 100 5 -100 0\n0 -100 5 -100 0\n0 0 1000'
+    plain = [text, text.replace(b'\n', b'\r\n'), example('one_point.ply'), with_lists('<'), with_lists('>'), lists, example('cube.ply'),
+             none + b'0 0 0\n', scan_of_type('<', 'short', 3), scan_of_type('>', 'uint', 2), scan_of_type('<', 'char', 1), text_of_type('int', 2, 1)]
+    return [(scan, []) for scan in plain] + [(example('metres.ply'), ['unit=1000', 'scanner=1,1,1']), (DECIMALS, ['unit=2'])]
+
+
+def answers():
+    """Meshes with their certificates, each with the scan that they were built of."""
+    built = []
+    for name in ('tetrahedron.ply', 'cube.ply', 'one_point.ply'):
+        write('scan', example(name))
+        recon('build', 'scan', 'mesh', 'cert')
+        built.append((example(name), data('mesh'), data('cert')))
+    return built
 
 
 def is_told(answer):
@@ -180,49 +248,57 @@ def is_told(answer):
 
 
 def test_scans_cut_anywhere():
-    for number, scan in enumerate(scans()):
+    for number, (scan, options) in enumerate(scans()):
         write('whole', scan)
-        equal(recon('cells', 'whole', 'out')[0], 0)
+        equal((number, recon('cells', 'whole', 'out', *options)[0]), (number, 0))
         write('out', 'before')
         for length in range(len(scan)):
             write('cut', scan[:length])
-            answer = recon('cells', 'cut', 'out')
+            answer = recon('cells', 'cut', 'out', *options)
             is_told(answer)
             if answer[0] == 3:
                 equal(read('out'), 'before')
-            elif scan[length:].strip(b'0123456789 \r\n'):
+            elif scan[length:].strip(b'0123456789. \r\n'):
                 raise AssertionError(f'scan {number} cut at {length}: {answer!r}')
             else:
                 write('out', 'before')
 
 
 def test_files_of_an_answer_cut_anywhere():
-    write('scan', example('tetrahedron.ply'))
-    recon('build', 'scan', 'mesh', 'cert')
-    mesh, cert = data('mesh'), data('cert')
-    for length in range(len(mesh)):
-        write('cut', mesh[:length])
-        equal(recon('check', 'scan', 'cut', 'cert'), (1, f'no 15 mesh_differs at {length}\n'))
-    for length in range(len(cert)):
-        write('cut', cert[:length])
-        status, line = recon('check', 'scan', 'mesh', 'cut')
-        equal((status, line[:5]), (1, 'no 3 ' if not line.startswith('no 1 ') else 'no 1 '))
+    for scan, mesh, cert in answers():
+        for name, bytes_ in (('scan', scan), ('mesh', mesh), ('cert', cert)):
+            write(name, bytes_)
+        for length in range(len(mesh)):
+            write('cut', mesh[:length])
+            equal(recon('check', 'scan', 'cut', 'cert'), (1, f'no 15 mesh_differs at {length}\n'))
+        for length in range(len(cert)):
+            write('cut', cert[:length])
+            status, line = recon('check', 'scan', 'mesh', 'cut')
+            equal((status, line[:5]), (1, 'no 3 ' if not line.startswith('no 1 ') else 'no 1 '))
+
+
+def spoiled(draw, whole):
+    """The bytes with each of them replaced by each of sixteen others."""
+    for place in range(len(whole)):
+        for byte in draw.sample(sorted(set(range(256)) - {whole[place]}), 16):
+            yield place, whole[:place] + bytes([byte]) + whole[place + 1:]
 
 
 def test_spoiled_bytes():
     draw = random.Random(1)
-    scan = example('one_point.ply')
-    for place in range(len(scan)):
-        for byte in draw.sample(range(256), 4):
-            write('spoiled', scan[:place] + bytes([byte]) + scan[place + 1:])
-            is_told(recon('cells', 'spoiled', 'out'))
-    write('scan', scan)
-    recon('build', 'scan', 'mesh', 'cert')
-    cert = data('cert')
-    for place in range(len(cert)):
-        for byte in draw.sample(range(256), 4):
-            write('spoiled', cert[:place] + bytes([byte]) + cert[place + 1:])
-            is_told(recon('check', 'scan', 'mesh', 'spoiled'))
+    scan, mesh, cert = answers()[2]
+    for _, other in spoiled(draw, scan):
+        write('spoiled', other)
+        is_told(recon('cells', 'spoiled', 'out'))
+    write('mesh', mesh)
+    write('cert', cert)
+    for place, other in spoiled(draw, mesh):
+        write('spoiled', other)
+        equal(recon('check', 'scan', 'spoiled', 'cert'), (1, f'no 15 mesh_differs at {place}\n'))
+    for _, other in spoiled(draw, cert):
+        write('spoiled', other)
+        status, line = recon('check', 'scan', 'mesh', 'spoiled')
+        equal((status, line[:3], line.count('\n')), (1, 'no ', 1))
 
 
 def test_memory_follows_the_bytes():
