@@ -9,7 +9,7 @@ ghost use Rattle.votes.specs.Counts.{IsInRange};
 
 use crate::{count_votes, count_votes_rising};
 use delaunay::build;
-use flow_net::{Settings, Sight, Voted, are_sights};
+use flow_net::{Arc, Net, Sequence, Settings, Sight, Voted, are_sights};
 use geo_sign::Point;
 use plain_net::{is_same_in_any_order, plain_net};
 use sight::walk;
@@ -220,6 +220,85 @@ fn a_sight_through_the_cell_raises_the_facet_that_it_enters(rt: HostRuntime) -> 
             let inner = voted.cells.as_slice().get(arc.to).copied();
             assert_eq!(rt; inner, Some([8, 9, 10, 11]));
         }
+    }
+    Ok(())
+}
+
+/// A network with another sink of its first node.
+fn with_other_sink(alloc: Global, voted: &Voted) -> Result<Voted, Fail> {
+    let mut sink = voted.net.sink.as_slice().to_vec(alloc)?;
+    let first = sink.first_mut().ok_or("a node")?;
+    *first ^= 1;
+    made(
+        alloc,
+        voted,
+        &sink,
+        voted.net.arcs.as_slice(),
+        voted.facets.as_slice(),
+    )
+}
+
+/// A network with another capacity of its last arc.
+fn with_other_capacity(alloc: Global, voted: &Voted) -> Result<Voted, Fail> {
+    let mut arcs = voted.net.arcs.as_slice().to_vec(alloc)?;
+    let last = arcs.last_mut().ok_or("an arc")?;
+    last.cap ^= 1;
+    made(
+        alloc,
+        voted,
+        voted.net.sink.as_slice(),
+        &arcs,
+        voted.facets.as_slice(),
+    )
+}
+
+/// A network without its last facet and its arc, which has no reverse.
+fn without_last_facet(alloc: Global, voted: &Voted) -> Result<Voted, Fail> {
+    let (_, arcs) = voted.net.arcs.as_slice().split_last().ok_or("an arc")?;
+    let (_, facets) = voted.facets.as_slice().split_last().ok_or("a facet")?;
+    made(alloc, voted, voted.net.sink.as_slice(), arcs, facets)
+}
+
+/// The network of the nodes of another, with these parts.
+fn made(
+    alloc: Global,
+    voted: &Voted,
+    sink: &[u64],
+    arcs: &[Arc],
+    facets: &[[u32; 3]],
+) -> Result<Voted, Fail> {
+    let fixed = voted.net.fixed.as_slice();
+    if !Net::is_valid(fixed, sink, arcs) {
+        return Err("a network".into());
+    }
+    let net = Net::new(
+        Sequence::from(fixed.to_vec(alloc)?),
+        Sequence::from(sink.to_vec(alloc)?),
+        Sequence::from(arcs.to_vec(alloc)?),
+    );
+    Ok(Voted {
+        net,
+        cells: Sequence::from(voted.cells.as_slice().to_vec(alloc)?),
+        facets: Sequence::from(facets.to_vec(alloc)?),
+    })
+}
+
+#[test]
+fn networks_that_differ_in_one_place_are_told_apart(rt: HostRuntime) -> Result<(), Fail> {
+    let alloc = rt.alloc();
+    let points = four_points()?;
+    let scanners = five_scanners()?;
+    let settings = Settings::new(8, 1).ok_or("settings")?;
+    let (rising, stored) = walked(alloc, &points, &five_sights(1), &scanners, settings)?.ok_or(
+        "a scan",
+    )?;
+    assert!(rt; is_same_in_any_order(&rising, &stored));
+    for other in [
+        with_other_sink(alloc, &stored)?,
+        with_other_capacity(alloc, &stored)?,
+        without_last_facet(alloc, &stored)?,
+    ] {
+        assert!(rt; !is_same_in_any_order(&rising, &other));
     }
     Ok(())
 }
