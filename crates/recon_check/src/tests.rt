@@ -28,9 +28,8 @@ fn replaced(alloc: Global, text: &str, part: &str, other: &str) -> Result<String
     Ok(whole)
 }
 
-// The stamp of the runs here, whose digest is of zeros alone.
-fn stamp() -> Stamp {
-    let digest = [0; 32];
+// The stamp of a run at unit 1, without a fixed scanner.
+fn stamp_of(digest: [u8; 32]) -> Stamp {
     Stamp {
         digest,
         unit: 1,
@@ -42,7 +41,8 @@ fn stamp() -> Stamp {
 fn answer(alloc: Global, scan: &str, vote: u32, mesh: &[u8], cert: &str) -> Result<Answer, Fail> {
     let scan = read_scan(alloc, scan.as_bytes(), 1, None)?;
     let settings = Settings::new(vote, 1).ok_or("settings")?;
-    Ok(check_all(alloc, &scan, settings, &stamp(), mesh, cert.as_bytes())?)
+    let stamp = stamp_of([0; 32]);
+    Ok(check_all(alloc, &scan, settings, &stamp, mesh, cert.as_bytes())?)
 }
 
 #[test]
