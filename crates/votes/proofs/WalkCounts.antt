@@ -1,6 +1,7 @@
--- The counters of facets while a walk along a sight goes on. What is counted so far and what the facets to come will add is always what
--- all facets of the sight add; a step moves the first facet from the one to the other. Each side stands among the facets of a sight
--- once or not at all, as the sight crosses it or not, so at the end the amount has been added to exactly the crossed ones.
+-- The counters of facets while a walk along a sight goes on. What is counted so far, what the facets to come will add, and what is still
+-- to be added beside this walk, is always the same total; a step moves the first facet from the second to the first. So two walks can
+-- take turns: what the one has still to add stands beside the other. Each side stands among the facets of a sight once or not at all,
+-- as the sight crosses it or not, so at the end the amount has been added to exactly the crossed ones.
 use Rattle.std.proofs.Common.{ℕ, ◌<◌, ◌≤◌, ◌+◌, ◌*◌, ◌^◌, ◌≡◌, ◌≢◌, inl, inr, refl, sym, ap, ap₂, subst, ◌∙◌, arith, Bool, true, false, true≢false, ◌&&◌, cond, List, [], ◌∷◌, length, set, slice_index}
 use Rattle.std.proofs.lemmas.Bool.{and_parts, and_from, eqb-true, eq-eqb}
 use Rattle.std.proofs.lemmas.List.{get_or-set_same, get_or-set_other, length-set}
@@ -17,22 +18,26 @@ use Rattle.tetra_store.specs.Store.{Store, vertices_of}
 use Rattle.tetra_walk.proofs.Bridge.{live_in_range}
 use Rattle.sight.specs.declared.along.Crossing.{Crossing}
 use Rattle.sight.specs.Walks.{Walk, IsSight, IsTaken}
-use Rattle.votes.specs.Counts.{is_crossed_at}
+use Rattle.votes.specs.declared.tally.Line.{Line}
+use Rattle.votes.specs.Counts.{is_crossed_at, is_behind_at}
+use Rattle.votes.specs.Lines.{added_on, added_behind, HasRoom, IsCountedStep}
 
-abbrev side : (id k : ℕ) → Side
+abbrev pub side : (id k : ℕ) → Side
 side id k = record { at = id; side = k }
 
 -- what a list of sides adds to the counter of a side
-abbrev adds : (amount : ℕ) → Side → List Side → ℕ
+abbrev pub adds : (amount : ℕ) → Side → List Side → ℕ
 adds amount c [] = 0
 adds amount c (d ∷ ds) = cond (is_that c d) amount 0 + adds amount c ds
 
--- the sides counted and those to come add what all of them do
-pub record IsCounting (s : Store) (amount : ℕ) (first now : Walk) (old crossed : List ℕ) : Type 0 where
+-- the counters, what the walk adds from here on, and what else is still added make the total
+pub record IsCounting (s : Store) (amount : ℕ) (now : Walk) (beside total : (id k : ℕ) → ℕ) (crossed : List ℕ) : Type 0 where
   pub store : now.store ≡ s
-  pub same_length : length crossed ≡ length old
-  pub sums : (id k : ℕ) → k < 4 →
-      slice_index crossed (4 * id + k) + adds amount (side id k) now.to_come ≡ slice_index old (4 * id + k) + adds amount (side id k) first.to_come
+  pub sums : (id k : ℕ) → k < 4 → slice_index crossed (4 * id + k) + adds amount (side id k) now.to_come + beside id k ≡ total id k
+
+-- what a walk adds from here on
+abbrev pub rest_of : (amount : ℕ) → Walk → (id k : ℕ) → ℕ
+rest_of amount w id k = adds amount (side id k) w.to_come
 
 that_is : (c d : Side) → is_that c d ≡ true → d ≡ c
 that_is c d h = let x = and_parts _ _ h in same_side d c (eqb-true d.at c.at x.0) (eqb-true d.side c.side x.1)
@@ -113,7 +118,7 @@ once w h id k l = by ((links_of w.store.slots).is_live id) refl
         count_none w.to_come (side id k) (λ i. true≢false (sym (h.crossed (side id k) i).0 ∙ f))
         ∙ ap (λ (b : Bool). one_if (b && is_crossed (vertices_of w.store) w.vertex (displaced w.scanner) (facet_of ((links_of w.store.slots).at id) k))) (sym f)
 
-abbrev IsFrom : Store → ℕ → Point → Walk → Type 0
+abbrev pub IsFrom : Store → ℕ → Point → Walk → Type 0
 IsFrom s p o w = (w.store ≡ s) × (w.vertex ≡ p) × (w.scanner ≡ o)
 
 -- so all of a sight adds the amount to what it crosses
@@ -130,55 +135,79 @@ at_most true amount = omega arith
 at_most false amount = omega arith
 
 -- ---- a step of the walk
-pub begins : (s : Store) (amount : ℕ) (w : Walk) (old : List ℕ) → w.store ≡ s → IsCounting s amount w w old old
-begins s amount w old e = record { store = e; same_length = refl; sums = λ id k l. refl }
-
-pub in_range : (s : Store) (now next : Walk) (xs : List ℕ) (c : Crossing) → now.store ≡ s → 4 * length s.slots ≤ length xs →
-    IsTaken now next c → 4 * next.at + next.entered < length xs
-in_range s now next xs c e h t =
-    let l : IsLive (links_of s.slots) next.at = subst (λ (u : Store). IsLive (links_of u.slots) next.at) e t.live in
-    let r = live_in_range s.slots next.at l in
+pub in_range : (s : Store) (from to : Walk) (xs : List ℕ) (c : Crossing) → from.store ≡ s → 4 * length s.slots ≤ length xs →
+    IsTaken from to c → 4 * to.at + to.entered < length xs
+in_range s from to xs c e h t =
+    let l : IsLive (links_of s.slots) to.at = subst (λ (u : Store). IsLive (links_of u.slots) to.at) e t.live in
+    let r = live_in_range s.slots to.at l in
     let m = t.side_in in
     omega (arith, r, m, h)
 
-pub counted_on : (s : Store) (amount : ℕ) (first now next : Walk) (old xs : List ℕ) (c : Crossing) →
-    IsCounting s amount first now old xs → IsTaken now next c → 4 * next.at + next.entered < length xs →
-    IsCounting s amount first next old (set xs (4 * next.at + next.entered) (slice_index xs (4 * next.at + next.entered) + amount))
-counted_on s amount first now next old xs c h t l =
-    record {
-      store = t.same.0 ∙ h.store;
-      same_length = length-set xs (4 * next.at + next.entered) (slice_index xs (4 * next.at + next.entered) + amount) ∙ h.same_length;
+-- a step keeps the total
+pub counted_on : (s : Store) (amount : ℕ) (from to : Walk) (beside total : (id k : ℕ) → ℕ) (xs ys : List ℕ) →
+    IsCounting s amount from beside total xs → 4 * length s.slots ≤ length xs → IsCountedStep amount from to xs ys → IsCounting s amount to beside total ys
+counted_on s amount from to beside total xs ys h fits step =
+    subst (λ (zs : List ℕ). IsCounting s amount to beside total zs) (sym step.raised)
+    (record {
+      store = step.taken.same.0 ∙ h.store;
       sums = λ id k m.
-          (count_step amount id k (side next.at next.entered) next.to_come xs m t.side_in l
-          ∙ ap (λ (ds : List Side). slice_index xs (4 * id + k) + adds amount (side id k) ds) (sym t.first) ∙ h.sums id k m);
-    }
+          (let one = count_step amount id k (side to.at to.entered) to.to_come xs m step.taken.side_in (in_range s from to xs step.crossing h.store fits step.taken) in
+          let all : adds amount (side id k) from.to_come ≡ adds amount (side id k) (side to.at to.entered ∷ to.to_come) = ap (λ (ds : List Side). adds amount (side id k) ds) step.taken.first in
+          let sum = h.sums id k m in
+          omega (arith, one, all, sum));
+    })
 
-pub shorter : (now next : Walk) (c : Crossing) → IsTaken now next c → length next.to_come < length now.to_come
-shorter now next c t = let e : length now.to_come ≡ length next.to_come + 1 = ap length t.first ∙ plus in omega (arith, e)
+-- and the number of counters
+pub same_length : (amount : ℕ) (from to : Walk) (xs ys : List ℕ) → IsCountedStep amount from to xs ys → length ys ≡ length xs
+same_length amount from to xs ys step =
+    ap length step.raised ∙ length-set xs (4 * to.at + to.entered) (slice_index xs (4 * to.at + to.entered) + amount)
+
+pub shorter : (amount : ℕ) (from to : Walk) (xs ys : List ℕ) → IsCountedStep amount from to xs ys → length to.to_come < length from.to_come
+shorter amount from to xs ys step =
+    let e : length from.to_come ≡ length to.to_come + 1 = ap length step.taken.first ∙ plus in omega (arith, e)
   where
-    plus : length (side next.at next.entered ∷ next.to_come) ≡ length next.to_come + 1
+    plus : length (side to.at to.entered ∷ to.to_come) ≡ length to.to_come + 1
     plus = omega arith
 
--- a counter that a walk raises has room for it
-pub room : (s : Store) (p : ℕ) (o : Point) (amount : ℕ) (first now next : Walk) (old xs : List ℕ) (c : Crossing) →
-    IsFrom s p o first → IsSight first → IsCounting s amount first now old xs → IsTaken now next c →
-    ((id k : ℕ) → k < 4 → slice_index old (4 * id + k) + amount < 2 ^ 32) → slice_index xs (4 * next.at + next.entered) + amount < 2 ^ 32
-room s p o amount first now next old xs c e sight h t r =
-    let id = next.at in let k = next.entered in
-    let sum = h.sums id k t.side_in in
-    let all = all_add s p o amount first e sight id k t.side_in in
-    let most = at_most (is_crossed_at s p (displaced o) id k) amount in
-    let before = r id k t.side_in in
-    let here : adds amount (side id k) now.to_come ≡ cond (is_that (side id k) (side id k)) amount 0 + adds amount (side id k) next.to_come = ap (λ (ds : List Side). adds amount (side id k) ds) t.first in
-    let one : cond (is_that (side id k) (side id k)) amount 0 ≡ amount = ap (λ (b : Bool). cond b amount 0) (that_itself (side id k)) in
-    omega (arith, sum, all, most, before, here, one)
+-- a counter that a walk raises has room where each total has
+pub has_room : (s : Store) (amount : ℕ) (now : Walk) (beside total : (id k : ℕ) → ℕ) (xs : List ℕ) → IsCounting s amount now beside total xs →
+    ((id k : ℕ) → k < 4 → total id k < 2 ^ 32) → HasRoom now.to_come amount xs
+has_room s amount now beside total xs h small d ds l e =
+    let sum = h.sums d.at d.side l in
+    let most = small d.at d.side l in
+    let here : adds amount d now.to_come ≡ cond (is_that d d) amount 0 + adds amount d ds = ap (λ (list : List Side). adds amount d list) e in
+    let one : cond (is_that d d) amount 0 ≡ amount = ap (λ (b : Bool). cond b amount 0) (that_itself d) in
+    omega (arith, sum, most, here, one)
 
--- where nothing is left to come
-pub all_counted : (s : Store) (p : ℕ) (o : Point) (amount : ℕ) (first now : Walk) (old xs : List ℕ) → IsFrom s p o first →
-    IsSight first → IsCounting s amount first now old xs → now.to_come ≡ [] →
-    (id k : ℕ) → k < 4 → slice_index xs (4 * id + k) ≡ slice_index old (4 * id + k) + cond (is_crossed_at s p (displaced o) id k) amount 0
-all_counted s p o amount first now old xs e sight h n id k l =
-    let sum = h.sums id k l in
-    let all = all_add s p o amount first e sight id k l in
-    let none : adds amount (side id k) now.to_come ≡ 0 = ap (λ (ds : List Side). adds amount (side id k) ds) n in
-    omega (arith, sum, all, none)
+-- a walk's turn, whether it went on or was out, keeps the total and the number of counters
+pub kept : (s : Store) (amount : ℕ) (from to : Walk) (beside total : (id k : ℕ) → ℕ) (xs ys : List ℕ) (b : Bool) → IsCounting s amount from beside total xs →
+    4 * length s.slots ≤ length xs → (b ≡ true → IsCountedStep amount from to xs ys) → (b ≡ false → (from.to_come ≡ []) × (to ≡ from) × (ys ≡ xs)) →
+    IsCounting s amount to beside total ys × (length ys ≡ length xs)
+kept s amount from to beside total xs ys true h fits on out =
+    (counted_on s amount from to beside total xs ys h fits (on refl), same_length amount from to xs ys (on refl))
+kept s amount from to beside total xs ys false h fits on out = (
+  subst (λ (w : Walk). IsCounting s amount w beside total ys) (sym (out refl).1) (subst (λ (zs : List ℕ). IsCounting s amount from beside total zs) (sym (out refl).2) h),
+  ap length (out refl).2,
+)
+
+pub no_longer : (amount : ℕ) (from to : Walk) (xs ys : List ℕ) (b : Bool) → (b ≡ true → IsCountedStep amount from to xs ys) →
+    (b ≡ false → (from.to_come ≡ []) × (to ≡ from) × (ys ≡ xs)) → length to.to_come ≤ length from.to_come
+no_longer amount from to xs ys true on out = let l = shorter amount from to xs ys (on refl) in omega (arith, l)
+no_longer amount from to xs ys false on out = let l : length to.to_come ≡ length from.to_come = ap (λ (w : Walk). length w.to_come) (out refl).1 in omega (arith, l)
+
+-- two walks take turns: each is counted beside the other
+pub in_turn : (s : Store) (amount other_amount : ℕ) (now other : Walk) (total : (id k : ℕ) → ℕ) (xs : List ℕ) → IsCounting s amount now (rest_of other_amount other) total xs →
+    other.store ≡ s → IsCounting s other_amount other (rest_of amount now) total xs
+in_turn s amount other_amount now other total xs h e = record { store = e; sums = λ id k l. (let sum = h.sums id k l in omega (arith, sum)) }
+
+-- what is added by all of a line's facets
+pub line_adds : (s : Store) (line : Line) (w : Walk) → IsFrom s line.vertex line.scanner w → IsSight w → (id k : ℕ) → k < 4 →
+    rest_of line.added w id k ≡ added_on s line id k
+line_adds s line w e h id k l = all_add s line.vertex line.scanner line.added w e h id k l
+
+-- which is the amount at most
+pub line_adds_at_most : (s : Store) (line : Line) (id k : ℕ) → added_on s line id k ≤ line.added
+line_adds_at_most s line id k = at_most (is_crossed_at s line.vertex (displaced line.scanner) id k) line.added
+
+pub line_adds_behind_at_most : (s : Store) (line : Line) (id : ℕ) → added_behind s line id ≤ line.added
+line_adds_behind_at_most s line id = at_most (is_behind_at s line.vertex (displaced line.scanner) id) line.added

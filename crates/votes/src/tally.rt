@@ -1,6 +1,6 @@
 //! Counting along sights.
 
-ghost use Rattle.std.specs.Prelude.{◌≡◌, ◌<◌, ◌≤◌, ◌+◌, ◌*◌, ◌^◌, ℕ, All, IfOk, length, slice_index, slice_index_or, if◌then◌else◌};
+ghost use Rattle.std.specs.Prelude.{◌≡◌, ◌<◌, ◌≤◌, ◌+◌, ◌*◌, ◌^◌, ℕ, [], All, IfOk, IsTrue, IsFalse, length, slice_index};
 ghost use Rattle.geo_sign.specs.declared.point.TheConstants.{DATA_LIMIT};
 ghost use Rattle.geo_sign.specs.Point.{origin, IsWithin};
 ghost use Rattle.geo_sign.specs.Rational.{displaced};
@@ -10,7 +10,8 @@ ghost use Rattle.tetra_store.specs.Delaunay.{IsDelaunay};
 ghost use Rattle.tetra_store.specs.Links.{links_of};
 ghost use Rattle.tetra_store.specs.Store.{vertices_of};
 ghost use Rattle.sight.specs.Walks.{IsEndCell};
-ghost use Rattle.votes.specs.Counts.{IsInRange, added_by as added_by_sight, is_crossed_at, is_behind_at, AreScannerCells, AreCounted};
+ghost use Rattle.votes.specs.Counts.{IsInRange, added_by as added_by_sight, AreScannerCells, AreCounted};
+ghost use Rattle.votes.specs.Lines.{IsLineOf, IsLine, added_on, added_behind, HasRoom, IsCountedStep};
 
 use crate::NoMemory;
 use flow_net::Sight;
@@ -37,20 +38,27 @@ fn added_by(sight: Sight) -> u32
     sight.weight
 }
 
-/// Where a scanner stands.
-fn scanner_at(scanners: &[Point], k: u32) -> Point
-    requires { k < length scanners.now }
-    ensures { result ≡ slice_index_or scanners.now k origin }
-{
-    scanners[k as usize]
+/// A sight to be walked along, from its vertex to its scanner in the cell `end`, and what it adds.
+#[derive(Clone, Copy)]
+struct Line {
+    vertex: u32,
+    scanner: Point,
+    end: CellId,
+    added: u32,
 }
 
-/// The cell of a scanner.
-fn cell_at(cells: &[CellId], k: u32) -> CellId
-    requires { k < length cells.now }
-    ensures { result ≡ slice_index cells.now k }
+/// The line of a sight.
+fn line_of(scanners: &[Point], cells: &[CellId], sight: Sight) -> Line
+    requires scanner { sight.scanner < length scanners.now }
+    requires cell { sight.scanner < length cells.now }
+    ensures { IsLineOf scanners.now cells.now sight result }
 {
-    cells[k as usize]
+    Line {
+        vertex: sight.vertex,
+        scanner: scanners[sight.scanner as usize],
+        end: cells[sight.scanner as usize],
+        added: added_by(sight),
+    }
 }
 
 /// The index of the counter of the facet through which a walk came into the cell that it has reached.
@@ -61,37 +69,88 @@ fn counter_of(along: &SightWalk<'_>) -> usize
     4 * along.end_cell().number() + along.entered()
 }
 
-/// Adds an amount for each facet that a sight crosses, on its way to the scanner's cell `end`.
-fn count_crossed(t: &Tetra, v: u32, s: Point, end: CellId, added: u32, crossed: &mut [u32])
-    requires delaunay { IsDelaunay (vertices_of t.now) (links_of t.now.slots) }
-    requires inserted { Has (vertices_of t.now) v }
-    requires data_vertex { 8 ≤ v }
-    requires data_point { IsWithin DATA_LIMIT s }
-    requires end { IsEndCell t.now s end }
+/// Goes on along a sight by one facet and adds an amount for it. No exactly where none is left.
+fn count_next(t: &Tetra, along: &mut SightWalk<'_>, added: u32, crossed: &mut [u32]) -> bool
+    requires store { along.old.store ≡ t.now }
     requires fits { 4 * length t.now.slots ≤ length crossed.old }
-    requires room { (id k : ℕ) → k < 4 → slice_index crossed.old (4 * id + k) + added < 2 ^ 32 }
-    ensures count { length crossed.new ≡ length crossed.old }
-    ensures added { (id k : ℕ) → k < 4 → slice_index crossed.new (4 * id + k) ≡ slice_index crossed.old (4 * id + k) + (if is_crossed_at t.now v (displaced s) id k then added else 0) }
+    requires room { HasRoom along.old.to_come added crossed.old }
+    ensures on { IsTrue result → IsCountedStep added along.old along.new crossed.old crossed.new }
+    ensures out { IsFalse result → (along.old.to_come ≡ []) × (along.new ≡ along.old) × (crossed.new ≡ crossed.old) }
 {
-    let mut along = walk_into(t, v, s, end);
-    while let Some(_crossing) = along.next() {
-        crossed[counter_of(&along)] += added;
+    let _store = t;
+    match along.next() {
+        None => false,
+        Some(_crossing) => {
+            crossed[counter_of(along)] += added;
+            true
+        }
     }
 }
 
-/// Adds an amount for the cell behind a sight.
-fn count_behind(t: &Tetra, v: u32, s: Point, added: u32, before: &mut [u32])
+/// Adds for each facet that a line crosses what it adds.
+fn count_crossed(t: &Tetra, line: &Line, crossed: &mut [u32])
     requires delaunay { IsDelaunay (vertices_of t.now) (links_of t.now.slots) }
-    requires inserted { Has (vertices_of t.now) v }
-    requires data_vertex { 8 ≤ v }
-    requires data_point { IsWithin DATA_LIMIT s }
-    requires fits { length t.now.slots ≤ length before.old }
-    requires room { (id : ℕ) → slice_index before.old id + added < 2 ^ 32 }
-    ensures count { length before.new ≡ length before.old }
-    ensures added { (id : ℕ) → slice_index before.new id ≡ slice_index before.old id + (if is_behind_at t.now v (displaced s) id then added else 0) }
+    requires line { IsLine t.now line.now }
+    requires fits { 4 * length t.now.slots ≤ length crossed.old }
+    requires room { (id k : ℕ) → k < 4 → slice_index crossed.old (4 * id + k) + line.now.added < 2 ^ 32 }
+    ensures count { length crossed.new ≡ length crossed.old }
+    ensures added { (id k : ℕ) → k < 4 → slice_index crossed.new (4 * id + k) ≡ slice_index crossed.old (4 * id + k) + added_on t.now line.now id k }
 {
-    let id = behind(t, v, s);
-    before[id.number()] += added;
+    let mut along = walk_into(t, line.vertex, line.scanner, line.end);
+    while count_next(t, &mut along, line.added, crossed) {}
+}
+
+/// The same for two lines. They are gone along in turn, so that the one goes on while the other waits for memory.
+fn count_crossed_by_two(t: &Tetra, one: &Line, other: &Line, crossed: &mut [u32])
+    requires delaunay { IsDelaunay (vertices_of t.now) (links_of t.now.slots) }
+    requires one { IsLine t.now one.now }
+    requires other { IsLine t.now other.now }
+    requires fits { 4 * length t.now.slots ≤ length crossed.old }
+    requires room { (id k : ℕ) → k < 4 → slice_index crossed.old (4 * id + k) + (one.now.added + other.now.added) < 2 ^ 32 }
+    ensures count { length crossed.new ≡ length crossed.old }
+    ensures added { (id k : ℕ) → k < 4 → slice_index crossed.new (4 * id + k) ≡ slice_index crossed.old (4 * id + k) + (added_on t.now one.now id k + added_on t.now other.now id k) }
+{
+    let mut along_one = walk_into(t, one.vertex, one.scanner, one.end);
+    let mut along_other = walk_into(t, other.vertex, other.scanner, other.end);
+    loop {
+        let one_goes_on = count_next(t, &mut along_one, one.added, crossed);
+        let other_goes_on = count_next(t, &mut along_other, other.added, crossed);
+        if !one_goes_on && !other_goes_on {
+            return;
+        }
+    }
+}
+
+/// Adds for the cell behind a line what it adds.
+fn count_behind(t: &Tetra, line: &Line, before: &mut [u32])
+    requires delaunay { IsDelaunay (vertices_of t.now) (links_of t.now.slots) }
+    requires line { IsLine t.now line.now }
+    requires fits { length t.now.slots ≤ length before.old }
+    requires room { (id : ℕ) → slice_index before.old id + line.now.added < 2 ^ 32 }
+    ensures count { length before.new ≡ length before.old }
+    ensures added { (id : ℕ) → slice_index before.new id ≡ slice_index before.old id + added_behind t.now line.now id }
+{
+    let id = behind(t, line.vertex, line.scanner);
+    before[id.number()] += line.added;
+}
+
+/// Adds what two lines add, for each facet that they cross and for the cells behind them.
+fn count_two(t: &Tetra, one: &Line, other: &Line, crossed: &mut [u32], before: &mut [u32])
+    requires delaunay { IsDelaunay (vertices_of t.now) (links_of t.now.slots) }
+    requires one { IsLine t.now one.now }
+    requires other { IsLine t.now other.now }
+    requires crossed_fit { 4 * length t.now.slots ≤ length crossed.old }
+    requires before_fit { length t.now.slots ≤ length before.old }
+    requires crossed_room { (id k : ℕ) → k < 4 → slice_index crossed.old (4 * id + k) + (one.now.added + other.now.added) < 2 ^ 32 }
+    requires before_room { (id : ℕ) → slice_index before.old id + (one.now.added + other.now.added) < 2 ^ 32 }
+    ensures crossed_count { length crossed.new ≡ length crossed.old }
+    ensures before_count { length before.new ≡ length before.old }
+    ensures facets { (id k : ℕ) → k < 4 → slice_index crossed.new (4 * id + k) ≡ slice_index crossed.old (4 * id + k) + (added_on t.now one.now id k + added_on t.now other.now id k) }
+    ensures cells { (id : ℕ) → slice_index before.new id ≡ slice_index before.old id + (added_behind t.now one.now id + added_behind t.now other.now id) }
+{
+    count_crossed_by_two(t, one, other, crossed);
+    count_behind(t, one, before);
+    count_behind(t, other, before);
 }
 
 /// Adds for each directed facet the weights of the sights that cross it, and for each cell of those that it is behind, where the cells
@@ -116,12 +175,17 @@ pub(crate) fn count_sights(
     }
     let mut crossed = vec![in alloc; 0; 4 * limit]?;
     let mut behind = vec![in alloc; 0; limit]?;
-    for sight in sights {
-        let scanner = scanner_at(scanners, sight.scanner);
-        let end = cell_at(cells, sight.scanner);
-        let added = added_by(*sight);
-        count_crossed(t, sight.vertex, scanner, end, added, &mut crossed);
-        count_behind(t, sight.vertex, scanner, added, &mut behind);
+    let mut k = 0;
+    while k + 1 < sights.len() {
+        let one = line_of(scanners, cells, sights[k]);
+        let other = line_of(scanners, cells, sights[k + 1]);
+        count_two(t, &one, &other, &mut crossed, &mut behind);
+        k += 2;
+    }
+    if k < sights.len() {
+        let last = line_of(scanners, cells, sights[k]);
+        count_crossed(t, &last, &mut crossed);
+        count_behind(t, &last, &mut behind);
     }
     Ok(Counts { crossed, behind })
 }

@@ -1,9 +1,11 @@
-use Rattle.std.proofs.Common.{length}
-use Rattle.votes.proofs.WalkCounts.{IsCounting}
+use Rattle.std.proofs.Common.{ℕ, ◌≡◌, ◌+◌, ◌*◌, length, slice_index}
+use Rattle.votes.proofs.WalkCounts.{IsCounting, rest_of}
 use Rattle.votes.proofs.tally.count_crossed.Given as goal
 
-abbrev pub invariant-loop-crossing : goal.invariant-loop-crossing
-invariant-loop-crossing l = IsCounting l.t l.added l.initial.along l.along l.initial.crossed l.crossed
+abbrev pub invariant-loop-along : goal.invariant-loop-along
+invariant-loop-along l =
+    (length l.crossed ≡ length l.initial.crossed)
+    × IsCounting l.t l.line.added l.along (λ id k. 0) (λ id k. slice_index l.initial.crossed (4 * id + k) + rest_of l.line.added l.initial.along id k) l.crossed
 
-abbrev pub decreases-loop-crossing : goal.decreases-loop-crossing
-decreases-loop-crossing l = length l.along.to_come
+abbrev pub decreases-loop-along : goal.decreases-loop-along
+decreases-loop-along l = length l.along.to_come

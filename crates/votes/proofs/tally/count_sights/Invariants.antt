@@ -1,5 +1,9 @@
+use Rattle.std.proofs.Common.{length, ◌-◌}
 use Rattle.votes.proofs.Tallies.{IsTally}
 use Rattle.votes.proofs.tally.count_sights.Given as goal
 
-abbrev pub invariant-loop-sight : goal.invariant-loop-sight
-invariant-loop-sight l = IsTally l.t l.scanners l.sights l.sight-index l.crossed.items l.behind.items
+abbrev pub invariant-loop-k : goal.invariant-loop-k
+invariant-loop-k l = IsTally l.t l.scanners l.sights l.k l.crossed.items l.behind.items
+
+abbrev pub decreases-loop-k : goal.decreases-loop-k
+decreases-loop-k l = length l.sights - l.k

@@ -1,0 +1,52 @@
+-- Lines of sight as they are walked, and one step along them.
+--
+--   IsLineOf scanners cells sight line   the line of a sight
+--   IsLine s line                        a line that can be walked along
+--   added_on s line id k                 what it adds for a facet
+--   added_behind s line id               what it adds for a cell
+--   HasRoom sides amount counters        the counter of the first of the facets to come has room for an amount
+--   IsCountedStep                        a walk went on by one facet, whose counter was raised
+use Rattle.std.specs.Prelude.{ℕ, ◌≡◌, ◌<◌, ◌≤◌, ◌+◌, ◌*◌, ◌^◌, List, ◌∷◌, set, slice_index, slice_index_or, if◌then◌else◌}
+use Rattle.geo_sign.specs.declared.point.TheConstants.{DATA_LIMIT}
+use Rattle.geo_sign.specs.Point.{Point, origin, IsWithin}
+use Rattle.geo_sign.specs.Rational.{displaced}
+use Rattle.geo_sign.specs.Vertices.{Has}
+use Rattle.cell_laws.specs.Links.{Side}
+use Rattle.flow_net.specs.declared.votes.Sight.{Sight}
+use Rattle.tetra_store.specs.Store.{Store, vertices_of}
+use Rattle.sight.specs.declared.along.Crossing.{Crossing}
+use Rattle.sight.specs.Walks.{Walk, IsTaken, IsEndCell}
+use Rattle.votes.specs.declared.tally.Line.{Line}
+use Rattle.votes.specs.Counts.{added_by, is_crossed_at, is_behind_at}
+
+-- from the sight's vertex to where its scanner stands, which is in this cell
+pub record IsLineOf (scanners : List Point) (cells : List ℕ) (sight : Sight) (line : Line) : Type 0 where
+  pub vertex : line.vertex ≡ sight.vertex
+  pub scanner : line.scanner ≡ slice_index_or scanners sight.scanner origin
+  pub end : line.end ≡ slice_index cells sight.scanner
+  pub added : line.added ≡ added_by sight
+
+-- from an inserted data point to a data point, whose cell is known
+pub record IsLine (s : Store) (line : Line) : Type 0 where
+  pub inserted : Has (vertices_of s) line.vertex
+  pub data_vertex : 8 ≤ line.vertex
+  pub data_point : IsWithin DATA_LIMIT line.scanner
+  pub end : IsEndCell s line.scanner line.end
+
+-- what a line adds for facet k of a cell
+abbrev pub added_on : Store → Line → (id k : ℕ) → ℕ
+added_on s line id k = if is_crossed_at s line.vertex (displaced line.scanner) id k then line.added else 0
+
+-- what it adds for a cell
+abbrev pub added_behind : Store → Line → (id : ℕ) → ℕ
+added_behind s line id = if is_behind_at s line.vertex (displaced line.scanner) id then line.added else 0
+
+-- the counter of the first facet to come, if there is one, stays below 2 ^ 32 with the amount
+abbrev pub HasRoom : List Side → ℕ → List ℕ → Type 0
+HasRoom sides amount counters = (side : Side) (later : List Side) → side.side < 4 → sides ≡ side ∷ later → slice_index counters (4 * side.at + side.side) + amount < 2 ^ 32
+
+-- the walk went on by one facet, and the amount was added to its counter
+pub record IsCountedStep (amount : ℕ) (from to : Walk) (old new : List ℕ) : Type 0 where
+  pub crossing : Crossing
+  pub taken : IsTaken from to crossing
+  pub raised : new ≡ set old (4 * to.at + to.entered) (slice_index old (4 * to.at + to.entered) + amount)
