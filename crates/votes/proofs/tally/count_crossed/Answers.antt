@@ -1,4 +1,4 @@
-use Rattle.std.proofs.Common.{◌≡◌, ◌<◌, ◌≤◌, ◌+◌, ◌*◌, ◌^◌, ℕ, refl, ◌∙◌, arith, [], ap, length, slice_index}
+use Rattle.std.proofs.Common.{◌≡◌, ◌+◌, ◌*◌, refl, ◌∙◌, arith, ap, slice_index}
 use Rattle.votes.proofs.WalkCounts.{counted_on, same_length, shorter, has_room, line_adds, line_adds_at_most, rest_of, adds, side}
 use Rattle.votes.proofs.tally.count_crossed.Goals as goal
 

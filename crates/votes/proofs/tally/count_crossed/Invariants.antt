@@ -1,4 +1,4 @@
-use Rattle.std.proofs.Common.{ℕ, ◌≡◌, ◌+◌, ◌*◌, length, slice_index}
+use Rattle.std.proofs.Common.{◌≡◌, ◌+◌, ◌*◌, length, slice_index}
 use Rattle.votes.proofs.WalkCounts.{IsCounting, rest_of}
 use Rattle.votes.proofs.tally.count_crossed.Given as goal
 

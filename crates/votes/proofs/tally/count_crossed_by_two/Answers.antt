@@ -1,9 +1,8 @@
-use Rattle.std.proofs.Common.{◌≡◌, ◌<◌, ◌≤◌, ◌+◌, ◌*◌, ◌^◌, ℕ, refl, ◌∙◌, arith, List, [], ap, length, slice_index}
+use Rattle.std.proofs.Common.{◌≡◌, ◌<◌, ◌≤◌, ◌+◌, ◌*◌, ◌^◌, ℕ, refl, ◌∙◌, arith, List, ap, length, slice_index}
 use Rattle.sight.specs.Walks.{Walk, IsSight}
 use Rattle.tetra_store.specs.Store.{Store}
 use Rattle.votes.specs.declared.tally.Line.{Line}
-use Rattle.votes.specs.Lines.{HasRoom}
-use Rattle.votes.proofs.WalkCounts.{IsFrom, IsCounting, kept, in_turn, no_longer, shorter, has_room, line_adds, line_adds_at_most, rest_of, adds, side}
+use Rattle.votes.proofs.WalkCounts.{IsFrom, kept, in_turn, no_longer, shorter, has_room, line_adds, line_adds_at_most, rest_of, adds, side}
 use Rattle.votes.proofs.tally.count_crossed_by_two.Goals as goal
 use Rattle.votes.proofs.tally.count_crossed_by_two.Goals.{else-not-one_goes_on-via-then-not-one_goes_on+else-not-other_goes_on, else-not-one_goes_on-via-else-not-one_goes_on}
 

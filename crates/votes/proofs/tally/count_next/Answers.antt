@@ -1,4 +1,4 @@
-use Rattle.std.proofs.Common.{◌<◌, ◌+◌, ◌^◌, ℕ, sym, subst, arith, set, slice_index}
+use Rattle.std.proofs.Common.{◌<◌, ◌+◌, ◌^◌, ℕ, sym, subst, arith, slice_index}
 use Rattle.votes.proofs.tally.count_next.Goals as goal
 
 pub overflow_add-crossed : goal.overflow_add-crossed

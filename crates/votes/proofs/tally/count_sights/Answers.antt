@@ -1,4 +1,4 @@
-use Rattle.std.proofs.Common.{ℕ, ◌≡◌, ◌<◌, ◌≤◌, ◌+◌, ◌*◌, ◌^◌, ◌++◌, ◌∙◌, sym, ap, subst, arith, List, length, take, drop, slice_index}
+use Rattle.std.proofs.Common.{ℕ, ◌≡◌, ◌<◌, ◌+◌, ◌*◌, ◌^◌, ◌++◌, ◌∙◌, sym, ap, subst, arith, List, length, take, drop, slice_index}
 use Rattle.std.proofs.lemmas.List.{take_at}
 use Rattle.votes.specs.Counts.{AreCounted}
 use Rattle.votes.specs.Lines.{added_on, added_behind}
