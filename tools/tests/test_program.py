@@ -171,6 +171,35 @@ def test_binary_scans_of_each_type():
                 equal(recon('check', 'binary', 'out', 'cert', 'vote=9', 'smooth=2', f'unit={unit}')[0], 0)
 
 
+# Points with their weights and the scanners that saw them, and the places of these, as in examples/weighed.ply.
+WEIGHED = [((100, 100, 100), 2, [0]), ((100, -100, -100), 1, [1, 1]), ((-100, 100, -100), 1, [2]), ((-100, -100, 100), 1, [3]), ((0, 0, 0), 1, [])]
+AROUND = [(1000, 1000, 1000), (1000, -1000, -1000), (-1000, 1000, -1000), (-1000, -1000, 1000)]
+
+
+def weighed(order):
+    """That scan in a binary file, the scanners first and the lists before the points."""
+    kind = 'binary_little_endian' if order == '<' else 'binary_big_endian'
+    head = header(kind, [('scanner', 4, POINT), ('vertex', 5, ['list ushort uchar scanner', 'short weight'] + POINT)])
+    places = b''.join(struct.pack(order + '3i', *place) for place in AROUND)
+    rows = (struct.pack(f'{order}H{len(by)}Bh3i', len(by), *by, weight, *point) for point, weight, by in WEIGHED)
+    return head + places + b''.join(rows)
+
+
+def test_weights_and_several_scanners():
+    line = 'points 5 scanners 4 sights 5 inside 4 faces 4 cost 4\n'
+    write('scan', example('weighed.ply'))
+    equal(recon('build', 'scan', 'mesh', 'cert', 'vote=1'), (0, line))
+    equal(recon('check', 'scan', 'mesh', 'cert', 'vote=1'), (0, 'yes inside 4 faces 4 cost 4\n'))
+    mesh = data('mesh')
+    for order in '<>':
+        write('binary', weighed(order))
+        equal(recon('build', 'binary', 'mesh', 'cert', 'vote=1'), (0, line))
+        equal(data('mesh'), mesh)
+        equal(recon('check', 'binary', 'mesh', 'cert', 'vote=1')[0], 0)
+    write('light', example('weighed.ply').replace(b' 2 1 0\n', b' 0 1 0\n'))
+    equal(recon('build', 'light', 'mesh', 'cert'), (3, 'refused 21 bad_weight row 0 weight 0\n'))
+
+
 def test_options_of_cells_and_check():
     write('scan', example('metres.ply'))
     options = ['unit=1000', 'scanner=1,1,1']
@@ -226,7 +255,8 @@ def scans():
     text, none = example('tetrahedron.ply'), header('ascii', [('vertex', 0, POINT + ['int scanner']), ('scanner', 1, POINT)])
     lists = header('ascii', WITH_LIST) + b'2 1 2 100 5 -100 0\n0 -100 5 -100 0\n0 0 1000'
     plain = [text, text.replace(b'\n', b'\r\n'), example('one_point.ply'), with_lists('<'), with_lists('>'), lists, example('cube.ply'),
-             none + b'0 0 0\n', scan_of_type('<', 'short', 3), scan_of_type('>', 'uint', 2), scan_of_type('<', 'char', 1), text_of_type('int', 2, 1)]
+             none + b'0 0 0\n', scan_of_type('<', 'short', 3), scan_of_type('>', 'uint', 2), scan_of_type('<', 'char', 1), text_of_type('int', 2, 1),
+             example('weighed.ply'), weighed('<'), weighed('>')]
     return [(scan, []) for scan in plain] + [(example('metres.ply'), ['unit=1000', 'scanner=1,1,1']), (DECIMALS, ['unit=2'])]
 
 
@@ -307,6 +337,8 @@ def test_memory_follows_the_bytes():
     equal(recon('cells', 'rows', 'out', limit=True), (3, 'refused 17 cut element 0 row 0 property 0\n'))
     write('list', header('binary_little_endian', [('other', 1, ['list uint double a'])] + WITH_LIST) + struct.pack('<I', 2 ** 31))
     equal(recon('cells', 'list', 'out', limit=True), (3, 'refused 17 cut element 0 row 0 property 0\n'))
+    write('seen', header('binary_little_endian', [('vertex', 1, ['list uint uchar scanner'] + POINT), ('scanner', 1, POINT)]) + struct.pack('<I', 2 ** 31))
+    equal(recon('cells', 'seen', 'out', limit=True), (3, 'refused 17 cut element 0 row 0 property 0\n'))
     write('many', header('ascii', [('vertex', rows, POINT + ['int scanner']), ('scanner', 1, POINT)]))
     equal(recon('cells', 'many', 'out', limit=True), (3, f'refused 10 too_many vertex count {rows}\n'))
     write('scan', example('tetrahedron.ply'))

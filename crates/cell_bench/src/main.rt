@@ -86,7 +86,7 @@ fn time_seen<R: Print + Clock>(
     let mut nanos: u64 = 0;
     let mut number: u32 = 0;
     for scanner in &scan.scanners {
-        let seen = seen_by(alloc, &t, &merged.of_row, &scan.seen_by, number)?;
+        let seen = seen_by(alloc, &t, &merged.of_row, &scan.seen, number)?;
         let start = Instant::now(rt)?;
         walked = walked.with(walk_all(&t, &seen, *scanner));
         nanos = nanos.wrapping_add(nanos_since(rt, start)?);

@@ -12,6 +12,7 @@ ghost use Rattle.tetra_store.specs.Store.{vertices_of};
 use crate::NoMemory;
 use crate::calls::Answers;
 use geo_sign::Point;
+use scan::Seen;
 use sight::walk_into;
 use std::alloc::Global;
 use tetra_store::{CellId, Tetra};
@@ -34,18 +35,20 @@ fn place_of(t: &Tetra, v: u32) -> usize {
 }
 
 /// The vertices that a scanner sees, those near each other mostly one after another: by the numbers of cells at them. `of_row` has the
-/// index of each row's point, and `scanner_of` the number of its scanner.
+/// index of each row's point.
 pub(crate) fn seen_by(
     alloc: Global,
     t: &Tetra,
     of_row: &[u32],
-    scanner_of: &[u32],
+    sights: &[Seen],
     scanner: u32,
 ) -> Result<Vec<u32>, NoMemory> {
     let mut seen = Vec::new(alloc);
-    for (point, other) in of_row.iter().zip(scanner_of) {
-        if *other == scanner {
-            seen.push(point.saturating_add(8))?;
+    for sight in sights {
+        if sight.scanner == scanner {
+            if let Some(point) = of_row.get(sight.row as usize) {
+                seen.push(point.saturating_add(8))?;
+            }
         }
     }
     seen.sort_unstable_by_key(|v| place_of(t, *v));

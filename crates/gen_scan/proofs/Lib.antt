@@ -1,2 +1,3 @@
 pub mod Scanners
 pub mod Words
+pub mod Rows

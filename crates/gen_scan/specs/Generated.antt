@@ -35,7 +35,7 @@ generator seed = started 64 multiplier_64 seed (increment_of 64 1)
 
 -- the row of this number: a point on the face whose turn it is, at two words, seen from before that face
 abbrev pub row_of : (number first second : ℕ) → VertexRow
-row_of number first second = record { point = on_face (number % 6) (pos 1000) (spread first) (spread second); seen_by = number % 6 }
+row_of number first second = record { point = on_face (number % 6) (pos 1000) (spread first) (spread second); weight = 1; seen_by = number % 6 ∷ [] }
 
 -- a row for each two words, from this number on
 abbrev pub rows_of_words : ℕ → List ℕ → List VertexRow

@@ -1,20 +1,17 @@
 //! The scan that a number makes. It stands on the faces of `cube` and on the kit's `rand_pcg`.
 
-ghost use Rattle.std.specs.Prelude.{◌≡◌, ◌<◌, ◌≤◌, ◌*◌, ℕ, IfOk, All, length, unsigned_abs};
-ghost use Rattle.geo_sign.specs.Point.{IsWithin};
-ghost use Rattle.rand_core.specs.Steps.{first_words};
-ghost use Rattle.rand_pcg.specs.Pcg.{pcg32};
-ghost use Rattle.scan.specs.ScanRows.{point_limit, vertex_rows};
-ghost use Rattle.scan.specs.Views.{rows_of};
-ghost use Rattle.gen_scan.specs.Generated.{spread as spread_of, generator, rows_of_words, generated};
-ghost use Rattle.geo_sign.specs.declared.point.TheConstants.{DATA_LIMIT};
+ghost use Rattle.std.specs.Prelude.{◌≡◌, ◌≤◌, IfOk, length, unsigned_abs};
+ghost use Rattle.scan.specs.ScanRows.{point_limit};
+ghost use Rattle.scan.specs.Shown.{shown_by};
+ghost use Rattle.scan.specs.Views.{shown_of};
+ghost use Rattle.gen_scan.specs.Generated.{spread as spread_of, generated};
 
 use crate::NoMemory;
 use crate::cube::{FACES, point_on_face, scanners};
 use geo_sign::Point;
 use rand_core::utils::NextWord;
 use rand_pcg::Pcg32;
-use scan::Scan;
+use scan::{Scan, Seen};
 use std::alloc::Global;
 
 // How far the faces are from the middle, in scaled whole units.
@@ -28,25 +25,27 @@ fn spread(word: u32) -> i64
     i64::from(word % 2_001) - 1_000
 }
 
-// The points of so many rows and the numbers of their scanners.
-fn vertices(alloc: Global, count: u32, seed: u64) -> Result<(Vec<Point>, Vec<u32>), NoMemory>
-    ensures rows { IfOk result (λ made. vertex_rows made.0.items made.1.items ≡ rows_of_words 0 (first_words pcg32 (count * 2) (generator seed))) }
-    ensures data { IfOk result (λ made. All (IsWithin DATA_LIMIT) made.0.items) }
-    ensures there { IfOk result (λ made. All (λ k. k < 6) made.1.items) }
-    ensures points { IfOk result (λ made. length made.0.items ≡ count) }
-    ensures numbers { IfOk result (λ made. length made.1.items ≡ count) }
+// The points of so many rows, and the sight of each.
+fn vertices(alloc: Global, count: u32, seed: u64) -> Result<(Vec<Point>, Vec<Seen>), NoMemory>
+    ensures points { IfOk result (λ made. made.0.items ≡ (shown_by (generated count seed)).points) }
+    ensures seen { IfOk result (λ made. made.1.items ≡ (shown_by (generated count seed)).seen) }
+    ensures count { IfOk result (λ made. length made.0.items ≡ count) }
 {
     let mut words = Pcg32::new(seed, 1);
     let mut points = Vec::new(alloc);
-    let mut seen_by = Vec::new(alloc);
+    let mut seen = Vec::new(alloc);
     for row in 0..count {
         let u = spread(words.next_word());
         let v = spread(words.next_word());
         let face = row % FACES;
         points.push(point_on_face(face, FACE_DISTANCE, u, v))?;
-        seen_by.push(face)?;
+        seen.push(Seen {
+            row,
+            scanner: face,
+            weight: 1,
+        })?;
     }
-    Ok((points, seen_by))
+    Ok((points, seen))
 }
 
 /// The scan of `n` rows that a seed makes.
@@ -57,13 +56,13 @@ fn vertices(alloc: Global, count: u32, seed: u64) -> Result<(Vec<Point>, Vec<u32
 pub fn gen_scan(alloc: Global, n: u32, seed: u64) -> Result<Scan, NoMemory>
     requires least { 1 ≤ n }
     requires most { n ≤ point_limit }
-    ensures { IfOk result (λ scan. rows_of scan ≡ generated n seed) }
+    ensures { IfOk result (λ scan. shown_of scan ≡ shown_by (generated n seed)) }
 {
     let scanners = scanners(alloc)?;
-    let (points, seen_by) = vertices(alloc, n, seed)?;
+    let (points, seen) = vertices(alloc, n, seed)?;
     Ok(Scan {
         points,
         scanners,
-        seen_by,
+        seen,
     })
 }

@@ -1,7 +1,7 @@
 -- Rows that were gathered in any order and then sorted are those of the rising lists. The cells or facets that sorted rows are about
 -- rise, since no two are equal, and they are the members of the rising list that pass the same test; and a row is made of what it is
 -- about.
-use Rattle.std.proofs.Common.{ℕ, ◌+◌, ◌<◌, ◌≤◌, ◌^◌, ◌≡◌, ◌≢◌, ◌↔◌, ◌⊎◌, inl, inr, ⊎_elim, not, refl, ap, sym, subst, ◌∙◌, arith, Bool, List, [], ◌∷◌, length, map, filter, get_or, eqb, AllPairs, Contains}
+use Rattle.std.proofs.Common.{ℕ, ◌<◌, ◌≤◌, ◌^◌, ◌≡◌, ◌≢◌, ◌↔◌, ◌⊎◌, inl, inr, ⊎_elim, not, refl, ap, sym, subst, ◌∙◌, arith, Bool, List, [], ◌∷◌, length, map, filter, get_or, eqb, AllPairs, Contains}
 use Rattle.std.specs.List.Sorted.{IsPermutation, IsNonDecreasingBy}
 use Rattle.std.proofs.lemmas.List.{get_or-map, get_or_default, length-map, same_lists}
 use Rattle.std.proofs.lemmas.List.Elements.{Contains-get_or}
@@ -21,7 +21,7 @@ use Rattle.visibility.specs.Laws.{IsOrdered}
 use Rattle.visibility.specs.Listings.{AreOnce, IsListingOf}
 use Rattle.visibility.specs.Scenes.{Scene}
 use Rattle.visibility.proofs.Indices.{once_permuted}
-use Rattle.visibility.proofs.Listings.{cells_once, facets_once, cell_back, facet_back, rising_cell}
+use Rattle.visibility.proofs.Listings.{cells_once, facets_once, facet_back, rising_cell}
 use Rattle.visibility.proofs.Ordered.{facets_are_ordered, form_below}
 use Rattle.vote_net.specs.Gathered.{row_key, facet_key}
 use Rattle.vote_net.proofs.KeyOrders.{AreSmall, rows_before, facets_before}

@@ -10,11 +10,12 @@ use Rattle.flow_net.specs.declared.votes.Sight.{Sight}
 use Rattle.geo_sign.specs.Point.{Point}
 use Rattle.geo_sign.specs.Vertices.{corners}
 use Rattle.geo_sign.specs.Vertices as all
-use Rattle.scan.specs.ScanRows.{ScanRows}
-use Rattle.scan.specs.Views.{rows_of}
+use Rattle.scan.specs.Shown.{Shown}
+use Rattle.scan.proofs.ShownLemmas.{scan_is_shown}
+use Rattle.scan.specs.Views.{shown_of}
 use Rattle.scan.specs.declared.scan.Scan.{Scan}
-use Rattle.solution.specs.Scans.{points_of, sights_of, scene_of_rows}
-use Rattle.solution.proofs.ScanScenes.{is_scan, sights_are, IsSightOf}
+use Rattle.solution.specs.Scans.{points_of, sights_of, scene_of_scan}
+use Rattle.solution.proofs.ScanScenes.{sights_are, IsSightOf}
 use Rattle.tetra_store.specs.Delaunay.{IsDelaunay}
 use Rattle.tetra_store.specs.Links.{links_of}
 use Rattle.tetra_store.specs.Store.{Store, IsStore, vertices_of}
@@ -28,33 +29,33 @@ pub corner_count : (s : Store) (points : List Point) → s.points ≡ corners ++
 corner_count s points e = ap length e ∙ length-append corners points
 
 -- a scan's sights are in range of the store of its points
-pub sights_in_range : (scan : Scan) (s : Store) (points scanners : List Point) (sights : List Sight) → points ≡ points_of (rows_of scan) → s.points ≡ corners ++ points → ((u : ℕ) → u < length s.points → slice_index_or s.inserted u false ≡ true)
-    → scanners ≡ scan.scanners.items → sights ≡ sights_of (rows_of scan) → All (IsInRange (vertices_of s) scanners) sights
+pub sights_in_range : (scan : Scan) (s : Store) (points scanners : List Point) (sights : List Sight) → points ≡ points_of (shown_of scan) → s.points ≡ corners ++ points → ((u : ℕ) → u < length s.points → slice_index_or s.inserted u false ≡ true)
+    → scanners ≡ scan.scanners.items → sights ≡ sights_of (shown_of scan) → All (IsInRange (vertices_of s) scanners) sights
 sights_in_range scan s points scanners sights are stored inserted same_scanners same = subst (All (IsInRange (vertices_of s) scanners)) (sym same) by
   where
-    by : All (IsInRange (vertices_of s) scanners) (sights_of (rows_of scan))
+    by : All (IsInRange (vertices_of s) scanners) (sights_of (shown_of scan))
     by i d l =
-        let h : IsSightOf (points_of (rows_of scan)) scan.scanners.items (get_or (sights_of (rows_of scan)) i d) = sights_are (rows_of scan) (is_scan scan) i d l in
-        let below : (get_or (sights_of (rows_of scan)) i d).vertex < length s.points = omega (arith, h.vertex, corner_count s points stored, ap length are) in
+        let h : IsSightOf (points_of (shown_of scan)) scan.scanners.items (get_or (sights_of (shown_of scan)) i d) = sights_are (shown_of scan) (scan_is_shown scan) i d l in
+        let below : (get_or (sights_of (shown_of scan)) i d).vertex < length s.points = omega (arith, h.vertex, corner_count s points stored, ap length are) in
         record { inserted = (below, inserted _ below); data_vertex = h.data_vertex; scanner = omega (arith, h.scanner, ap length same_scanners) }
 
 -- the store's cells are all cells of the scan
-pub all_cells : (rows : ScanRows) (settings : Settings) (s : Store) (points : List Point) → points ≡ points_of rows → IsStore s → s.points ≡ corners ++ points → IsDelaunay (vertices_of s) (links_of s.slots)
-    → ((u : ℕ) → u < length s.points → slice_index_or s.inserted u false ≡ true) → AreCellsOf (scene_of_rows rows settings) s.slots
-all_cells rows settings s points are kept stored delaunay inserted =
-    stored_cells_law s (points_of rows) kept (stored ∙ ap (λ (list : List Point). corners ++ list) are) delaunay inserted rows.scanners (sights_of rows) settings
+pub all_cells : (scan : Shown) (settings : Settings) (s : Store) (points : List Point) → points ≡ points_of scan → IsStore s → s.points ≡ corners ++ points → IsDelaunay (vertices_of s) (links_of s.slots)
+    → ((u : ℕ) → u < length s.points → slice_index_or s.inserted u false ≡ true) → AreCellsOf (scene_of_scan scan settings) s.slots
+all_cells scan settings s points are kept stored delaunay inserted =
+    stored_cells_law s (points_of scan) kept (stored ∙ ap (λ (list : List Point). corners ++ list) are) delaunay inserted scan.scanners (sights_of scan) settings
 
 -- and it is the scan's store
-pub store_is : (rows : ScanRows) (settings : Settings) (s : Store) (points : List Point) → points ≡ points_of rows → s.points ≡ corners ++ points → ((u : ℕ) → u < length s.points → slice_index_or s.inserted u false ≡ true)
-    → IsDelaunay (all.vertices_of points) (links_of s.slots) → IsPartition s → AreCellsOf (scene_of_rows rows settings) s.slots → IsStoreOf rows settings s
-store_is rows settings s points are stored inserted delaunay partition cells =
+pub store_is : (scan : Shown) (settings : Settings) (s : Store) (points : List Point) → points ≡ points_of scan → s.points ≡ corners ++ points → ((u : ℕ) → u < length s.points → slice_index_or s.inserted u false ≡ true)
+    → IsDelaunay (all.vertices_of points) (links_of s.slots) → IsPartition s → AreCellsOf (scene_of_scan scan settings) s.slots → IsStoreOf scan settings s
+store_is scan settings s points are stored inserted delaunay partition cells =
     record {
       points = stored ∙ ap (λ (list : List Point). corners ++ list) are;
       inserted = inserted;
       delaunay = subst (λ (list : List Point). IsDelaunay (all.vertices_of list) (links_of s.slots)) are delaunay;
       partition = partition;
       cells = λ complex is.
-          (let law = row_law (all.vertices_of (points_of rows)) _ (links_of s.slots).at cells.listing in
+          (let law = row_law (all.vertices_of (points_of scan)) _ (links_of s.slots).at cells.listing in
           record {
             row = λ id h. (let z = law.row id (listed s.slots id h) in (z.0, z.1.is, is.cells_are.all z.0 z.2));
             cell = λ row there. (let z = law.name row (is.cells_are.cells row there) in (z.0, live s.slots z.0 z.1, z.2));

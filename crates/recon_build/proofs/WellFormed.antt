@@ -24,9 +24,9 @@ use Rattle.visibility.proofs.Amounts.{capacity_fits, sink_fits}
 use Rattle.visibility.proofs.Ordered.{facets_are_ordered, form_below}
 use Rattle.flow_net.specs.declared.votes.Settings.{Settings}
 use Rattle.scan.specs.ScanRows.{point_limit}
-use Rattle.scan.specs.Views.{rows_of}
+use Rattle.scan.specs.Views.{shown_of}
 use Rattle.scan.specs.declared.scan.Scan.{Scan}
-use Rattle.solution.proofs.SightLists.{few_points, row_count}
+use Rattle.solution.proofs.SightLists.{few_points}
 use Rattle.solution.specs.Solutions.{HasCounts, IsCertificate, flow_on, sink_at, flow_row, sink_row, flow_rows, sink_rows}
 use Rattle.flow_net.specs.Weights.{IsSightList}
 
@@ -163,12 +163,12 @@ version_of None = tt
 version_of (Some s) = record { digest = s.digest_is; unit = s.unit_is; fixed = s.fixed_is }
 
 -- the counts of a scan fit
-pub fit_counts : (claim : Claim) (scan : Scan) (settings : Settings) → HasCounts claim (rows_of scan) settings → claim.counts.cost < 2 ^ 64 → FitCounts claim.counts
+pub fit_counts : (claim : Claim) (scan : Scan) (settings : Settings) → HasCounts claim (shown_of scan) settings → claim.counts.cost < 2 ^ 64 → FitCounts claim.counts
 fit_counts claim scan settings has cost =
     record {
       points = omega (arith, has.points, few_points scan);
       scanners = omega (arith, has.scanners, scan.scanners_fit);
-      sights = omega (arith, has.sights, row_count scan, scan.points_fit);
+      sights = omega (arith, has.sights, scan.sights_fit);
       vote = omega (arith, has.vote, settings.vote_at_most);
       smooth = omega (arith, has.smooth, settings.smooth_at_most);
       cost = cost;

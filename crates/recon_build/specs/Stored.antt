@@ -1,14 +1,14 @@
 -- The linked cells of a scan.
 --
 --   AreRowsOf slots cells          the list has the rising row of each live cell, and no other rows
---   IsStoreOf rows settings s      the Delaunay cells of the scan's points, all inserted, of which a solution speaks
+--   IsStoreOf scan settings s      the Delaunay cells of the scan's points, all inserted, of which a solution speaks
 use Rattle.std.specs.Prelude.{ℕ, ◌≡◌, ◌<◌, ◌++◌, true, false, List, Option, length, slice_index_or, Contains}
 use Rattle.delaunay.specs.Partition.{IsPartition}
 use Rattle.flow_net.specs.declared.votes.Settings.{Settings}
 use Rattle.geo_sign.specs.RowLaws.{IsRowOf}
 use Rattle.geo_sign.specs.Vertices.{corners, vertices_of}
-use Rattle.scan.specs.ScanRows.{ScanRows}
-use Rattle.solution.specs.Scans.{points_of, scene_of_rows}
+use Rattle.scan.specs.Shown.{Shown}
+use Rattle.solution.specs.Scans.{points_of, scene_of_scan}
 use Rattle.tetra_store.specs.Delaunay.{IsDelaunay}
 use Rattle.tetra_store.specs.Links.{links_of, IsLive}
 use Rattle.tetra_store.specs.Store.{Store}
@@ -23,9 +23,9 @@ pub record AreRowsOf (slots : List (Option Cell)) (cells : List (List ℕ)) : Ty
 
 -- The corners of the box and the scan's distinct points in their order, all inserted. The live cells are exactly their Delaunay cells,
 -- and part the box. Any complex of the scan, so also that of a solution, has the live cells' rows as its cells.
-pub record IsStoreOf (rows : ScanRows) (settings : Settings) (s : Store) : Type 0 where
-  pub points : s.points ≡ corners ++ points_of rows
+pub record IsStoreOf (scan : Shown) (settings : Settings) (s : Store) : Type 0 where
+  pub points : s.points ≡ corners ++ points_of scan
   pub inserted : (u : ℕ) → u < length s.points → slice_index_or s.inserted u false ≡ true
-  pub delaunay : IsDelaunay (vertices_of (points_of rows)) (links_of s.slots)
+  pub delaunay : IsDelaunay (vertices_of (points_of scan)) (links_of s.slots)
   pub partition : IsPartition s
-  pub cells : (complex : Complex) → IsComplexOf (scene_of_rows rows settings) complex → AreRowsOf s.slots complex.cells
+  pub cells : (complex : Complex) → IsComplexOf (scene_of_scan scan settings) complex → AreRowsOf s.slots complex.cells

@@ -2,8 +2,8 @@
 //! what each sight votes for.
 
 ghost use Rattle.std.specs.Prelude.{IfOk};
-ghost use Rattle.scan.specs.Views.{rows_of};
-ghost use Rattle.solution.specs.Scans.{scene_of_rows};
+ghost use Rattle.scan.specs.Views.{shown_of};
+ghost use Rattle.solution.specs.Scans.{scene_of_scan};
 ghost use Rattle.visibility.specs.Networks.{IsNetworkInAnyOrder};
 ghost use Rattle.vote_net.specs.Counts.{AreCellsOf, AreIdsOf};
 ghost use Rattle.recon_build.specs.Stored.{IsStoreOf};
@@ -24,9 +24,9 @@ pub(crate) fn network(
     scan: &Scan,
     settings: Settings,
 ) -> Result<(Tetra, Counted), NoMemory>
-    ensures store { IfOk result (λ made. IsStoreOf (rows_of scan.now) settings made.0) }
-    ensures cells { IfOk result (λ made. AreCellsOf (scene_of_rows (rows_of scan.now) settings) made.0.slots) }
-    ensures network { IfOk result (λ made. IsNetworkInAnyOrder (scene_of_rows (rows_of scan.now) settings) made.1.voted) }
+    ensures store { IfOk result (λ made. IsStoreOf (shown_of scan.now) settings made.0) }
+    ensures cells { IfOk result (λ made. AreCellsOf (scene_of_scan (shown_of scan.now) settings) made.0.slots) }
+    ensures network { IfOk result (λ made. IsNetworkInAnyOrder (scene_of_scan (shown_of scan.now) settings) made.1.voted) }
     ensures ids { IfOk result (λ made. AreIdsOf made.0.slots made.1.voted.cells made.1.ids.items) }
 {
     let seen = seen_in(alloc, scan)?;

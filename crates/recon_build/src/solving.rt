@@ -6,12 +6,12 @@ ghost use Rattle.cert_text.specs.Certificates.{claim_of, stamp_view, IsWellForme
 ghost use Rattle.flow_net.specs.Flows.{IsValidFlow, IsLeastInside, cost_of, value_of};
 ghost use Rattle.geo_sign.specs.Vertices.{corners};
 ghost use Rattle.mesh_ply.specs.Meshes.{IsMesh};
-ghost use Rattle.scan.specs.Views.{rows_of};
+ghost use Rattle.scan.specs.Views.{shown_of};
 ghost use Rattle.visibility.specs.Laws.{test_of};
 ghost use Rattle.visibility.specs.Listings.{IsListingOf};
 ghost use Rattle.visibility.specs.Networks.{complex_of, IsNetworkInAnyOrder};
 ghost use Rattle.vote_net.specs.Counts.{AreCellsOf, AreIdsOf};
-ghost use Rattle.solution.specs.Scans.{points_of, scene_of_rows};
+ghost use Rattle.solution.specs.Scans.{points_of, scene_of_scan};
 ghost use Rattle.solution.specs.Solutions.{HasCounts, IsCertificate, IsSolution, surface_of};
 ghost use Rattle.surface.specs.Closed.{IsClosed};
 ghost use Rattle.surface.specs.Labelled.{Cutting};
@@ -53,13 +53,13 @@ fn certificate(
     flow: &Flow,
     stamp: Option<Stamp>,
 ) -> Result<Certificate, NoMemory>
-    requires points { tetra.now.points ≡ corners ++ points_of (rows_of scan.now) }
-    requires network { IsNetworkInAnyOrder (scene_of_rows (rows_of scan.now) settings) voted.now }
+    requires points { tetra.now.points ≡ corners ++ points_of (shown_of scan.now) }
+    requires network { IsNetworkInAnyOrder (scene_of_scan (shown_of scan.now) settings) voted.now }
     requires labels { IsLeastInside voted.now.net labels.now }
     requires flow { IsValidFlow voted.now.net flow.now }
     requires equal { cost_of voted.now.net labels.now ≡ value_of voted.now.net flow.now }
-    ensures counts { IfOk result (λ cert. HasCounts (claim_of cert) (rows_of scan.now) settings) }
-    ensures states { (listing : IsListingOf (scene_of_rows (rows_of scan.now) settings) (complex_of voted.now)) → IfOk result (λ cert. IsCertificate (scene_of_rows (rows_of scan.now) settings) listing.complex (test_of voted.now.cells labels.now.inside) (claim_of cert)) }
+    ensures counts { IfOk result (λ cert. HasCounts (claim_of cert) (shown_of scan.now) settings) }
+    ensures states { (listing : IsListingOf (scene_of_scan (shown_of scan.now) settings) (complex_of voted.now)) → IfOk result (λ cert. IsCertificate (scene_of_scan (shown_of scan.now) settings) listing.complex (test_of voted.now.cells labels.now.inside) (claim_of cert)) }
     ensures well_formed { IfOk result (λ cert. IsWellFormed (claim_of cert)) }
     ensures stamp { IfOk result (λ cert. (claim_of cert).stamp ≡ option_map stamp_view stamp) }
 {
@@ -68,7 +68,7 @@ fn certificate(
         stamp,
         points: tetra.vertex_count() - 8,
         scanners: scan.scanners.len() as u32,
-        sights: scan.seen_by.len() as u32,
+        sights: scan.seen.len() as u32,
         vote: settings.vote,
         smooth: settings.smooth,
         cost: least_cost(scan, settings, voted, labels),
@@ -88,17 +88,17 @@ fn solve_over(
     stamp: Option<Stamp>,
 ) -> Result<Solved, NoMemory>
     ghost cutting: { Cutting }
-    requires scene { cutting.scene ≡ scene_of_rows (rows_of scan.now) settings }
+    requires scene { cutting.scene ≡ scene_of_scan (shown_of scan.now) settings }
     requires complex { cutting.complex ≡ complex_of counted.voted }
-    requires store { IsStoreOf (rows_of scan.now) settings tetra }
-    requires cells { AreCellsOf (scene_of_rows (rows_of scan.now) settings) tetra.slots }
-    requires network { IsNetworkInAnyOrder (scene_of_rows (rows_of scan.now) settings) counted.voted }
+    requires store { IsStoreOf (shown_of scan.now) settings tetra }
+    requires cells { AreCellsOf (scene_of_scan (shown_of scan.now) settings) tetra.slots }
+    requires network { IsNetworkInAnyOrder (scene_of_scan (shown_of scan.now) settings) counted.voted }
     requires ids { AreIdsOf tetra.slots counted.voted.cells counted.ids.items }
-    ensures solution { IfOk result (λ solved. IsSolution (rows_of scan.now) settings (surface_of solved.mesh) (claim_of solved.cert)) }
+    ensures solution { IfOk result (λ solved. IsSolution (shown_of scan.now) settings (surface_of solved.mesh) (claim_of solved.cert)) }
     ensures valid { IfOk result (λ solved. IsMesh solved.mesh.points.items solved.mesh.faces.items) }
     ensures well_formed { IfOk result (λ solved. IsWellFormed (claim_of solved.cert)) }
     ensures stamp { IfOk result (λ solved. (claim_of solved.cert).stamp ≡ option_map stamp_view stamp) }
-    ensures tetra { IfOk result (λ solved. IsStoreOf (rows_of scan.now) settings solved.tetra) }
+    ensures tetra { IfOk result (λ solved. IsStoreOf (shown_of scan.now) settings solved.tetra) }
     ensures closed { IfOk result (λ solved. IsClosed solved.mesh.faces.items) }
 {
     let voted = counted.voted;
@@ -121,11 +121,11 @@ pub fn solve_scan(
     settings: Settings,
     stamp: Option<Stamp>,
 ) -> Result<Solved, NoMemory>
-    ensures solution { IfOk result (λ solved. IsSolution (rows_of scan.now) settings (surface_of solved.mesh) (claim_of solved.cert)) }
+    ensures solution { IfOk result (λ solved. IsSolution (shown_of scan.now) settings (surface_of solved.mesh) (claim_of solved.cert)) }
     ensures valid { IfOk result (λ solved. IsMesh solved.mesh.points.items solved.mesh.faces.items) }
     ensures well_formed { IfOk result (λ solved. IsWellFormed (claim_of solved.cert)) }
     ensures stamp { IfOk result (λ solved. (claim_of solved.cert).stamp ≡ option_map stamp_view stamp) }
-    ensures tetra { IfOk result (λ solved. IsStoreOf (rows_of scan.now) settings solved.tetra) }
+    ensures tetra { IfOk result (λ solved. IsStoreOf (shown_of scan.now) settings solved.tetra) }
     ensures closed { IfOk result (λ solved. IsClosed solved.mesh.faces.items) }
 {
     let (tetra, counted) = network(alloc, scan, settings)?;

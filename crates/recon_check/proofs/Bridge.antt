@@ -15,7 +15,7 @@ use Rattle.flow_net.specs.Nets.{arc_at, flag_at}
 use Rattle.flow_net.specs.Flows.{amount_in as amount_in_net}
 use Rattle.solution.specs.Solutions.{flow_on, sink_at}
 use Rattle.solution.proofs.Certificates.{flags_are, least_inside_is}
-use Rattle.scan.specs.ScanRows.{ScanRows}
+use Rattle.scan.specs.Shown.{Shown}
 use Rattle.visibility.specs.Scenes.{Scene}
 use Rattle.geo_sign.specs.Tetrahedron.{facet_at}
 use Rattle.visibility.specs.Complexes.{Complex}
@@ -136,17 +136,17 @@ certified s voted claim n there h =
     }
 
 -- ---- a verdict by number is a reason over cells and facets, or the labels are the best
-pub verdict_reason : (rows : ScanRows) (s : Scene) (voted : Voted) (claim : Claim) (mesh : List ℕ) (verdict : Verdict) → IsNetworkInAnyOrder s voted → AreThere (complex_of voted) claim
-    → IsVerdict voted.net (labels_by voted claim) (flow_by voted claim) verdict → MatchOption (reason_at voted verdict) (IsBest s (complex_of voted) claim) (IsReason rows s (complex_of voted) claim mesh)
-verdict_reason rows s voted claim mesh verdicts.Yes n there h =
+pub verdict_reason : (scan : Shown) (s : Scene) (voted : Voted) (claim : Claim) (mesh : List ℕ) (verdict : Verdict) → IsNetworkInAnyOrder s voted → AreThere (complex_of voted) claim
+    → IsVerdict voted.net (labels_by voted claim) (flow_by voted claim) verdict → MatchOption (reason_at voted verdict) (IsBest s (complex_of voted) claim) (IsReason scan s (complex_of voted) claim mesh)
+verdict_reason scan s voted claim mesh verdicts.Yes n there h =
     let labels : AgreeAsLabels s voted (is_inside claim) = labels_agree s voted (is_inside claim) n in
     record {
       certified = certified s voted claim n there (record { admissible = h.2.least_cost.admissible; valid = h.0; equal = h.1 });
       least = labels.least_inside.0 h.2;
     }
-verdict_reason rows s voted claim mesh (verdicts.FixedInside v) n there h =
+verdict_reason scan s voted claim mesh (verdicts.FixedInside v) n there h =
     (there, first_over voted.cells (length voted.net.fixed) v (IsFixedInsideNet voted.net (labels_by voted claim)) (IsFixedInside s claim) (node_count s voted n) (fixed_stands s voted claim n) h)
-verdict_reason rows s voted claim mesh (verdicts.OverCapacity j flow cap) n there h =
+verdict_reason scan s voted claim mesh (verdicts.OverCapacity j flow cap) n there h =
     let l : j < length voted.facets = omega (arith, h.1.in_range, arc_count s voted n) in (
       there,
       admissible_from s (complex_of voted) claim (none_fixed s voted claim n h.0),
@@ -154,31 +154,31 @@ verdict_reason rows s voted claim mesh (verdicts.OverCapacity j flow cap) n ther
       h.2 ∙ on_arc_at voted claim j l,
       h.3 ∙ cap_at s voted j n l,
     )
-verdict_reason rows s voted claim mesh (verdicts.OverSink v flow cap) n there h =
+verdict_reason scan s voted claim mesh (verdicts.OverSink v flow cap) n there h =
     let l : v < length voted.cells = omega (arith, h.1.in_range, node_count s voted n) in (
       within_facets s voted claim n there h.0,
       first_over voted.cells (length voted.net.fixed) v (IsOverSinkNet voted.net (flow_by voted claim)) (IsOverSink s claim) (node_count s voted n) (sink_stands s voted claim n) h.1,
       h.2 ∙ on_sink_at voted claim v l,
       h.3 ∙ limit_at s voted v n l,
     )
-verdict_reason rows s voted claim mesh (verdicts.Unbalanced v amount_in amount_out) n there h =
+verdict_reason scan s voted claim mesh (verdicts.Unbalanced v amount_in amount_out) n there h =
     let l : v < length voted.cells = omega (arith, h.1.in_range, node_count s voted n) in (
       within_limits s voted claim n there h.0,
       first_over voted.cells (length voted.net.fixed) v (IsUnbalancedNet voted.net (flow_by voted claim)) (IsUnbalanced s (complex_of voted) claim) (node_count s voted n) (balance_stands s voted claim n) h.1,
       h.2 ∙ entering_at s voted claim v n l,
       h.3 ∙ leaving_at s voted claim v n l,
     )
-verdict_reason rows s voted claim mesh (verdicts.NotEqual a b) n there h =
+verdict_reason scan s voted claim mesh (verdicts.NotEqual a b) n there h =
     let labels : AgreeAsLabels s voted (is_inside claim) = labels_agree s voted (is_inside claim) n in
     let flows : AgreeAsFlows s voted (flow_on claim) (sink_at claim) = flows_agree s voted (flow_on claim) (sink_at claim) n in
     (there, labels.admissible.0 h.0, flows.valid.0 h.1, h.2 ∙ flows.value_is, h.3 ∙ labels.cost_is, h.4)
-verdict_reason rows s voted claim mesh (verdicts.NotLeast v) n there h =
+verdict_reason scan s voted claim mesh (verdicts.NotLeast v) n there h =
     (certified s voted claim n there h.0, first_over voted.cells (length voted.net.fixed) v (IsNotLeastNet voted.net (labels_by voted claim)) (IsNotLeast s (complex_of voted) claim) (node_count s voted n) (least_stands s voted claim n) h.1)
 
 -- the same of labels and a flow that are those of the claim
-pub reason_is : (rows : ScanRows) (s : Scene) (voted : Voted) (claim : Claim) (mesh : List ℕ) (verdict : Verdict) (labels : Labels) (flow : Flow) (found : Option Reason) → IsNetworkInAnyOrder s voted → AreThere (complex_of voted) claim
-    → labels ≡ labels_by voted claim → flow ≡ flow_by voted claim → IsVerdict voted.net labels flow verdict → found ≡ reason_at voted verdict → MatchOption found (IsBest s (complex_of voted) claim) (IsReason rows s (complex_of voted) claim mesh)
-reason_is rows s voted claim mesh verdict labels flow found n there a b h is =
-    subst (λ (o : Option Reason). MatchOption o (IsBest s (complex_of voted) claim) (IsReason rows s (complex_of voted) claim mesh)) (sym is)
-    (verdict_reason rows s voted claim mesh verdict n there
+pub reason_is : (scan : Shown) (s : Scene) (voted : Voted) (claim : Claim) (mesh : List ℕ) (verdict : Verdict) (labels : Labels) (flow : Flow) (found : Option Reason) → IsNetworkInAnyOrder s voted → AreThere (complex_of voted) claim
+    → labels ≡ labels_by voted claim → flow ≡ flow_by voted claim → IsVerdict voted.net labels flow verdict → found ≡ reason_at voted verdict → MatchOption found (IsBest s (complex_of voted) claim) (IsReason scan s (complex_of voted) claim mesh)
+reason_is scan s voted claim mesh verdict labels flow found n there a b h is =
+    subst (λ (o : Option Reason). MatchOption o (IsBest s (complex_of voted) claim) (IsReason scan s (complex_of voted) claim mesh)) (sym is)
+    (verdict_reason scan s voted claim mesh verdict n there
     (subst (λ (f : Flow). IsVerdict voted.net (labels_by voted claim) f verdict) b (subst (λ (l : Labels). IsVerdict voted.net l flow verdict) a h)))

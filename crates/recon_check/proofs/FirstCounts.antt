@@ -6,7 +6,7 @@ use Rattle.std.proofs.lemmas.List.Elements.{All-cons, All-nil}
 use Rattle.cert_text.specs.Certificates.{Claim}
 use Rattle.flow_net.specs.declared.votes.Settings.{Settings}
 use Rattle.solution.specs.Solutions.{HasCounts}
-use Rattle.scan.specs.ScanRows.{ScanRows}
+use Rattle.scan.specs.Shown.{Shown}
 use Rattle.recon_check.specs.Answers.{stated_count, count_here, earlier, IsFault}
 use Rattle.recon_check.specs.declared.answer.Reason.{Reason}
 use Rattle.recon_check.specs.declared.answer.Reason.TheVariants.{OtherCounts}
@@ -14,23 +14,23 @@ use Rattle.recon_check.specs.declared.answer.Which.{Which}
 use Rattle.recon_check.specs.declared.answer.Which.TheVariants.{Points, Scanners, Sights, Vote, Smooth}
 
 -- the number is the scan's
-abbrev pub IsSame : ScanRows → Settings → Claim → Which → Type 0
-IsSame rows settings claim which = stated_count which claim ≡ count_here which rows settings
+abbrev pub IsSame : Shown → Settings → Claim → Which → Type 0
+IsSame scan settings claim which = stated_count which claim ≡ count_here which scan settings
 
 -- a fault, whatever the mesh
-abbrev pub IsFaultEver : ScanRows → Settings → Claim → Reason → Type 0
-IsFaultEver rows settings claim reason = (mesh : List ℕ) → IsFault rows settings mesh claim reason
+abbrev pub IsFaultEver : Shown → Settings → Claim → Reason → Type 0
+IsFaultEver scan settings claim reason = (mesh : List ℕ) → IsFault scan settings mesh claim reason
 
 -- the number as a fault, where it differs
-abbrev pub told : ScanRows → Settings → Claim → Which → Option Reason
-told rows settings claim which =
-    cond (eqb (stated_count which claim) (count_here which rows settings)) None (Some (OtherCounts which (stated_count which claim) (count_here which rows settings)))
+abbrev pub told : Shown → Settings → Claim → Which → Option Reason
+told scan settings claim which =
+    cond (eqb (stated_count which claim) (count_here which scan settings)) None (Some (OtherCounts which (stated_count which claim) (count_here which scan settings)))
 
-told_so : (rows : ScanRows) (settings : Settings) (claim : Claim) (which : Which) → All (IsSame rows settings claim) (earlier which) → MatchOption (told rows settings claim which) (IsSame rows settings claim which) (IsFaultEver rows settings claim)
-told_so rows settings claim which before = by (eqb (stated_count which claim) (count_here which rows settings)) refl
+told_so : (scan : Shown) (settings : Settings) (claim : Claim) (which : Which) → All (IsSame scan settings claim) (earlier which) → MatchOption (told scan settings claim which) (IsSame scan settings claim which) (IsFaultEver scan settings claim)
+told_so scan settings claim which before = by (eqb (stated_count which claim) (count_here which scan settings)) refl
   where
-    by : (b : Bool) → eqb (stated_count which claim) (count_here which rows settings) ≡ b
-        → MatchOption (cond b None (Some (OtherCounts which (stated_count which claim) (count_here which rows settings)))) (IsSame rows settings claim which) (IsFaultEver rows settings claim)
+    by : (b : Bool) → eqb (stated_count which claim) (count_here which scan settings) ≡ b
+        → MatchOption (cond b None (Some (OtherCounts which (stated_count which claim) (count_here which scan settings)))) (IsSame scan settings claim which) (IsFaultEver scan settings claim)
     by true e = eqb-true _ _ e
     by false e = λ mesh. record { same_before = before; stated_is = refl; here_is = refl; differs = eqb-false _ _ e }
 
@@ -44,25 +44,25 @@ none_so (Some reason) P Q F f h = h
 none_so None P Q F f h = f h
 
 -- the first of the five that differs, or none
-pub first_told : (rows : ScanRows) (settings : Settings) (claim : Claim) (r : Option Reason)
-    → r ≡ option_or (option_or (option_or (option_or (told rows settings claim Points) (told rows settings claim Scanners)) (told rows settings claim Sights)) (told rows settings claim Vote)) (told rows settings claim Smooth)
-    → MatchOption r (HasCounts claim rows settings) (IsFaultEver rows settings claim)
-first_told rows settings claim r is =
-    let same : Which → Type 0 = IsSame rows settings claim in
-    let fault : Reason → Type 0 = IsFaultEver rows settings claim in
+pub first_told : (scan : Shown) (settings : Settings) (claim : Claim) (r : Option Reason)
+    → r ≡ option_or (option_or (option_or (option_or (told scan settings claim Points) (told scan settings claim Scanners)) (told scan settings claim Sights)) (told scan settings claim Vote)) (told scan settings claim Smooth)
+    → MatchOption r (HasCounts claim scan settings) (IsFaultEver scan settings claim)
+first_told scan settings claim r is =
+    let same : Which → Type 0 = IsSame scan settings claim in
+    let fault : Reason → Type 0 = IsFaultEver scan settings claim in
     let nil : All same [] = All-nil same in
-    subst (λ (o : Option Reason). MatchOption o (HasCounts claim rows settings) fault) (sym is)
-    (none_so _ ((((same Points × same Scanners) × same Sights) × same Vote) × same Smooth) (HasCounts claim rows settings) fault
+    subst (λ (o : Option Reason). MatchOption o (HasCounts claim scan settings) fault) (sym is)
+    (none_so _ ((((same Points × same Scanners) × same Sights) × same Vote) × same Smooth) (HasCounts claim scan settings) fault
     (λ h. record { points = h.0.0.0.0; scanners = h.0.0.0.1; sights = h.0.0.1; vote = h.0.1; smooth = h.1 })
     (or_next _ _ (((same Points × same Scanners) × same Sights) × same Vote) (same Smooth) fault
     (or_next _ _ ((same Points × same Scanners) × same Sights) (same Vote) fault
     (or_next _ _ (same Points × same Scanners) (same Sights) fault
     (or_next _ _ (same Points) (same Scanners) fault
-    (told_so rows settings claim Points nil)
-    (λ p. told_so rows settings claim Scanners (All-cons same Points [] p nil)))
-    (λ p. told_so rows settings claim Sights (All-cons same Points (Scanners ∷ []) p.0 (All-cons same Scanners [] p.1 nil))))
-    (λ p. told_so rows settings claim Vote (All-cons same Points (Scanners ∷ Sights ∷ []) p.0.0 (All-cons same Scanners (Sights ∷ []) p.0.1 (All-cons same Sights [] p.1 nil)))))
-    (λ p. told_so rows settings claim Smooth (All-cons same Points (Scanners ∷ Sights ∷ Vote ∷ []) p.0.0.0 (All-cons same Scanners (Sights ∷ Vote ∷ []) p.0.0.1 (All-cons same Sights (Vote ∷ []) p.0.1 (All-cons same Vote [] p.1 nil)))))))
+    (told_so scan settings claim Points nil)
+    (λ p. told_so scan settings claim Scanners (All-cons same Points [] p nil)))
+    (λ p. told_so scan settings claim Sights (All-cons same Points (Scanners ∷ []) p.0 (All-cons same Scanners [] p.1 nil))))
+    (λ p. told_so scan settings claim Vote (All-cons same Points (Scanners ∷ Sights ∷ []) p.0.0 (All-cons same Scanners (Sights ∷ []) p.0.1 (All-cons same Sights [] p.1 nil)))))
+    (λ p. told_so scan settings claim Smooth (All-cons same Points (Scanners ∷ Sights ∷ Vote ∷ []) p.0.0.0 (All-cons same Scanners (Sights ∷ Vote ∷ []) p.0.0.1 (All-cons same Sights (Vote ∷ []) p.0.1 (All-cons same Vote [] p.1 nil)))))))
 
 pub where_none : (r : Option Reason) (P : Type 0) (F : Reason → Type 0) → MatchOption r P F → IfNone r P
 where_none (Some reason) P F h = tt

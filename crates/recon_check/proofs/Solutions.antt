@@ -9,10 +9,10 @@ use Rattle.cert_text.specs.declared.certificate.SinkRow.{SinkRow}
 use Rattle.flow_net.specs.declared.votes.Settings.{Settings}
 use Rattle.geo_sign.specs.Vertices.{corners}
 use Rattle.mesh_ply.specs.Meshes.{Surface, mesh_of}
-use Rattle.solution.specs.Scans.{points_of, scene_of_rows}
+use Rattle.solution.specs.Scans.{points_of, scene_of_scan}
 use Rattle.solution.specs.Solutions.{flow_on, sink_at, flow_row, sink_row, HasCounts, IsSolution}
 use Rattle.solution.proofs.Uniqueness.{same_bools, filter_same}
-use Rattle.scan.specs.ScanRows.{ScanRows}
+use Rattle.scan.specs.Shown.{Shown}
 use Rattle.visibility.specs.Scenes.{Scene}
 use Rattle.geo_sign.specs.Tetrahedron.{facet_at, turned}
 use Rattle.visibility.specs.Complexes.{Complex, cell_of}
@@ -63,9 +63,9 @@ least_same s complex inside other is same h = record {
 }
 
 -- a solution's mesh is the surface of its certificate's labels
-pub best_from : (rows : ScanRows) (settings : Settings) (surface : Surface) (claim : Claim) → IsSolution rows settings surface claim → IsBestSurface rows settings claim surface
-best_from rows settings surface claim h =
-    let s : Scene = scene_of_rows rows settings in
+pub best_from : (scan : Shown) (settings : Settings) (surface : Surface) (claim : Claim) → IsSolution scan settings surface claim → IsBestSurface scan settings claim surface
+best_from scan settings surface claim h =
+    let s : Scene = scene_of_scan scan settings in
     let costs : cost s h.complex h.inside ≡ cost s h.complex (is_inside claim) = cost_same s h.complex h.inside (is_inside claim) h.complex_is agree in
     record {
       complex = h.complex;
@@ -85,7 +85,7 @@ best_from rows settings surface claim h =
         least = least_same s h.complex h.inside (is_inside claim) h.complex_is agree h.least;
       };
       cost_is = h.certificate.cost_is ∙ costs;
-      surface_is = h.mesh_is ∙ ap (mesh_of (corners ++ points_of rows)) (cut_same s h.complex h.inside (is_inside claim) h.complex_is agree);
+      surface_is = h.mesh_is ∙ ap (mesh_of (corners ++ points_of scan)) (cut_same s h.complex h.inside (is_inside claim) h.complex_is agree);
     }
   where
     agree : Agree h.complex h.inside (is_inside claim)
@@ -95,9 +95,9 @@ best_from rows settings surface claim h =
         (λ passes. kept_passes h.inside h.complex.cells row (subst (λ (list : List (List ℕ)). Contains list row) h.certificate.inside_is (among_means claim.inside row passes)))
 
 -- a certificate without a fault is that of a solution
-pub solution_from : (rows : ScanRows) (settings : Settings) (complex : Complex) (claim : Claim) → IsWellFormed claim → IsComplexOf (scene_of_rows rows settings) complex → HasCounts claim rows settings
-    → IsBest (scene_of_rows rows settings) complex claim → claim.counts.cost ≡ cost (scene_of_rows rows settings) complex (is_inside claim) → IsSolution rows settings (best_surface rows complex (is_inside claim)) claim
-solution_from rows settings complex claim formed is counts best cost_is = record {
+pub solution_from : (scan : Shown) (settings : Settings) (complex : Complex) (claim : Claim) → IsWellFormed claim → IsComplexOf (scene_of_scan scan settings) complex → HasCounts claim scan settings
+    → IsBest (scene_of_scan scan settings) complex claim → claim.counts.cost ≡ cost (scene_of_scan scan settings) complex (is_inside claim) → IsSolution scan settings (best_surface scan complex (is_inside claim)) claim
+solution_from scan settings complex claim formed is counts best cost_is = record {
   complex = complex;
   inside = is_inside claim;
   complex_is = is;

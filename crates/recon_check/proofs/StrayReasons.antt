@@ -2,7 +2,7 @@
 use Rattle.std.proofs.Common.{ℕ, ◌≡◌, subst, List, length, All, Contains}
 use Rattle.cert_text.specs.Certificates.{Claim}
 use Rattle.flow_check.specs.Firsts.{IsFirst}
-use Rattle.scan.specs.ScanRows.{ScanRows}
+use Rattle.scan.specs.Shown.{Shown}
 use Rattle.visibility.specs.Scenes.{Scene}
 use Rattle.visibility.specs.Complexes.{Complex}
 use Rattle.recon_check.specs.Answers.{IsReason}
@@ -18,12 +18,12 @@ first_along keys keys' rows rows' k a b h =
 pub all_along : (keys keys' rows rows' : List (List ℕ)) → keys ≡ keys' → rows ≡ rows' → All (Contains keys) rows → All (Contains keys') rows'
 all_along keys keys' rows rows' a b h = subst (λ (given : List (List ℕ)). All (Contains keys') given) b (subst (λ (given : List (List ℕ)). All (Contains given) rows) a h)
 
-pub stray_facet : (rows : ScanRows) (s : Scene) (complex : Complex) (claim : Claim) (mesh : List ℕ) (facets given : List (List ℕ)) → facets ≡ complex.facets → given ≡ facets_of claim → All (Contains complex.cells) claim.inside
-    → (reason : Reason) → IsStrayFacet facets given reason → IsReason rows s complex claim mesh reason
-stray_facet rows s complex claim mesh facets given a b cells (NoSuchFacet k) h = (cells, first_along facets complex.facets given (facets_of claim) k a b h)
-stray_facet rows s complex claim mesh facets given a b cells _ h = absurd h
+pub stray_facet : (scan : Shown) (s : Scene) (complex : Complex) (claim : Claim) (mesh : List ℕ) (facets given : List (List ℕ)) → facets ≡ complex.facets → given ≡ facets_of claim → All (Contains complex.cells) claim.inside
+    → (reason : Reason) → IsStrayFacet facets given reason → IsReason scan s complex claim mesh reason
+stray_facet scan s complex claim mesh facets given a b cells (NoSuchFacet k) h = (cells, first_along facets complex.facets given (facets_of claim) k a b h)
+stray_facet scan s complex claim mesh facets given a b cells _ h = absurd h
 
-pub stray_sink : (rows : ScanRows) (s : Scene) (complex : Complex) (claim : Claim) (mesh : List ℕ) (cells given : List (List ℕ)) → cells ≡ complex.cells → given ≡ cells_of claim → All (Contains complex.cells) claim.inside
-    → All (Contains complex.facets) (facets_of claim) → (reason : Reason) → IsStraySink cells given reason → IsReason rows s complex claim mesh reason
-stray_sink rows s complex claim mesh cells given a b inside facets (NoSuchSink k) h = (inside, facets, first_along cells complex.cells given (cells_of claim) k a b h)
-stray_sink rows s complex claim mesh cells given a b inside facets _ h = absurd h
+pub stray_sink : (scan : Shown) (s : Scene) (complex : Complex) (claim : Claim) (mesh : List ℕ) (cells given : List (List ℕ)) → cells ≡ complex.cells → given ≡ cells_of claim → All (Contains complex.cells) claim.inside
+    → All (Contains complex.facets) (facets_of claim) → (reason : Reason) → IsStraySink cells given reason → IsReason scan s complex claim mesh reason
+stray_sink scan s complex claim mesh cells given a b inside facets (NoSuchSink k) h = (inside, facets, first_along cells complex.cells given (cells_of claim) k a b h)
+stray_sink scan s complex claim mesh cells given a b inside facets _ h = absurd h

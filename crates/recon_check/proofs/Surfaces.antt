@@ -12,16 +12,15 @@ use Rattle.geo_sign.specs.Vertices.{Vertices, corners, vertices_of}
 use Rattle.geo_sign.specs.Cells.{IsBefore}
 use Rattle.mesh_ply.specs.Meshes.{mesh_of}
 use Rattle.mesh_ply.specs.declared.mesh.Mesh.{Mesh}
-use Rattle.solution.specs.Scans.{points_of, scene_of_rows}
+use Rattle.solution.specs.Scans.{points_of, scene_of_scan}
 use Rattle.solution.specs.Solutions.{surface_of}
-use Rattle.scan.specs.ScanRows.{ScanRows}
+use Rattle.scan.specs.Shown.{Shown}
 use Rattle.surface.specs.Labelled.{Cutting}
 use Rattle.visibility.specs.Scenes.{Scene}
 use Rattle.visibility.specs.Complexes.{Complex}
 use Rattle.visibility.specs.Cuts.{cost, cut_facets, IsAdmissible}
 use Rattle.visibility.specs.Laws.{test_of, row_index, AgreeAsLabels}
 use Rattle.visibility.specs.Networks.{complex_of, IsNetworkOf}
-use Rattle.visibility.specs.Votes.{IsComplexOf}
 use Rattle.visibility.specs.Listings.{IsListingOf}
 use Rattle.visibility.proofs.Labels.{labels_agree}
 use Rattle.visibility.proofs.Listings.{rising_listing, in_any_order}
@@ -44,23 +43,23 @@ test_agrees complex inside rising row there =
     ∙ get_or-map inside complex.cells there.0 [] false there.1 ∙ ap inside here
 
 -- the mesh of the labels is the surface of the claim
-pub surface_is : (rows : ScanRows) (settings : Settings) (network : Network) (claim : Claim) (cutting : Cutting) (labels : Labels) (mesh : Mesh)
-    → IsNetworkOfScan rows settings network → cutting ≡ cutting_of rows settings network → labels ≡ labels_by network.counted.voted claim
+pub surface_is : (scan : Shown) (settings : Settings) (network : Network) (claim : Claim) (cutting : Cutting) (labels : Labels) (mesh : Mesh)
+    → IsNetworkOfScan scan settings network → cutting ≡ cutting_of scan settings network → labels ≡ labels_by network.counted.voted claim
     → mesh.points.items ≡ (mesh_of network.linked.points (cut_facets cutting.scene.vertices cutting.complex (test_of cutting.complex.cells labels.inside))).points
     → mesh.faces.items ≡ (mesh_of network.linked.points (cut_facets cutting.scene.vertices cutting.complex (test_of cutting.complex.cells labels.inside))).faces
-    → surface_of mesh ≡ best_surface rows (complex_of network.counted.voted) (is_inside claim)
-surface_is rows settings network claim cutting labels mesh is same labels_are points_are faces_are =
+    → surface_of mesh ≡ best_surface scan (complex_of network.counted.voted) (is_inside claim)
+surface_is scan settings network claim cutting labels mesh is same labels_are points_are faces_are =
     ap (λ (list : List Point). record { points = list; faces = mesh.faces.items }) points_are
     ∙ ap (λ (faces : List (List ℕ)). record { points = (mesh_of network.linked.points (cut_facets cutting.scene.vertices cutting.complex (test_of cutting.complex.cells labels.inside))).points; faces = faces }) faces_are
     ∙ ap (λ (k : Cutting). mesh_of network.linked.points (cut_facets k.scene.vertices k.complex (test_of k.complex.cells labels.inside))) same
     ∙ ap (λ (list : List Point). mesh_of list (cut_facets v complex (test_of complex.cells labels.inside))) is.points
-    ∙ ap (λ (l : Labels). mesh_of (corners ++ points_of rows) (cut_facets v complex (test_of complex.cells l.inside))) labels_are
-    ∙ ap (mesh_of (corners ++ points_of rows))
-    (cut_same (scene_of_rows rows settings) complex (test_of complex.cells (map (is_inside claim) complex.cells)) (is_inside claim) is.voted.complex_is
+    ∙ ap (λ (l : Labels). mesh_of (corners ++ points_of scan) (cut_facets v complex (test_of complex.cells l.inside))) labels_are
+    ∙ ap (mesh_of (corners ++ points_of scan))
+    (cut_same (scene_of_scan scan settings) complex (test_of complex.cells (map (is_inside claim) complex.cells)) (is_inside claim) is.voted.complex_is
     (test_agrees complex (is_inside claim) is.voted.complex_is.cells_are.rising))
   where
     v : Vertices
-    v = vertices_of (points_of rows)
+    v = vertices_of (points_of scan)
 
     complex : Complex
     complex = complex_of network.counted.voted
@@ -81,21 +80,21 @@ CanBeCut network ids labels cutting =
     × ((length labels.inside ≡ length cutting.complex.cells)
     × IsAdmissible cutting.scene cutting.complex (test_of cutting.complex.cells labels.inside)))))
 
-pub can_be_cut : (rows : ScanRows) (settings : Settings) (network : Network) (claim : Claim) (cutting : Cutting) (ids : List ℕ) (labels : Labels)
-    → IsNetworkOfScan rows settings network → cutting ≡ cutting_of rows settings network → ids ≡ network.counted.ids.items → labels ≡ labels_by network.counted.voted claim
-    → IsAdmissible (scene_of_rows rows settings) (complex_of network.counted.voted) (is_inside claim) → CanBeCut network ids labels cutting
-can_be_cut rows settings network claim cutting ids labels is same ids_are labels_are admissible =
+pub can_be_cut : (scan : Shown) (settings : Settings) (network : Network) (claim : Claim) (cutting : Cutting) (ids : List ℕ) (labels : Labels)
+    → IsNetworkOfScan scan settings network → cutting ≡ cutting_of scan settings network → ids ≡ network.counted.ids.items → labels ≡ labels_by network.counted.voted claim
+    → IsAdmissible (scene_of_scan scan settings) (complex_of network.counted.voted) (is_inside claim) → CanBeCut network ids labels cutting
+can_be_cut scan settings network claim cutting ids labels is same ids_are labels_are admissible =
     subst (CanBeCut network ids labels) (sym same) (
       is.cells,
       (
-        omega (arith, ap length is.points, length-append corners (points_of rows)),
+        omega (arith, ap length is.points, length-append corners (points_of scan)),
         (
-          rising_listing (scene_of_rows rows settings) (complex_of network.counted.voted) is.voted.complex_is,
+          rising_listing (scene_of_scan scan settings) (complex_of network.counted.voted) is.voted.complex_is,
           (
             subst (AreIdsOf network.linked.slots network.counted.voted.cells) (sym ids_are) is.ids,
             (
               ap (λ (l : Labels). length l.inside) labels_are ∙ length-map network.counted.voted.cells (is_inside claim),
-              flags_admissible (scene_of_rows rows settings) network.counted.voted claim labels is.voted labels_are admissible,
+              flags_admissible (scene_of_scan scan settings) network.counted.voted claim labels is.voted labels_are admissible,
             ),
           ),
         ),

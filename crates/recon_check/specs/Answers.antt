@@ -1,19 +1,19 @@
 -- Whether a mesh and a certificate are the best surface of a scan and the certificate that shows it: the first reason why
 -- they are not, or yes.
 --
---   best_surface rows complex inside              the surface of labels
+--   best_surface scan complex inside              the surface of labels
 --   surface_text surface                          its text
---   IsShown rows settings mesh claim              a surface whose text the mesh is and the claim are a solution
+--   IsShown scan settings mesh claim              a surface whose text the mesh is and the claim are a solution
 --   stated_count, count_here which ..             a number that a certificate states, and the scan's
 --   earlier which                                 the numbers that are compared before
---   IsOtherCount rows settings claim which a b    the first number that differs
---   IsReason rows s complex claim mesh reason     the first fault of what a certificate with the scan's numbers states
---   IsFaultOver, IsFault rows settings mesh ..    the first fault of what a certificate states
---   IsFaultHere rows settings stamp mesh ..       its stamp is another, or this is the first fault of what it states
+--   IsOtherCount scan settings claim which a b    the first number that differs
+--   IsReason scan s complex claim mesh reason     the first fault of what a certificate with the scan's numbers states
+--   IsFaultOver, IsFault scan settings mesh ..    the first fault of what a certificate states
+--   IsFaultHere scan settings stamp mesh ..       its stamp is another, or this is the first fault of what it states
 --   HasCertificate cert P                         a certificate has the text, and something holds of what it states
---   IsAccepted rows settings stamp mesh cert      the two texts are those of a solution, and the stamp is this one
---   IsShownWith rows settings mesh a b c claim    and these are its inside cells, faces and cost
---   IsAnswer rows settings stamp mesh cert ..     the answer
+--   IsAccepted scan settings stamp mesh cert      the two texts are those of a solution, and the stamp is this one
+--   IsShownWith scan settings mesh a b c claim    and these are its inside cells, faces and cost
+--   IsAnswer scan settings stamp mesh cert ..     the answer
 --   IsYes answer                                  the answer is Yes
 use Rattle.std.specs.Prelude.{ℕ, ◌≡◌, ◌≢◌, ◌⊎◌, ◌++◌, Bool, List, [], ◌∷◌, All, Contains, length, ⊤}
 use Rattle.cert_text.specs.Stamps.{StampView}
@@ -26,9 +26,9 @@ use Rattle.flow_net.specs.declared.votes.Settings.{Settings}
 use Rattle.geo_sign.specs.Vertices.{corners, vertices_of}
 use Rattle.mesh_ply.specs.Meshes.{Surface, mesh_of}
 use Rattle.mesh_ply.specs.Texts.{mesh_text}
-use Rattle.solution.specs.Scans.{points_of, scene_of_rows}
+use Rattle.solution.specs.Scans.{points_of, scene_of_scan}
 use Rattle.solution.specs.Solutions.{flow_on, sink_at, HasCounts, IsSolution}
-use Rattle.scan.specs.ScanRows.{ScanRows}
+use Rattle.scan.specs.Shown.{Shown}
 use Rattle.visibility.specs.Scenes.{Scene}
 use Rattle.geo_sign.specs.Tetrahedron.{facet_at}
 use Rattle.visibility.specs.Complexes.{Complex}
@@ -47,18 +47,18 @@ use Rattle.recon_check.specs.declared.answer.Which.{Which}
 use Rattle.recon_check.specs.declared.answer.Which.TheVariants.{Points, Scanners, Sights, Vote, Smooth}
 
 -- the mesh of the facets of outside cells with an inside cell across
-abbrev pub best_surface : ScanRows → Complex → (List ℕ → Bool) → Surface
-best_surface rows complex inside = mesh_of (corners ++ points_of rows) (cut_facets (vertices_of (points_of rows)) complex inside)
+abbrev pub best_surface : Shown → Complex → (List ℕ → Bool) → Surface
+best_surface scan complex inside = mesh_of (corners ++ points_of scan) (cut_facets (vertices_of (points_of scan)) complex inside)
 
 -- the text of a mesh
 abbrev pub surface_text : Surface → List ℕ
 surface_text surface = mesh_text surface.points surface.faces
 
 -- a surface whose text the mesh is and a certificate that states this claim are a solution of the scan
-pub record IsShown (rows : ScanRows) (settings : Settings) (mesh : List ℕ) (claim : Claim) : Type 0 where
+pub record IsShown (scan : Shown) (settings : Settings) (mesh : List ℕ) (claim : Claim) : Type 0 where
   pub surface : Surface
   pub mesh_is : mesh ≡ surface_text surface
-  pub solution : IsSolution rows settings surface claim
+  pub solution : IsSolution scan settings surface claim
 
 -- the number that a certificate states
 abbrev pub stated_count : Which → Claim → ℕ
@@ -68,13 +68,13 @@ stated_count Sights claim = claim.counts.sights
 stated_count Vote claim = claim.counts.vote
 stated_count Smooth claim = claim.counts.smooth
 
--- the scan's own: its distinct points, its scanners, a sight for each row, and the weights
-abbrev pub count_here : Which → ScanRows → Settings → ℕ
-count_here Points rows settings = length (points_of rows)
-count_here Scanners rows settings = length rows.scanners
-count_here Sights rows settings = length rows.vertices
-count_here Vote rows settings = settings.vote
-count_here Smooth rows settings = settings.smooth
+-- the scan's own: its distinct points, its scanners, its sights, and the weights
+abbrev pub count_here : Which → Shown → Settings → ℕ
+count_here Points scan settings = length (points_of scan)
+count_here Scanners scan settings = length scan.scanners
+count_here Sights scan settings = length scan.seen
+count_here Vote scan settings = settings.vote
+count_here Smooth scan settings = settings.smooth
 
 -- the numbers that are compared before this one
 abbrev pub earlier : Which → List Which
@@ -85,57 +85,57 @@ earlier Vote = Points ∷ Scanners ∷ Sights ∷ []
 earlier Smooth = Points ∷ Scanners ∷ Sights ∷ Vote ∷ []
 
 -- the first number that differs
-pub record IsOtherCount (rows : ScanRows) (settings : Settings) (claim : Claim) (which : Which) (stated here : ℕ) : Type 0 where
-  pub same_before : All (λ other. stated_count other claim ≡ count_here other rows settings) (earlier which)
+pub record IsOtherCount (scan : Shown) (settings : Settings) (claim : Claim) (which : Which) (stated here : ℕ) : Type 0 where
+  pub same_before : All (λ other. stated_count other claim ≡ count_here other scan settings) (earlier which)
   pub stated_is : stated ≡ stated_count which claim
-  pub here_is : here ≡ count_here which rows settings
+  pub here_is : here ≡ count_here which scan settings
   pub differs : stated ≢ here
 
 -- The first fault, in the order of the cases, of what a certificate states about a scan with this complex. Each is the
 -- first in its list: of rows as the certificate has them, of cells and of facets as they rise.
-abbrev pub IsReason : ScanRows → Scene → Complex → Claim → List ℕ → Reason → Type 0
-IsReason rows s complex claim mesh (NoSuchCell k) = IsFirst (length claim.inside) (IsStray complex.cells claim.inside) k
-IsReason rows s complex claim mesh (NoSuchFacet k) =
+abbrev pub IsReason : Shown → Scene → Complex → Claim → List ℕ → Reason → Type 0
+IsReason scan s complex claim mesh (NoSuchCell k) = IsFirst (length claim.inside) (IsStray complex.cells claim.inside) k
+IsReason scan s complex claim mesh (NoSuchFacet k) =
     All (Contains complex.cells) claim.inside × IsFirst (length (facets_of claim)) (IsStray complex.facets (facets_of claim)) k
-IsReason rows s complex claim mesh (NoSuchSink k) =
+IsReason scan s complex claim mesh (NoSuchSink k) =
     All (Contains complex.cells) claim.inside × All (Contains complex.facets) (facets_of claim)
     × IsFirst (length (cells_of claim)) (IsStray complex.cells (cells_of claim)) k
-IsReason rows s complex claim mesh (FixedInside cell) = AreThere complex claim × IsFirstOf complex.cells (IsFixedInside s claim) cell
-IsReason rows s complex claim mesh (OverCapacity facet flow cap) =
+IsReason scan s complex claim mesh (FixedInside cell) = AreThere complex claim × IsFirstOf complex.cells (IsFixedInside s claim) cell
+IsReason scan s complex claim mesh (OverCapacity facet flow cap) =
     AreThere complex claim × IsAdmissible s complex (is_inside claim) × IsFirstOf complex.facets (IsOverCapacity s claim) facet
     × (flow ≡ flow_on claim facet) × (cap ≡ capacity s (facet_at facet))
-IsReason rows s complex claim mesh (OverSink cell flow cap) =
+IsReason scan s complex claim mesh (OverSink cell flow cap) =
     IsWithinFacets s complex claim × IsFirstOf complex.cells (IsOverSink s claim) cell
     × (flow ≡ sink_at claim cell) × (cap ≡ sink_limit s cell)
-IsReason rows s complex claim mesh (Unbalanced cell amount_in amount_out) =
+IsReason scan s complex claim mesh (Unbalanced cell amount_in amount_out) =
     IsWithinLimits s complex claim × IsFirstOf complex.cells (IsUnbalanced s complex claim) cell
     × (amount_in ≡ entering s complex claim cell) × (amount_out ≡ leaving s complex claim cell)
-IsReason rows s complex claim mesh (NotEqual a b) =
+IsReason scan s complex claim mesh (NotEqual a b) =
     AreThere complex claim × IsAdmissible s complex (is_inside claim) × IsValidFlow s complex (flow_on claim) (sink_at claim)
     × (a ≡ value s complex (sink_at claim)) × (b ≡ cost s complex (is_inside claim)) × (a ≢ b)
-IsReason rows s complex claim mesh (NotLeast cell) = IsCertified s complex claim × IsFirstOf complex.cells (IsNotLeast s complex claim) cell
-IsReason rows s complex claim mesh (WrongCost stated least) =
+IsReason scan s complex claim mesh (NotLeast cell) = IsCertified s complex claim × IsFirstOf complex.cells (IsNotLeast s complex claim) cell
+IsReason scan s complex claim mesh (WrongCost stated least) =
     IsBest s complex claim × (stated ≡ claim.counts.cost) × (least ≡ cost s complex (is_inside claim)) × (stated ≢ least)
-IsReason rows s complex claim mesh (MeshDiffers place) =
+IsReason scan s complex claim mesh (MeshDiffers place) =
     IsBest s complex claim × (claim.counts.cost ≡ cost s complex (is_inside claim))
-    × IsFirstDifference mesh (surface_text (best_surface rows complex (is_inside claim))) place
-IsReason rows s complex claim mesh _ = ⊥
+    × IsFirstDifference mesh (surface_text (best_surface scan complex (is_inside claim))) place
+IsReason scan s complex claim mesh _ = ⊥
 
 -- the certificate has the scan's numbers, and the fault is the first of what it states about the scan's cells and facets
-pub record IsFaultOver (rows : ScanRows) (settings : Settings) (mesh : List ℕ) (claim : Claim) (reason : Reason) : Type 0 where
-  pub counts : HasCounts claim rows settings
+pub record IsFaultOver (scan : Shown) (settings : Settings) (mesh : List ℕ) (claim : Claim) (reason : Reason) : Type 0 where
+  pub counts : HasCounts claim scan settings
   pub complex : Complex
-  pub complex_is : IsComplexOf (scene_of_rows rows settings) complex
-  pub reason_is : IsReason rows (scene_of_rows rows settings) complex claim mesh reason
+  pub complex_is : IsComplexOf (scene_of_scan scan settings) complex
+  pub reason_is : IsReason scan (scene_of_scan scan settings) complex claim mesh reason
 
 -- the first fault of what a certificate states
-abbrev pub IsFault : ScanRows → Settings → List ℕ → Claim → Reason → Type 0
-IsFault rows settings mesh claim (OtherCounts which stated here) = IsOtherCount rows settings claim which stated here
-IsFault rows settings mesh claim reason = IsFaultOver rows settings mesh claim reason
+abbrev pub IsFault : Shown → Settings → List ℕ → Claim → Reason → Type 0
+IsFault scan settings mesh claim (OtherCounts which stated here) = IsOtherCount scan settings claim which stated here
+IsFault scan settings mesh claim reason = IsFaultOver scan settings mesh claim reason
 
 -- the stamp's first part that is another, or else the first fault of what the certificate states
-abbrev pub IsFaultHere : ScanRows → Settings → StampView → List ℕ → Claim → Reason → Type 0
-IsFaultHere rows settings stamp mesh claim reason = IsOtherStamp stamp claim reason ⊎ (IsStampedFor stamp claim × IsFault rows settings mesh claim reason)
+abbrev pub IsFaultHere : Shown → Settings → StampView → List ℕ → Claim → Reason → Type 0
+IsFaultHere scan settings stamp mesh claim reason = IsOtherStamp stamp claim reason ⊎ (IsStampedFor stamp claim × IsFault scan settings mesh claim reason)
 
 -- the text is that of a well-formed certificate, and something holds of what it states
 pub record HasCertificate (cert : List ℕ) (P : Claim → Type 0) : Type 0 where
@@ -146,25 +146,25 @@ pub record HasCertificate (cert : List ℕ) (P : Claim → Type 0) : Type 0 wher
 
 -- the two texts are those of a solution: there are a surface and a claim with these texts that solve the scan, and the claim has no
 -- stamp or this one
-abbrev pub IsAccepted : ScanRows → Settings → StampView → (mesh cert : List ℕ) → Type 0
-IsAccepted rows settings stamp mesh cert = HasCertificate cert (λ claim. IsStampedFor stamp claim × IsShown rows settings mesh claim)
+abbrev pub IsAccepted : Shown → Settings → StampView → (mesh cert : List ℕ) → Type 0
+IsAccepted scan settings stamp mesh cert = HasCertificate cert (λ claim. IsStampedFor stamp claim × IsShown scan settings mesh claim)
 
 -- the two texts are those of a solution with so many inside cells and faces, and of this cost
-pub record IsShownWith (rows : ScanRows) (settings : Settings) (mesh : List ℕ) (inside faces least : ℕ) (claim : Claim) : Type 0 where
-  pub shown : IsShown rows settings mesh claim
+pub record IsShownWith (scan : Shown) (settings : Settings) (mesh : List ℕ) (inside faces least : ℕ) (claim : Claim) : Type 0 where
+  pub shown : IsShown scan settings mesh claim
   pub inside_is : inside ≡ length claim.inside
   pub faces_is : faces ≡ length shown.surface.faces
   pub cost_is : least ≡ claim.counts.cost
 
 -- Yes is a solution and no other stamp, with the numbers of its inside cells and faces and its cost. Else it is the first reason: the
 -- certificate is no text of a certificate, its stamp is another, or the first fault of what it states.
-abbrev pub IsAnswer : ScanRows → Settings → StampView → (mesh cert : List ℕ) → Answer → Type 0
-IsAnswer rows settings stamp mesh cert (Yes inside faces least) =
-    HasCertificate cert (λ claim. IsStampedFor stamp claim × IsShownWith rows settings mesh inside faces least claim)
-IsAnswer rows settings stamp mesh cert (No (CertLine n)) = IsRefused cert (refusals.BadLine n)
-IsAnswer rows settings stamp mesh cert (No (CertOrder n)) = IsRefused cert (refusals.Order n)
-IsAnswer rows settings stamp mesh cert (No CertCut) = IsRefused cert refusals.CertCut
-IsAnswer rows settings stamp mesh cert (No reason) = HasCertificate cert (λ claim. IsFaultHere rows settings stamp mesh claim reason)
+abbrev pub IsAnswer : Shown → Settings → StampView → (mesh cert : List ℕ) → Answer → Type 0
+IsAnswer scan settings stamp mesh cert (Yes inside faces least) =
+    HasCertificate cert (λ claim. IsStampedFor stamp claim × IsShownWith scan settings mesh inside faces least claim)
+IsAnswer scan settings stamp mesh cert (No (CertLine n)) = IsRefused cert (refusals.BadLine n)
+IsAnswer scan settings stamp mesh cert (No (CertOrder n)) = IsRefused cert (refusals.Order n)
+IsAnswer scan settings stamp mesh cert (No CertCut) = IsRefused cert refusals.CertCut
+IsAnswer scan settings stamp mesh cert (No reason) = HasCertificate cert (λ claim. IsFaultHere scan settings stamp mesh claim reason)
 
 -- the answer is Yes
 abbrev pub IsYes : Answer → Type 0

@@ -4,12 +4,12 @@
 use Rattle.std.specs.Prelude.{ℕ, ◌≡◌, List}
 use Rattle.cert_text.specs.Stamps.{StampView}
 use Rattle.flow_net.specs.declared.votes.Settings.{Settings}
-use Rattle.scan.specs.ScanRows.{ScanRows}
+use Rattle.scan.specs.Shown.{Shown}
 use Rattle.recon_check.specs.Answers.{IsAnswer}
 use Rattle.recon_check.specs.declared.answer.Answer.{Answer}
 
 -- no mesh and certificate have two answers
 abbrev pub OneAnswer : Type 0
 OneAnswer =
-    (rows : ScanRows) (settings : Settings) (stamp : StampView) (mesh cert : List ℕ) (answer other : Answer) → IsAnswer rows settings stamp mesh cert answer
-    → IsAnswer rows settings stamp mesh cert other → answer ≡ other
+    (scan : Shown) (settings : Settings) (stamp : StampView) (mesh cert : List ℕ) (answer other : Answer) → IsAnswer scan settings stamp mesh cert answer
+    → IsAnswer scan settings stamp mesh cert other → answer ≡ other

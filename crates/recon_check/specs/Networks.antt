@@ -1,16 +1,16 @@
 -- The linked cells of a scan, the network over them, and the surface of the labels that a certificate shows best.
 --
---   IsNetworkOfScan rows settings network           the cells are those of the scan's points, and the network is that of its scene
---   cutting_of rows settings network                the scene of the scan and the complex of its network
---   IsBestSurface rows settings claim surface       a certificate shows its labels best and states their cost, and this is their surface
+--   IsNetworkOfScan scan settings network           the cells are those of the scan's points, and the network is that of its scene
+--   cutting_of scan settings network                the scene of the scan and the complex of its network
+--   IsBestSurface scan settings claim surface       a certificate shows its labels best and states their cost, and this is their surface
 use Rattle.std.specs.Prelude.{◌≡◌, ◌++◌}
 use Rattle.cert_text.specs.Certificates.{Claim}
 use Rattle.flow_net.specs.declared.votes.Settings.{Settings}
 use Rattle.geo_sign.specs.Vertices.{corners}
 use Rattle.mesh_ply.specs.Meshes.{Surface}
-use Rattle.solution.specs.Scans.{points_of, scene_of_rows}
+use Rattle.solution.specs.Scans.{points_of, scene_of_scan}
 use Rattle.solution.specs.Solutions.{HasCounts}
-use Rattle.scan.specs.ScanRows.{ScanRows}
+use Rattle.scan.specs.Shown.{Shown}
 use Rattle.surface.specs.Labelled.{Cutting}
 use Rattle.visibility.specs.Complexes.{Complex}
 use Rattle.visibility.specs.Cuts.{cost}
@@ -23,21 +23,21 @@ use Rattle.recon_check.specs.Faults.{IsBest}
 use Rattle.recon_check.specs.declared.network.Network.{Network}
 
 -- the cells are those of the corners and the scan's points, the network is that of its scene, and each node has its cell
-pub record IsNetworkOfScan (rows : ScanRows) (settings : Settings) (network : Network) : Type 0 where
-  pub points : network.linked.points ≡ corners ++ points_of rows
-  pub cells : AreCellsOf (scene_of_rows rows settings) network.linked.slots
-  pub voted : IsNetworkOf (scene_of_rows rows settings) network.counted.voted
+pub record IsNetworkOfScan (scan : Shown) (settings : Settings) (network : Network) : Type 0 where
+  pub points : network.linked.points ≡ corners ++ points_of scan
+  pub cells : AreCellsOf (scene_of_scan scan settings) network.linked.slots
+  pub voted : IsNetworkOf (scene_of_scan scan settings) network.counted.voted
   pub ids : AreIdsOf network.linked.slots network.counted.voted.cells network.counted.ids.items
 
 -- the scene of the scan, and the cells and facets of its network
-abbrev pub cutting_of : ScanRows → Settings → Network → Cutting
-cutting_of rows settings network = record { scene = scene_of_rows rows settings; complex = complex_of network.counted.voted }
+abbrev pub cutting_of : Shown → Settings → Network → Cutting
+cutting_of scan settings network = record { scene = scene_of_scan scan settings; complex = complex_of network.counted.voted }
 
 -- a certificate with the scan's numbers shows its labels best and states their cost, and this is their surface
-pub record IsBestSurface (rows : ScanRows) (settings : Settings) (claim : Claim) (surface : Surface) : Type 0 where
+pub record IsBestSurface (scan : Shown) (settings : Settings) (claim : Claim) (surface : Surface) : Type 0 where
   pub complex : Complex
-  pub complex_is : IsComplexOf (scene_of_rows rows settings) complex
-  pub counts : HasCounts claim rows settings
-  pub best : IsBest (scene_of_rows rows settings) complex claim
-  pub cost_is : claim.counts.cost ≡ cost (scene_of_rows rows settings) complex (is_inside claim)
-  pub surface_is : surface ≡ best_surface rows complex (is_inside claim)
+  pub complex_is : IsComplexOf (scene_of_scan scan settings) complex
+  pub counts : HasCounts claim scan settings
+  pub best : IsBest (scene_of_scan scan settings) complex claim
+  pub cost_is : claim.counts.cost ≡ cost (scene_of_scan scan settings) complex (is_inside claim)
+  pub surface_is : surface ≡ best_surface scan complex (is_inside claim)

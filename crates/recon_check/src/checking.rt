@@ -5,10 +5,10 @@ ghost use Rattle.cert_text.specs.Certificates.{claim_of, stamp_view, Claim, IsWe
 ghost use Rattle.cert_text.specs.Stamps.{StampView};
 ghost use Rattle.cert_text.specs.Texts.{cert_text};
 ghost use Rattle.mesh_ply.specs.Meshes.{IsMesh, Surface};
-ghost use Rattle.solution.specs.Scans.{scene_of_rows};
+ghost use Rattle.solution.specs.Scans.{scene_of_scan};
 ghost use Rattle.solution.specs.Solutions.{surface_of, HasCounts, IsSolution};
-ghost use Rattle.scan.specs.ScanRows.{ScanRows};
-ghost use Rattle.scan.specs.Views.{rows_of};
+ghost use Rattle.scan.specs.Shown.{Shown};
+ghost use Rattle.scan.specs.Views.{shown_of};
 ghost use Rattle.surface.specs.Labelled.{Cutting};
 ghost use Rattle.visibility.specs.Cuts.{cost as cost_over};
 ghost use Rattle.visibility.specs.Laws.{labels_of};
@@ -36,9 +36,9 @@ use std::alloc::{AllocError, Global};
 use surface::facets;
 use vote_net::Counted;
 
-/// The numbers of a surface that was shown best.
+/// The numbers of a surface that was shown best, and whose text the mesh is.
 #[derive(Drop)]
-struct Shown {
+struct Accepted {
     /// How many cells are inside.
     inside: u64,
     /// How many faces the surface has.
@@ -51,7 +51,7 @@ struct Shown {
 fn certificate(alloc: Global, bytes: &[u8]) -> Result<Certificate, Stop>
     ensures formed { IfOk result (λ cert. IsWellFormed (claim_of cert)) }
     ensures text { IfOk result (λ cert. bytes.now ≡ cert_text (claim_of cert)) }
-    ensures refused { (rows : ScanRows) (settings : Settings) (stamp : StampView) (mesh : List ℕ) → IfErr result (StopsFor (λ reason. IsAnswer rows settings stamp mesh bytes.now (Answer.No reason))) }
+    ensures refused { (scan : Shown) (settings : Settings) (stamp : StampView) (mesh : List ℕ) → IfErr result (StopsFor (λ reason. IsAnswer scan settings stamp mesh bytes.now (Answer.No reason))) }
 {
     match read_cert(alloc, bytes) {
         Ok(cert) => Ok(cert),
@@ -70,13 +70,13 @@ fn labels_at_cost(
     voted: Voted,
     cert: &Certificate,
 ) -> Result<Labels, Stop>
-    requires network { IsNetworkOf (scene_of_rows (rows_of scan.now) settings) voted }
+    requires network { IsNetworkOf (scene_of_scan (shown_of scan.now) settings) voted }
     requires formed { IsWellFormed (claim_of cert.now) }
-    requires counts { HasCounts (claim_of cert.now) (rows_of scan.now) settings }
+    requires counts { HasCounts (claim_of cert.now) (shown_of scan.now) settings }
     ensures labels { IfOk result (λ labels. labels ≡ labels_of (complex_of voted) (is_inside (claim_of cert.now))) }
-    ensures best { OnOk result (IsBest (scene_of_rows (rows_of scan.now) settings) (complex_of voted) (claim_of cert.now)) }
-    ensures cost { OnOk result ((claim_of cert.now).counts.cost ≡ cost_over (scene_of_rows (rows_of scan.now) settings) (complex_of voted) (is_inside (claim_of cert.now))) }
-    ensures fault { (mesh : List ℕ) → IfErr result (StopsFor (IsFault (rows_of scan.now) settings mesh (claim_of cert.now))) }
+    ensures best { OnOk result (IsBest (scene_of_scan (shown_of scan.now) settings) (complex_of voted) (claim_of cert.now)) }
+    ensures cost { OnOk result ((claim_of cert.now).counts.cost ≡ cost_over (scene_of_scan (shown_of scan.now) settings) (complex_of voted) (is_inside (claim_of cert.now))) }
+    ensures fault { (mesh : List ℕ) → IfErr result (StopsFor (IsFault (shown_of scan.now) settings mesh (claim_of cert.now))) }
 {
     let labels = best_labels(alloc, &voted, cert)?;
     let cost = least_cost(scan, settings, &voted, &labels);
@@ -98,13 +98,13 @@ fn best_surface(
     cert: &Certificate,
 ) -> Result<Mesh, Stop>
     ghost cutting: { Cutting }
-    requires cutting { cutting ≡ cutting_of (rows_of scan.now) settings network }
-    requires network { IsNetworkOfScan (rows_of scan.now) settings network }
+    requires cutting { cutting ≡ cutting_of (shown_of scan.now) settings network }
+    requires network { IsNetworkOfScan (shown_of scan.now) settings network }
     requires formed { IsWellFormed (claim_of cert.now) }
-    requires counts { HasCounts (claim_of cert.now) (rows_of scan.now) settings }
-    ensures surface { IfOk result (λ surface. IsBestSurface (rows_of scan.now) settings (claim_of cert.now) (surface_of surface)) }
+    requires counts { HasCounts (claim_of cert.now) (shown_of scan.now) settings }
+    ensures surface { IfOk result (λ surface. IsBestSurface (shown_of scan.now) settings (claim_of cert.now) (surface_of surface)) }
     ensures valid { IfOk result (λ surface. IsMesh surface.points.items surface.faces.items) }
-    ensures fault { (mesh : List ℕ) → IfErr result (StopsFor (IsFault (rows_of scan.now) settings mesh (claim_of cert.now))) }
+    ensures fault { (mesh : List ℕ) → IfErr result (StopsFor (IsFault (shown_of scan.now) settings mesh (claim_of cert.now))) }
 {
     let Network { linked, counted } = network;
     let Counted { voted, ids } = counted;
@@ -121,19 +121,19 @@ fn shown_over(
     network: Network,
     mesh: &[u8],
     cert: &Certificate,
-) -> Result<Shown, Stop>
-    requires network { IsNetworkOfScan (rows_of scan.now) settings network }
+) -> Result<Accepted, Stop>
+    requires network { IsNetworkOfScan (shown_of scan.now) settings network }
     requires formed { IsWellFormed (claim_of cert.now) }
-    requires counts { HasCounts (claim_of cert.now) (rows_of scan.now) settings }
-    ensures shown { IfOk result (λ shown. IsShownWith (rows_of scan.now) settings mesh.now shown.inside shown.faces shown.cost (claim_of cert.now)) }
-    ensures fault { IfErr result (StopsFor (IsFault (rows_of scan.now) settings mesh.now (claim_of cert.now))) }
+    requires counts { HasCounts (claim_of cert.now) (shown_of scan.now) settings }
+    ensures shown { IfOk result (λ shown. IsShownWith (shown_of scan.now) settings mesh.now shown.inside shown.faces shown.cost (claim_of cert.now)) }
+    ensures fault { IfErr result (StopsFor (IsFault (shown_of scan.now) settings mesh.now (claim_of cert.now))) }
 {
     let surface = best_surface(alloc, scan, settings, network, cert)?;
     let mut text = Vec::new(alloc);
     push_mesh(&mut text, &surface)?;
     match first_difference(mesh, &text) {
         Some(place) => Err(Stop::Fault(Reason::MeshDiffers { place })),
-        None => Ok(Shown {
+        None => Ok(Accepted {
             inside: cert.inside.len() as u64,
             faces: surface.faces.len() as u64,
             cost: cert.cost,
@@ -148,10 +148,10 @@ fn shown_by_certificate(
     settings: Settings,
     mesh: &[u8],
     cert: &Certificate,
-) -> Result<Shown, Stop>
+) -> Result<Accepted, Stop>
     requires { IsWellFormed (claim_of cert.now) }
-    ensures shown { IfOk result (λ shown. IsShownWith (rows_of scan.now) settings mesh.now shown.inside shown.faces shown.cost (claim_of cert.now)) }
-    ensures fault { IfErr result (StopsFor (IsFault (rows_of scan.now) settings mesh.now (claim_of cert.now))) }
+    ensures shown { IfOk result (λ shown. IsShownWith (shown_of scan.now) settings mesh.now shown.inside shown.faces shown.cost (claim_of cert.now)) }
+    ensures fault { IfErr result (StopsFor (IsFault (shown_of scan.now) settings mesh.now (claim_of cert.now))) }
 {
     let seen = seen_in(alloc, scan)?;
     if let Some(reason) = other_count(scan, &seen.points, settings, cert) {
@@ -170,9 +170,9 @@ fn shown_by_texts(
     stamp: &Stamp,
     mesh: &[u8],
     cert: &[u8],
-) -> Result<Shown, Stop>
-    ensures shown { IfOk result (λ shown. IsAnswer (rows_of scan.now) settings (stamp_view stamp.now) mesh.now cert.now (Answer.Yes shown.inside shown.faces shown.cost)) }
-    ensures fault { IfErr result (StopsFor (λ reason. IsAnswer (rows_of scan.now) settings (stamp_view stamp.now) mesh.now cert.now (Answer.No reason))) }
+) -> Result<Accepted, Stop>
+    ensures shown { IfOk result (λ shown. IsAnswer (shown_of scan.now) settings (stamp_view stamp.now) mesh.now cert.now (Answer.Yes shown.inside shown.faces shown.cost)) }
+    ensures fault { IfErr result (StopsFor (λ reason. IsAnswer (shown_of scan.now) settings (stamp_view stamp.now) mesh.now cert.now (Answer.No reason))) }
 {
     let stated = certificate(alloc, cert)?;
     match other_stamp(stamp, &stated) {
@@ -197,10 +197,10 @@ pub fn check_all(
     mesh: &[u8],
     cert: &[u8],
 ) -> Result<Answer, NoMemory>
-    ensures answer { IfOk result (IsAnswer (rows_of scan.now) settings (stamp_view stamp.now) mesh.now cert.now) }
-    ensures only { (answer : Answer) → IsAnswer (rows_of scan.now) settings (stamp_view stamp.now) mesh.now cert.now answer → IfOk result (λ given. given ≡ answer) }
-    ensures yes { IfOk result (λ answer. IsYes answer ↔ IsAccepted (rows_of scan.now) settings (stamp_view stamp.now) mesh.now cert.now) }
-    ensures built { (surface : Surface) (claim : Claim) → IsSolution (rows_of scan.now) settings surface claim → IsWellFormed claim → IsStampedFor (stamp_view stamp.now) claim → mesh.now ≡ surface_text surface → cert.now ≡ cert_text claim → IfOk result (λ answer. answer ≡ Answer.Yes (length claim.inside) (length surface.faces) claim.counts.cost) }
+    ensures answer { IfOk result (IsAnswer (shown_of scan.now) settings (stamp_view stamp.now) mesh.now cert.now) }
+    ensures only { (answer : Answer) → IsAnswer (shown_of scan.now) settings (stamp_view stamp.now) mesh.now cert.now answer → IfOk result (λ given. given ≡ answer) }
+    ensures yes { IfOk result (λ answer. IsYes answer ↔ IsAccepted (shown_of scan.now) settings (stamp_view stamp.now) mesh.now cert.now) }
+    ensures built { (surface : Surface) (claim : Claim) → IsSolution (shown_of scan.now) settings surface claim → IsWellFormed claim → IsStampedFor (stamp_view stamp.now) claim → mesh.now ≡ surface_text surface → cert.now ≡ cert_text claim → IfOk result (λ answer. answer ≡ Answer.Yes (length claim.inside) (length surface.faces) claim.counts.cost) }
 {
     match shown_by_texts(alloc, scan, settings, stamp, mesh, cert) {
         Ok(shown) => Ok(Answer::Yes {

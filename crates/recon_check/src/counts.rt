@@ -4,7 +4,7 @@ ghost use Rattle.std.specs.Prelude.{◌≡◌, ℕ, List, IfSome, IfNone, None, 
 ghost use Rattle.cert_text.specs.Certificates.{claim_of};
 ghost use Rattle.solution.specs.Scans.{points_of};
 ghost use Rattle.solution.specs.Solutions.{HasCounts};
-ghost use Rattle.scan.specs.Views.{rows_of};
+ghost use Rattle.scan.specs.Views.{shown_of};
 ghost use Rattle.recon_check.specs.Answers.{IsFault};
 
 use crate::{Reason, Which};
@@ -36,13 +36,13 @@ pub fn other_count(
     settings: Settings,
     cert: &Certificate,
 ) -> Option<Reason>
-    requires { points.now ≡ points_of (rows_of scan.now) }
-    ensures same { IfNone result (HasCounts (claim_of cert.now) (rows_of scan.now) settings) }
-    ensures other { IfSome result (λ reason. (mesh : List ℕ) → IsFault (rows_of scan.now) settings mesh (claim_of cert.now) reason) }
+    requires { points.now ≡ points_of (shown_of scan.now) }
+    ensures same { IfNone result (HasCounts (claim_of cert.now) (shown_of scan.now) settings) }
+    ensures other { IfSome result (λ reason. (mesh : List ℕ) → IsFault (shown_of scan.now) settings mesh (claim_of cert.now) reason) }
 {
     other(Which::Points, cert.points, points.len() as u32)
         .or(other(Which::Scanners, cert.scanners, scan.scanners.len() as u32))
-        .or(other(Which::Sights, cert.sights, scan.seen_by.len() as u32))
+        .or(other(Which::Sights, cert.sights, scan.seen.len() as u32))
         .or(other(Which::Vote, cert.vote, settings.vote))
         .or(other(Which::Smooth, cert.smooth, settings.smooth))
 }

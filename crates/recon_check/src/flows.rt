@@ -4,7 +4,7 @@
 ghost use Rattle.std.specs.Prelude.{◌≡◌, ℕ, List, IfOk, IfErr, OnOk};
 ghost use Rattle.cert_text.specs.Certificates.{claim_of, IsWellFormed};
 ghost use Rattle.solution.specs.Solutions.{flow_on, sink_at};
-ghost use Rattle.scan.specs.ScanRows.{ScanRows};
+ghost use Rattle.scan.specs.Shown.{Shown};
 ghost use Rattle.visibility.specs.Laws.{labels_of, flow_of};
 ghost use Rattle.visibility.specs.Networks.{complex_of, IsNetworkOf};
 ghost use Rattle.visibility.specs.Scenes.{Scene};
@@ -36,7 +36,7 @@ fn stated_by(alloc: Global, voted: &Voted, cert: &Certificate) -> Result<Stated,
     ensures labels { IfOk result (λ stated. stated.labels ≡ labels_of (complex_of voted.now) (is_inside (claim_of cert.now))) }
     ensures flow { IfOk result (λ stated. stated.flow ≡ flow_of (complex_of voted.now) (flow_on (claim_of cert.now)) (sink_at (claim_of cert.now))) }
     ensures there { OnOk result (AreThere (complex_of voted.now) (claim_of cert.now)) }
-    ensures stray { (rows : ScanRows) (s : Scene) (mesh : List ℕ) → IfErr result (StopsFor (IsReason rows s (complex_of voted.now) (claim_of cert.now) mesh)) }
+    ensures stray { (scan : Shown) (s : Scene) (mesh : List ℕ) → IfErr result (StopsFor (IsReason scan s (complex_of voted.now) (claim_of cert.now) mesh)) }
 {
     let cells = voted.cells.as_slice();
     let inside = inside_flags(alloc, cells, &cert.inside)?;
@@ -60,7 +60,7 @@ pub fn best_labels(alloc: Global, voted: &Voted, cert: &Certificate) -> Result<L
     requires formed { IsWellFormed (claim_of cert.now) }
     ensures labels { IfOk result (λ labels. labels ≡ labels_of (complex_of voted.now) (is_inside (claim_of cert.now))) }
     ensures best { (s : Scene) → IsNetworkOf s voted.now → OnOk result (IsBest s (complex_of voted.now) (claim_of cert.now)) }
-    ensures fault { (rows : ScanRows) (s : Scene) (mesh : List ℕ) → IsNetworkOf s voted.now → IfErr result (StopsFor (IsReason rows s (complex_of voted.now) (claim_of cert.now) mesh)) }
+    ensures fault { (scan : Shown) (s : Scene) (mesh : List ℕ) → IsNetworkOf s voted.now → IfErr result (StopsFor (IsReason scan s (complex_of voted.now) (claim_of cert.now) mesh)) }
 {
     let stated = stated_by(alloc, voted, cert)?;
     let verdict = check_flow(alloc, &voted.net, &stated.labels, &stated.flow)?;

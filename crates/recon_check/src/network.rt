@@ -2,7 +2,7 @@
 //! along the sights.
 
 ghost use Rattle.std.specs.Prelude.{◌≡◌, IfOk};
-ghost use Rattle.scan.specs.Views.{rows_of};
+ghost use Rattle.scan.specs.Views.{shown_of};
 ghost use Rattle.solution.specs.Scans.{points_of, sights_of};
 ghost use Rattle.recon_check.specs.Networks.{IsNetworkOfScan};
 
@@ -10,7 +10,7 @@ use crate::NoMemory;
 use delaunay::build;
 use flow_net::Settings;
 use scan::Scan;
-use solution::Seen;
+use solution::SeenPoints;
 use std::alloc::Global;
 use tetra_store::Tetra;
 use vote_net::Counted;
@@ -30,11 +30,11 @@ pub fn network_of(
     alloc: Global,
     scan: &Scan,
     settings: Settings,
-    seen: Seen,
+    seen: SeenPoints,
 ) -> Result<Network, NoMemory>
-    requires points { seen.points.items ≡ points_of (rows_of scan.now) }
-    requires sights { seen.sights.items ≡ sights_of (rows_of scan.now) }
-    ensures { IfOk result (IsNetworkOfScan (rows_of scan.now) settings) }
+    requires points { seen.points.items ≡ points_of (shown_of scan.now) }
+    requires sights { seen.sights.items ≡ sights_of (shown_of scan.now) }
+    ensures { IfOk result (IsNetworkOfScan (shown_of scan.now) settings) }
 {
     let linked = build(alloc, &seen.points)?;
     linked.facts();

@@ -5,7 +5,7 @@ use Rattle.std.proofs.lemmas.Bool.{and_parts}
 use Rattle.cert_text.specs.Stamps.{StampView}
 use Rattle.host.specs.Counts.{Rose}
 use Rattle.host.specs.State.{State, Told}
-use Rattle.scan.specs.ScanRows.{ScanRows}
+use Rattle.scan.specs.Shown.{Shown}
 use Rattle.recon_cmd.specs.Answers.{file_limit}
 use Rattle.recon_cmd.specs.CheckLaws.{AreReadable, IsShownAt, CheckEnds, BuiltIsAccepted}
 use Rattle.recon_cmd.specs.Headline.{HoldsTheBest}
@@ -50,12 +50,12 @@ shown_after names options old new mesh cert best mesh_file cert_file =
     }
 
 -- a run that ended as the files say is done
-ends_done : (options : Options) (bytes mesh cert : List ℕ) (scan : ScanRows) (status : Status) → AreReadable options bytes mesh cert scan → IsShownAt options (stamp_for options bytes) scan mesh cert
+ends_done : (options : Options) (bytes mesh cert : List ℕ) (scan : Shown) (status : Status) → AreReadable options bytes mesh cert scan → IsShownAt options (stamp_for options bytes) scan mesh cert
     → CheckEnds options bytes mesh cert status → (status ≡ Done) ⊎ (status ≡ NoMemory)
 ends_done options bytes mesh cert scan Done readable shown ends = inl refl
 ends_done options bytes mesh cert scan No readable shown (other, there, none) =
     let same : scan ≡ other = cc (readable.read, there.read) in
-    absurd (none (subst (λ (s : ScanRows). IsShownAt options (stamp_for options bytes) s mesh cert) same shown))
+    absurd (none (subst (λ (s : Shown). IsShownAt options (stamp_for options bytes) s mesh cert) same shown))
 ends_done options bytes mesh cert scan BadWords readable shown ends = absurd ends
 ends_done options bytes mesh cert scan Refused readable shown ends = absurd (ends scan readable)
 ends_done options bytes mesh cert scan Failed readable shown ends = absurd ends

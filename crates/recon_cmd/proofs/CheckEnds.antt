@@ -4,7 +4,7 @@ use Rattle.cert_text.specs.Stamps.{StampView}
 use Rattle.flow_net.specs.declared.votes.Settings.{Settings}
 use Rattle.host.specs.Counts.{Rose}
 use Rattle.host.specs.State.{State, Told, Files}
-use Rattle.scan.specs.ScanRows.{ScanRows}
+use Rattle.scan.specs.Shown.{Shown}
 use Rattle.recon_check.specs.Answers.{IsAccepted, IsAnswer}
 use Rattle.recon_check.specs.declared.answer.Answer.{Answer as Verdict}
 use Rattle.recon_check.specs.declared.answer.Answer.TheVariants as verdicts
@@ -28,8 +28,8 @@ use Rattle.recon_cmd.proofs.ScanReplies.{unread_status}
 -- the files are not readable and this is said, or they are and there is a verdict
 abbrev pub Decided : Option (List ℕ) → Options → (bytes mesh cert : List ℕ) → Answer → Type 0
 Decided output options bytes mesh cert answer =
-    ((answer.status ≡ Refused) × ((scan : ScanRows) → ¬ AreReadable options bytes mesh cert scan))
-    ⊎ ((scan : ScanRows) × AreReadable options bytes mesh cert scan × HasVerdict output options (stamp_for options bytes) scan mesh cert answer)
+    ((answer.status ≡ Refused) × ((scan : Shown) → ¬ AreReadable options bytes mesh cert scan))
+    ⊎ ((scan : Shown) × AreReadable options bytes mesh cert scan × HasVerdict output options (stamp_for options bytes) scan mesh cert answer)
 
 -- each answer decides
 pub decided : (names : SurfaceNames) (output : Option (List ℕ)) (options : Options) (files : Files) (bytes mesh cert : List ℕ) (answer : Answer)
@@ -37,14 +37,14 @@ pub decided : (names : SurfaceNames) (output : Option (List ℕ)) (options : Opt
     → Decided output options bytes mesh cert answer
 decided names output options files bytes mesh cert answer input mesh_file cert_file (others, there, answers) = by_scan others (cc (there, input)) answers
   where
-    by_cert : (scan : ScanRows) (found : List ℕ) → found ≡ cert → length bytes ≤ file_limit → read_as options bytes ≡ Ok scan → length mesh ≤ file_limit
+    by_cert : (scan : Shown) (found : List ℕ) → found ≡ cert → length bytes ≤ file_limit → read_as options bytes ≡ Ok scan → length mesh ≤ file_limit
         → FileTooLong 3 too_long_cert_line found answer ⊎ ((length found ≤ file_limit) × HasVerdict output options (stamp_for options bytes) scan mesh found answer) → Decided output options bytes mesh cert answer
     by_cert scan found same within read mesh_within (inl long) =
         inl (ap (λ (a : Answer). a.status) long.is, λ rows readable. absurd (omega (arith, long.longer, ap length same, readable.cert_within)))
     by_cert scan found same within read mesh_within (inr (cert_within, verdict)) =
         inr (scan, record { bytes_within = within; mesh_within = mesh_within; cert_within = subst (λ (c : List ℕ). length c ≤ file_limit) same cert_within; read = read }, subst (λ (c : List ℕ). HasVerdict output options (stamp_for options bytes) scan mesh c answer) same verdict)
 
-    by_mesh : (scan : ScanRows) (found : List ℕ) → found ≡ mesh → length bytes ≤ file_limit → read_as options bytes ≡ Ok scan
+    by_mesh : (scan : Shown) (found : List ℕ) → found ≡ mesh → length bytes ≤ file_limit → read_as options bytes ≡ Ok scan
         → FileTooLong 2 too_long_mesh_line found answer ⊎ ((length found ≤ file_limit) × CertAnswer names (HasVerdict output options (stamp_for options bytes) scan found) files answer) → Decided output options bytes mesh cert answer
     by_mesh scan found same within read (inl long) =
         inl (ap (λ (a : Answer). a.status) long.is, λ rows readable. absurd (omega (arith, long.longer, ap length same, readable.mesh_within)))
@@ -66,7 +66,7 @@ decided names output options files bytes mesh cert answer input mesh_file cert_f
         (subst (λ (b : List ℕ). read_as options b ≡ Ok answered.scan) same answered.read) there.answers
 
 -- a solution is what yes says
-accepted_says_yes : (scan : ScanRows) (settings : Settings) (stamp : StampView) (mesh cert : List ℕ) (accepted : IsAccepted scan settings stamp mesh cert)
+accepted_says_yes : (scan : Shown) (settings : Settings) (stamp : StampView) (mesh cert : List ℕ) (accepted : IsAccepted scan settings stamp mesh cert)
     → IsAnswer scan settings stamp mesh cert (verdicts.Yes (length accepted.claim.inside) (length (accepted.holds.1).surface.faces) accepted.claim.counts.cost)
 accepted_says_yes scan settings stamp mesh cert accepted =
     record {
@@ -77,7 +77,7 @@ accepted_says_yes scan settings stamp mesh cert accepted =
     }
 
 -- yes says a solution
-yes_is_accepted : (scan : ScanRows) (settings : Settings) (stamp : StampView) (mesh cert : List ℕ) (inside faces cost : ℕ) → IsAnswer scan settings stamp mesh cert (verdicts.Yes inside faces cost)
+yes_is_accepted : (scan : Shown) (settings : Settings) (stamp : StampView) (mesh cert : List ℕ) (inside faces cost : ℕ) → IsAnswer scan settings stamp mesh cert (verdicts.Yes inside faces cost)
     → IsAccepted scan settings stamp mesh cert
 yes_is_accepted scan settings stamp mesh cert inside faces cost is = record { claim = is.claim; well_formed = is.well_formed; text_is = is.text_is; holds = (is.holds.0, (is.holds.1).shown) }
 
@@ -86,7 +86,7 @@ no_is_not_yes : (reason : Reason) (inside faces cost : ℕ) → verdicts.No reas
 no_is_not_yes reason inside faces cost e = cc
 
 -- a reason says that there is none
-no_is_not_shown : (options : Options) (stamp : StampView) (scan : ScanRows) (settings : Settings) (mesh cert : List ℕ) (reason : Reason) → settings.vote ≡ options.vote → settings.smooth ≡ options.smooth
+no_is_not_shown : (options : Options) (stamp : StampView) (scan : Shown) (settings : Settings) (mesh cert : List ℕ) (reason : Reason) → settings.vote ≡ options.vote → settings.smooth ≡ options.smooth
     → IsAnswer scan settings stamp mesh cert (verdicts.No reason) → ¬ IsShownAt options stamp scan mesh cert
 no_is_not_shown options stamp scan settings mesh cert reason vote smooth is shown =
     let same : shown.settings ≡ settings = same_settings shown.settings settings (shown.vote ∙ sym vote) (shown.smooth ∙ sym smooth) in
@@ -105,7 +105,7 @@ not_refused (verdicts.Yes inside faces cost) e = cc
 not_refused (verdicts.No reason) e = cc
 
 -- the verdict of each status
-yes_ends : (output : Option (List ℕ)) (options : Options) (stamp : StampView) (scan : ScanRows) (mesh cert : List ℕ) (answer : Answer) → answer.status ≡ Done → HasVerdict output options stamp scan mesh cert answer → IsShownAt options stamp scan mesh cert
+yes_ends : (output : Option (List ℕ)) (options : Options) (stamp : StampView) (scan : Shown) (mesh cert : List ℕ) (answer : Answer) → answer.status ≡ Done → HasVerdict output options stamp scan mesh cert answer → IsShownAt options stamp scan mesh cert
 yes_ends output options stamp scan mesh cert answer done verdict = by_cases verdict.verdict verdict.holds (sym (concluded_status output stamp cert verdict.verdict answer verdict.is) ∙ done)
   where
     by_cases : (v : Verdict) → IsAnswer scan verdict.settings stamp mesh cert v → verdict_status v ≡ Done → IsShownAt options stamp scan mesh cert
@@ -113,14 +113,14 @@ yes_ends output options stamp scan mesh cert answer done verdict = by_cases verd
         record { settings = verdict.settings; vote = verdict.vote; smooth = verdict.smooth; accepted = yes_is_accepted scan verdict.settings stamp mesh cert inside faces cost is }
     by_cases (verdicts.No reason) is status = absurd (not_done reason status)
 
-no_ends : (output : Option (List ℕ)) (options : Options) (stamp : StampView) (scan : ScanRows) (mesh cert : List ℕ) (answer : Answer) → answer.status ≡ No → HasVerdict output options stamp scan mesh cert answer → ¬ IsShownAt options stamp scan mesh cert
+no_ends : (output : Option (List ℕ)) (options : Options) (stamp : StampView) (scan : Shown) (mesh cert : List ℕ) (answer : Answer) → answer.status ≡ No → HasVerdict output options stamp scan mesh cert answer → ¬ IsShownAt options stamp scan mesh cert
 no_ends output options stamp scan mesh cert answer says_no verdict = by_cases verdict.verdict verdict.holds (sym (concluded_status output stamp cert verdict.verdict answer verdict.is) ∙ says_no)
   where
     by_cases : (v : Verdict) → IsAnswer scan verdict.settings stamp mesh cert v → verdict_status v ≡ No → ¬ IsShownAt options stamp scan mesh cert
     by_cases (verdicts.Yes inside faces cost) is status = absurd (not_no inside faces cost status)
     by_cases (verdicts.No reason) is status = no_is_not_shown options stamp scan verdict.settings mesh cert reason verdict.vote verdict.smooth is
 
-never_refuses : (output : Option (List ℕ)) (options : Options) (stamp : StampView) (scan : ScanRows) (mesh cert : List ℕ) (answer : Answer) → answer.status ≡ Refused → HasVerdict output options stamp scan mesh cert answer → ⊥
+never_refuses : (output : Option (List ℕ)) (options : Options) (stamp : StampView) (scan : Shown) (mesh cert : List ℕ) (answer : Answer) → answer.status ≡ Refused → HasVerdict output options stamp scan mesh cert answer → ⊥
 never_refuses output options stamp scan mesh cert answer refused verdict = not_refused verdict.verdict (sym (concluded_status output stamp cert verdict.verdict answer verdict.is) ∙ refused)
 
 -- no answer has two statuses

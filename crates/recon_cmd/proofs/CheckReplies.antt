@@ -3,8 +3,8 @@ use Rattle.std.proofs.Common.{◌≡◌, ◌⊎◌, inl, inr, ℕ, ◌+◌, ◌�
 use Rattle.cert_text.specs.Stamps.{StampView}
 use Rattle.host.specs.State.{State, Told, Files, file_bytes}
 use Rattle.host.specs.Whole.{OnlyReads, apart_from_left}
-use Rattle.scan.specs.ScanRows.{ScanRows}
-use Rattle.scan.specs.Views.{rows_of}
+use Rattle.scan.specs.Shown.{Shown}
+use Rattle.scan.specs.Views.{shown_of}
 use Rattle.scan.specs.declared.scan.Scan.{Scan}
 use Rattle.recon_cmd.specs.Answers.{Answer, AnswerOf, CertAnswer, CheckAnswer, IsConcluded, restamped, FileTooLong, HasVerdict, IsUnread, MeshAnswer, ScanAnswer, Write, file_limit, refusal}
 use Rattle.recon_cmd.specs.Checking.{IsCheckReply, ReadsOn}
@@ -77,7 +77,7 @@ too_long names output options A name line reads reply before is longer each =
     by_cases (Some told) more = (reads, with_bytes told.files (told.files name) refl more)
 
 -- the verdict, and what follows from it
-pub verdict_given : (output : Option (List ℕ)) (options : Options) (stamp : StampView) (scan : ScanRows) (mesh cert : List ℕ) (settings : Settings) (verdict : Verdict) (answer : Answer)
+pub verdict_given : (output : Option (List ℕ)) (options : Options) (stamp : StampView) (scan : Shown) (mesh cert : List ℕ) (settings : Settings) (verdict : Verdict) (answer : Answer)
     → settings.vote ≡ options.vote → settings.smooth ≡ options.smooth → IsAnswer scan settings stamp mesh cert verdict
     → IsConcluded output stamp cert verdict answer → HasVerdict output options stamp scan mesh cert answer
 verdict_given output options stamp scan mesh cert settings verdict answer vote smooth holds is =
@@ -110,14 +110,14 @@ pub result_written : {E : Type 0} (result : Result Reply E) (output : Option (Li
 result_written (Err e) output name stamp cert verdict inside faces cost some is written = tt
 result_written (Ok reply) output name stamp cert verdict inside faces cost some is written = yes_written output name stamp cert verdict inside faces cost (answer_of 3 reply) some is (written inside faces)
 
-pub result_decided : {E : Type 0} (result : Result Reply E) (output : Option (List ℕ)) (options : Options) (stamp : StampView) (scan : ScanRows) (mesh cert : List ℕ) (settings : Settings) (verdict : Verdict)
+pub result_decided : {E : Type 0} (result : Result Reply E) (output : Option (List ℕ)) (options : Options) (stamp : StampView) (scan : Shown) (mesh cert : List ℕ) (settings : Settings) (verdict : Verdict)
     → settings.vote ≡ options.vote → settings.smooth ≡ options.smooth → IsAnswer scan settings stamp mesh cert verdict
     → IfOk result (λ reply. IsConcluded output stamp cert verdict (answer_of 3 reply)) → IfOk result (λ reply. HasVerdict output options stamp scan mesh cert (answer_of 3 reply))
 result_decided (Err e) output options stamp scan mesh cert settings verdict vote smooth holds is = tt
 result_decided (Ok reply) output options stamp scan mesh cert settings verdict vote smooth holds is = verdict_given output options stamp scan mesh cert settings verdict (answer_of 3 reply) vote smooth holds is
 
 -- yes of a text, as that of a certificate
-pub yes_has_text : (scan : ScanRows) (settings : Settings) (stamp : StampView) (mesh cert : List ℕ) (inside faces cost : ℕ) → IsAnswer scan settings stamp mesh cert (verdicts.Yes inside faces cost) → HasCertificate cert (λ claim. ⊤)
+pub yes_has_text : (scan : Shown) (settings : Settings) (stamp : StampView) (mesh cert : List ℕ) (inside faces cost : ℕ) → IsAnswer scan settings stamp mesh cert (verdicts.Yes inside faces cost) → HasCertificate cert (λ claim. ⊤)
 yes_has_text scan settings stamp mesh cert inside faces cost is = record { claim = is.claim; well_formed = is.well_formed; text_is = is.text_is; holds = tt }
 
 -- the certificate is written with this stamp
@@ -146,7 +146,7 @@ concluded_reads (Some output) stamp cert (verdicts.Yes inside faces cost) answer
 concluded_reads (Some output) stamp cert (verdicts.No reason) answer is = ap (λ (a : Answer). a.reads) is
 
 -- the certificate was read behind two files
-pub cert_reads : (names : SurfaceNames) (output : Option (List ℕ)) (options : Options) (stamp : StampView) (scan : ScanRows) (mesh : List ℕ) (before after : State) → before.writing ≡ false → OnlyReads before after
+pub cert_reads : (names : SurfaceNames) (output : Option (List ℕ)) (options : Options) (stamp : StampView) (scan : Shown) (mesh : List ℕ) (before after : State) → before.writing ≡ false → OnlyReads before after
     → ReadsOn 2 1 (CertAnswer names (HasVerdict output options stamp scan mesh)) before after
 cert_reads names output options stamp scan mesh before after closed only =
     record { told = only.told; writing = only.writing ∙ closed; opens = omega (arith, only.opens); no_more = by_cases before.told }
@@ -168,7 +168,7 @@ verdict_fits names output options (verdicts.Yes inside faces cost) = (tt, tt)
 verdict_fits names output options (verdicts.No reason) = (tt, tt)
 
 -- the certificate was read, and there is a verdict
-pub cert_reply : (names : SurfaceNames) (output : Option (List ℕ)) (options : Options) (stamp : StampView) (scan : ScanRows) (mesh cert : List ℕ) (reply : Reply) (before : State)
+pub cert_reply : (names : SurfaceNames) (output : Option (List ℕ)) (options : Options) (stamp : StampView) (scan : Shown) (mesh cert : List ℕ) (reply : Reply) (before : State)
     → IfSome before.told (λ told. told.files names.cert ≡ Some cert) → length cert ≤ file_limit → HasVerdict output options stamp scan mesh cert (answer_of 3 reply)
     → IsCheckReply names output options (CertAnswer names (HasVerdict output options stamp scan mesh)) reply before
 cert_reply names output options stamp scan mesh cert reply before there within verdict =
@@ -190,28 +190,28 @@ cert_to_mesh names Decide mesh (Some told) there within = λ answer is. record {
 
 -- what the mesh and the certificate decide, where the bytes of the scan's file are these
 abbrev pub ToMesh : SurfaceNames → Option (List ℕ) → Options → Bytes → Scan → Answers
-ToMesh names output options held scan files = CheckAnswer names output options files held.items (rows_of scan)
+ToMesh names output options held scan files = CheckAnswer names output options files held.items (shown_of scan)
 
 mesh_to_scan : (names : SurfaceNames) (output : Option (List ℕ)) (options : Options) (scan : Scan) (held : Bytes) (o : Option Told) → IfSome o (IsReading names.input options (readings.Scan scan held))
     → Within (ToMesh names output options held scan) (AnswerOf (Some (check names output options))) o
 mesh_to_scan names output options scan held None reading = tt
 mesh_to_scan names output options scan held (Some told) (bytes, there, (same, within, read)) = λ answer is.
-    (bytes, there, inr (record { within = within; scan = rows_of scan; read = read; answers = subst (λ (b : List ℕ). CheckAnswer names output options told.files b (rows_of scan) answer) same is }))
+    (bytes, there, inr (record { within = within; scan = shown_of scan; read = read; answers = subst (λ (b : List ℕ). CheckAnswer names output options told.files b (shown_of scan) answer) same is }))
 
 -- where the scan is there and understood, the mesh and the certificate decide
 scan_to_mesh : (names : SurfaceNames) (output : Option (List ℕ)) (options : Options) (scan : Scan) (held : Bytes) (o : Option Told) → IfSome o (IsReading names.input options (readings.Scan scan held))
     → Within (AnswerOf (Some (check names output options))) (ToMesh names output options held scan) o
 scan_to_mesh names output options scan held None reading = tt
 scan_to_mesh names output options scan held (Some told) (bytes, there, (same, within, read)) = λ answer (others, has, is).
-    subst (λ (b : List ℕ). CheckAnswer names output options told.files b (rows_of scan) answer) (sym same) (by_cases answer others (cc (has, there)) is)
+    subst (λ (b : List ℕ). CheckAnswer names output options told.files b (shown_of scan) answer) (sym same) (by_cases answer others (cc (has, there)) is)
   where
     by_cases : (answer : Answer) (others : List ℕ) → others ≡ bytes → ScanAnswer options (CheckAnswer names output options told.files) others answer
-        → CheckAnswer names output options told.files bytes (rows_of scan) answer
+        → CheckAnswer names output options told.files bytes (shown_of scan) answer
     by_cases answer others same (inl (inl long)) = absurd (omega (arith, long.longer, within, ap length same))
     by_cases answer others same (inl (inr refused)) = absurd (cc (refused.refused, read, same))
     by_cases answer others same (inr answered) =
-        let rows : answered.scan ≡ rows_of scan = cc (answered.read, read, same) in
-        subst (λ (b : List ℕ). CheckAnswer names output options told.files b (rows_of scan) answer) same (subst (λ (s : ScanRows). CheckAnswer names output options told.files others s answer) rows answered.answers)
+        let rows : answered.scan ≡ shown_of scan = cc (answered.read, read, same) in
+        subst (λ (b : List ℕ). CheckAnswer names output options told.files b (shown_of scan) answer) same (subst (λ (s : Shown). CheckAnswer names output options told.files others s answer) rows answered.answers)
 
 -- the scan was read, and then the others
 pub check_reads : (names : SurfaceNames) (output : Option (List ℕ)) (options : Options) (scan : Scan) (held : Bytes) (before mid after : State) → OnlyReads before mid

@@ -3,7 +3,7 @@ use Rattle.std.proofs.Common.{◌≡◌, ◌⊎◌, inl, inr, ℕ, ◌≤◌, �
 use Rattle.std.specs.Option.{IsSomeAnd}
 use Rattle.host.specs.Counts.{Rose}
 use Rattle.host.specs.State.{State, Told}
-use Rattle.scan.specs.ScanRows.{ScanRows}
+use Rattle.scan.specs.Shown.{Shown}
 use Rattle.scan.specs.declared.refusal.ScanRefusal.{ScanRefusal}
 use Rattle.recon_cmd.specs.Answers.{Answer, IsUnread, ScanAnswer, WritesCells, WritesSurface, file_limit, read_as}
 use Rattle.recon_cmd.specs.Laws.{IsDoneIfAccepted, IsRefusedIfRefused, AcceptedIsDone, RefusedIsRefused, AcceptedIsBuilt, RefusedIsNotBuilt}
@@ -15,7 +15,7 @@ use Rattle.recon_cmd.specs.declared.status.Status.TheVariants.{Done, No, BadWord
 use Rattle.recon_cmd.proofs.ScanReplies.{ReadsScan, ToFiles, cells_scan, build_scan, unread_status}
 
 -- the status of the answer that these bytes have
-ended : (asked : Asked) (input : List ℕ) (options : Options) (Answers : List ℕ → ScanRows → Answer → Type 0) → ReadsScan asked input options Answers
+ended : (asked : Asked) (input : List ℕ) (options : Options) (Answers : List ℕ → Shown → Answer → Type 0) → ReadsScan asked input options Answers
     → (bytes : List ℕ) (told new : Told) (status : Status) → told.files input ≡ Some bytes → EndsWith (Some asked) status told new
     → (answer : Answer) × ScanAnswer options Answers bytes answer × (answer.status ≡ status)
 ended asked input options Answers reads bytes told new status has ends = with_answer (reads.unpack told.files ends.answer ends.answers)
@@ -39,7 +39,7 @@ abbrev pub WhyUnread : Options → (bytes : List ℕ) → Type 0
 WhyUnread options bytes = (file_limit < length bytes) ⊎ ((why : ScanRefusal) × (read_as options bytes ≡ Err why))
 
 -- a file of a scan within the limit is not refused
-pub not_unread : (options : Options) (bytes : List ℕ) (scan : ScanRows) → length bytes ≤ file_limit → read_as options bytes ≡ Ok scan → WhyUnread options bytes → ⊥
+pub not_unread : (options : Options) (bytes : List ℕ) (scan : Shown) → length bytes ≤ file_limit → read_as options bytes ≡ Ok scan → WhyUnread options bytes → ⊥
 not_unread options bytes scan within is (inl longer) = absurd (omega arith)
 not_unread options bytes scan within is (inr (why, refused)) = cc (is, refused)
 
@@ -53,21 +53,21 @@ pub unread_not_done : (options : Options) (bytes : List ℕ) (answer : Answer) �
 unread_not_done options bytes answer is unread = let status : answer.status ≡ Refused = unread_status options bytes answer unread in cc
 
 -- an accepted scan is not refused, and a refused one is not done
-not_refused : (asked : Asked) (input : List ℕ) (options : Options) (Answers : List ℕ → ScanRows → Answer → Type 0) → ReadsScan asked input options Answers
-    → (bytes : List ℕ) (scan : ScanRows) (answer : Answer) → length bytes ≤ file_limit → read_as options bytes ≡ Ok scan → answer.status ≡ Refused → ScanAnswer options Answers bytes answer → ⊥
+not_refused : (asked : Asked) (input : List ℕ) (options : Options) (Answers : List ℕ → Shown → Answer → Type 0) → ReadsScan asked input options Answers
+    → (bytes : List ℕ) (scan : Shown) (answer : Answer) → length bytes ≤ file_limit → read_as options bytes ≡ Ok scan → answer.status ≡ Refused → ScanAnswer options Answers bytes answer → ⊥
 not_refused asked input options Answers reads bytes scan answer within read is (inl unread) = not_unread options bytes scan within read (why_unread options bytes answer unread)
 not_refused asked input options Answers reads bytes scan answer within read is (inr answered) = let status : answer.status ≡ Done = reads.done bytes answered.scan answer answered.answers in cc
 
-not_done : (asked : Asked) (input : List ℕ) (options : Options) (Answers : List ℕ → ScanRows → Answer → Type 0) → ReadsScan asked input options Answers
+not_done : (asked : Asked) (input : List ℕ) (options : Options) (Answers : List ℕ → Shown → Answer → Type 0) → ReadsScan asked input options Answers
     → (bytes : List ℕ) (answer : Answer) → WhyUnread options bytes → answer.status ≡ Done → ScanAnswer options Answers bytes answer → ⊥
 not_done asked input options Answers reads bytes answer why is (inl unread) = unread_not_done options bytes answer is unread
 not_done asked input options Answers reads bytes answer why is (inr answered) = not_unread options bytes answered.scan answered.within answered.read why
 
-done_if_accepted : (asked : Asked) (input : List ℕ) (options : Options) (Answers : List ℕ → ScanRows → Answer → Type 0) → ReadsScan asked input options Answers → IsDoneIfAccepted asked options input
+done_if_accepted : (asked : Asked) (input : List ℕ) (options : Options) (Answers : List ℕ → Shown → Answer → Type 0) → ReadsScan asked input options Answers → IsDoneIfAccepted asked options input
 done_if_accepted asked input options Answers reads = λ bytes scan status before after runs within read.
     by_status bytes scan status before after within read runs.told runs.file runs.no_failure runs.outcome.fits runs.outcome.faults (told_then asked status runs.told before after runs.tells runs.outcome.tells)
   where
-    by_status : (bytes : List ℕ) (scan : ScanRows) (status : Status) (before after : State) → length bytes ≤ file_limit → read_as options bytes ≡ Ok scan
+    by_status : (bytes : List ℕ) (scan : Shown) (status : Status) (before after : State) → length bytes ≤ file_limit → read_as options bytes ≡ Ok scan
         → (told : Told) → told.files input ≡ Some bytes → ¬ Rose before.faults after.faults
         → StatusFits status (Some asked) → FaultsFit status before.faults after.faults → (new : Told) × Tells (Some asked) status told new → (status ≡ Done) ⊎ (status ≡ NoMemory)
     by_status bytes scan Done before after within read told has none fits faults tells = inl refl
@@ -80,7 +80,7 @@ done_if_accepted asked input options Answers reads = λ bytes scan status before
     by_status bytes scan Failed before after within read told has none fits faults tells = absurd (none faults)
     by_status bytes scan NoMemory before after within read told has none fits faults tells = inr refl
 
-refused_if_refused : (asked : Asked) (input : List ℕ) (options : Options) (Answers : List ℕ → ScanRows → Answer → Type 0) → ReadsScan asked input options Answers → IsRefusedIfRefused asked options input
+refused_if_refused : (asked : Asked) (input : List ℕ) (options : Options) (Answers : List ℕ → Shown → Answer → Type 0) → ReadsScan asked input options Answers → IsRefusedIfRefused asked options input
 refused_if_refused asked input options Answers reads = λ bytes status before after runs why.
     by_status bytes status before after why runs.told runs.file runs.no_failure runs.outcome.fits runs.outcome.faults (told_then asked status runs.told before after runs.tells runs.outcome.tells)
   where

@@ -7,19 +7,20 @@ use Rattle.gen_scan.specs.Generated.{generated}
 use Rattle.mesh_ply.specs.Meshes.{IsMesh}
 use Rattle.mesh_ply.specs.Texts.{mesh_text}
 use Rattle.solution.specs.Solutions.{IsSolution, surface_of}
-use Rattle.solution.proofs.ScanScenes.{is_scan}
 use Rattle.recon_build.specs.declared.solving.Solved.{Solved}
-use Rattle.scan.specs.PlainForm.{plain_text}
-use Rattle.scan.specs.ScanRows.{ScanRows}
-use Rattle.scan.specs.Outcomes.{scan_of}
+use Rattle.scan.specs.PlainForm.{scan_text}
+use Rattle.scan.specs.Shown.{Shown, shown_by}
+use Rattle.scan.specs.Outcomes.{shown_in}
 use Rattle.scan.specs.ScanRefusals.{Fails}
-use Rattle.scan.specs.Views.{rows_of}
+use Rattle.scan.specs.Views.{shown_of}
 use Rattle.scan.specs.declared.refusal.ScanRefusal.{ScanRefusal}
 use Rattle.scan.specs.declared.refusal.ScanRefusal.TheVariants as refusals
 use Rattle.scan.specs.declared.scan.Scan.{Scan}
-use Rattle.scan.proofs.PrintedScans.{printed_read}
+use Rattle.scan.proofs.PrintedScans.{scan_read}
+use Rattle.scan.proofs.ShownLemmas.{scan_is_shown}
+use Rattle.scan.proofs.ShownRows.{rows_are_scan}
 use Rattle.host.specs.State.{State, Told}
-use Rattle.recon_cmd.specs.Answers.{Answer, AnswerOf, Demonstrates, default_options, file_limit, read_as}
+use Rattle.recon_cmd.specs.Answers.{Answer, AnswerOf, Demonstrates, default_options, file_limit, generated_text, read_as}
 use Rattle.recon_cmd.specs.Lines.{build_line, demo_line}
 use Rattle.recon_cmd.specs.Outcome.{StatusFits}
 use Rattle.recon_cmd.specs.Replies.{answer_of}
@@ -29,41 +30,43 @@ use Rattle.recon_cmd.specs.Words.{demo}
 use Rattle.recon_cmd.specs.declared.answer.Reply.{Reply}
 use Rattle.recon_cmd.specs.declared.status.Status.{Status}
 use Rattle.recon_cmd.specs.declared.status.Status.TheVariants.{Done}
-use Rattle.recon_cmd.proofs.PlainTextLengths.{plain_text_fits}
+use Rattle.recon_cmd.proofs.ScanTextLengths.{scan_text_fits}
 
--- the plain text of a generated scan is within the limit of files
-pub generated_fits : (count seed : ℕ) (scan : Scan) → rows_of scan ≡ generated count seed → length (plain_text (generated count seed)) ≤ file_limit
-generated_fits count seed scan same = subst (λ (rows : ScanRows). length (plain_text rows) ≤ file_limit) same (plain_text_fits (rows_of scan) (is_scan scan))
+-- the text of a generated scan is within the limit of files
+pub generated_fits : (count seed : ℕ) (scan : Scan) → shown_of scan ≡ shown_by (generated count seed) → length (generated_text count seed) ≤ file_limit
+generated_fits count seed scan same = subst (λ (shown : Shown). length (scan_text shown) ≤ file_limit) same (scan_text_fits (shown_of scan) (rows_are_scan (shown_of scan) (scan_is_shown scan)))
 
 -- what is read is not refused
-not_refused : (rows : ScanRows) (read : Result ScanRows ScanRefusal) (why : ScanRefusal) → read ≡ Ok rows → (why ≡ refusals.NoMemory → ⊥) → Fails why read → ⊥
-not_refused rows read (refusals.Head why) is other fails = cc
-not_refused rows read (refusals.Missing need) is other fails = cc
-not_refused rows read (refusals.ListProperty need) is other fails = cc
-not_refused rows read (refusals.BinaryFloat need) is other fails = cc
-not_refused rows read (refusals.TooMany need count) is other fails = cc
-not_refused rows read refusals.TwoScanners is other fails = cc
-not_refused rows read (refusals.BadToken place) is other fails = cc
-not_refused rows read (refusals.LongNumber place) is other fails = cc
-not_refused rows read (refusals.OutOfRange place) is other fails = cc
-not_refused rows read (refusals.NoSuchScanner row index) is other fails = cc
-not_refused rows read (refusals.BadCount place) is other fails = cc
-not_refused rows read (refusals.Cut place) is other fails = cc
-not_refused rows read (refusals.Trailing place) is other fails = cc
-not_refused rows read refusals.NoMemory is other fails = other refl
+not_refused : (scan : Shown) (read : Result Shown ScanRefusal) (why : ScanRefusal) → read ≡ Ok scan → (why ≡ refusals.NoMemory → ⊥) → Fails why read → ⊥
+not_refused scan read (refusals.Head why) is other fails = cc
+not_refused scan read (refusals.Missing need) is other fails = cc
+not_refused scan read (refusals.ListProperty need) is other fails = cc
+not_refused scan read (refusals.BinaryFloat need) is other fails = cc
+not_refused scan read (refusals.TooMany need count) is other fails = cc
+not_refused scan read refusals.TwoScanners is other fails = cc
+not_refused scan read (refusals.BadToken place) is other fails = cc
+not_refused scan read (refusals.LongNumber place) is other fails = cc
+not_refused scan read (refusals.OutOfRange place) is other fails = cc
+not_refused scan read (refusals.NoSuchScanner row index) is other fails = cc
+not_refused scan read (refusals.BadWeight row weight) is other fails = cc
+not_refused scan read (refusals.TooManySights row) is other fails = cc
+not_refused scan read (refusals.BadCount place) is other fails = cc
+not_refused scan read (refusals.Cut place) is other fails = cc
+not_refused scan read (refusals.Trailing place) is other fails = cc
+not_refused scan read refusals.NoMemory is other fails = other refl
 
 -- a printed scan is refused for want of memory alone
-pub printed_is_read : (scan : Scan) (text : List ℕ) (why : ScanRefusal) → text ≡ plain_text (rows_of scan) → (why ≡ refusals.NoMemory → ⊥) → Fails why (scan_of text 1 None) → ⊥
+pub printed_is_read : (scan : Scan) (text : List ℕ) (why : ScanRefusal) → text ≡ scan_text (shown_of scan) → (why ≡ refusals.NoMemory → ⊥) → Fails why (shown_in text 1 None) → ⊥
 printed_is_read scan text why is other fails =
-    not_refused (rows_of scan) (scan_of text 1 None) why
-    (ap (λ (t : List ℕ). scan_of t 1 None) is ∙ printed_read (rows_of scan) (is_scan scan)) other fails
+    not_refused (shown_of scan) (shown_in text 1 None) why
+    (ap (λ (t : List ℕ). shown_in t 1 None) is ∙ scan_read (shown_of scan) (scan_is_shown scan)) other fails
 
 -- what `build` says of the generated scan
-pub demonstrated : (count seed : ℕ) (scan : ScanRows) (settings : Settings) (solved : Solved) (built line : List ℕ)
-    → length (plain_text (generated count seed)) ≤ file_limit → read_as default_options (plain_text (generated count seed)) ≡ Ok scan
+pub demonstrated : (count seed : ℕ) (scan : Shown) (settings : Settings) (solved : Solved) (built line : List ℕ)
+    → length (generated_text count seed) ≤ file_limit → read_as default_options (generated_text count seed) ≡ Ok scan
     → settings.vote ≡ 8 → settings.smooth ≡ 1
     → IsSolution scan settings (surface_of solved.mesh) (claim_of solved.cert) → IsMesh solved.mesh.points.items solved.mesh.faces.items → IsWellFormed (claim_of solved.cert)
-    → (claim_of solved.cert).stamp ≡ Some (stamp_for default_options (plain_text (generated count seed)))
+    → (claim_of solved.cert).stamp ≡ Some (stamp_for default_options (generated_text count seed))
     → built ≡ build_line (claim_of solved.cert).counts (length solved.cert.inside.items) (length solved.mesh.faces.items)
     → line ≡ demo_line count seed built
     → Demonstrates count seed (record { status = Done; reads = 0; writes = []; line = line })

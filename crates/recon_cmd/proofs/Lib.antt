@@ -11,6 +11,6 @@ pub mod OneAnswer
 pub mod OneVerdict
 pub mod OptionLemmas
 pub mod Outcomes
-pub mod PlainTextLengths
+pub mod ScanTextLengths
 pub mod SeedLemmas
 pub mod WordLemmas

@@ -10,7 +10,7 @@ use Rattle.solution.specs.Laws.{IsSame}
 use Rattle.solution.specs.Scans.{points_of}
 use Rattle.solution.specs.Solutions.{IsSolution}
 use Rattle.solution.proofs.Uniqueness.{solution_law}
-use Rattle.scan.specs.ScanRows.{ScanRows}
+use Rattle.scan.specs.Shown.{Shown}
 use Rattle.recon_cmd.specs.Answers.{Answer, IsUnread, ScanAnswer, WritesCells, WritesSurface, refusal}
 use Rattle.recon_cmd.specs.Laws.{CellsAnswerIsOne, DifferInFlows, BuildAnswerIsOneButForFlows}
 use Rattle.recon_cmd.specs.Lines.{cells_line, cells_text}
@@ -34,25 +34,25 @@ unread_one options bytes answer other (inr a) (inr b) =
     a.is ∙ (ap (λ (l : List ℕ). refusal 1 l) line ∙ sym b.is)
 
 -- two answers to one file
-answers_one : (options : Options) (Answers : List ℕ → ScanRows → Answer → Type 0) (Same : Answer → Answer → Type 0) (bytes : List ℕ) (answer other : Answer)
-    → (answer ≡ other → Same answer other) → ((bytes : List ℕ) (scan : ScanRows) → Answers bytes scan answer → Answers bytes scan other → Same answer other)
+answers_one : (options : Options) (Answers : List ℕ → Shown → Answer → Type 0) (Same : Answer → Answer → Type 0) (bytes : List ℕ) (answer other : Answer)
+    → (answer ≡ other → Same answer other) → ((bytes : List ℕ) (scan : Shown) → Answers bytes scan answer → Answers bytes scan other → Same answer other)
     → ScanAnswer options Answers bytes answer → ScanAnswer options Answers bytes other → Same answer other
 answers_one options Answers Same bytes answer other equal each (inl a) (inl b) = equal (unread_one options bytes answer other a b)
 answers_one options Answers Same bytes answer other equal each (inl a) (inr b) = absurd (not_unread options bytes b.scan b.within b.read (why_unread options bytes answer a))
 answers_one options Answers Same bytes answer other equal each (inr a) (inl b) = absurd (not_unread options bytes a.scan a.within a.read (why_unread options bytes other b))
 answers_one options Answers Same bytes answer other equal each (inr a) (inr b) =
     let scan : b.scan ≡ a.scan = cc (a.read, b.read) in
-    each bytes a.scan a.answers (subst (λ (s : ScanRows). Answers bytes s other) scan b.answers)
+    each bytes a.scan a.answers (subst (λ (s : Shown). Answers bytes s other) scan b.answers)
 
 -- two answers where the files are these
-pub files_one : (input : List ℕ) (options : Options) (Answers : List ℕ → ScanRows → Answer → Type 0) (Same : Answer → Answer → Type 0) (files : Files) (answer other : Answer)
-    → (answer ≡ other → Same answer other) → ((bytes : List ℕ) (scan : ScanRows) → Answers bytes scan answer → Answers bytes scan other → Same answer other)
+pub files_one : (input : List ℕ) (options : Options) (Answers : List ℕ → Shown → Answer → Type 0) (Same : Answer → Answer → Type 0) (files : Files) (answer other : Answer)
+    → (answer ≡ other → Same answer other) → ((bytes : List ℕ) (scan : Shown) → Answers bytes scan answer → Answers bytes scan other → Same answer other)
     → ToFiles input options Answers files answer → ToFiles input options Answers files other → Same answer other
 files_one input options Answers Same files answer other equal each (bytes, has, a) (others, there, b) =
     let same : others ≡ bytes = cc (has, there) in
     answers_one options Answers Same bytes answer other equal each a (subst (λ (l : List ℕ). ScanAnswer options Answers l other) same b)
 
-cells_one : (output : List ℕ) (scan : ScanRows) (answer other : Answer) → WritesCells output scan answer → WritesCells output scan other → answer ≡ other
+cells_one : (output : List ℕ) (scan : Shown) (answer other : Answer) → WritesCells output scan answer → WritesCells output scan other → answer ≡ other
 cells_one output scan answer other a b =
     let rows : a.rows ≡ b.rows = cell_list_law (vertices_of (points_of scan)) a.rows b.rows a.cells b.cells in
     a.is ∙ (ap (λ (r : List (List ℕ)). record { status = Done; reads = 1; writes = (output, cells_text r) ∷ []; line = cells_line (length (points_of scan)) (length r) }) rows ∙ sym b.is)
@@ -72,7 +72,7 @@ same_settings a b vote smooth =
         ∙ (ap (λ (t : a.vote ≤ WEIGHT_LIMIT). settings a.vote a.smooth p t a.smooth_at_most) (le_prop a.vote_at_most q)
         ∙ ap (λ (t : a.smooth ≤ WEIGHT_LIMIT). settings a.vote a.smooth p q t) (le_prop a.smooth_at_most r))
 
-surfaces_one : (names : SurfaceNames) (options : Options) (bytes : List ℕ) (scan : ScanRows) (answer other : Answer) → WritesSurface names options bytes scan answer → WritesSurface names options bytes scan other → DifferInFlows names answer other
+surfaces_one : (names : SurfaceNames) (options : Options) (bytes : List ℕ) (scan : Shown) (answer other : Answer) → WritesSurface names options bytes scan answer → WritesSurface names options bytes scan other → DifferInFlows names answer other
 surfaces_one names options bytes scan answer other a b =
     let settings : b.settings ≡ a.settings = same_settings b.settings a.settings (b.vote ∙ sym a.vote) (b.smooth ∙ sym a.smooth) in
     let solution : IsSolution scan a.settings b.mesh b.claim = subst (λ (s : Settings). IsSolution scan s b.mesh b.claim) settings b.solution in

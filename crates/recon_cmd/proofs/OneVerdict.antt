@@ -5,7 +5,6 @@ use Rattle.cert_text.specs.Texts.{cert_text}
 use Rattle.cert_text.proofs.CertCodes.{cert_code}
 use Rattle.cert_text.specs.Stamps.{StampView}
 use Rattle.flow_net.specs.declared.votes.Settings.{Settings}
-use Rattle.gen_scan.specs.Generated.{generated}
 use Rattle.host.specs.State.{Files}
 use Rattle.mesh_ply.specs.Meshes.{Surface}
 use Rattle.solution.specs.Laws.{IsSame}
@@ -15,9 +14,8 @@ use Rattle.recon_check.specs.Answers.{IsAnswer}
 use Rattle.recon_check.specs.declared.answer.Answer.{Answer as Verdict}
 use Rattle.recon_check.specs.declared.answer.Answer.TheVariants as verdicts
 use Rattle.recon_check.proofs.Uniqueness.{one_answer}
-use Rattle.scan.specs.PlainForm.{plain_text}
-use Rattle.scan.specs.ScanRows.{ScanRows}
-use Rattle.recon_cmd.specs.Answers.{Answer, CertAnswer, CheckAnswer, IsConcluded, restamped, Demonstrates, FileTooLong, HasVerdict, MeshAnswer, ScanAnswered, WritesSurface, default_options, file_limit}
+use Rattle.scan.specs.Shown.{Shown}
+use Rattle.recon_cmd.specs.Answers.{Answer, CertAnswer, CheckAnswer, IsConcluded, restamped, Demonstrates, FileTooLong, HasVerdict, MeshAnswer, ScanAnswered, WritesSurface, default_options, file_limit, generated_text}
 use Rattle.recon_cmd.specs.CheckLaws.{CheckAnswerIsOne, DemoAnswerIsOne, StampedIsKept}
 use Rattle.recon_cmd.specs.Lines.{build_line, demo_line, upgraded_line, too_long_cert_line, too_long_mesh_line}
 use Rattle.recon_cmd.specs.Options.{Options}
@@ -40,7 +38,7 @@ concluded_one (Some output) stamp cert (verdicts.Yes inside faces cost) answer o
 concluded_one (Some output) stamp cert (verdicts.No reason) answer other a b = a ∙ sym b
 
 -- two verdicts on a mesh and a certificate
-verdict_one : (output : Option (List ℕ)) (options : Options) (stamp : StampView) (scan : ScanRows) (mesh cert : List ℕ) (answer other : Answer) → HasVerdict output options stamp scan mesh cert answer → HasVerdict output options stamp scan mesh cert other → answer ≡ other
+verdict_one : (output : Option (List ℕ)) (options : Options) (stamp : StampView) (scan : Shown) (mesh cert : List ℕ) (answer other : Answer) → HasVerdict output options stamp scan mesh cert answer → HasVerdict output options stamp scan mesh cert other → answer ≡ other
 verdict_one output options stamp scan mesh cert answer other a b =
     let settings : b.settings ≡ a.settings = same_settings b.settings a.settings (b.vote ∙ sym a.vote) (b.smooth ∙ sym a.smooth) in
     let one : a.verdict ≡ b.verdict =
@@ -95,7 +93,7 @@ check_answer_is_one = λ names output options files answer other a b.
     (λ bytes scan h k. mesh_one names (HasVerdict output options (stamp_for options bytes) scan) (λ mesh cert x y. verdict_one output options (stamp_for options bytes) scan mesh cert x y) files answer other h k) a b
 
 -- two surfaces of a scan are said in one line
-line_one : (names other_names : SurfaceNames) (options : Options) (bytes : List ℕ) (scan : ScanRows) (answer other : Answer) → WritesSurface names options bytes scan answer → WritesSurface other_names options bytes scan other
+line_one : (names other_names : SurfaceNames) (options : Options) (bytes : List ℕ) (scan : Shown) (answer other : Answer) → WritesSurface names options bytes scan answer → WritesSurface other_names options bytes scan other
     → answer.line ≡ other.line
 line_one names other_names options bytes scan answer other a b =
     let settings : b.settings ≡ a.settings = same_settings b.settings a.settings (b.vote ∙ sym a.vote) (b.smooth ∙ sym a.smooth) in
@@ -110,12 +108,12 @@ line_one names other_names options bytes scan answer other a b =
 -- two demonstrations of one scan
 demo_one : (count seed : ℕ) (answer other : Answer) → Demonstrates count seed answer → Demonstrates count seed other → answer ≡ other
 demo_one count seed answer other a b =
-    let text : List ℕ = plain_text (generated count seed) in
+    let text : List ℕ = generated_text count seed in
     let first : ScanAnswered default_options (WritesSurface a.names default_options) text a.built = done_so a.names default_options text a.built a.done a.builds in
     let second : ScanAnswered default_options (WritesSurface b.names default_options) text b.built = done_so b.names default_options text b.built b.done b.builds in
     let scan : second.scan ≡ first.scan = cc (first.read, second.read) in
     let line : a.built.line ≡ b.built.line =
-    line_one a.names b.names default_options text first.scan a.built b.built first.answers (subst (λ (s : ScanRows). WritesSurface b.names default_options text s b.built) scan second.answers) in
+    line_one a.names b.names default_options text first.scan a.built b.built first.answers (subst (λ (s : Shown). WritesSurface b.names default_options text s b.built) scan second.answers) in
     a.is ∙ (ap (λ (l : List ℕ). record { status = Done; reads = 0; writes = []; line = demo_line count seed l }) line ∙ sym b.is)
 
 pub demo_answer_is_one : DemoAnswerIsOne

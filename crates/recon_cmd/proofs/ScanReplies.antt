@@ -10,8 +10,8 @@ use Rattle.solution.specs.Scans.{points_of}
 use Rattle.solution.specs.Solutions.{IsSolution, surface_of}
 use Rattle.recon_build.specs.declared.solving.Solved.{Solved}
 use Rattle.host.specs.State.{State, Told, Files}
-use Rattle.scan.specs.ScanRows.{ScanRows}
-use Rattle.scan.specs.Views.{rows_of}
+use Rattle.scan.specs.Shown.{Shown}
+use Rattle.scan.specs.Views.{shown_of}
 use Rattle.scan.specs.declared.scan.Scan.{Scan}
 use Rattle.recon_cmd.specs.Answers.{Answer, AnswerOf, IsUnread, ScanAnswer, WritesCells, WritesSurface, Write, refusal}
 use Rattle.recon_cmd.specs.Lines.{cells_line, cells_text}
@@ -28,16 +28,16 @@ use Rattle.recon_cmd.specs.declared.status.Status.{Status}
 use Rattle.recon_cmd.specs.declared.status.Status.TheVariants.{Done, No, Refused}
 
 -- what a command that reads one scan answers, where the files are these
-abbrev pub ToFiles : (input : List ℕ) → Options → (List ℕ → ScanRows → Answer → Type 0) → Files → Answer → Type 0
+abbrev pub ToFiles : (input : List ℕ) → Options → (List ℕ → Shown → Answer → Type 0) → Files → Answer → Type 0
 ToFiles input options Answers files answer = (bytes : List ℕ) × (files input ≡ Some bytes) × ScanAnswer options Answers bytes answer
 
 -- a command that reads one scan and writes what it makes of it
-pub record ReadsScan (asked : Asked) (input : List ℕ) (options : Options) (Answers : List ℕ → ScanRows → Answer → Type 0) : Type 0 where
+pub record ReadsScan (asked : Asked) (input : List ℕ) (options : Options) (Answers : List ℕ → Shown → Answer → Type 0) : Type 0 where
   -- its answers are those to the bytes of the file
   pub unpack : (files : Files) (answer : Answer) → AnswerOf (Some asked) files answer → ToFiles input options Answers files answer
   pub pack : (files : Files) (answer : Answer) → ToFiles input options Answers files answer → AnswerOf (Some asked) files answer
   -- to a scan it answers that it is done
-  pub done : (bytes : List ℕ) (scan : ScanRows) (answer : Answer) → Answers bytes scan answer → answer.status ≡ Done
+  pub done : (bytes : List ℕ) (scan : Shown) (answer : Answer) → Answers bytes scan answer → answer.status ≡ Done
   -- it is done or refuses, and never says no
   pub may_do : StatusFits Done (Some asked)
   pub may_refuse : StatusFits Refused (Some asked)
@@ -71,7 +71,7 @@ unread_status options bytes answer (inl long) = ap (λ (a : Answer). a.status) l
 unread_status options bytes answer (inr refused) = ap (λ (a : Answer). a.status) refused.is
 
 -- the reply of such a status, from what is answered to the bytes of the file
-replied : (asked : Asked) (input : List ℕ) (options : Options) (Answers : List ℕ → ScanRows → Answer → Type 0) → ReadsScan asked input options Answers
+replied : (asked : Asked) (input : List ℕ) (options : Options) (Answers : List ℕ → Shown → Answer → Type 0) → ReadsScan asked input options Answers
     → (status : Status) (reply : Reply) (before : State) → reply.status ≡ status → StatusFits status (Some asked) → IsAnswered status
     → IfSome before.told (λ told. ToFiles input options Answers told.files (answer_of 1 reply))
     → IsReplied asked reply before
@@ -87,7 +87,7 @@ replied asked input options Answers reads status reply before is fits answered t
     by_cases (Some told) has = (1, reads.pack told.files (answer_of 1 reply) has)
 
 -- the file is refused with this line
-pub refused_reply : (asked : Asked) (input : List ℕ) (options : Options) (Answers : List ℕ → ScanRows → Answer → Type 0) → ReadsScan asked input options Answers
+pub refused_reply : (asked : Asked) (input : List ℕ) (options : Options) (Answers : List ℕ → Shown → Answer → Type 0) → ReadsScan asked input options Answers
     → (line : Line) (reply : Reply) (before : State) → answer_of 1 reply ≡ refusal 1 (line_bytes line)
     → IfSome before.told (IsReading input options (readings.Refused line)) → IsReplied asked reply before
 refused_reply asked input options Answers reads line reply before is read =
@@ -98,19 +98,19 @@ refused_reply asked input options Answers reads line reply before is read =
     by_cases (Some told) (bytes, there, unread) = (bytes, there, inl (subst (λ (a : Answer). IsUnread options bytes a) (sym is) unread))
 
 -- the file is a scan, which is answered so
-pub scan_reply : (asked : Asked) (input : List ℕ) (options : Options) (Answers : List ℕ → ScanRows → Answer → Type 0) → ReadsScan asked input options Answers
-    → (scan : Scan) (held : Bytes) (reply : Reply) (before : State) → Answers held.items (rows_of scan) (answer_of 1 reply)
+pub scan_reply : (asked : Asked) (input : List ℕ) (options : Options) (Answers : List ℕ → Shown → Answer → Type 0) → ReadsScan asked input options Answers
+    → (scan : Scan) (held : Bytes) (reply : Reply) (before : State) → Answers held.items (shown_of scan) (answer_of 1 reply)
     → IfSome before.told (IsReading input options (readings.Scan scan held)) → IsReplied asked reply before
 scan_reply asked input options Answers reads scan held reply before answers read =
-    replied asked input options Answers reads Done reply before (reads.done held.items (rows_of scan) (answer_of 1 reply) answers) reads.may_do tt (by_cases before.told read)
+    replied asked input options Answers reads Done reply before (reads.done held.items (shown_of scan) (answer_of 1 reply) answers) reads.may_do tt (by_cases before.told read)
   where
     by_cases : (o : Option Told) → IfSome o (IsReading input options (readings.Scan scan held)) → IfSome o (λ told. ToFiles input options Answers told.files (answer_of 1 reply))
     by_cases None read = tt
     by_cases (Some told) (bytes, there, (same, within, is)) =
-        (bytes, there, inr (record { within = within; scan = rows_of scan; read = is; answers = subst (λ (b : List ℕ). Answers b (rows_of scan) (answer_of 1 reply)) same answers }))
+        (bytes, there, inr (record { within = within; scan = shown_of scan; read = is; answers = subst (λ (b : List ℕ). Answers b (shown_of scan) (answer_of 1 reply)) same answers }))
 
 -- the cells of a scan are written, from the reply that writes them
-pub celled : (output : List ℕ) (scan : ScanRows) (points : List Point) (rows : List (List ℕ)) (writes : List Write) (text line : List ℕ)
+pub celled : (output : List ℕ) (scan : Shown) (points : List Point) (rows : List (List ℕ)) (writes : List Write) (text line : List ℕ)
     → points ≡ points_of scan → IsCellList (vertices_of points) rows
     → writes ≡ (output, text) ∷ [] → text ≡ cells_text rows → line ≡ cells_line (length points) (length rows)
     → WritesCells output scan (record { status = Done; reads = 1; writes = writes; line = line })
@@ -127,9 +127,9 @@ celled output scan points rows writes text line points_is listed writes_is text_
 -- the surface of a scan is written, from the reply that shows what was found
 pub built : {E : Type 0} (names : SurfaceNames) (options : Options) (bytes : List ℕ) (scan : Scan) (settings : Settings) (solved : Solved) (result : Result Reply E)
     → settings.vote ≡ options.vote → settings.smooth ≡ options.smooth
-    → IsSolution (rows_of scan) settings (surface_of solved.mesh) (claim_of solved.cert) → IsMesh solved.mesh.points.items solved.mesh.faces.items → IsWellFormed (claim_of solved.cert) → (claim_of solved.cert).stamp ≡ Some (stamp_for options bytes)
+    → IsSolution (shown_of scan) settings (surface_of solved.mesh) (claim_of solved.cert) → IsMesh solved.mesh.points.items solved.mesh.faces.items → IsWellFormed (claim_of solved.cert) → (claim_of solved.cert).stamp ≡ Some (stamp_for options bytes)
     → IfOk result (λ reply. Shows names.mesh names.cert (surface_of solved.mesh) (claim_of solved.cert) (answer_of 1 reply))
-    → IfOk result (λ reply. WritesSurface names options bytes (rows_of scan) (answer_of 1 reply))
+    → IfOk result (λ reply. WritesSurface names options bytes (shown_of scan) (answer_of 1 reply))
 built names options bytes scan settings solved (Err e) vote smooth solution valid well_formed stamped shows = tt
 built names options bytes scan settings solved (Ok reply) vote smooth solution valid well_formed stamped shows =
     record {

@@ -4,7 +4,7 @@
 --   Answer                           a status, how many files were read, the files that are written, and the line
 --   bad_words_answer, refusal        the answer of words that are no command, and of an input that is refused
 --   file_limit                       how long a file that is read may be
---   read_as options bytes            the scan that the bytes of a file are under these options, or why they are none
+--   read_as options bytes            what the scan shows that a file's bytes are under these options, or why they are none
 --   ScanTooLong, ScanRefused         the file of the scan is too long, or is no scan
 --   IsUnread                         one of the two
 --   ScanAnswered                     the file is a scan, which is answered so
@@ -18,6 +18,7 @@
 --   IsConcluded output ..            what follows from a verdict: it is said, or a certificate is written
 --   CheckAnswer names output ..      the answer of `check` and of `upgrade` to a scan
 --   default_options                  what a command is told where no word says otherwise
+--   generated_text count seed        the text of the generated scan
 --   Demonstrates count seed answer   what `build` says of a generated scan
 --   AnswerOf asked files answer      the answer of a command, or of words that are none, where the files are these
 --   most_reads asked                 how many files a command reads at most
@@ -32,9 +33,9 @@ use Rattle.gen_scan.specs.Generated.{generated}
 use Rattle.host.specs.State.{Files}
 use Rattle.mesh_ply.specs.Meshes.{Surface, IsMesh}
 use Rattle.mesh_ply.specs.Texts.{mesh_text}
-use Rattle.scan.specs.Outcomes.{scan_of}
-use Rattle.scan.specs.PlainForm.{plain_text}
-use Rattle.scan.specs.ScanRows.{ScanRows}
+use Rattle.scan.specs.Outcomes.{shown_in}
+use Rattle.scan.specs.PlainForm.{scan_text}
+use Rattle.scan.specs.Shown.{Shown, shown_by}
 use Rattle.scan.specs.declared.refusal.ScanRefusal.{ScanRefusal}
 use Rattle.solution.specs.Scans.{points_of}
 use Rattle.solution.specs.Solutions.{IsSolution}
@@ -73,9 +74,9 @@ refusal reads line = record { status = Refused; reads = reads; writes = []; line
 abbrev pub file_limit : ℕ
 file_limit = 4294967296
 
--- the scan that the bytes of a file are, in the unit and with the fixed scanner of these options, or why they are none
-abbrev pub read_as : Options → List ℕ → Result ScanRows ScanRefusal
-read_as options bytes = scan_of bytes options.unit options.fixed
+-- what the scan shows that the bytes of a file are, in the unit and with the fixed scanner of these options, or why they are none
+abbrev pub read_as : Options → List ℕ → Result Shown ScanRefusal
+read_as options bytes = shown_in bytes options.unit options.fixed
 
 -- the scan's file is longer than the limit
 pub record ScanTooLong (bytes : List ℕ) (answer : Answer) : Type 0 where
@@ -96,18 +97,18 @@ abbrev pub IsUnread : Options → (bytes : List ℕ) → Answer → Type 0
 IsUnread options bytes answer = ScanTooLong bytes answer ⊎ ScanRefused options bytes answer
 
 -- the bytes are a scan, and the two are answered so
-pub record ScanAnswered (options : Options) (Answers : List ℕ → ScanRows → Answer → Type 0) (bytes : List ℕ) (answer : Answer) : Type 0 where
+pub record ScanAnswered (options : Options) (Answers : List ℕ → Shown → Answer → Type 0) (bytes : List ℕ) (answer : Answer) : Type 0 where
   pub within : length bytes ≤ file_limit
-  pub scan : ScanRows
+  pub scan : Shown
   pub read : read_as options bytes ≡ Ok scan
   pub answers : Answers bytes scan answer
 
 -- the answer of a command to the bytes of the scan that it reads: a refusal, or what it answers to them and that scan
-abbrev pub ScanAnswer : Options → (List ℕ → ScanRows → Answer → Type 0) → (bytes : List ℕ) → Answer → Type 0
+abbrev pub ScanAnswer : Options → (List ℕ → Shown → Answer → Type 0) → (bytes : List ℕ) → Answer → Type 0
 ScanAnswer options Answers bytes answer = IsUnread options bytes answer ⊎ ScanAnswered options Answers bytes answer
 
 -- the cells of the scan are written
-pub record WritesCells (output : List ℕ) (scan : ScanRows) (answer : Answer) : Type 0 where
+pub record WritesCells (output : List ℕ) (scan : Shown) (answer : Answer) : Type 0 where
   pub rows : List (List ℕ)
   pub cells : IsCellList (vertices_of (points_of scan)) rows
   pub is : answer ≡ record {
@@ -119,7 +120,7 @@ pub record WritesCells (output : List ℕ) (scan : ScanRows) (answer : Answer) :
 
 -- the best surface of the scan at the weights of these options is written, with the certificate that shows it best and is stamped
 -- with the scan's file: the mesh first
-pub record WritesSurface (names : SurfaceNames) (options : Options) (bytes : List ℕ) (scan : ScanRows) (answer : Answer) : Type 0 where
+pub record WritesSurface (names : SurfaceNames) (options : Options) (bytes : List ℕ) (scan : Shown) (answer : Answer) : Type 0 where
   pub settings : Settings
   pub vote : settings.vote ≡ options.vote
   pub smooth : settings.smooth ≡ options.smooth
@@ -154,7 +155,7 @@ IsConcluded output stamp cert verdict answer = answer ≡ record { status = verd
 
 -- the mesh and the certificate are the best surface of the scan at the weights of these options and the certificate that
 -- shows it best, without a stamp or with this one, or the first reason why they are not is said
-pub record HasVerdict (output : Option (List ℕ)) (options : Options) (stamp : StampView) (scan : ScanRows) (mesh cert : List ℕ) (answer : Answer) : Type 0 where
+pub record HasVerdict (output : Option (List ℕ)) (options : Options) (stamp : StampView) (scan : Shown) (mesh cert : List ℕ) (answer : Answer) : Type 0 where
   pub settings : Settings
   pub vote : settings.vote ≡ options.vote
   pub smooth : settings.smooth ≡ options.smooth
@@ -175,18 +176,22 @@ pub record MeshAnswer (names : SurfaceNames) (Decide : (mesh cert : List ℕ) �
   pub answers : FileTooLong 2 too_long_mesh_line mesh answer ⊎ ((length mesh ≤ file_limit) × CertAnswer names (Decide mesh) files answer)
 
 -- the mesh and the certificate decide which verdict there is
-abbrev pub CheckAnswer : SurfaceNames → (output : Option (List ℕ)) → Options → Files → (bytes : List ℕ) → ScanRows → Answer → Type 0
+abbrev pub CheckAnswer : SurfaceNames → (output : Option (List ℕ)) → Options → Files → (bytes : List ℕ) → Shown → Answer → Type 0
 CheckAnswer names output options files bytes scan = MeshAnswer names (HasVerdict output options (stamp_for options bytes) scan) files
 
 -- what a command is told where no word says otherwise
 abbrev pub default_options : Options
 default_options = record { unit = 1; vote = 8; smooth = 1; fixed = None }
 
--- What `build` at these options says of the plain text of the generated scan, where it is done. No file is written.
+-- the text of the generated scan
+abbrev pub generated_text : (count seed : ℕ) → List ℕ
+generated_text count seed = scan_text (shown_by (generated count seed))
+
+-- What `build` at these options says of the text of the generated scan, where it is done. No file is written.
 pub record Demonstrates (count seed : ℕ) (answer : Answer) : Type 0 where
   pub names : SurfaceNames
   pub built : Answer
-  pub builds : ScanAnswer default_options (WritesSurface names default_options) (plain_text (generated count seed)) built
+  pub builds : ScanAnswer default_options (WritesSurface names default_options) (generated_text count seed) built
   pub done : built.status ≡ Done
   pub is : answer ≡ record { status = Done; reads = 0; writes = []; line = demo_line count seed built.line }
 

@@ -17,7 +17,7 @@ use Rattle.cert_text.specs.Texts.{cert_text}
 use Rattle.flow_net.specs.declared.votes.Settings.{Settings}
 use Rattle.host.specs.Counts.{Rose}
 use Rattle.host.specs.State.{State, Told, Files}
-use Rattle.scan.specs.ScanRows.{ScanRows}
+use Rattle.scan.specs.Shown.{Shown}
 use Rattle.recon_check.specs.Answers.{IsAccepted}
 use Rattle.recon_cmd.specs.Answers.{Answer, AnswerOf, HasVerdict, file_limit, read_as}
 use Rattle.recon_cmd.specs.Laws.{IsRefusedIfRefused}
@@ -29,14 +29,14 @@ use Rattle.recon_cmd.specs.declared.status.Status.{Status}
 use Rattle.recon_cmd.specs.declared.status.Status.TheVariants.{Done, No, BadWords, Refused, Failed, NoMemory}
 
 -- none of the three files is longer than the limit, and the first is this scan
-pub record AreReadable (options : Options) (bytes mesh cert : List ℕ) (scan : ScanRows) : Type 0 where
+pub record AreReadable (options : Options) (bytes mesh cert : List ℕ) (scan : Shown) : Type 0 where
   pub bytes_within : length bytes ≤ file_limit
   pub mesh_within : length mesh ≤ file_limit
   pub cert_within : length cert ≤ file_limit
   pub read : read_as options bytes ≡ Ok scan
 
 -- the mesh and the certificate are those of a solution of the scan at the weights of these options, and no stamp is another
-pub record IsShownAt (options : Options) (stamp : StampView) (scan : ScanRows) (mesh cert : List ℕ) : Type 0 where
+pub record IsShownAt (options : Options) (stamp : StampView) (scan : Shown) (mesh cert : List ℕ) : Type 0 where
   pub settings : Settings
   pub vote : settings.vote ≡ options.vote
   pub smooth : settings.smooth ≡ options.smooth
@@ -45,9 +45,9 @@ pub record IsShownAt (options : Options) (stamp : StampView) (scan : ScanRows) (
 -- Done where the files are readable and a solution is shown, No where they are readable and none is, and Refused where they
 -- are not readable
 abbrev pub CheckEnds : Options → (bytes mesh cert : List ℕ) → Status → Type 0
-CheckEnds options bytes mesh cert Done = (scan : ScanRows) × AreReadable options bytes mesh cert scan × IsShownAt options (stamp_for options bytes) scan mesh cert
-CheckEnds options bytes mesh cert No = (scan : ScanRows) × AreReadable options bytes mesh cert scan × (¬ IsShownAt options (stamp_for options bytes) scan mesh cert)
-CheckEnds options bytes mesh cert Refused = (scan : ScanRows) → ¬ AreReadable options bytes mesh cert scan
+CheckEnds options bytes mesh cert Done = (scan : Shown) × AreReadable options bytes mesh cert scan × IsShownAt options (stamp_for options bytes) scan mesh cert
+CheckEnds options bytes mesh cert No = (scan : Shown) × AreReadable options bytes mesh cert scan × (¬ IsShownAt options (stamp_for options bytes) scan mesh cert)
+CheckEnds options bytes mesh cert Refused = (scan : Shown) → ¬ AreReadable options bytes mesh cert scan
 CheckEnds options bytes mesh cert NoMemory = ⊤
 CheckEnds options bytes mesh cert BadWords = ⊥
 CheckEnds options bytes mesh cert Failed = ⊥
@@ -97,6 +97,6 @@ DemoAnswerIsOne =
 -- again.
 abbrev pub StampedIsKept : Type 0
 StampedIsKept =
-    (output : List ℕ) (options : Options) (stamp : StampView) (scan : ScanRows) (mesh : List ℕ) (claim : Claim) (answer : Answer)
+    (output : List ℕ) (options : Options) (stamp : StampView) (scan : Shown) (mesh : List ℕ) (claim : Claim) (answer : Answer)
     → IsWellFormed claim → claim.stamp ≡ Some stamp → HasVerdict (Some output) options stamp scan mesh (cert_text claim) answer → answer.status ≡ Done
     → answer.writes ≡ (output, cert_text claim) ∷ []

@@ -10,7 +10,7 @@ use Rattle.host.specs.State.{State, Told}
 use Rattle.mesh_ply.specs.Meshes.{Surface}
 use Rattle.mesh_ply.specs.Texts.{mesh_text}
 use Rattle.solution.specs.Solutions.{IsSolution}
-use Rattle.scan.specs.ScanRows.{ScanRows}
+use Rattle.scan.specs.Shown.{Shown}
 use Rattle.recon_cmd.specs.Answers.{file_limit, read_as}
 use Rattle.recon_cmd.specs.Lines.{build_line}
 use Rattle.recon_cmd.specs.Options.{Options}
@@ -27,7 +27,7 @@ pub record HoldsTheBest (names : SurfaceNames) (options : Options) (old new : To
   pub bytes : List ℕ
   pub input : old.files names.input ≡ Some bytes
   pub within : length bytes ≤ file_limit
-  pub scan : ScanRows
+  pub scan : Shown
   pub read : read_as options bytes ≡ Ok scan
   pub settings : Settings
   pub vote : settings.vote ≡ options.vote

@@ -14,7 +14,7 @@ use Rattle.cert_text.specs.Certificates.{Claim}
 use Rattle.host.specs.Counts.{Rose}
 use Rattle.host.specs.State.{Files, State, Told}
 use Rattle.mesh_ply.specs.Meshes.{Surface}
-use Rattle.scan.specs.ScanRows.{ScanRows}
+use Rattle.scan.specs.Shown.{Shown}
 use Rattle.scan.specs.declared.refusal.ScanRefusal.{ScanRefusal}
 use Rattle.recon_cmd.specs.Answers.{Answer, AnswerOf, file_limit, read_as}
 use Rattle.recon_cmd.specs.Options.{Options}
@@ -35,7 +35,7 @@ pub record RunsOn (asked : Asked) (input bytes : List ℕ) (status : Status) (be
 -- the scan is accepted: the command is done, or there was no memory
 abbrev pub IsDoneIfAccepted : Asked → Options → (input : List ℕ) → Type 0
 IsDoneIfAccepted asked options input =
-    (bytes : List ℕ) (scan : ScanRows) (status : Status) (before after : State) → RunsOn asked input bytes status before after
+    (bytes : List ℕ) (scan : Shown) (status : Status) (before after : State) → RunsOn asked input bytes status before after
     → length bytes ≤ file_limit → read_as options bytes ≡ Ok scan → (status ≡ Done) ⊎ (status ≡ NoMemory)
 
 -- the file is too long, or is no scan for whichever reason: it is refused, or there was no memory

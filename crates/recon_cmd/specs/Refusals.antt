@@ -2,7 +2,7 @@
 --
 --   need_word need              what a scan has to have, in a word
 --   place_text place            where a value stands in a file
---   text_line, number_line, need_line, count_line, place_line, index_line    lines of a text and what follows it
+--   text_line, number_line, need_line, count_line, place_line, vertex_row_line    lines of a text and what follows it
 --   head_line why               the line of a header's refusal
 --   refusal_line why            the line of a scan's refusal
 use Rattle.std.specs.Prelude.{ℕ, ℤ, List, [], ◌∷◌, ◌++◌, codes, Option, Some, None}
@@ -52,9 +52,9 @@ count_line text need count = text ++ need_word need ++ labelled (codes " count "
 unfoldable pub place_line : List ℕ → Place → List ℕ
 place_line text place = text ++ (place_text place ++ (10 ∷ []))
 
--- a text, and the vertex row and the number that it has for its scanner
-unfoldable pub index_line : List ℕ → ℕ → ℤ → List ℕ
-index_line text row index = labelled text row ++ codes " index " ++ signed_decimal index ++ (10 ∷ [])
+-- a text, and the vertex row, and another text and a number that the row has
+unfoldable pub vertex_row_line : List ℕ → ℕ → List ℕ → ℤ → List ℕ
+vertex_row_line text row label number = labelled text row ++ label ++ signed_decimal number ++ (10 ∷ [])
 
 -- the line of a header's refusal; want of memory has none
 abbrev pub head_line : HeadRefusal → Option (List ℕ)
@@ -77,8 +77,10 @@ refusal_line scans.TwoScanners = Some (text_line (codes "refused 11 two_scanners
 refusal_line (scans.BadToken place) = Some (place_line (codes "refused 12 bad_token ") place)
 refusal_line (scans.LongNumber place) = Some (place_line (codes "refused 13 long_number ") place)
 refusal_line (scans.OutOfRange place) = Some (place_line (codes "refused 14 out_of_range ") place)
-refusal_line (scans.NoSuchScanner row index) = Some (index_line (codes "refused 15 no_such_scanner row ") row index)
+refusal_line (scans.NoSuchScanner row index) = Some (vertex_row_line (codes "refused 15 no_such_scanner row ") row (codes " index ") index)
 refusal_line (scans.BadCount place) = Some (place_line (codes "refused 16 bad_count ") place)
 refusal_line (scans.Cut place) = Some (place_line (codes "refused 17 cut ") place)
 refusal_line (scans.Trailing place) = Some (number_line (codes "refused 18 trailing at ") place)
+refusal_line (scans.BadWeight row weight) = Some (vertex_row_line (codes "refused 21 bad_weight row ") row (codes " weight ") weight)
+refusal_line (scans.TooManySights row) = Some (number_line (codes "refused 22 too_many_sights row ") row)
 refusal_line scans.NoMemory = None

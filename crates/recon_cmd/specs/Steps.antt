@@ -14,7 +14,7 @@ use Rattle.std.specs.declared.alloc.Global.{Global}
 use Rattle.host.specs.Counts.{Rose}
 use Rattle.host.specs.State.{State, Told}
 use Rattle.host.specs.Whole.{apart_from_left}
-use Rattle.scan.specs.Views.{rows_of}
+use Rattle.scan.specs.Views.{shown_of}
 use Rattle.recon_cmd.specs.Answers.{AnswerOf, IsUnread, Write, file_limit, most_reads, read_as, refusal}
 use Rattle.recon_cmd.specs.Outcome.{WhereTold, IsCarriedOut, StoppedIn, StatusFits, ReadsNoMore, all_written}
 use Rattle.recon_cmd.specs.Options.{Options}
@@ -49,7 +49,7 @@ Bytes = Vec ℕ Global
 
 -- the bytes of the file and the scan that they are, or the line that refuses them
 abbrev pub IsUnderstood : (bytes : List ℕ) → Options → Reading → Type 0
-IsUnderstood bytes options (readings.Scan scan held) = (held.items ≡ bytes) × (length bytes ≤ file_limit) × (read_as options bytes ≡ Ok (rows_of scan))
+IsUnderstood bytes options (readings.Scan scan held) = (held.items ≡ bytes) × (length bytes ≤ file_limit) × (read_as options bytes ≡ Ok (shown_of scan))
 IsUnderstood bytes options (readings.Refused line) = IsUnread options bytes (refusal 1 (line_bytes line))
 
 -- the bytes of the named file are understood so

@@ -12,6 +12,7 @@ mod limits;
 mod memory;
 mod refusals;
 mod upgrade;
+mod weights;
 mod words;
 
 use crate::run;

@@ -1,20 +1,22 @@
--- What a scan says: the rows of its points and the rows of its scanners.
+-- What a file says as a scan: the rows of its points and the rows of its scanners.
 --
---   VertexRow        a point's place and the number of the scanner that saw it
+--   VertexRow        a point's place, its weight, and the numbers of the scanners that saw it
 --   ScanRows         the vertex rows and the scanners' places
---   point_limit, scanner_limit   the most vertex rows, and the most scanner rows, of a scan
---   IsVertexRow n    a data point, seen by one of n scanners
+--   point_limit, scanner_limit, sight_limit   the most vertex rows, scanner rows and sights of a scan
+--   weight_limit     the largest weight of a row
+--   IsVertexRow n    a data point with a weight, seen by some of n scanners
+--   sights_in        how many sights rows have
 --   IsScan           rows that a scan may have
---   vertex_rows      the points and the numbers of their scanners, side by side
-use Rattle.scan.specs.declared.scan.TheConstants.{POINT_LIMIT, SCANNER_LIMIT}
-use Rattle.std.specs.Prelude.{ℕ, ◌<◌, ◌≤◌, List, [], ◌∷◌, length, All}
+use Rattle.scan.specs.declared.scan.TheConstants.{POINT_LIMIT, SCANNER_LIMIT, SIGHT_LIMIT, SIGHT_WEIGHT_LIMIT}
+use Rattle.std.specs.Prelude.{ℕ, ◌<◌, ◌≤◌, List, length, All, sum_by}
 use Rattle.geo_sign.specs.Point.{Point, IsWithin}
 use Rattle.geo_sign.specs.declared.point.TheConstants.{DATA_LIMIT}
 
--- a point, and the number of the scanner that saw it: its place among the scanners, counted from 0
+-- a point, the weight of its sights, and the number of the scanner of each sight: its place among the scanners, counted from 0
 pub record VertexRow : Type 0 where
   pub point : Point
-  pub seen_by : ℕ
+  pub weight : ℕ
+  pub seen_by : List ℕ
 
 -- the rows of a scan, in order
 pub record ScanRows : Type 0 where
@@ -29,20 +31,29 @@ point_limit = POINT_LIMIT
 abbrev pub scanner_limit : ℕ
 scanner_limit = SCANNER_LIMIT
 
--- a data point (no coordinate over 2 ^ 21 - 1), seen by one of so many scanners
+-- the most sights of a scan: 2 ^ 23
+abbrev pub sight_limit : ℕ
+sight_limit = SIGHT_LIMIT
+
+-- the largest weight of a row: 255
+abbrev pub weight_limit : ℕ
+weight_limit = SIGHT_WEIGHT_LIMIT
+
+-- a data point (no coordinate over 2 ^ 21 - 1) of a weight of 1 to 255, seen by some of so many scanners
 pub record IsVertexRow (scanners : ℕ) (row : VertexRow) : Type 0 where
   pub data_point : IsWithin DATA_LIMIT row.point
-  pub scanner : row.seen_by < scanners
+  pub least_weight : 1 ≤ row.weight
+  pub most_weight : row.weight ≤ weight_limit
+  pub scanners_there : All (λ k. k < scanners) row.seen_by
 
--- data points alone, each seen by a scanner that is there, and no more points and scanners than a scan may have
+-- how many sights the rows have: one for each number of a scanner
+abbrev pub sights_in : List VertexRow → ℕ
+sights_in rows = sum_by (λ (row : VertexRow). length row.seen_by) rows
+
+-- data points alone, each seen by scanners that are there, and no more points, scanners and sights than a scan may have
 pub record IsScan (rows : ScanRows) : Type 0 where
   pub vertices : All (IsVertexRow (length rows.scanners)) rows.vertices
   pub scanners : All (IsWithin DATA_LIMIT) rows.scanners
   pub vertex_count : length rows.vertices ≤ point_limit
   pub scanner_count : length rows.scanners ≤ scanner_limit
-
--- each point with the number that stands at its place
-abbrev pub vertex_rows : List Point → List ℕ → List VertexRow
-vertex_rows [] seen_by = []
-vertex_rows (p ∷ points) [] = []
-vertex_rows (p ∷ points) (k ∷ seen_by) = record { point = p; seen_by = k } ∷ vertex_rows points seen_by
+  pub sight_count : sights_in rows.vertices ≤ sight_limit

@@ -1,8 +1,9 @@
 //! The type of scans, and what each of them keeps. It stands on the points of `geo_sign`.
 
-ghost use Rattle.std.specs.Prelude.{◌≡◌, ◌<◌, ◌≤◌, length, All};
+ghost use Rattle.std.specs.Prelude.{◌≤◌, length, All, AllPairs};
 ghost use Rattle.geo_sign.specs.Point.{IsWithin};
-ghost use Rattle.scan.specs.ScanRows.{point_limit, scanner_limit};
+ghost use Rattle.scan.specs.ScanRows.{point_limit, scanner_limit, sight_limit};
+ghost use Rattle.scan.specs.Shown.{IsSeen, IsNoEarlier, WeighsAlike};
 ghost use Rattle.geo_sign.specs.declared.point.TheConstants.{DATA_LIMIT};
 
 use geo_sign::Point;
@@ -13,23 +14,42 @@ pub const POINT_LIMIT: u32 = 1_048_576;
 /// The most scanner rows of a scan: 2^16.
 pub const SCANNER_LIMIT: u32 = 65_536;
 
-/// A scan: points, the scanners' places, and for each point the scanner that saw it.
+/// The most sights of a scan: 2^23.
+pub const SIGHT_LIMIT: usize = 8_388_608;
+
+/// The largest weight of a sight.
+pub const SIGHT_WEIGHT_LIMIT: u8 = 255;
+
+/// A sight: a point that a scanner saw, and how much that weighs.
+#[derive(Clone, Copy, Debug, PartialEq, Eq)]
+pub struct Seen {
+    /// The number of the point, counted from 0.
+    pub row: u32,
+    /// The number of the scanner, counted from 0.
+    pub scanner: u32,
+    /// The weight of the sight, 1 to 255.
+    pub weight: u8,
+}
+
+/// A scan: points, the scanners' places, and which scanners saw which points.
 ///
 /// All places are data points: whole coordinates in scaled units, of an absolute value of
-/// at most 2^21 - 1. Point `i` was seen from `scanners[seen_by[i]]`. Points may be equal,
-/// and a scanner may see no point.
+/// at most 2^21 - 1. Points may be equal, a scanner may see no point, and a point may be seen
+/// by no scanner, by several, and by one more than once.
 #[derive(Debug, Drop)]
 pub struct Scan {
     /// The points in the order of their rows.
     pub points: Vec<Point>,
     /// The places that were scanned from.
     pub scanners: Vec<Point>,
-    /// For each point the number of its scanner, counted from 0.
-    pub seen_by: Vec<u32>,
+    /// The sights in the order of their points; those of one point have one weight.
+    pub seen: Vec<Seen>,
     pub ghost points_are_data: { All (IsWithin DATA_LIMIT) points.items },
     pub ghost scanners_are_data: { All (IsWithin DATA_LIMIT) scanners.items },
-    pub ghost one_each: { length seen_by.items ≡ length points.items },
-    pub ghost scanners_are_there: { All (λ k. k < length scanners.items) seen_by.items },
+    pub ghost seen_are_there: { All (IsSeen (length points.items) (length scanners.items)) seen.items },
+    pub ghost seen_in_order: { AllPairs IsNoEarlier seen.items },
+    pub ghost seen_of_one_weight: { AllPairs WeighsAlike seen.items },
     pub ghost points_fit: { length points.items ≤ point_limit },
     pub ghost scanners_fit: { length scanners.items ≤ scanner_limit },
+    pub ghost sights_fit: { length seen.items ≤ sight_limit },
 }

@@ -111,7 +111,19 @@ fn the_first_refusal_of_a_header_is_told(rt: HostRuntime) -> Result<(), Fail> {
             ScanRefusal::BinaryFloat(Need::VertexScanner),
         ),
         (
+            "element vertex 1\n@property list uchar float scanner\n",
+            ScanRefusal::BinaryFloat(Need::VertexScanner),
+        ),
+        (
             "element vertex 1\n@property int scanner\n",
+            ScanRefusal::Missing(Need::ScannerElement),
+        ),
+        (
+            "element vertex 1\n@property list float int weight\n",
+            ScanRefusal::Head(HeadRefusal::BadLine(7)),
+        ),
+        (
+            "element vertex 1\n@property float weight\nproperty list uchar int scanner\n",
             ScanRefusal::Missing(Need::ScannerElement),
         ),
         (
@@ -218,7 +230,15 @@ fn a_fixed_scanner_sees_each_point(rt: HostRuntime) -> Result<(), Fail> {
     let scan = read_scan(alloc, TOOL, 1000, Some(origin))?;
     assert_eq!(rt; scan.points.len(), 4);
     assert_eq!(rt; Point::data(-100, -100, 100), Some(scan.points[3]));
-    assert_eq!(rt; scan.seen_by.as_slice(), [0, 0, 0, 0].as_slice());
+    let once = |row| Seen {
+        row,
+        scanner: 0,
+        weight: 1,
+    };
+    assert_eq!(rt;
+        scan.seen.as_slice(),
+        [once(0), once(1), once(2), once(3)].as_slice()
+    );
     assert_eq!(rt; scan.scanners.as_slice(), [origin].as_slice());
     assert_eq!(rt;
         refusal_of(alloc, TOOL),
@@ -228,6 +248,174 @@ fn a_fixed_scanner_sees_each_point(rt: HostRuntime) -> Result<(), Fail> {
     assert_eq!(rt;
         read_scan(alloc, plain.as_bytes(), 1, Some(origin)).err(),
         Some(ScanRefusal::TwoScanners)
+    );
+    Ok(())
+}
+
+// A file of the four points, with these properties behind their coordinates and these values of them.
+fn four_seen(alloc: Global, properties: &str, values: [&str; 4]) -> Result<String, AllocError> {
+    let [a, b, c, d] = values;
+    format!(in alloc;
+        "ply\nformat ascii 1.0\nelement vertex 4\nproperty int x\nproperty int y\nproperty int z\n{properties}element scanner 4\nproperty int x\nproperty int y\nproperty int z\nend_header\n100 100 100 {a}\n100 -100 -100 {b}\n-100 100 -100 {c}\n-100 -100 100 {d}\n1000 1000 1000\n1000 -1000 -1000\n-1000 1000 -1000\n-1000 -1000 1000\n"
+    )
+}
+
+const fn sight(row: u32, scanner: u32, weight: u8) -> Seen {
+    Seen {
+        row,
+        scanner,
+        weight,
+    }
+}
+
+const WEIGHT: &str = "property uchar weight\nproperty int scanner\n";
+
+const LIST: &str = "property list uchar int scanner\n";
+
+const WIDE: &str = "property uchar weight\nproperty list uint int scanner\n";
+
+#[test]
+fn each_index_is_a_sight_of_its_rows_weight(rt: HostRuntime) -> Result<(), Fail> {
+    let alloc = rt.alloc();
+    let one = |weight| [sight(0, 0, weight)];
+    let cases = [
+        (WEIGHT, ["2 0", "1 1", "1 2", "1 3"], one(2).to_vec(alloc)?),
+        (
+            WEIGHT,
+            ["255 0", "1 1", "1 2", "1 3"],
+            one(255).to_vec(alloc)?,
+        ),
+        (
+            LIST,
+            ["2 0 0", "1 1", "1 2", "1 3"],
+            [sight(0, 0, 1), sight(0, 0, 1)].to_vec(alloc)?,
+        ),
+        (LIST, ["0", "1 1", "1 2", "1 3"], Vec::new(alloc)),
+        (
+            "property list uchar float scanner\nproperty int weight\n",
+            ["3 3 0 1 7", "1 1 1", "1 2 1", "1 3 1"],
+            [sight(0, 3, 7), sight(0, 0, 7), sight(0, 1, 7)].to_vec(alloc)?,
+        ),
+        (
+            "property double weight\nproperty int scanner\n",
+            ["9 0", "9 1", "x 2", "0 3"],
+            one(1).to_vec(alloc)?,
+        ),
+        (
+            "property list uchar int weight\nproperty int scanner\n",
+            ["2 9 9 0", "0 1", "0 2", "0 3"],
+            one(1).to_vec(alloc)?,
+        ),
+    ];
+    for (properties, values, first) in cases {
+        let text = four_seen(alloc, properties, values)?;
+        let mut seen = first;
+        seen.extend_from_slice(&[sight(1, 1, 1), sight(2, 2, 1), sight(3, 3, 1)])?;
+        let scan = read_scan(alloc, text.as_bytes(), 1, None)?;
+        assert_eq!(rt; scan.seen.as_slice(), seen.as_slice(), "{properties:?}");
+    }
+    Ok(())
+}
+
+#[test]
+fn the_first_refusal_of_weights_and_lists_is_told(rt: HostRuntime) -> Result<(), Fail> {
+    let alloc = rt.alloc();
+    let list = ScanRefusal::BadToken(at(0, 0, 3));
+    let bad = |weight| ScanRefusal::BadWeight { row: 0, weight };
+    let none = |index| ScanRefusal::NoSuchScanner { row: 0, index };
+    let cases = [
+        (WEIGHT, "0 0", bad(0)),
+        (WEIGHT, "256 9", bad(256)),
+        (WEIGHT, "-1 x", bad(-1)),
+        (WEIGHT, "1.0 0", ScanRefusal::BadToken(at(0, 0, 3))),
+        (WEIGHT, "1 4", none(4)),
+        (LIST, "2 0 4", none(4)),
+        (LIST, "3 -1 x 0", none(-1)),
+        (LIST, "2 0 x", list),
+        (
+            LIST,
+            "1 1234567890123456789",
+            ScanRefusal::LongNumber(at(0, 0, 3)),
+        ),
+        (LIST, "-1", ScanRefusal::BadCount(at(0, 0, 3))),
+        (WIDE, "0 1 9", bad(0)),
+        (WIDE, "1 1 x", ScanRefusal::BadToken(at(0, 0, 4))),
+    ];
+    for (properties, first, refusal) in cases {
+        let text = four_seen(alloc, properties, [first, "1 1", "1 2", "1 3"])?;
+        assert_eq!(rt;
+            refusal_of(alloc, text.as_bytes()),
+            Some(refusal),
+            "{first:?}"
+        );
+    }
+    Ok(())
+}
+
+#[test]
+fn the_plain_form_is_printed_where_each_point_has_one_sight_of_weight_1(
+    rt: HostRuntime,
+) -> Result<(), Fail> {
+    let alloc = rt.alloc();
+    let plain = four_points(alloc, FIRST_ROW, LAST_ROW)?;
+    let cases = [
+        (LIST, ["1 0", "1 1", "1 2", "1 3"]),
+        (WEIGHT, ["1 0", "1 1", "1 2", "1 3"]),
+    ];
+    for (properties, values) in cases {
+        let text = four_seen(alloc, properties, values)?;
+        let again = printed(alloc, text.as_bytes())?;
+        assert_eq!(rt; again.as_slice(), plain.as_bytes());
+    }
+    let wide = [
+        ["1 2 0 0", "1 1 1", "1 1 2", "1 1 3"],
+        ["2 1 0", "1 1 1", "1 1 2", "1 1 3"],
+        ["1 1 0", "1 1 1", "1 1 2", "1 0"],
+        ["1 0", "255 3 3 0 1", "1 0", "7 1 2"],
+    ];
+    for values in wide {
+        let text = four_seen(alloc, WIDE, values)?;
+        let again = printed(alloc, text.as_bytes())?;
+        assert_eq!(rt; again.as_slice(), text.as_bytes());
+    }
+    Ok(())
+}
+
+#[test]
+fn a_fixed_scanner_sees_each_point_once_with_its_weight(rt: HostRuntime) -> Result<(), Fail> {
+    let alloc = rt.alloc();
+    let origin = Point::data(0, 0, 0).ok_or("the origin is a data point")?;
+    let text =
+        b"ply\nformat ascii 1.0\nelement vertex 2\nproperty list uchar int scanner\nproperty int weight\nproperty int x\nproperty int y\nproperty int z\nend_header\n2 9 9 3 1 2 3\n0 1 4 5 6\n";
+    let scan = read_scan(alloc, text, 1, Some(origin))?;
+    assert_eq!(rt;
+        scan.seen.as_slice(),
+        [sight(0, 0, 3), sight(1, 0, 1)].as_slice()
+    );
+    Ok(())
+}
+
+// A binary file of one point at the origin, which a scanner at the origin saw so often.
+fn seen_so_often(alloc: Global, count: u32) -> Result<Vec<u8>, AllocError> {
+    let mut bytes =
+        b"ply\nformat binary_little_endian 1.0\nelement vertex 1\nproperty int x\nproperty int y\nproperty int z\nproperty list uint uchar scanner\nelement scanner 1\nproperty int x\nproperty int y\nproperty int z\nend_header\n".to_vec(
+            alloc,
+        )?;
+    bytes.extend_from_slice(&[0; 12])?;
+    bytes.extend_from_slice(&count.to_le_bytes())?;
+    let items = vec![in alloc; 0; count as usize]?;
+    bytes.extend_from_slice(&items)?;
+    bytes.extend_from_slice(&[0; 12])?;
+    Ok(bytes)
+}
+
+#[test]
+fn too_many_sights_of_one_point_are_refused(rt: HostRuntime) -> Result<(), Fail> {
+    let alloc = rt.alloc();
+    let bytes = seen_so_often(alloc, 8_388_609)?;
+    assert_eq!(rt;
+        refusal_of(alloc, &bytes),
+        Some(ScanRefusal::TooManySights { row: 0 })
     );
     Ok(())
 }

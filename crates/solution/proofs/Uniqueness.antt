@@ -11,7 +11,7 @@ use Rattle.visibility.specs.Cuts.{cost, is_cut, cut_facets, IsLeastInside}
 use Rattle.visibility.proofs.Networks.{IsJoined, joined}
 use Rattle.visibility.proofs.Ordered.{one_complex}
 use Rattle.visibility.proofs.Indices.{index_has}
-use Rattle.solution.specs.Scans.{points_of, scene_of_rows}
+use Rattle.solution.specs.Scans.{points_of, scene_of_scan}
 use Rattle.solution.specs.Laws.{SolutionLaw}
 
 pub same_bools : (a b : Bool) → (a ≡ true → b ≡ true) → (b ≡ true → a ≡ true) → a ≡ b
@@ -56,8 +56,8 @@ same_counts a b p q r s t u =
     ∙ ap (λ (n : ℕ). record { points = b.points; scanners = b.scanners; sights = b.sights; vote = b.vote; smooth = b.smooth; cost = n }) u
 
 pub solution_law : SolutionLaw
-solution_law rows settings mesh other_mesh claim other a b =
-    let s : Scene = scene_of_rows rows settings in
+solution_law scan settings mesh other_mesh claim other a b =
+    let s : Scene = scene_of_scan scan settings in
     let complexes : b.complex ≡ a.complex = one_complex s b.complex a.complex b.complex_is a.complex_is in
     let least : IsLeastInside s a.complex b.inside = subst (λ (c : Complex). IsLeastInside s c b.inside) complexes b.least in
     let cut : cut_facets s.vertices a.complex a.inside ≡ cut_facets s.vertices b.complex b.inside =
@@ -66,7 +66,7 @@ solution_law rows settings mesh other_mesh claim other a b =
     let cells : filter a.inside a.complex.cells ≡ filter b.inside b.complex.cells =
     filter_same a.inside b.inside a.complex.cells (agree s a.complex a.inside b.inside a.least least) ∙ ap (λ (c : Complex). filter b.inside c.cells) (sym complexes) in
     record {
-      mesh_is = a.mesh_is ∙ ap (mesh_of (corners ++ points_of rows)) cut ∙ sym b.mesh_is;
+      mesh_is = a.mesh_is ∙ ap (mesh_of (corners ++ points_of scan)) cut ∙ sym b.mesh_is;
       counts_are = same_counts claim.counts other.counts
           (a.counts.points ∙ sym b.counts.points) (a.counts.scanners ∙ sym b.counts.scanners) (a.counts.sights ∙ sym b.counts.sights)
           (a.counts.vote ∙ sym b.counts.vote) (a.counts.smooth ∙ sym b.counts.smooth) (a.certificate.cost_is ∙ costs ∙ sym b.certificate.cost_is);

@@ -7,8 +7,8 @@ use Rattle.std.specs.Prelude.{ℕ, ◌≡◌, ◌<◌, ◌^◌, Bool, List}
 use Rattle.cert_text.specs.Certificates.{Claim}
 use Rattle.flow_net.specs.declared.votes.Settings.{Settings}
 use Rattle.mesh_ply.specs.Meshes.{Surface}
-use Rattle.scan.specs.ScanRows.{ScanRows, IsScan}
-use Rattle.solution.specs.Scans.{scene_of_rows}
+use Rattle.scan.specs.Shown.{Shown, IsShown}
+use Rattle.solution.specs.Scans.{scene_of_scan}
 use Rattle.solution.specs.Solutions.{IsSolution}
 use Rattle.visibility.specs.Complexes.{Complex}
 use Rattle.visibility.specs.Cuts.{cost, IsLeastCost}
@@ -24,11 +24,11 @@ pub record IsSame (mesh : Surface) (claim : Claim) (other_mesh : Surface) (other
 -- two solutions of one scan at the same settings are the same but for the flow
 abbrev pub SolutionLaw : Type 0
 SolutionLaw =
-    (rows : ScanRows) (settings : Settings) (mesh other_mesh : Surface) (claim other : Claim) → IsSolution rows settings mesh claim
-    → IsSolution rows settings other_mesh other → IsSame mesh claim other_mesh other
+    (scan : Shown) (settings : Settings) (mesh other_mesh : Surface) (claim other : Claim) → IsSolution scan settings mesh claim
+    → IsSolution scan settings other_mesh other → IsSame mesh claim other_mesh other
 
 -- since each sight has exactly one cell behind it
 abbrev pub LeastCostLaw : Type 0
 LeastCostLaw =
-    (rows : ScanRows) (settings : Settings) (complex : Complex) (inside : List ℕ → Bool) → IsScan rows → IsComplexOf (scene_of_rows rows settings) complex
-    → IsLeastCost (scene_of_rows rows settings) complex inside → cost (scene_of_rows rows settings) complex inside < 2 ^ 47
+    (scan : Shown) (settings : Settings) (complex : Complex) (inside : List ℕ → Bool) → IsShown scan → IsComplexOf (scene_of_scan scan settings) complex
+    → IsLeastCost (scene_of_scan scan settings) complex inside → cost (scene_of_scan scan settings) complex inside < 2 ^ 47

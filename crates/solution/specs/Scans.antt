@@ -1,29 +1,35 @@
--- What the rows of a scan show.
+-- What a scan shows, as a scene: its points as vertices, and its sights of them.
 --
---   points_of rows                where the points are, once each
---   sight_of points row           the sight of a row, whose point is one of these
---   sights_of rows                the sight of each row
---   scene_of_rows rows settings   corners and points as vertices, scanners, sights, and the weights
-use Rattle.std.specs.Prelude.{◌+◌, List, map}
+--   points_of scan               where the points are, once each
+--   point_at scan row            where the point of a row is
+--   sight_of scan seen           a sight as one of a vertex
+--   sights_of scan               the sights, in the order of their rows
+--   scene_of_scan scan settings  corners and points as vertices, scanners, sights, and the weights
+use Rattle.std.specs.Prelude.{ℕ, ◌+◌, List, map, slice_index_or}
 use Rattle.flow_net.specs.declared.votes.Settings.{Settings}
 use Rattle.flow_net.specs.declared.votes.Sight.{Sight}
-use Rattle.geo_sign.specs.Point.{Point}
+use Rattle.geo_sign.specs.Point.{Point, origin}
 use Rattle.merge.specs.Merging.{distinct_points, index_among}
-use Rattle.scan.specs.ScanRows.{ScanRows, VertexRow}
+use Rattle.scan.specs.Shown.{Shown}
+use Rattle.scan.specs.declared.scan.Seen.{Seen}
 use Rattle.visibility.specs.Scenes.{Scene, scene_of}
 
--- where the points are, once each, in the order of their first rows
-abbrev pub points_of : ScanRows → List Point
-points_of rows = distinct_points (map (λ (row : VertexRow). row.point) rows.vertices)
+-- where the points are, once each, in the order of their first rows: also those that no scanner saw
+abbrev pub points_of : Shown → List Point
+points_of scan = distinct_points scan.points
 
--- a sight of the row's point from the scanner that saw it, of weight 1: the first point is vertex 8, after the box's eight corners
-abbrev pub sight_of : List Point → VertexRow → Sight
-sight_of points row = record { vertex = 8 + index_among points row.point; scanner = row.seen_by; weight = 1 }
+-- where the point of a row is
+abbrev pub point_at : Shown → ℕ → Point
+point_at scan row = slice_index_or scan.points row origin
 
--- a sight for each row, in the order of the rows: equal ones stand as often as they were seen
-abbrev pub sights_of : ScanRows → List Sight
-sights_of rows = map (sight_of (points_of rows)) rows.vertices
+-- a sight of the row's point from its scanner, of its weight: the first point is vertex 8, after the box's eight corners
+abbrev pub sight_of : Shown → Seen → Sight
+sight_of scan seen = record { vertex = 8 + index_among (points_of scan) (point_at scan seen.row); scanner = seen.scanner; weight = seen.weight }
 
--- the scene of a scan: the box's corners and the distinct points, the scanners, a sight for each row
-abbrev pub scene_of_rows : ScanRows → Settings → Scene
-scene_of_rows rows settings = scene_of (points_of rows) rows.scanners (sights_of rows) settings
+-- the sights, row by row, and within a row in the order of its scanners: equal ones stand as often as they were seen
+abbrev pub sights_of : Shown → List Sight
+sights_of scan = map (sight_of scan) scan.seen
+
+-- the scene of a scan: the box's corners and the distinct points, the scanners and the sights
+abbrev pub scene_of_scan : Shown → Settings → Scene
+scene_of_scan scan settings = scene_of (points_of scan) scan.scanners (sights_of scan) settings

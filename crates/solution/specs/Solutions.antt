@@ -16,13 +16,13 @@ use Rattle.flow_net.specs.declared.votes.Settings.{Settings}
 use Rattle.geo_sign.specs.Vertices.{corners, vertices_of}
 use Rattle.mesh_ply.specs.Meshes.{Surface, mesh_of}
 use Rattle.mesh_ply.specs.declared.mesh.Mesh.{Mesh}
-use Rattle.scan.specs.ScanRows.{ScanRows}
+use Rattle.scan.specs.Shown.{Shown}
 use Rattle.visibility.specs.Scenes.{Scene}
 use Rattle.visibility.specs.Complexes.{Complex}
 use Rattle.visibility.specs.Votes.{IsComplexOf}
 use Rattle.visibility.specs.Cuts.{cost, cut_facets, IsLeastInside}
 use Rattle.visibility.specs.Flows.{is_equal, value, IsValidFlow}
-use Rattle.solution.specs.Scans.{points_of, scene_of_rows}
+use Rattle.solution.specs.Scans.{points_of, scene_of_scan}
 
 -- the amount in the first row about a cell or facet, and 0 where no row is about it
 abbrev pub stated : {Row : Type 0} → (Row → List ℕ) → (Row → ℕ) → List Row → List ℕ → ℕ
@@ -53,11 +53,11 @@ sink_row cell amount = record { cell = cell; amount = amount }
 abbrev pub sink_rows : List (List ℕ) → (List ℕ → ℕ) → List SinkRow
 sink_rows cells amounts = listed sink_row cells amounts
 
--- the numbers of distinct points, scanners and sights, and the weights; each row is one sight
-pub record HasCounts (claim : Claim) (rows : ScanRows) (settings : Settings) : Type 0 where
-  pub points : claim.counts.points ≡ length (points_of rows)
-  pub scanners : claim.counts.scanners ≡ length rows.scanners
-  pub sights : claim.counts.sights ≡ length rows.vertices
+-- the numbers of distinct points, scanners and sights, and the weights; a sight counts once, whatever it weighs
+pub record HasCounts (claim : Claim) (scan : Shown) (settings : Settings) : Type 0 where
+  pub points : claim.counts.points ≡ length (points_of scan)
+  pub scanners : claim.counts.scanners ≡ length scan.scanners
+  pub sights : claim.counts.sights ≡ length scan.seen
   pub vote : claim.counts.vote ≡ settings.vote
   pub smooth : claim.counts.smooth ≡ settings.smooth
 
@@ -74,14 +74,14 @@ pub record IsCertificate (s : Scene) (complex : Complex) (inside : List ℕ → 
 -- The best surface of a scan and its certificate: of the complex of all cells and all directed facets with a capacity, the
 -- mesh of the facets of outside cells with an inside cell across, under the labels of least cost whose inside is contained
 -- in that of all labels of that cost, and a certificate of these labels.
-pub record IsSolution (rows : ScanRows) (settings : Settings) (mesh : Surface) (claim : Claim) : Type 0 where
+pub record IsSolution (scan : Shown) (settings : Settings) (mesh : Surface) (claim : Claim) : Type 0 where
   pub complex : Complex
   pub inside : List ℕ → Bool
-  pub complex_is : IsComplexOf (scene_of_rows rows settings) complex
-  pub least : IsLeastInside (scene_of_rows rows settings) complex inside
-  pub mesh_is : mesh ≡ mesh_of (corners ++ points_of rows) (cut_facets (vertices_of (points_of rows)) complex inside)
-  pub counts : HasCounts claim rows settings
-  pub certificate : IsCertificate (scene_of_rows rows settings) complex inside claim
+  pub complex_is : IsComplexOf (scene_of_scan scan settings) complex
+  pub least : IsLeastInside (scene_of_scan scan settings) complex inside
+  pub mesh_is : mesh ≡ mesh_of (corners ++ points_of scan) (cut_facets (vertices_of (points_of scan)) complex inside)
+  pub counts : HasCounts claim scan settings
+  pub certificate : IsCertificate (scene_of_scan scan settings) complex inside claim
 
 -- a mesh's points and faces
 abbrev pub surface_of : Mesh → Surface

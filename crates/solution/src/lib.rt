@@ -2,8 +2,8 @@
 //!
 //! The cells of a Delaunay tetrahedrization are labelled inside or outside by a minimum cut, in which each line of sight penalises
 //! the facets that it crosses and favours the cell behind its point as inside (Labatut, Pons and Keriven 2007 and 2009, with whole
-//! numbers). `specs/Solutions` says what a solution is, over cells and directed facets alone, and `specs/Scans` what the rows of a
-//! scan show. Whoever makes a solution and whoever checks one stand on it, and neither on the other.
+//! numbers). `specs/Solutions` says what a solution is, over cells and directed facets alone, and `specs/Scans` what a scan
+//! shows. Whoever makes a solution and whoever checks one stand on it, and neither on the other.
 //!
 //! Of code it has what both need: the points and sights of a scan, and the cost of its least-inside labels.
 #![tactic(auto)]
@@ -14,7 +14,7 @@ mod sights;
 
 pub use cost::least_cost;
 pub use laws::{least_costs_fit, solutions_differ_in_their_flows_alone};
-pub use sights::{Seen, seen_in};
+pub use sights::{SeenPoints, seen_in};
 use std::alloc::AllocError;
 
 /// Want of memory: the one answer that any input may get.

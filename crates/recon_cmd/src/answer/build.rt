@@ -3,7 +3,7 @@
 ghost use Rattle.std.specs.Prelude.{◌≡◌, false, Some, IfOk};
 ghost use Rattle.cert_text.specs.Certificates.{claim_of, IsWellFormed};
 ghost use Rattle.mesh_ply.specs.Meshes.{IsMesh};
-ghost use Rattle.scan.specs.Views.{rows_of};
+ghost use Rattle.scan.specs.Views.{shown_of};
 ghost use Rattle.solution.specs.Solutions.{surface_of};
 ghost use Rattle.recon_cmd.specs.Answers.{WritesSurface};
 ghost use Rattle.recon_cmd.specs.OptionViews.{options_view};
@@ -60,7 +60,7 @@ fn reply_to_scan<'a>(
     names: &BuildNames<'a>,
     options: &Options,
 ) -> Result<Reply<'a>, NoMemory>
-    ensures { IfOk result (λ reply. WritesSurface (build_names names.now) (options_view options.now) bytes.items (rows_of scan.now) (answer_of 1 reply)) }
+    ensures { IfOk result (λ reply. WritesSurface (build_names names.now) (options_view options.now) bytes.items (shown_of scan.now) (answer_of 1 reply)) }
 {
     let stamp = stamp_of(bytes, options.unit, options.fixed);
     let solved = solve_scan(alloc, scan, options.settings, Some(stamp))?;

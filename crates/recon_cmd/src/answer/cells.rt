@@ -3,8 +3,8 @@
 ghost use Rattle.std.specs.Prelude.{◌≡◌, false, Some, IfOk};
 ghost use Rattle.geo_sign.specs.Cells.{IsCellList};
 ghost use Rattle.geo_sign.specs.Vertices.{vertices_of};
-ghost use Rattle.scan.specs.ScanRows.{ScanRows, IsScan};
-ghost use Rattle.scan.specs.Views.{rows_of};
+ghost use Rattle.scan.specs.Shown.{Shown, IsShown};
+ghost use Rattle.scan.specs.Views.{shown_of};
 ghost use Rattle.solution.specs.Scans.{points_of};
 ghost use Rattle.recon_cmd.specs.Answers.{WritesCells};
 ghost use Rattle.recon_cmd.specs.OptionViews.{options_view};
@@ -55,7 +55,7 @@ pub fn reply_to_cells<'a, H: Host>(
 
 // The answer to a scan.
 fn reply_to_scan<'a>(alloc: Global, scan: &Scan, output: &'a str) -> Result<Reply<'a>, NoMemory>
-    ensures { IfOk result (λ reply. WritesCells output.now (rows_of scan.now) (answer_of 1 reply)) }
+    ensures { IfOk result (λ reply. WritesCells output.now (shown_of scan.now) (answer_of 1 reply)) }
 {
     let merged = merge(alloc, &scan.points)?;
     let cells = cells_of(alloc, &merged.points)?;
@@ -75,7 +75,7 @@ fn reply_to_scan<'a>(alloc: Global, scan: &Scan, output: &'a str) -> Result<Repl
 
 // The cells of the distinct points of a scan, as rising numbers in rising order. The links between them are dropped.
 fn cells_of(alloc: Global, points: &[Point]) -> Result<Vec<[u32; 4]>, NoMemory>
-    requires { (rows : ScanRows) × IsScan rows × (points.now ≡ points_of rows) }
+    requires { (scan : Shown) × IsShown scan × (points.now ≡ points_of scan) }
     ensures { IfOk result (λ cells. IsCellList (vertices_of points.now) cells.items) }
 {
     let linked = build(alloc, points)?;

@@ -3,7 +3,7 @@
 //! decides, and on `cert_text`.
 ghost use Rattle.std.specs.Prelude.{◌≡◌, ◌≤◌, false, length, [], ℕ, IfOk, Some, ⊤};
 ghost use Rattle.std.specs.Option.{option_map};
-ghost use Rattle.scan.specs.Views.{rows_of};
+ghost use Rattle.scan.specs.Views.{shown_of};
 ghost use Rattle.cert_text.specs.Certificates.{stamp_view};
 ghost use Rattle.cert_text.specs.Texts.{cert_text};
 ghost use Rattle.recon_check.specs.Answers.{HasCertificate};
@@ -69,8 +69,8 @@ fn reply_to_scan<'a, H: Host>(
 ) -> Result<Reply<'a>, Stop>
     requires { (H.state host.old).writing ≡ false }
     ensures replied { IfOk result (λ reply. IsCheckReply (check_names names.now) (output_of names.now) (options_view options.now)
-        (MeshAnswer (check_names names.now) (HasVerdict (output_of names.now) (options_view options.now) (stamp_view stamp.now) (rows_of scan.now))) reply (H.state host.old)) }
-    ensures reads { ReadsOn 1 2 (MeshAnswer (check_names names.now) (HasVerdict (output_of names.now) (options_view options.now) (stamp_view stamp.now) (rows_of scan.now)))
+        (MeshAnswer (check_names names.now) (HasVerdict (output_of names.now) (options_view options.now) (stamp_view stamp.now) (shown_of scan.now))) reply (H.state host.old)) }
+    ensures reads { ReadsOn 1 2 (MeshAnswer (check_names names.now) (HasVerdict (output_of names.now) (options_view options.now) (stamp_view stamp.now) (shown_of scan.now)))
         (H.state host.old) (H.state host.new) }
     ensures cause { StopsFor result (H.state host.old).faults (H.state host.new).faults }
 {
@@ -98,8 +98,8 @@ fn reply_to_mesh<'a, H: Host>(
 ) -> Result<Reply<'a>, Stop>
     requires { (H.state host.old).writing ≡ false }
     ensures replied { IfOk result (λ reply. IsCheckReply (check_names names.now) (output_of names.now) (options_view options.now)
-        (CertAnswer (check_names names.now) (HasVerdict (output_of names.now) (options_view options.now) (stamp_view stamp.now) (rows_of scan.now) mesh.now)) reply (H.state host.old)) }
-    ensures reads { ReadsOn 2 1 (CertAnswer (check_names names.now) (HasVerdict (output_of names.now) (options_view options.now) (stamp_view stamp.now) (rows_of scan.now) mesh.now))
+        (CertAnswer (check_names names.now) (HasVerdict (output_of names.now) (options_view options.now) (stamp_view stamp.now) (shown_of scan.now) mesh.now)) reply (H.state host.old)) }
+    ensures reads { ReadsOn 2 1 (CertAnswer (check_names names.now) (HasVerdict (output_of names.now) (options_view options.now) (stamp_view stamp.now) (shown_of scan.now) mesh.now))
         (H.state host.old) (H.state host.new) }
     ensures cause { StopsFor result (H.state host.old).faults (H.state host.new).faults }
 {
@@ -128,7 +128,7 @@ fn reply_to_texts<'a>(
     mesh: &[u8],
     cert: &[u8],
 ) -> Result<Reply<'a>, NoMemory>
-    ensures { IfOk result (λ reply. HasVerdict (option_map (λ name. name.now) output.entry) (options_view options.now) (stamp_view stamp.now) (rows_of scan.now) mesh.now cert.now (answer_of 3 reply)) }
+    ensures { IfOk result (λ reply. HasVerdict (option_map (λ name. name.now) output.entry) (options_view options.now) (stamp_view stamp.now) (shown_of scan.now) mesh.now cert.now (answer_of 3 reply)) }
 {
     match check_all(alloc, scan, options.settings, stamp, mesh, cert) {
         Ok(verdict) => reply_to_verdict(alloc, &verdict, stamp, output, cert),

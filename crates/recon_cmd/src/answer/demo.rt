@@ -1,10 +1,8 @@
 //! The answer of `demo N SEED`: what `build` says of a scan that is made from a number. It stands on `gen_scan`, which makes
 //! the scan.
 ghost use Rattle.std.specs.Prelude.{◌≡◌, ◌≤◌, IfOk, Ok, OnOk, length};
-ghost use Rattle.gen_scan.specs.Generated.{generated};
-ghost use Rattle.scan.specs.PlainForm.{plain_text};
-ghost use Rattle.scan.specs.Views.{rows_of};
-ghost use Rattle.recon_cmd.specs.Answers.{Demonstrates, default_options, file_limit, read_as};
+ghost use Rattle.scan.specs.Views.{shown_of};
+ghost use Rattle.recon_cmd.specs.Answers.{Demonstrates, default_options, file_limit, generated_text, read_as};
 ghost use Rattle.recon_cmd.specs.Replies.{answer_of};
 
 use crate::NoMemory;
@@ -45,11 +43,11 @@ pub fn reply_to_demo<'a>(alloc: Global, demo: Demo) -> Result<Reply<'a>, NoMemor
     })
 }
 
-// The scan that the plain text of the generated one is read as, and that text.
+// The scan that the text of the generated one is read as, and that text.
 fn reread_scan(alloc: Global, demo: Demo) -> Result<(Scan, Vec<u8>), NoMemory>
-    ensures read { IfOk result (λ read. read_as default_options (plain_text (generated demo.count demo.seed)) ≡ Ok (rows_of read.0)) }
-    ensures text { IfOk result (λ read. read.1.items ≡ plain_text (generated demo.count demo.seed)) }
-    ensures within { OnOk result (length (plain_text (generated demo.count demo.seed)) ≤ file_limit) }
+    ensures read { IfOk result (λ read. read_as default_options (generated_text demo.count demo.seed) ≡ Ok (shown_of read.0)) }
+    ensures text { IfOk result (λ read. read.1.items ≡ generated_text demo.count demo.seed) }
+    ensures within { OnOk result (length (generated_text demo.count demo.seed) ≤ file_limit) }
 {
     let scan = gen_scan(alloc, demo.count, demo.seed)?;
     let mut text = Vec::new(alloc);

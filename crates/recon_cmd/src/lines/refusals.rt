@@ -1,7 +1,7 @@
 //! The lines of refusals, in memory. It stands on `scan` and `ply_head`, which tell what they refuse, and on `ply_rows`,
 //! which tells where.
 ghost use Rattle.std.specs.Prelude.{◌≡◌, ◌++◌, IfOk, OnOk, Some};
-ghost use Rattle.recon_cmd.specs.Refusals.{need_word, place_text, text_line, number_line, need_line, count_line, place_line, index_line, head_line, refusal_line};
+ghost use Rattle.recon_cmd.specs.Refusals.{need_word, place_text, text_line, number_line, need_line, count_line, place_line, vertex_row_line, head_line, refusal_line};
 
 use crate::NoMemory;
 use crate::lines::push_labelled;
@@ -28,12 +28,30 @@ pub fn line_of_refusal(alloc: Global, why: ScanRefusal) -> Result<Vec<u8>, NoMem
         ScanRefusal::LongNumber(place) => line_of_place(alloc, b"refused 13 long_number ", place),
         ScanRefusal::OutOfRange(place) => line_of_place(alloc, b"refused 14 out_of_range ", place),
         ScanRefusal::NoSuchScanner { row, index } => {
-            line_of_index(alloc, b"refused 15 no_such_scanner row ", row, index)
+            line_of_vertex_row(
+                alloc,
+                b"refused 15 no_such_scanner row ",
+                row,
+                b" index ",
+                index,
+            )
         }
         ScanRefusal::BadCount(place) => line_of_place(alloc, b"refused 16 bad_count ", place),
         ScanRefusal::Cut(place) => line_of_place(alloc, b"refused 17 cut ", place),
         ScanRefusal::Trailing { place } => {
             line_of_number(alloc, b"refused 18 trailing at ", place as u64)
+        }
+        ScanRefusal::BadWeight { row, weight } => {
+            line_of_vertex_row(
+                alloc,
+                b"refused 21 bad_weight row ",
+                row,
+                b" weight ",
+                weight,
+            )
+        }
+        ScanRefusal::TooManySights { row } => {
+            line_of_number(alloc, b"refused 22 too_many_sights row ", u64::from(row))
         }
         ScanRefusal::NoMemory => Err(AllocError),
     }
@@ -119,15 +137,21 @@ fn line_of_place(alloc: Global, text: &[u8], place: Place) -> Result<Vec<u8>, No
     Ok(line)
 }
 
-// A text, and the vertex row and the number that it has for its scanner.
-#[tactic(auto, unfolding(crate::specs::Refusals::index_line))]
-fn line_of_index(alloc: Global, text: &[u8], row: u32, index: i64) -> Result<Vec<u8>, NoMemory>
-    ensures { IfOk result (λ line. line.items ≡ index_line text.now row index) }
+// A text, and the vertex row, and another text and a number that the row has.
+#[tactic(auto, unfolding(crate::specs::Refusals::vertex_row_line))]
+fn line_of_vertex_row(
+    alloc: Global,
+    text: &[u8],
+    row: u32,
+    label: &[u8],
+    number: i64,
+) -> Result<Vec<u8>, NoMemory>
+    ensures { IfOk result (λ line. line.items ≡ vertex_row_line text.now row label.now number) }
 {
     let mut line = Vec::new(alloc);
     push_labelled(&mut line, text, u64::from(row))?;
-    line.extend_from_slice(b" index ")?;
-    push_whole(&mut line, i128::from(index))?;
+    line.extend_from_slice(label)?;
+    push_whole(&mut line, i128::from(number))?;
     line.push(b'\n')?;
     Ok(line)
 }

@@ -3,15 +3,14 @@ use Rattle.std.specs.List.Sorted.{IsPermutation}
 use Rattle.cert_text.specs.declared.certificate.FlowRow.{FlowRow}
 use Rattle.cert_text.specs.declared.certificate.SinkRow.{SinkRow}
 use Rattle.visibility.proofs.Networks.{node_count, arc_count}
-use Rattle.scan.specs.ScanRows.{ScanRows}
-use Rattle.scan.specs.Views.{rows_of}
+use Rattle.scan.specs.Views.{shown_of}
 use Rattle.visibility.specs.Laws.{test_of, amount_of}
 use Rattle.visibility.specs.Networks.{complex_of, IsNetworkInAnyOrder}
 use Rattle.visibility.specs.Scenes.{Scene}
-use Rattle.solution.specs.Scans.{points_of, scene_of_rows}
+use Rattle.solution.specs.Scans.{points_of, scene_of_scan}
 use Rattle.solution.specs.Solutions.{flow_rows, sink_rows}
 use Rattle.solution.proofs.Certificates.{flags_are, on_arcs_are, at_nodes_are, certificate_is}
-use Rattle.solution.proofs.SightLists.{row_count, few_vertices, few_sights}
+use Rattle.solution.proofs.SightLists.{few_vertices, few_sights}
 use Rattle.flow_net.specs.declared.Voted.{Voted}
 use Rattle.recon_build.proofs.SortedRows.{inside_are, flow_are, sinks_are}
 use Rattle.recon_build.proofs.Stored.{corner_count}
@@ -20,18 +19,17 @@ use Rattle.recon_build.proofs.solving.certificate.Goals as goal
 
 pub returns-clause-counts : goal.returns-clause-counts
 returns-clause-counts c =
-    let each : length c.args.scan.now.seen_by.items ≡ length c.args.scan.now.points.items = c.args.scan.now.one_each in
     record {
-      points = omega (arith, c.vertex_count.ensures, corner_count c.args.tetra.now (points_of (rows_of c.args.scan.now)) c.requires.points);
+      points = omega (arith, c.vertex_count.ensures, corner_count c.args.tetra.now (points_of (shown_of c.args.scan.now)) c.requires.points);
       scanners = omega (arith, c.len.ensures, c.args.scan.now.scanners.ok);
-      sights = omega (arith, c.len-2.ensures, c.args.scan.now.seen_by.ok, each, row_count c.args.scan.now);
+      sights = omega (arith, c.len-2.ensures, c.args.scan.now.seen.ok);
       vote = refl;
       smooth = refl;
     }
 
 pub returns-clause-states : goal.returns-clause-states
 returns-clause-states c listing =
-    let s : Scene = scene_of_rows (rows_of c.args.scan.now) c.args.settings in
+    let s : Scene = scene_of_scan (shown_of c.args.scan.now) c.args.settings in
     let voted : Voted = c.args.voted.now in
     let network : IsNetworkInAnyOrder s voted =
     record { listing = listing; fixed_is = c.requires.network.fixed_is; sink_is = c.requires.network.sink_is; arcs_are = c.requires.network.arcs_are } in
@@ -61,20 +59,19 @@ returns-clause-states c listing =
 
 pub inside_rows-requires : goal.inside_rows-requires
 inside_rows-requires c =
-    omega (arith, ap length c.as_slice-cells.ensures, ap length c.as_slice.ensures, c.requires.labels.least_cost.admissible.count, node_count (scene_of_rows (rows_of c.args.scan.now) c.args.settings) c.args.voted.now c.requires.network)
+    omega (arith, ap length c.as_slice-cells.ensures, ap length c.as_slice.ensures, c.requires.labels.least_cost.admissible.count, node_count (scene_of_scan (shown_of c.args.scan.now) c.args.settings) c.args.voted.now c.requires.network)
 
 pub flow_rows-requires : goal.flow_rows-requires
 flow_rows-requires c =
-    omega (arith, ap length c.as_slice-2.ensures, ap length c.as_slice-3.ensures, c.requires.flow.arc_count, arc_count (scene_of_rows (rows_of c.args.scan.now) c.args.settings) c.args.voted.now c.requires.network)
+    omega (arith, ap length c.as_slice-2.ensures, ap length c.as_slice-3.ensures, c.requires.flow.arc_count, arc_count (scene_of_scan (shown_of c.args.scan.now) c.args.settings) c.args.voted.now c.requires.network)
 
 pub sink_rows-requires : goal.sink_rows-requires
 sink_rows-requires c =
-    omega (arith, ap length c.as_slice-cells.ensures, ap length c.as_slice-4.ensures, c.requires.flow.node_count, node_count (scene_of_rows (rows_of c.args.scan.now) c.args.settings) c.args.voted.now c.requires.network)
+    omega (arith, ap length c.as_slice-cells.ensures, ap length c.as_slice-4.ensures, c.requires.flow.node_count, node_count (scene_of_scan (shown_of c.args.scan.now) c.args.settings) c.args.voted.now c.requires.network)
 
 pub returns-clause-well_formed : goal.returns-clause-well_formed
 returns-clause-well_formed c =
-    let rows : ScanRows = rows_of c.args.scan.now in
-    let s : Scene = scene_of_rows rows c.args.settings in
+    let s : Scene = scene_of_scan (shown_of c.args.scan.now) c.args.settings in
     let cost : c.least_cost.result < 2 ^ 64 = omega (arith, c.least_cost.type_inv) in
     well_formed s c.requires.network.listing.complex (test_of c.args.voted.now.cells c.args.labels.now.inside) _ c.requires.network.listing.complex_is (few_vertices c.args.scan.now c.args.settings) (few_sights c.args.scan.now) (version_of c.args.stamp)
     (fit_counts _ c.args.scan.now c.args.settings (returns-clause-counts c) cost)
@@ -86,4 +83,4 @@ returns-clause-well_formed c =
     (returns-clause-states c c.requires.network.listing)
 
 pub overflow_sub-result : goal.overflow_sub-result
-overflow_sub-result c = omega (arith, c.vertex_count.ensures, corner_count c.args.tetra.now (points_of (rows_of c.args.scan.now)) c.requires.points)
+overflow_sub-result c = omega (arith, c.vertex_count.ensures, corner_count c.args.tetra.now (points_of (shown_of c.args.scan.now)) c.requires.points)

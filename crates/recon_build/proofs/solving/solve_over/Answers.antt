@@ -3,8 +3,8 @@ use Rattle.geo_sign.specs.Point.{Point}
 use Rattle.geo_sign.specs.Vertices.{corners}
 use Rattle.mesh_ply.specs.Meshes.{mesh_of}
 use Rattle.mesh_ply.specs.declared.mesh.Mesh.{Mesh}
-use Rattle.scan.specs.Views.{rows_of}
-use Rattle.solution.specs.Scans.{points_of, scene_of_rows}
+use Rattle.scan.specs.Views.{shown_of}
+use Rattle.solution.specs.Scans.{points_of, scene_of_scan}
 use Rattle.solution.specs.Solutions.{surface_of}
 use Rattle.solution.proofs.Certificates.{least_inside_is}
 use Rattle.surface.specs.Labelled.{Cutting}
@@ -34,13 +34,13 @@ named cutting s complex e f P h = subst (λ (t : Scene). P t cutting.complex) (s
 
 pub facets-requires : goal.facets-requires
 facets-requires g c =
-    let s : Scene = scene_of_rows (rows_of c.args.scan.now) c.args.settings in
+    let s : Scene = scene_of_scan (shown_of c.args.scan.now) c.args.settings in
     let network = c.requires.1.1.1.1.0 in
     let least = least_inside_is s c.args.counted.voted c.in_ok-labels.labels network c.in_ok-labels.ensures.least in
     let cut : IsCut c.args.tetra c.deref.result.now c.in_ok-labels.labels.inside g.cutting.scene g.cutting.complex =
     named g.cutting s (complex_of c.args.counted.voted) c.requires.0 c.requires.1.0 (IsCut c.args.tetra c.deref.result.now c.in_ok-labels.labels.inside) (
       c.requires.1.1.1.0,
-      sym (corner_count c.args.tetra (points_of (rows_of c.args.scan.now)) c.requires.1.1.0.points),
+      sym (corner_count c.args.tetra (points_of (shown_of c.args.scan.now)) c.requires.1.1.0.points),
       network.listing,
       subst (AreIdsOf c.args.tetra.slots c.args.counted.voted.cells) (sym c.deref.ensures.value) c.requires.1.1.1.1.1,
       c.in_ok-labels.ensures.least.least_cost.admissible.count ∙ node_count s c.args.counted.voted network,
@@ -66,7 +66,7 @@ mesh_is mesh given points cut facets same cut_is points_are faces_are =
 
 pub returns-clause-solution : goal.returns-clause-solution
 returns-clause-solution g c =
-    let s : Scene = scene_of_rows (rows_of c.args.scan.now) c.args.settings in
+    let s : Scene = scene_of_scan (shown_of c.args.scan.now) c.args.settings in
     let network = c.requires.1.1.1.1.0 in
     let rising : IsComplexOf g.cutting.scene network.listing.complex = subst (λ (x : Scene). IsComplexOf x network.listing.complex) (sym c.requires.0) network.listing.complex_is in
     record {
@@ -74,7 +74,7 @@ returns-clause-solution g c =
       inside = test_of c.args.counted.voted.cells c.in_ok-labels.labels.inside;
       complex_is = network.listing.complex_is;
       least = least_inside_is s c.args.counted.voted c.in_ok-labels.labels network c.in_ok-labels.ensures.least;
-      mesh_is = mesh_is c.in_ok-mesh.mesh c.args.tetra.points (corners ++ points_of (rows_of c.args.scan.now)) _ _ c.requires.1.1.0.points
+      mesh_is = mesh_is c.in_ok-mesh.mesh c.args.tetra.points (corners ++ points_of (shown_of c.args.scan.now)) _ _ c.requires.1.1.0.points
           (cut_same g.cutting s (complex_of c.args.counted.voted) network.listing.complex c.in_ok-labels.labels.inside c.requires.0 c.requires.1.0)
           (c.in_ok-mesh.ensures.points network.listing.complex rising) (c.in_ok-mesh.ensures.faces network.listing.complex rising);
       counts = c.in_ok-cert.ensures.counts;

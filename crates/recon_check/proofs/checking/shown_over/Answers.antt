@@ -4,8 +4,8 @@ use Rattle.mesh_ply.specs.Meshes.{Surface}
 use Rattle.mesh_ply.specs.Texts.{mesh_text}
 use Rattle.mesh_ply.specs.declared.mesh.Mesh.{Mesh}
 use Rattle.solution.specs.Solutions.{surface_of, IsSolution}
-use Rattle.scan.specs.ScanRows.{ScanRows}
-use Rattle.scan.specs.Views.{rows_of}
+use Rattle.scan.specs.Shown.{Shown}
+use Rattle.scan.specs.Views.{shown_of}
 use Rattle.recon_check.specs.Answers.{IsFault, surface_text}
 use Rattle.recon_check.specs.Differences.{IsFirstDifference}
 use Rattle.recon_check.proofs.Solutions.{solution_from}
@@ -14,7 +14,7 @@ use Rattle.recon_check.proofs.checking.shown_over.Goals as goal
 
 pub returns-in_err-surface-clause-fault : goal.returns-in_err-surface-clause-fault
 returns-in_err-surface-clause-fault c =
-    passed_on c.from_residual.result c.in_err-surface.field-0.0 (IsFault (rows_of c.args.scan.now) c.args.settings c.args.mesh.now (claim_of c.args.cert.now)) c.from_residual.ensures.1
+    passed_on c.from_residual.result c.in_err-surface.field-0.0 (IsFault (shown_of c.args.scan.now) c.args.settings c.args.mesh.now (claim_of c.args.cert.now)) c.from_residual.ensures.1
     (c.in_err-surface.ensures.fault c.args.mesh.now)
 
 -- what was printed is the text of the surface
@@ -34,7 +34,7 @@ returns-in-Some-clause-fault c =
 
 pub returns-clause-shown : goal.returns-clause-shown
 returns-clause-shown c =
-    let rows : ScanRows = rows_of c.args.scan.now in
+    let scan : Shown = shown_of c.args.scan.now in
     let claim : Claim = claim_of c.args.cert.now in
     let best = c.in_ok-surface.ensures.surface in
     let text = text_is c.in_ok-surface.surface c.deref.result.now c.push_mesh.new.out.items c.new-text.result.items c.deref.ensures.value c.in_ok-push_mesh.ensures.printed c.new-text.ensures.items in
@@ -42,8 +42,8 @@ returns-clause-shown c =
       shown = record {
         surface = surface_of c.in_ok-surface.surface;
         mesh_is = c.in-None.ensures.same ∙ text;
-        solution = subst (λ (surface : Surface). IsSolution rows c.args.settings surface claim) (sym best.surface_is)
-            (solution_from rows c.args.settings best.complex claim c.requires.formed best.complex_is best.counts best.best best.cost_is);
+        solution = subst (λ (surface : Surface). IsSolution scan c.args.settings surface claim) (sym best.surface_is)
+            (solution_from scan c.args.settings best.complex claim c.requires.formed best.complex_is best.counts best.best best.cost_is);
       };
       inside_is = omega (arith, c.len.ensures, c.args.cert.now.inside.ok.0);
       faces_is = omega (arith, c.len-in-None.ensures, c.in_ok-surface.surface.faces.ok.0);

@@ -2,9 +2,9 @@ use Rattle.std.proofs.Common.{ℕ, ◌≡◌, ap, ◌∙◌, arith, length, cond
 use Rattle.std.specs.Option.{option_or}
 use Rattle.cert_text.specs.Certificates.{Claim, claim_of}
 use Rattle.solution.specs.Solutions.{HasCounts}
-use Rattle.solution.proofs.SightLists.{few_points, row_count}
-use Rattle.scan.specs.ScanRows.{ScanRows}
-use Rattle.scan.specs.Views.{rows_of}
+use Rattle.solution.proofs.SightLists.{few_points}
+use Rattle.scan.specs.Shown.{Shown}
+use Rattle.scan.specs.Views.{shown_of}
 use Rattle.recon_check.specs.declared.answer.Reason.{Reason}
 use Rattle.recon_check.specs.declared.answer.Reason.TheVariants.{OtherCounts}
 use Rattle.recon_check.specs.declared.answer.Which.{Which}
@@ -23,16 +23,15 @@ joined : (a b d e f x y z w v p q r s : Option Reason) → a ≡ x → b ≡ y �
     → s ≡ option_or (option_or (option_or (option_or x y) z) w) v
 joined a b d e f x y z w v p q r s i j k l m o t u n = cc
 
-result_is : (c : goal.After-or-4) → MatchOption c.or-4.result (HasCounts (claim_of c.args.cert.now) (rows_of c.args.scan.now) c.args.settings) (IsFaultEver (rows_of c.args.scan.now) c.args.settings (claim_of c.args.cert.now))
+result_is : (c : goal.After-or-4) → MatchOption c.or-4.result (HasCounts (claim_of c.args.cert.now) (shown_of c.args.scan.now) c.args.settings) (IsFaultEver (shown_of c.args.scan.now) c.args.settings (claim_of c.args.cert.now))
 result_is c =
-    let rows : ScanRows = rows_of c.args.scan.now in
+    let scan : Shown = shown_of c.args.scan.now in
     let claim : Claim = claim_of c.args.cert.now in
     let points = ap length c.requires in
-    let scanners : c.len.result ≡ length rows.scanners = omega (arith, c.len.ensures, c.args.scan.now.scanners.ok.0) in
-    let each : length c.args.scan.now.seen_by.items ≡ length c.args.scan.now.points.items = c.args.scan.now.one_each in
-    let sights : c.len-2.result ≡ length rows.vertices = omega (arith, c.len-2.ensures, c.args.scan.now.seen_by.ok.0, each, row_count c.args.scan.now) in
-    first_told rows c.args.settings claim c.or-4.result
-    (joined c.other.result c.other-2.result c.other-3.result c.other-4.result c.other-5.result (told rows c.args.settings claim Points) (told rows c.args.settings claim Scanners) (told rows c.args.settings claim Sights) (told rows c.args.settings claim Vote) (told rows c.args.settings claim Smooth)
+    let scanners : c.len.result ≡ length scan.scanners = omega (arith, c.len.ensures, c.args.scan.now.scanners.ok.0) in
+    let sights : c.len-2.result ≡ length scan.seen = omega (arith, c.len-2.ensures, c.args.scan.now.seen.ok.0) in
+    first_told scan c.args.settings claim c.or-4.result
+    (joined c.other.result c.other-2.result c.other-3.result c.other-4.result c.other-5.result (told scan c.args.settings claim Points) (told scan c.args.settings claim Scanners) (told scan c.args.settings claim Sights) (told scan c.args.settings claim Vote) (told scan c.args.settings claim Smooth)
     c.or.result c.or-2.result c.or-3.result c.or-4.result
     (same_told c.other.result Points c.args.cert.now.points _ _ points c.other.ensures)
     (same_told c.other-2.result Scanners c.args.cert.now.scanners _ _ scanners c.other-2.ensures)

@@ -3,7 +3,7 @@ use Rattle.flow_net.specs.Weights.{IsSightList}
 use Rattle.geo_sign.specs.Point.{Point, IsWithin}
 use Rattle.geo_sign.specs.declared.point.TheConstants.{DATA_LIMIT}
 use Rattle.geo_sign.specs.Vertices.{corners}
-use Rattle.solution.proofs.SightLists.{few_points, few_sights, scene_of_scan}
+use Rattle.solution.proofs.SightLists.{few_points, few_sights, scene_over}
 use Rattle.visibility.specs.Networks.{IsNetworkOf}
 use Rattle.visibility.specs.Scenes.{Scene}
 use Rattle.recon_check.proofs.Seen.{seen_within, seen_apart, seen_in_range, seen_cells}
@@ -44,7 +44,7 @@ pub returns : goal.returns
 returns c = record {
   points = c.in_ok-linked.ensures.points ∙ ap (λ (list : List Point). corners ++ list) (c.deref.ensures.value ∙ c.requires.points);
   cells = seen_cells c.args.scan.now c.args.settings c.in_ok-linked.linked c.deref.result.now c.facts.ensures c.in_ok-linked.ensures.points (c.deref.ensures.value ∙ c.requires.points) c.in_ok-linked.ensures.delaunay c.in_ok-linked.ensures.inserted;
-  voted = scene_of_scan c.args.scan.now c.args.settings c.deref-2.result.now c.deref-4.result.now c.deref-3.result.now (λ (s : Scene). IsNetworkOf s c.in_ok-counted.counted.voted)
+  voted = scene_over c.args.scan.now c.args.settings c.deref-2.result.now c.deref-4.result.now c.deref-3.result.now (λ (s : Scene). IsNetworkOf s c.in_ok-counted.counted.voted)
       (c.deref-2.ensures.value ∙ c.requires.points) c.deref-4.ensures.value (c.deref-3.ensures.value ∙ c.requires.sights) c.in_ok-counted.ensures.network;
   ids = c.in_ok-counted.ensures.ids;
 }

@@ -1,30 +1,44 @@
-use Rattle.std.proofs.Common.{ap, sym, ◌∙◌, [], ◌∷◌, ◌++◌, ◌+◌, ◌<◌, ◌≤◌, get_or, List, map, arith, length, take_all}
-use Rattle.scan.specs.Views.{rows_of}
-use Rattle.scan.specs.ScanRows.{VertexRow}
-use Rattle.solution.specs.Scans.{points_of, sight_of}
-use Rattle.solution.proofs.SightLists.{row_count, index_count, few_indices, sights_more, scanners-vertex_rows}
+use Rattle.std.proofs.Common.{ℕ, ◌≡◌, ◌+◌, ◌<◌, [], ◌∷◌, ◌++◌, ap, arith, subst, sym, ◌∙◌, get_or, length, List, map, take}
+use Rattle.flow_net.specs.declared.votes.Sight.{Sight}
+use Rattle.scan.proofs.ShownLemmas.{scan_is_shown}
+use Rattle.scan.specs.Shown.{Shown}
+use Rattle.scan.specs.Views.{shown_of}
+use Rattle.scan.specs.declared.scan.Scan.{Scan}
+use Rattle.scan.specs.declared.scan.Seen.{Seen}
+use Rattle.solution.specs.Scans.{sight_of}
+use Rattle.solution.proofs.SightLists.{no_sight, seen_at, index_count, few_indices, sights_more}
 use Rattle.solution.proofs.sights.sights_of.Goals as goal
 
-pub bounds-of_row-row : goal.bounds-of_row-row
-bounds-of_row-row c = omega (arith, c.loop-row-test.true, ap length c.deref-scanner-items.ensures.value, index_count c.args.scan.now c.args.of_row.now c.requires)
+-- the row of the sight that the loop has come to
+row_here : (scan : Scan) (list : List Seen) (i : ℕ) → list ≡ scan.seen.items → i < length list → (get_or list i no_sight).row < length scan.points.items
+row_here scan list i is l =
+    subst (λ (seen : List Seen). (get_or seen i no_sight).row < length scan.points.items) (sym is)
+    (seen_at (shown_of scan) (scan_is_shown scan) i (omega (arith, l, ap length is))).row
+
+pub bounds-of_row-seen : goal.bounds-of_row-seen
+bounds-of_row-seen c =
+    omega (
+      arith,
+      row_here c.args.scan.now c.as_slice-seen-items.result.now c.loop-seen.seen-index c.as_slice-seen-items.ensures.value (omega (arith, c.loop-seen-test.true)),
+      index_count (shown_of c.args.scan.now) c.args.of_row.now c.requires,
+    )
 
 pub overflow_add-of_row : goal.overflow_add-of_row
 overflow_add-of_row c =
-    let within : c.loop-row.row < length c.args.scan.now.seen_by.items = omega (arith, c.loop-row-test.true, ap length c.deref-scanner-items.ensures.value) in
-    omega (arith, few_indices c.args.scan.now c.args.of_row.now c.loop-row.row c.requires within)
+    omega (
+      arith,
+      few_indices c.args.scan.now c.args.of_row.now (get_or c.as_slice-seen-items.result.now c.loop-seen.seen-index no_sight).row c.requires
+          (row_here c.args.scan.now c.as_slice-seen-items.result.now c.loop-seen.seen-index c.as_slice-seen-items.ensures.value (omega (arith, c.loop-seen-test.true))),
+    )
 
-pub loop-row-preserved : goal.loop-row-preserved
-loop-row-preserved c =
-    let rows : List VertexRow = (rows_of c.args.scan.now).vertices in
-    let points = points_of (rows_of c.args.scan.now) in
-    let scanners = c.deref-scanner-items.ensures.value ∙ sym (scanners-vertex_rows c.args.scan.now.points.items c.args.scan.now.seen_by.items c.args.scan.now.one_each) in
-    let within : c.loop-row.row < length rows = omega (arith, c.loop-row-test.true, ap length c.deref-scanner-items.ensures.value, row_count c.args.scan.now, c.args.scan.now.one_each) in
+pub loop-seen-preserved : goal.loop-seen-preserved
+loop-seen-preserved c =
+    let scan : Shown = shown_of c.args.scan.now in
+    let i : ℕ = c.loop-seen.seen-index in
+    let row : ℕ = (get_or c.args.scan.now.seen.items i no_sight).row in
+    let l : i < length scan.seen = omega (arith, c.loop-seen-test.true, ap length c.as_slice-seen-items.ensures.value) in
+    let weight : c.from.result ≡ (get_or scan.seen i no_sight).weight = c.from.ensures ∙ ap (λ (list : List Seen). (get_or list i no_sight).weight) c.as_slice-seen-items.ensures.value in
     c.in_ok-push.ensures.items
-    ∙ ap (λ sights. sights ++ (record { vertex = 8 + get_or c.args.of_row.now c.loop-row.row 0; scanner = get_or c.deref-scanner-items.result.now c.loop-row.row 0; weight = 1 }) ∷ []) c.loop-row.invariant
-    ∙ sym (sights_more points rows c.args.of_row.now c.deref-scanner-items.result.now c.loop-row.row c.requires scanners within)
-
-pub returns : goal.returns
-returns c =
-    let rows : List VertexRow = (rows_of c.args.scan.now).vertices in
-    let past : length rows ≤ c.loop-row.row = omega (arith, c.loop-row-test.false, ap length c.deref-scanner-items.ensures.value, row_count c.args.scan.now, c.args.scan.now.one_each) in
-    c.loop-row.invariant ∙ ap (map (sight_of (points_of (rows_of c.args.scan.now)))) (take_all c.loop-row.row rows past)
+    ∙ ap (λ (sights : List Sight). sights ++ (record { vertex = 8 + get_or c.args.of_row.now (get_or c.as_slice-seen-items.result.now i no_sight).row 0; scanner = (get_or c.as_slice-seen-items.result.now i no_sight).scanner; weight = c.from.result }) ∷ []) c.loop-seen.invariant
+    ∙ ap (λ (list : List Seen). map (sight_of scan) (take i scan.seen) ++ (record { vertex = 8 + get_or c.args.of_row.now (get_or list i no_sight).row 0; scanner = (get_or list i no_sight).scanner; weight = c.from.result }) ∷ []) c.as_slice-seen-items.ensures.value
+    ∙ sym (sights_more scan c.args.of_row.now i c.from.result c.requires l (seen_at scan (scan_is_shown c.args.scan.now) i l).row weight)

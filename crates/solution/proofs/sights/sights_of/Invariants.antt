@@ -1,7 +1,7 @@
 use Rattle.std.proofs.Common.{◌≡◌, map, take}
-use Rattle.scan.specs.Views.{rows_of}
-use Rattle.solution.specs.Scans.{points_of, sight_of}
+use Rattle.scan.specs.Views.{shown_of}
+use Rattle.solution.specs.Scans.{sight_of}
 use Rattle.solution.proofs.sights.sights_of.Given as goal
 
-abbrev pub invariant-loop-row : goal.invariant-loop-row
-invariant-loop-row l = l.sights.items ≡ map (sight_of (points_of (rows_of l.scan))) (take l.row (rows_of l.scan).vertices)
+abbrev pub invariant-loop-seen : goal.invariant-loop-seen
+invariant-loop-seen l = l.sights.items ≡ map (sight_of (shown_of l.scan)) (take l.seen-index l.scan.seen.items)

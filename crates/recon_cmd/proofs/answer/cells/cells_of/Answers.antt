@@ -1,10 +1,8 @@
 use Rattle.std.proofs.Common.{ℕ, ◌≡◌, ◌<◌, sym, subst, ap, arith, List, length, get_or}
-use Rattle.std.proofs.lemmas.List.{length-map}
 use Rattle.geo_sign.specs.Point.{Point, IsWithin, origin}
 use Rattle.geo_sign.specs.declared.point.TheConstants.{DATA_LIMIT}
 use Rattle.merge.proofs.Distinct.{few}
-use Rattle.scan.specs.ScanRows.{VertexRow}
-use Rattle.solution.proofs.ScanScenes.{points_within, points_apart, row_points}
+use Rattle.solution.proofs.ScanScenes.{points_within, points_apart}
 use Rattle.recon_cmd.proofs.answer.cells.cells_of.Goals as goal
 
 pub build-requires-clause-within : goal.build-requires-clause-within
@@ -17,7 +15,7 @@ build-requires-clause-distinct c =
 
 pub build-requires-clause-few : goal.build-requires-clause-few
 build-requires-clause-few c =
-    omega (arith, ap length c.requires.2, few (row_points c.requires.0), length-map c.requires.0.vertices (λ (row : VertexRow). row.point), c.requires.1.vertex_count)
+    omega (arith, ap length c.requires.2, few c.requires.0.points, c.requires.1.point_count)
 
 pub returns : goal.returns
 returns c = c.rising_cells.ensures c.args.points.now c.in_ok-linked.ensures.points

@@ -1,6 +1,6 @@
 use Rattle.std.proofs.Common.{ℕ, List, Option, IfOk, IfSome, subst}
 use Rattle.cert_text.specs.Stamps.{StampView}
-use Rattle.scan.specs.Views.{rows_of}
+use Rattle.scan.specs.Views.{shown_of}
 use Rattle.recon_cmd.specs.Answers.{HasVerdict, MeshAnswer}
 use Rattle.recon_cmd.specs.Checking.{IsCheckReply, ReadsOn}
 use Rattle.recon_cmd.specs.OptionViews.{options_view}
@@ -18,7 +18,7 @@ returns-in-Scan-clause-replied g c =
     let options : Options = options_view c.args.options.now in
     check_replied names output options c.in-Scan.scan c.in-Scan.bytes c.reply_to_scan.result (g.H.Host.state c.args.host.now) (g.H.Host.state c.read_input.new.host) c.in-Ok.ensures.only
     (subst (λ (reading : Reading). IfSome (g.H.Host.state c.args.host.now).told (IsReading names.input options reading)) c.in-Scan.is c.in-Ok.ensures.read)
-    (subst (λ (stamp : StampView). IfOk c.reply_to_scan.result (λ reply. IsCheckReply names output options (MeshAnswer names (HasVerdict output options stamp (rows_of c.in-Scan.scan))) reply (g.H.Host.state c.read_input.new.host)))
+    (subst (λ (stamp : StampView). IfOk c.reply_to_scan.result (λ reply. IsCheckReply names output options (MeshAnswer names (HasVerdict output options stamp (shown_of c.in-Scan.scan))) reply (g.H.Host.state c.read_input.new.host)))
     c.stamp_of-stamp.ensures c.reply_to_scan.ensures.replied)
 
 pub returns-in-Scan-clause-reads : goal.returns-in-Scan-clause-reads
@@ -28,7 +28,7 @@ returns-in-Scan-clause-reads g c =
     let options : Options = options_view c.args.options.now in
     check_reads names output options c.in-Scan.scan c.in-Scan.bytes (g.H.Host.state c.args.host.now) (g.H.Host.state c.read_input.new.host) (g.H.Host.state c.reply_to_scan.new.host) c.in-Ok.ensures.only
     (subst (λ (reading : Reading). IfSome (g.H.Host.state c.args.host.now).told (IsReading names.input options reading)) c.in-Scan.is c.in-Ok.ensures.read)
-    (subst (λ (stamp : StampView). ReadsOn 1 2 (MeshAnswer names (HasVerdict output options stamp (rows_of c.in-Scan.scan))) (g.H.Host.state c.read_input.new.host) (g.H.Host.state c.reply_to_scan.new.host))
+    (subst (λ (stamp : StampView). ReadsOn 1 2 (MeshAnswer names (HasVerdict output options stamp (shown_of c.in-Scan.scan))) (g.H.Host.state c.read_input.new.host) (g.H.Host.state c.reply_to_scan.new.host))
     c.stamp_of-stamp.ensures c.reply_to_scan.ensures.reads)
 
 pub returns-in-Refused-clause-replied : goal.returns-in-Refused-clause-replied

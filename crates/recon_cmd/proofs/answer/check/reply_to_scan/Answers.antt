@@ -1,6 +1,6 @@
 use Rattle.std.proofs.Common.{rules, ap, inl, subst, IfOk, ◌∙◌, List, ℕ, Option}
 use Rattle.cert_text.specs.Certificates.{stamp_view}
-use Rattle.scan.specs.Views.{rows_of}
+use Rattle.scan.specs.Views.{shown_of}
 use Rattle.recon_cmd.specs.Answers.{CertAnswer, HasVerdict, MeshAnswer, refusal}
 use Rattle.recon_cmd.specs.Checking.{IsCheckReply}
 use Rattle.recon_cmd.specs.OptionViews.{options_view}
@@ -15,7 +15,7 @@ returns-in-Err-TooLong-clause-replied g c =
     let names : SurfaceNames = check_names c.args.names.now in
     let output : Option (List ℕ) = output_of c.args.names.now in
     let options : Options = options_view c.args.options.now in
-    too_long names output options (MeshAnswer names (HasVerdict output options (stamp_view c.args.stamp.now) (rows_of c.args.scan.now))) names.mesh too_long_mesh_line 2 c.refusal.result (g.H.Host.state c.args.host.now)
+    too_long names output options (MeshAnswer names (HasVerdict output options (stamp_view c.args.stamp.now) (shown_of c.args.scan.now))) names.mesh too_long_mesh_line 2 c.refusal.result (g.H.Host.state c.args.host.now)
     (c.refusal.ensures 2 ∙ ap (λ (line : List ℕ). refusal 2 line) c.line_of_too_long_mesh.ensures)
     (c.in-Err-TooLong.ensures.longer (search rules))
     (λ files bytes has long. record { mesh = bytes; there = has; answers = inl long })
@@ -25,8 +25,8 @@ returns-clause-replied g c =
     let names : SurfaceNames = check_names c.args.names.now in
     let output : Option (List ℕ) = output_of c.args.names.now in
     let options : Options = options_view c.args.options.now in
-    result_behind names output options (CertAnswer names (HasVerdict output options (stamp_view c.args.stamp.now) (rows_of c.args.scan.now) c.in-Ok.mesh.items)) (MeshAnswer names (HasVerdict output options (stamp_view c.args.stamp.now) (rows_of c.args.scan.now)))
+    result_behind names output options (CertAnswer names (HasVerdict output options (stamp_view c.args.stamp.now) (shown_of c.args.scan.now) c.in-Ok.mesh.items)) (MeshAnswer names (HasVerdict output options (stamp_view c.args.stamp.now) (shown_of c.args.scan.now)))
     c.reply_to_mesh.result (g.H.Host.state c.args.host.now) (g.H.Host.state c.read_all.new.host) c.in-Ok.ensures.only_reads
-    (cert_to_mesh names (HasVerdict output options (stamp_view c.args.stamp.now) (rows_of c.args.scan.now)) c.in-Ok.mesh.items (g.H.Host.state c.args.host.now).told c.in-Ok.ensures.bytes c.in-Ok.ensures.within)
-    (subst (λ (mesh : List ℕ). IfOk c.reply_to_mesh.result (λ reply. IsCheckReply names output options (CertAnswer names (HasVerdict output options (stamp_view c.args.stamp.now) (rows_of c.args.scan.now) mesh)) reply (g.H.Host.state c.read_all.new.host)))
+    (cert_to_mesh names (HasVerdict output options (stamp_view c.args.stamp.now) (shown_of c.args.scan.now)) c.in-Ok.mesh.items (g.H.Host.state c.args.host.now).told c.in-Ok.ensures.bytes c.in-Ok.ensures.within)
+    (subst (λ (mesh : List ℕ). IfOk c.reply_to_mesh.result (λ reply. IsCheckReply names output options (CertAnswer names (HasVerdict output options (stamp_view c.args.stamp.now) (shown_of c.args.scan.now) mesh)) reply (g.H.Host.state c.read_all.new.host)))
     c.deref.ensures.value c.reply_to_mesh.ensures.replied)

@@ -1,6 +1,6 @@
 use Rattle.std.proofs.Common.{refl, subst}
 use Rattle.cert_text.specs.Certificates.{stamp_view}
-use Rattle.scan.specs.Views.{rows_of}
+use Rattle.scan.specs.Views.{shown_of}
 use Rattle.recon_check.specs.Answers.{IsAnswer}
 use Rattle.recon_check.specs.declared.answer.Answer.{Answer as Verdict}
 use Rattle.recon_cmd.specs.OptionViews.{options_view}
@@ -9,10 +9,10 @@ use Rattle.recon_cmd.proofs.answer.check.reply_to_texts.Goals as goal
 
 pub reply_to_verdict-requires : goal.reply_to_verdict-requires
 reply_to_verdict-requires c = λ inside faces cost is.
-    yes_has_text (rows_of c.args.scan.now) c.args.options.now.settings (stamp_view c.args.stamp.now) c.args.mesh.now c.args.cert.now inside faces cost
-    (subst (λ (v : Verdict). IsAnswer (rows_of c.args.scan.now) c.args.options.now.settings (stamp_view c.args.stamp.now) c.args.mesh.now c.args.cert.now v) is c.in-Ok.ensures.answer)
+    yes_has_text (shown_of c.args.scan.now) c.args.options.now.settings (stamp_view c.args.stamp.now) c.args.mesh.now c.args.cert.now inside faces cost
+    (subst (λ (v : Verdict). IsAnswer (shown_of c.args.scan.now) c.args.options.now.settings (stamp_view c.args.stamp.now) c.args.mesh.now c.args.cert.now v) is c.in-Ok.ensures.answer)
 
 pub returns-in-Ok : goal.returns-in-Ok
 returns-in-Ok c =
-    result_decided c.reply_to_verdict.result _ (options_view c.args.options.now) (stamp_view c.args.stamp.now) (rows_of c.args.scan.now) c.args.mesh.now c.args.cert.now c.args.options.now.settings c.in-Ok.verdict
+    result_decided c.reply_to_verdict.result _ (options_view c.args.options.now) (stamp_view c.args.stamp.now) (shown_of c.args.scan.now) c.args.mesh.now c.args.cert.now c.args.options.now.settings c.in-Ok.verdict
     refl refl c.in-Ok.ensures.answer c.reply_to_verdict.ensures

@@ -1,14 +1,14 @@
 use Rattle.std.proofs.Common.{rules, ℕ, List, Some, refl, ap, ◌∙◌}
 use Rattle.recon_cmd.specs.Answers.{default_options}
 use Rattle.recon_cmd.specs.Stamps.{stamp_for}
-use Rattle.scan.specs.Views.{rows_of}
+use Rattle.scan.specs.Views.{shown_of}
 use Rattle.recon_cmd.specs.Lines.{demo_line}
 use Rattle.recon_cmd.proofs.DemoReplies.{demonstrated}
 use Rattle.recon_cmd.proofs.answer.demo.reply_to_demo.Goals as goal
 
 pub returns : goal.returns
 returns c =
-    rw (c.new.ensures.items) (demonstrated c.args.demo.count c.args.demo.seed (rows_of c.in_ok-scan.scan) _ c.in_ok-solved.solved c.in_ok-built.built.items c.in_ok-line.line.items
+    rw (c.new.ensures.items) (demonstrated c.args.demo.count c.args.demo.seed (shown_of c.in_ok-scan.scan) _ c.in_ok-solved.solved c.in_ok-built.built.items c.in_ok-line.line.items
     c.in_ok-scan.ensures.within c.in_ok-scan.ensures.read refl refl
     c.in_ok-solved.ensures.solution c.in_ok-solved.ensures.valid c.in_ok-solved.ensures.well_formed
     (c.in_ok-solved.ensures.stamp ∙ ap Some (c.stamp_of-stamp.ensures ∙ ap (λ (text : List ℕ). stamp_for default_options text) c.in_ok-scan.ensures.text))

@@ -1,0 +1,69 @@
+-- What the rows of a scan show: the points, the scanners, and the list of sights. Whoever reads a scan reads this, however
+-- it was written.
+--
+--   Shown              the points, the scanners' places, and what was seen
+--   sights_of n w ks   the sights of the row with the number n, of weight w, from the scanners ks
+--   row_seen n row     the sights of the row with the number n, in the order of its scanners
+--   seen_from n rows   the sights of rows that are numbered from n on, row by row
+--   shown_by rows      what the rows of a scan show
+--   IsSeen p s         a sight of one of p points from one of s scanners, of a weight that a sight may have
+--   IsNoEarlier, WeighsAlike   a sight is of no earlier row than one before it, and weighs the same in the same row
+--   IsShown            what a scan may show
+use Rattle.std.specs.Prelude.{ℕ, ◌+◌, ◌≡◌, ◌<◌, ◌≤◌, List, [], ◌∷◌, ◌++◌, length, map, All, AllPairs}
+use Rattle.geo_sign.specs.Point.{Point, IsWithin}
+use Rattle.geo_sign.specs.declared.point.TheConstants.{DATA_LIMIT}
+use Rattle.scan.specs.declared.scan.Seen.{Seen}
+use Rattle.scan.specs.ScanRows.{VertexRow, ScanRows, point_limit, scanner_limit, sight_limit, weight_limit}
+
+-- the points in the order of their rows, the scanners' places, and the sights in the order of their points
+pub record Shown : Type 0 where
+  pub points : List Point
+  pub scanners : List Point
+  pub seen : List Seen
+
+-- sights of the row with this number: one from each of these scanners, of this weight
+abbrev pub sights_of : ℕ → ℕ → List ℕ → List Seen
+sights_of number weight seen_by = map (λ (k : ℕ). record { row = number; scanner = k; weight = weight }) seen_by
+
+-- the sights of the row with this number
+abbrev pub row_seen : ℕ → VertexRow → List Seen
+row_seen number row = sights_of number row.weight row.seen_by
+
+-- the sights of rows that are numbered from a number on, row by row
+abbrev pub seen_from : ℕ → List VertexRow → List Seen
+seen_from number [] = []
+seen_from number (row ∷ rows) = row_seen number row ++ seen_from (number + 1) rows
+
+-- what the rows of a scan show
+abbrev pub shown_by : ScanRows → Shown
+shown_by rows = record {
+  points = map (λ (row : VertexRow). row.point) rows.vertices;
+  scanners = rows.scanners;
+  seen = seen_from 0 rows.vertices;
+}
+
+-- a sight of one of so many points from one of so many scanners, of a weight of 1 to 255
+pub record IsSeen (points scanners : ℕ) (seen : Seen) : Type 0 where
+  pub row : seen.row < points
+  pub scanner : seen.scanner < scanners
+  pub least_weight : 1 ≤ seen.weight
+  pub most_weight : seen.weight ≤ weight_limit
+
+-- of no earlier row than one before it
+abbrev pub IsNoEarlier : Seen → Seen → Type 0
+IsNoEarlier before seen = before.row ≤ seen.row
+
+-- of the same weight as one before it in the same row
+abbrev pub WeighsAlike : Seen → Seen → Type 0
+WeighsAlike before seen = before.row ≡ seen.row → before.weight ≡ seen.weight
+
+-- data points and scanners, no more than a scan may have; sights of these, in the order of their points, those of one point of one weight
+pub record IsShown (shown : Shown) : Type 0 where
+  pub points : All (IsWithin DATA_LIMIT) shown.points
+  pub scanners : All (IsWithin DATA_LIMIT) shown.scanners
+  pub seen : All (IsSeen (length shown.points) (length shown.scanners)) shown.seen
+  pub in_order : AllPairs IsNoEarlier shown.seen
+  pub of_one_weight : AllPairs WeighsAlike shown.seen
+  pub point_count : length shown.points ≤ point_limit
+  pub scanner_count : length shown.scanners ≤ scanner_limit
+  pub sight_count : length shown.seen ≤ sight_limit
