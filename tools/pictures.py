@@ -5,12 +5,13 @@
 
   RECON              the built program
   FOLDER             where the pictures are written
-  PICTURE            inside, sight, torus, statue, room, smooth, unit, scanner; all of them where none is named
+  PICTURE            inside, sight, torus, statue, room, smooth, unit, scanner, slice; all of them where none is named
 
 Scans are made by make_scan.py, and drawn by render.py: points on white, surfaces with their outer side warm and their
 inner side blue. Some minutes.
 """
 import os
+import re
 import subprocess
 import sys
 import tempfile
@@ -255,8 +256,23 @@ def scanner(folder, recon, work):
     side_by_side(images, titles, folder, 'scanner')
 
 
+def sliced(folder, recon, work):
+    """A torus cut by a level plane, drawn with four decimals."""
+    path, mesh, loops = (os.path.join(work, name) for name in ('scan.ply', 'mesh.ply', 'slice.txt'))
+    tool('make_scan', 'torus', '4000', '1', path, 'stray=0')
+    subprocess.run([recon, 'build', path, mesh, path + '.cert'], check=True)
+    subprocess.run([recon, 'slice', mesh, '40000', loops], check=True)
+    picture = os.path.join(folder, 'slice.svg')
+    tool('slice_to_svg', loops, picture, 'unit=500000')
+    with open(picture, encoding='ascii') as file:
+        drawing = re.sub(r'-?[0-9]+\.[0-9]+', lambda number: f'{float(number[0]):.4f}', file.read())
+    with open(picture, 'w', encoding='ascii') as file:
+        file.write(drawing)
+    print(f'slice.svg {len(drawing) // 1024} KiB', flush=True)
+
+
 PICTURES = {'inside': inside, 'sight': sight, 'torus': torus, 'statue': statue, 'room': room, 'smooth': smooth, 'unit': unit,
-            'scanner': scanner}
+            'scanner': scanner, 'slice': sliced}
 
 
 def main():

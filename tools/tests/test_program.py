@@ -12,7 +12,7 @@ from helpers import RECON, ROOT, equal, read, write
 EXAMPLES = os.path.join(ROOT, 'examples')
 LIMIT = 200 * 2 ** 20
 # What may stand behind a number that a command ends with, where no host fails and there is memory.
-LINES = {0: ('points ', 'yes ', 'demo ', 'upgraded '), 1: ('no ',), 2: ('refused words\n',), 3: ('refused ',)}
+LINES = {0: ('points ', 'yes ', 'demo ', 'upgraded ', 'loops ', 'exported '), 1: ('no ',), 2: ('refused words\n',), 3: ('refused ',)}
 
 
 def example(name):
@@ -83,6 +83,30 @@ def test_stamps():
     ends(['upgrade', 'scan', 'mesh', 'new'], 2, 'refused words\n')
     equal(os.path.exists('other'), False)
     ends(['upgrade', 'scan', 'mesh', 'new', 'no_folder/other'], 4, '')
+
+
+def test_slices_and_forms():
+    write('scan.ply', example('tetrahedron.ply'))
+    recon('build', 'scan.ply', 'mesh', 'cert')
+    mesh = data('mesh')
+    ends(['slice', 'mesh', '0', 'loops'], 0, 'loops 1 steps 4\n', ['mesh'])
+    equal(data('loops'), b'loops 1\nloop 4\n0 200 40000 400\n2 40000 200 400\n3 -200 -40000 400\n1 -40000 -200 400\n')
+    ends(['slice', 'mesh', '100', 'loops'], 0, 'loops 0 steps 0\n')
+    ends(['slice', 'mesh', '8388609', 'other'], 2, 'refused words\n')
+    write('open', mesh[:-8].replace(b'face 4', b'face 3'))
+    ends(['slice', 'open', '0', 'other'], 3, 'refused 28 unbalanced from 1 to 2 there 1 back 0\n')
+    write('spoiled', mesh.replace(b'ascii', b'ASCII'))
+    ends(['slice', 'spoiled', '0', 'other'], 3, 'refused 29 mesh_line line 2\n')
+    ends(['export', 'mesh', 'a', 'b', 'c'], 0, 'exported 3 points 4 faces 4\n', ['mesh'])
+    points = mesh.split(b'end_header\n')[1].split(b'\n')[:4]
+    equal(data('a'), mesh)
+    equal(data('b'), b'OFF\n4 4 0\n' + mesh.split(b'end_header\n')[1])
+    equal(data('c'), b''.join(b'v ' + point + b'\n' for point in points) + b'f 1 2 3\nf 1 3 4\nf 1 4 2\nf 2 4 3\n')
+    ends(['export', 'mesh', 'a', 'b'], 2, 'refused words\n', ['a', 'b', 'c'])
+    write('cut', mesh[:-1])
+    ends(['export', 'cut', 'a', 'b', 'c'], 3, 'refused 30 mesh_cut\n', ['a', 'b', 'c'])
+    ends(['export', 'mesh', 'other', 'no_folder/b', 'c'], 4, '', ['c'])
+    equal(data('other'), mesh)
 
 
 def test_words_that_are_no_text():

@@ -9,9 +9,10 @@
 --   HasPoints k r points, HasFaces k r points faces   begun, so many of the points and no faces; all points and so many faces
 --   HasAll r points faces      ended, with exactly these points and faces
 --   HasPrefix r points faces   a front of the points, and behind all of them a front of the faces; not ended
+--   HasFront r points faces    such a front, or all of it
 --   IsReceived           what a receipt keeps
 --   once_ended stage t   the text t at the stage Ended, else nothing
-use Rattle.std.specs.Prelude.{ℕ, ◌≡◌, ◌≢◌, ◌<◌, ◌≤◌, ◌^◌, List, [], ◌∷◌, ◌++◌, length, take, All}
+use Rattle.std.specs.Prelude.{ℕ, ◌≡◌, ◌≢◌, ◌<◌, ◌≤◌, ◌^◌, ◌⊎◌, List, [], ◌∷◌, ◌++◌, length, take, All}
 use Rattle.geo_sign.specs.Point.{Point}
 use Rattle.mesh_ply.specs.Meshes.{IsFace}
 use Rattle.mesh_form.specs.declared.stage.Stage.{Stage}
@@ -100,6 +101,10 @@ pub record HasPrefix (r : Received) (points : List Point) (faces : List (List �
   pub front_points : r.points ≡ take (length r.points) points
   pub front_faces : r.faces ≡ take (length r.faces) faces
   pub in_turn : 0 < length r.faces → r.points ≡ points
+
+-- a front of the mesh, the whole included
+abbrev pub HasFront : Received → List Point → List (List ℕ) → Type 0
+HasFront r points faces = HasPrefix r points faces ⊎ HasAll r points faces
 
 -- what a receipt keeps: numbers of 32 bits, no more than is due, faces among the points that are due
 pub record IsReceived (points_due faces_due : ℕ) (points : List Point) (faces : List (List ℕ)) : Type 0 where

@@ -1,7 +1,7 @@
 //! A mesh handed to a form.
-ghost use Rattle.std.specs.Prelude.{◌≡◌, ℕ, length, All, OnOk, OnErr};
+ghost use Rattle.std.specs.Prelude.{◌≡◌, ℕ, length, map, All, OnOk, OnErr};
 ghost use Rattle.mesh_ply.specs.Meshes.{IsFace, IsMesh};
-ghost use Rattle.mesh_form.specs.Received.{IsFresh, TakesPoint, TakesFace, IsFull, HasPoints, HasFaces, HasPrefix, HasAll, begun, with_point, with_face, ended};
+ghost use Rattle.mesh_form.specs.Received.{IsFresh, TakesPoint, TakesFace, IsFull, HasPoints, HasFaces, HasPrefix, HasAll, HasFront, begun, with_point, with_face, ended};
 
 use crate::form::Form;
 use geo_sign::Point;
@@ -13,6 +13,7 @@ fn begin(form: &mut Box<dyn Form>, points: u32, faces: u32) -> Result<(), NoMemo
     requires { IsFresh (received form.old) }
     ensures begun { OnOk result (received form.new ≡ begun points faces (received form.old)) }
     ensures kept { OnErr result (received form.new ≡ received form.old) }
+    ensures kind { form.new.vtable ≡ form.old.vtable }
 {
     form.begin(points, faces)
 }
@@ -21,6 +22,7 @@ fn hand_point(form: &mut Box<dyn Form>, point: Point) -> Result<(), NoMemory>
     requires { TakesPoint (received form.old) }
     ensures taken { OnOk result (received form.new ≡ with_point point (received form.old)) }
     ensures kept { OnErr result (received form.new ≡ received form.old) }
+    ensures kind { form.new.vtable ≡ form.old.vtable }
 {
     form.vertex(point)
 }
@@ -29,6 +31,7 @@ fn hand_face(form: &mut Box<dyn Form>, face: [u32; 3]) -> Result<(), NoMemory>
     requires { TakesFace face (received form.old) }
     ensures taken { OnOk result (received form.new ≡ with_face face (received form.old)) }
     ensures kept { OnErr result (received form.new ≡ received form.old) }
+    ensures kind { form.new.vtable ≡ form.old.vtable }
 {
     form.face(face)
 }
@@ -37,6 +40,7 @@ fn end(form: &mut Box<dyn Form>) -> Result<(), NoMemory>
     requires { IsFull (received form.old) }
     ensures ended { OnOk result (received form.new ≡ ended (received form.old)) }
     ensures kept { OnErr result (received form.new ≡ received form.old) }
+    ensures kind { form.new.vtable ≡ form.old.vtable }
 {
     form.end()
 }
@@ -47,6 +51,7 @@ fn hand_points(form: &mut Box<dyn Form>, points: &[Point]) -> Result<(), NoMemor
     ensures all { OnOk result (HasPoints (length points.now) (received form.new) points.now) }
     ensures due { (received form.new).faces_due ≡ (received form.old).faces_due }
     ensures front { (k : ℕ) × HasPoints k (received form.new) points.now }
+    ensures kind { form.new.vtable ≡ form.old.vtable }
 {
     for point in points {
         hand_point(form, *point)?;
@@ -64,6 +69,7 @@ fn hand_faces(
     requires each { All (IsFace (length points.now)) faces.now }
     ensures all { OnOk result (HasFaces (length faces.now) (received form.new) points.now faces.now) }
     ensures front { (k : ℕ) × HasFaces k (received form.new) points.now faces.now }
+    ensures kind { form.new.vtable ≡ form.old.vtable }
 {
     for face in faces {
         hand_face(form, *face)?;
@@ -79,10 +85,27 @@ pub fn drive(form: &mut Box<dyn Form>, mesh: &Mesh) -> Result<(), NoMemory>
     requires valid { IsMesh mesh.now.points.items mesh.now.faces.items }
     ensures all { OnOk result (HasAll (received form.new) mesh.now.points.items mesh.now.faces.items) }
     ensures prefix { OnErr result (HasPrefix (received form.new) mesh.now.points.items mesh.now.faces.items) }
+    ensures kind { form.new.vtable ≡ form.old.vtable }
 {
     begin(form, mesh.points.len() as u32, mesh.faces.len() as u32)?;
     hand_points(form, &mesh.points)?;
     hand_faces(form, &mesh.points, &mesh.faces)?;
     end(form)?;
+    Ok(())
+}
+
+/// Hands a valid mesh to each of these fresh forms, in order.
+///
+/// After `NoMemory` each has received a front of it, the whole included.
+pub fn drive_all(forms: &mut [Box<dyn Form>], mesh: &Mesh) -> Result<(), NoMemory>
+    requires fresh { All IsFresh (map (λ form. received form) forms.old) }
+    requires valid { IsMesh mesh.now.points.items mesh.now.faces.items }
+    ensures all { OnOk result (All (λ r. HasAll r mesh.now.points.items mesh.now.faces.items) (map (λ form. received form) forms.new)) }
+    ensures fronts { OnErr result (All (λ r. HasFront r mesh.now.points.items mesh.now.faces.items) (map (λ form. received form) forms.new)) }
+    ensures kinds { map (λ form. form.vtable) forms.new ≡ map (λ form. form.vtable) forms.old }
+{
+    for k in 0..forms.len() {
+        drive(&mut forms[k], mesh)?;
+    }
     Ok(())
 }

@@ -18,7 +18,7 @@ mod stage;
 #[cfg(test)]
 mod tests;
 
-pub use driving::drive;
+pub use driving::{drive, drive_all};
 pub use form::Form;
 pub use mesh_ply::NoMemory;
 pub use obj::ObjForm;

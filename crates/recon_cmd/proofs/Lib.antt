@@ -7,10 +7,13 @@ pub mod BuiltAccepted
 pub mod CheckEnds
 pub mod CheckReplies
 pub mod DemoReplies
+pub mod ExportReplies
+pub mod MeshReplies
 pub mod OneAnswer
 pub mod OneVerdict
 pub mod OptionLemmas
 pub mod Outcomes
 pub mod ScanTextLengths
 pub mod SeedLemmas
+pub mod StepCounts
 pub mod WordLemmas

@@ -7,8 +7,8 @@ use Rattle.host.specs.State.{State, Told, Files, with_file}
 use Rattle.host.specs.Whole.{apart_from_left}
 use Rattle.recon_cmd.specs.Answers.{Answer, AnswerOf, Write, most_reads}
 use Rattle.recon_cmd.specs.Lines.{bad_words_line}
-use Rattle.recon_cmd.specs.Outcome.{Outcome, Tells, EndsWith, IsCarriedOut, IsUntouched, StoppedIn, StatusFits, FaultsFit, ReadsNoMore, all_written}
-use Rattle.recon_cmd.specs.Steps.{IsAnswered, ReadsFor, CarriesOut}
+use Rattle.recon_cmd.specs.Outcome.{Outcome, Run, TellsBy, EndsBy, IsCarriedOut, IsUntouched, StoppedIn, StatusFits, FaultsFit, OpensNoMore, all_written}
+use Rattle.recon_cmd.specs.Steps.{IsAnswered, ReadsBy, ReadsFor, CarriesOut}
 use Rattle.recon_cmd.specs.Words.{Asked}
 use Rattle.recon_cmd.specs.declared.status.Status.{Status}
 use Rattle.recon_cmd.specs.declared.status.Status.TheVariants.{Done, No, BadWords, Refused, Failed, NoMemory}
@@ -67,13 +67,13 @@ stopped_after ((name, bytes) ∷ rest) line old now new same (inr stopped) =
     inr (stopped_after rest line (record old { files = with_file name bytes old.files }) (record now { files = with_file name bytes now.files }) new (record { files = ap (with_file name bytes) same.files; said = same.said }) stopped)
 
 -- an answer has a status with which a command ends
-tells_end : (asked : Option Asked) (status : Status) (old new : Told) → IsAnswered status → EndsWith asked status old new → Tells asked status old new
-tells_end asked Done old new answered ends = ends
-tells_end asked No old new answered ends = ends
-tells_end asked BadWords old new answered ends = ends
-tells_end asked Refused old new answered ends = ends
-tells_end asked Failed old new answered ends = absurd answered
-tells_end asked NoMemory old new answered ends = absurd answered
+tells_end : (Answers : Files → Answer → Type 0) (status : Status) (old new : Told) → IsAnswered status → EndsBy Answers status old new → TellsBy Answers status old new
+tells_end Answers Done old new answered ends = ends
+tells_end Answers No old new answered ends = ends
+tells_end Answers BadWords old new answered ends = ends
+tells_end Answers Refused old new answered ends = ends
+tells_end Answers Failed old new answered ends = absurd answered
+tells_end Answers NoMemory old new answered ends = absurd answered
 
 -- with such a status the count of faults is as it was
 no_fault : (status : Status) (before after : ℕ) → IsAnswered status → after ≡ before → FaultsFit status before after
@@ -85,50 +85,50 @@ no_fault Failed before after answered same = absurd answered
 no_fault NoMemory before after answered same = absurd answered
 
 -- no more files were opened
-opens_as : (asked : Option Asked) (before mid after : State) → after.opens ≡ mid.opens → ReadsNoMore asked before mid → ReadsNoMore asked before after
-opens_as asked before mid after same reads = subst (λ (n : ℕ). IfSome before.told (λ old. (answer : Answer) → AnswerOf asked old.files answer → n ≤ before.opens + answer.reads)) (sym same) reads
+opens_as : (Answers : Files → Answer → Type 0) (before mid after : State) → after.opens ≡ mid.opens → OpensNoMore Answers before mid → OpensNoMore Answers before after
+opens_as Answers before mid after same reads = subst (λ (n : ℕ). IfSome before.told (λ old. (answer : Answer) → Answers old.files answer → n ≤ before.opens + answer.reads)) (sym same) reads
 
--- a command's answer is carried out, or a call fails on the way
-pub obeyed : (asked : Option Asked) (status : Status) (writes : List Write) (line : List ℕ) (result : Status) (before mid after : State)
-    → StatusFits status asked → IsAnswered status
-    → IfSome before.told (λ told. (reads : ℕ) × AnswerOf asked told.files (record { status = status; reads = reads; writes = writes; line = line }))
-    → ReadsFor asked before mid → mid.faults ≡ before.faults
+-- one of the answers is carried out, or a call fails on the way
+pub obeyed_by : (Fits : Status → Type 0) (most : ℕ) (Answers : Files → Answer → Type 0) (status : Status) (writes : List Write) (line : List ℕ) (result : Status) (before mid after : State)
+    → Fits Failed → Fits status → IsAnswered status
+    → IfSome before.told (λ told. (reads : ℕ) × Answers told.files (record { status = status; reads = reads; writes = writes; line = line }))
+    → ReadsBy most Answers before mid → mid.faults ≡ before.faults
     → CarriesOut writes line status result mid after
-    → Outcome asked result before after
-obeyed asked status writes line result before mid after fits answered answers reads same (inl (is, all)) =
-    subst (λ (s : Status). Outcome asked s before after) (sym is) (record {
+    → Run Fits most Answers result before after
+obeyed_by Fits most Answers status writes line result before mid after fails fits answered answers reads same (inl (is, all)) =
+    subst (λ (s : Status). Run Fits most Answers s before after) (sym is) (record {
       fits = fits;
       faults = no_fault status before.faults after.faults answered (all.faults ∙ same);
-      opens = subst (λ (n : ℕ). n ≤ before.opens + most_reads asked) (sym all.opens) reads.opens;
+      opens = subst (λ (n : ℕ). n ≤ before.opens + most) (sym all.opens) reads.opens;
       writing = all.writing;
-      tells = told_so before.told after.told (λ old. (reads : ℕ) × AnswerOf asked old.files (record { status = status; reads = reads; writes = writes; line = line })) (IsCarriedOut writes line) (Tells asked status)
-          (λ old new (reads, answers) carried. tells_end asked status old new answered (record { answer = record { status = status; reads = reads; writes = writes; line = line }; answers = answers; status_is = refl; carried_out = carried }))
+      tells = told_so before.told after.told (λ old. (reads : ℕ) × Answers old.files (record { status = status; reads = reads; writes = writes; line = line })) (IsCarriedOut writes line) (TellsBy Answers status)
+          (λ old new (reads, answers) carried. tells_end Answers status old new answered (record { answer = record { status = status; reads = reads; writes = writes; line = line }; answers = answers; status_is = refl; carried_out = carried }))
           answers
           (told_after_reading before.told mid.told after.told (IsCarriedOut writes line) (IsCarriedOut writes line) (carried_after writes line) reads.told all.told);
-      reads = opens_as asked before mid after all.opens reads.no_more;
+      reads = opens_as Answers before mid after all.opens reads.no_more;
     })
-obeyed asked status writes line result before mid after fits answered answers reads same (inr (is, stopped)) =
-    subst (λ (s : Status). Outcome asked s before after) (sym is) (record {
-      fits = tt;
+obeyed_by Fits most Answers status writes line result before mid after fails fits answered answers reads same (inr (is, stopped)) =
+    subst (λ (s : Status). Run Fits most Answers s before after) (sym is) (record {
+      fits = fails;
       faults = subst (λ (n : ℕ). Rose n after.faults) same stopped.faults;
-      opens = subst (λ (n : ℕ). n ≤ before.opens + most_reads asked) (sym stopped.opens) reads.opens;
+      opens = subst (λ (n : ℕ). n ≤ before.opens + most) (sym stopped.opens) reads.opens;
       writing = stopped.writing;
-      tells = told_so before.told after.told (λ old. (reads : ℕ) × AnswerOf asked old.files (record { status = status; reads = reads; writes = writes; line = line })) (StoppedIn writes line) (Tells asked Failed)
+      tells = told_so before.told after.told (λ old. (reads : ℕ) × Answers old.files (record { status = status; reads = reads; writes = writes; line = line })) (StoppedIn writes line) (TellsBy Answers Failed)
           (λ old new (reads, answers) on_the_way. inr (record { answer = record { status = status; reads = reads; writes = writes; line = line }; answers = answers; stopped = on_the_way }))
           answers
           (told_after_reading before.told mid.told after.told (StoppedIn writes line) (StoppedIn writes line) (stopped_after writes line) reads.told stopped.told);
-      reads = opens_as asked before mid after stopped.opens reads.no_more;
+      reads = opens_as Answers before mid after stopped.opens reads.no_more;
     })
 
--- a call failed while a command read
-pub reading_failed : (asked : Asked) (before after : State) → ReadsFor (Some asked) before after → Rose before.faults after.faults → Outcome (Some asked) Failed before after
-reading_failed asked before after reads rose =
+-- a call failed while a run read
+pub failed_by : (Fits : Status → Type 0) (most : ℕ) (Answers : Files → Answer → Type 0) (before after : State) → Fits Failed → ReadsBy most Answers before after → Rose before.faults after.faults → Run Fits most Answers Failed before after
+failed_by Fits most Answers before after fits reads rose =
     record {
-      fits = tt;
+      fits = fits;
       faults = rose;
       opens = reads.opens;
       writing = reads.writing;
-      tells = told_so before.told after.told (λ old. ⊤) IsUntouched (Tells (Some asked) Failed) (λ old new a same. inl same) (nothing before.told) (untouched before.told after.told reads.told);
+      tells = told_so before.told after.told (λ old. ⊤) IsUntouched (TellsBy Answers Failed) (λ old new a same. inl same) (nothing before.told) (untouched before.told after.told reads.told);
       reads = reads.no_more;
     }
   where
@@ -136,17 +136,33 @@ reading_failed asked before after reads rose =
     nothing None = tt
     nothing (Some old) = tt
 
--- there was no memory for a command's answer
-pub no_memory : (asked : Asked) (before after : State) → ReadsFor (Some asked) before after → after.faults ≡ before.faults → Outcome (Some asked) NoMemory before after
-no_memory asked before after reads same =
+-- there was no memory for an answer
+pub starved_by : (Fits : Status → Type 0) (most : ℕ) (Answers : Files → Answer → Type 0) (before after : State) → Fits NoMemory → ReadsBy most Answers before after → after.faults ≡ before.faults → Run Fits most Answers NoMemory before after
+starved_by Fits most Answers before after fits reads same =
     record {
-      fits = tt;
+      fits = fits;
       faults = same;
       opens = reads.opens;
       writing = reads.writing;
       tells = untouched before.told after.told reads.told;
       reads = reads.no_more;
     }
+
+-- ---- the same of commands
+pub obeyed : (asked : Option Asked) (status : Status) (writes : List Write) (line : List ℕ) (result : Status) (before mid after : State)
+    → StatusFits status asked → IsAnswered status
+    → IfSome before.told (λ told. (reads : ℕ) × AnswerOf asked told.files (record { status = status; reads = reads; writes = writes; line = line }))
+    → ReadsFor asked before mid → mid.faults ≡ before.faults
+    → CarriesOut writes line status result mid after
+    → Outcome asked result before after
+obeyed asked status writes line result before mid after fits answered answers reads same carried =
+    obeyed_by (λ s. StatusFits s asked) (most_reads asked) (AnswerOf asked) status writes line result before mid after tt fits answered answers reads same carried
+
+pub reading_failed : (asked : Asked) (before after : State) → ReadsFor (Some asked) before after → Rose before.faults after.faults → Outcome (Some asked) Failed before after
+reading_failed asked before after reads rose = failed_by (λ s. StatusFits s (Some asked)) (most_reads (Some asked)) (AnswerOf (Some asked)) before after tt reads rose
+
+pub no_memory : (asked : Asked) (before after : State) → ReadsFor (Some asked) before after → after.faults ≡ before.faults → Outcome (Some asked) NoMemory before after
+no_memory asked before after reads same = starved_by (λ s. StatusFits s (Some asked)) (most_reads (Some asked)) (AnswerOf (Some asked)) before after tt reads same
 
 -- words that are no command
 pub words_refused : (result : Status) (before after : State) → before.writing ≡ false → CarriesOut [] bad_words_line BadWords result before after → Outcome None result before after

@@ -18,11 +18,16 @@
 --   IsConcluded output ..            what follows from a verdict: it is said, or a certificate is written
 --   CheckAnswer names output ..      the answer of `check` and of `upgrade` to a scan
 --   default_options                  what a command is told where no word says otherwise
+--   IsUnreadMesh bytes answer        the file of the mesh that is read first is too long, or is no mesh
+--   MeshFileAnswer Answers bytes ..  the answer of a command to the bytes of that file
+--   slice_done output rings          the answer that writes loops
+--   RefusesSlice, WritesSlice        the mesh has no slice, or its slice is written
+--   SliceAnswer output height ..     one of the two
 --   generated_text count seed        the text of the generated scan
 --   Demonstrates count seed answer   what `build` says of a generated scan
 --   AnswerOf asked files answer      the answer of a command, or of words that are none, where the files are these
 --   most_reads asked                 how many files a command reads at most
-use Rattle.std.specs.Prelude.{◌≡◌, ◌⊎◌, ℕ, ◌≤◌, ◌<◌, List, [], ◌∷◌, length, Option, Some, None, Result, Ok, Err}
+use Rattle.std.specs.Prelude.{◌≡◌, ◌⊎◌, ℕ, ℤ, ◌≤◌, ◌<◌, List, [], ◌∷◌, length, sum_by, Option, Some, None, Result, Ok, Err}
 use Rattle.cert_text.specs.Certificates.{Claim, IsWellFormed}
 use Rattle.cert_text.specs.Stamps.{StampView}
 use Rattle.cert_text.specs.Texts.{cert_text}
@@ -32,22 +37,29 @@ use Rattle.geo_sign.specs.Cells.{IsCellList}
 use Rattle.gen_scan.specs.Generated.{generated}
 use Rattle.host.specs.State.{Files}
 use Rattle.mesh_ply.specs.Meshes.{Surface, IsMesh}
-use Rattle.mesh_ply.specs.Texts.{mesh_text}
+use Rattle.mesh_ply.specs.Refusals.{IsRefusedMesh}
+use Rattle.mesh_ply.specs.Texts.{mesh_text, IsPrinted}
+use Rattle.mesh_ply.specs.declared.refusal.MeshRefusal.{MeshRefusal}
 use Rattle.scan.specs.Outcomes.{shown_in}
 use Rattle.scan.specs.PlainForm.{scan_text}
 use Rattle.scan.specs.Shown.{Shown, shown_by}
 use Rattle.scan.specs.declared.refusal.ScanRefusal.{ScanRefusal}
+use Rattle.solid_slice.specs.Edges.{IsBalanced, IsUnbalanced}
+use Rattle.solid_slice.specs.Slices.{IsSlice}
+use Rattle.solid_slice.specs.Texts.{slice_text}
+use Rattle.solid_slice.specs.declared.step.Step.{Step}
 use Rattle.solution.specs.Scans.{points_of}
 use Rattle.solution.specs.Solutions.{IsSolution}
 use Rattle.recon_check.specs.Answers.{HasCertificate, IsAnswer}
 use Rattle.recon_check.specs.declared.answer.Answer.{Answer as Verdict}
 use Rattle.recon_check.specs.declared.answer.Answer.TheVariants as verdicts
 use Rattle.recon_cmd.specs.Lines.{bad_words_line, too_long_scan_line, too_long_mesh_line, too_long_cert_line, cells_line, cells_text, build_line, upgraded_line, demo_line}
+use Rattle.recon_cmd.specs.MeshLines.{mesh_refusal_line, slice_line, unbalanced_line}
 use Rattle.recon_cmd.specs.Options.{Options}
 use Rattle.recon_cmd.specs.Refusals.{refusal_line}
 use Rattle.recon_cmd.specs.Stamps.{stamp_for}
 use Rattle.recon_cmd.specs.Verdicts.{verdict_line, verdict_status}
-use Rattle.recon_cmd.specs.Words.{Asked, SurfaceNames, cells, build, check, demo}
+use Rattle.recon_cmd.specs.Words.{Asked, SurfaceNames, cells, build, check, slice, demo}
 use Rattle.recon_cmd.specs.declared.status.Status.{Status}
 use Rattle.recon_cmd.specs.declared.status.Status.TheVariants.{Done, BadWords, Refused}
 
@@ -179,6 +191,61 @@ pub record MeshAnswer (names : SurfaceNames) (Decide : (mesh cert : List ℕ) �
 abbrev pub CheckAnswer : SurfaceNames → (output : Option (List ℕ)) → Options → Files → (bytes : List ℕ) → Shown → Answer → Type 0
 CheckAnswer names output options files bytes scan = MeshAnswer names (HasVerdict output options (stamp_for options bytes) scan) files
 
+-- the bytes are no mesh, and the first reason why is said
+pub record MeshRefused (bytes : List ℕ) (answer : Answer) : Type 0 where
+  pub within : length bytes ≤ file_limit
+  pub why : MeshRefusal
+  pub refused : IsRefusedMesh bytes why
+  pub line : List ℕ
+  pub line_is : mesh_refusal_line why ≡ Some line
+  pub is : answer ≡ refusal 1 line
+
+-- the file of the mesh that is read first is refused, by its length or by what it says
+abbrev pub IsUnreadMesh : (bytes : List ℕ) → Answer → Type 0
+IsUnreadMesh bytes answer = FileTooLong 1 too_long_mesh_line bytes answer ⊎ MeshRefused bytes answer
+
+-- the bytes are the text of a mesh, which is answered so
+pub record MeshAnswered (Answers : Surface → Answer → Type 0) (bytes : List ℕ) (answer : Answer) : Type 0 where
+  pub within : length bytes ≤ file_limit
+  pub mesh : Surface
+  pub printed : IsPrinted mesh.points mesh.faces
+  pub text_is : bytes ≡ mesh_text mesh.points mesh.faces
+  pub answers : Answers mesh answer
+
+-- the answer of a command to the bytes of the mesh that it reads first: a refusal, or what it answers to that mesh
+abbrev pub MeshFileAnswer : (Surface → Answer → Type 0) → (bytes : List ℕ) → Answer → Type 0
+MeshFileAnswer Answers bytes answer = IsUnreadMesh bytes answer ⊎ MeshAnswered Answers bytes answer
+
+-- some edge occurs another number of times than its reverse, and the smallest such pair is said with both numbers
+pub record RefusesSlice (mesh : Surface) (answer : Answer) : Type 0 where
+  pub from : ℕ
+  pub to : ℕ
+  pub there : ℕ
+  pub back : ℕ
+  pub unbalanced : IsUnbalanced mesh.faces from to there back
+  pub is : answer ≡ refusal 1 (unbalanced_line from to there back)
+
+-- the answer that writes the loops of a slice, and says how many they are and how many steps they have together
+abbrev pub slice_done : (output : List ℕ) → (rings : List (List Step)) → Answer
+slice_done output rings =
+    record {
+      status = Done;
+      reads = 1;
+      writes = (output, slice_text rings) ∷ [];
+      line = slice_line (length rings) (sum_by (λ ring. length ring) rings);
+    }
+
+-- each edge occurs as often as its reverse, and the loops in which the plane above this height cuts the mesh are written
+pub record WritesSlice (output : List ℕ) (height : ℤ) (mesh : Surface) (answer : Answer) : Type 0 where
+  pub balanced : IsBalanced mesh.faces
+  pub rings : List (List Step)
+  pub sliced : IsSlice mesh.points mesh.faces height rings
+  pub is : answer ≡ slice_done output rings
+
+-- the mesh has no slice, or it is written
+abbrev pub SliceAnswer : (output : List ℕ) → (height : ℤ) → Surface → Answer → Type 0
+SliceAnswer output height mesh answer = RefusesSlice mesh answer ⊎ WritesSlice output height mesh answer
+
 -- what a command is told where no word says otherwise
 abbrev pub default_options : Options
 default_options = record { unit = 1; vote = 8; smooth = 1; fixed = None }
@@ -204,6 +271,8 @@ AnswerOf (Some (build names options)) files answer =
     (bytes : List ℕ) × (files names.input ≡ Some bytes) × ScanAnswer options (WritesSurface names options) bytes answer
 AnswerOf (Some (check names output options)) files answer =
     (bytes : List ℕ) × (files names.input ≡ Some bytes) × ScanAnswer options (CheckAnswer names output options files) bytes answer
+AnswerOf (Some (slice names height)) files answer =
+    (bytes : List ℕ) × (files names.input ≡ Some bytes) × MeshFileAnswer (SliceAnswer names.output height) bytes answer
 AnswerOf (Some (demo count seed)) files answer = Demonstrates count seed answer
 
 -- how many files a command reads at most
@@ -212,4 +281,5 @@ most_reads None = 0
 most_reads (Some (cells names options)) = 1
 most_reads (Some (build names options)) = 1
 most_reads (Some (check names output options)) = 3
+most_reads (Some (slice names height)) = 1
 most_reads (Some (demo count seed)) = 0

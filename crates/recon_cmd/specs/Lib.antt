@@ -1,9 +1,11 @@
 pub mod Answers
 pub mod CheckLaws
 pub mod Checking
+pub mod Exports
 pub mod Headline
 pub mod Laws
 pub mod Lines
+pub mod MeshLines
 pub mod OptionViews
 pub mod Options
 pub mod Outcome

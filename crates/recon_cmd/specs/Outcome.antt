@@ -6,18 +6,20 @@
 --   IsCarriedOut writes line old new    all files were written and the line was said
 --   SaidFront, WroteFront               a front of the line was said; a front of a file was written
 --   StoppedIn writes line old new       what stands after a call failed on the way through an answer
---   EndsWith, StopsWith                 the command's answer was carried out; it was up to a failed call
---   Tells asked status old new          what is told after a run that ended so
---   StatusFits status asked             the statuses that a command may end with at all
+--   EndsBy, StopsBy                     one of these answers was carried out; it was up to a failed call
+--   TellsBy Answers status old new      what is told after a run that has these answers and ended so
 --   FaultsFit status before after       the count of faults rose exactly where the run failed
---   ReadsNoMore asked before after      no more files were opened than the answer reads
---   Outcome asked status before after   all of it
+--   OpensNoMore Answers before after    no more files were opened than the answer reads
+--   Run Fits most Answers ..            all of it, for a run that may end so, reads so many files and has these answers
+--   EndsWith, Tells                     the same by the answers of a command
+--   StatusFits status asked             the statuses that a command may end with at all
+--   Outcome asked status before after   what a run of a command does to its host
 use Rattle.std.specs.Prelude.{◌≡◌, ◌⊎◌, ℕ, ◌+◌, ◌≤◌, List, [], ◌∷◌, ◌++◌, take, false, ⊤, Option, Some, None, IfSome}
 use Rattle.std.specs.Option.{IsSomeAnd}
 use Rattle.host.specs.Counts.{Rose}
 use Rattle.host.specs.State.{State, Told, Files, with_file}
 use Rattle.recon_cmd.specs.Answers.{Answer, AnswerOf, Write, most_reads}
-use Rattle.recon_cmd.specs.Words.{Asked, cells, build, check, demo}
+use Rattle.recon_cmd.specs.Words.{Asked, cells, build, check, slice, demo}
 use Rattle.recon_cmd.specs.declared.status.Status.{Status}
 use Rattle.recon_cmd.specs.declared.status.Status.TheVariants.{Done, No, BadWords, Refused, Failed, NoMemory}
 
@@ -57,50 +59,27 @@ StoppedIn [] line old new = SaidFront line old new
 StoppedIn ((name, bytes) ∷ rest) line old new =
     WroteFront name bytes old new ⊎ StoppedIn rest line (record old { files = with_file name bytes old.files }) new
 
--- the command's answer is carried out, and has this status
-pub record EndsWith (asked : Option Asked) (status : Status) (old new : Told) : Type 0 where
+-- one of these answers is carried out, and has this status
+pub record EndsBy (Answers : Files → Answer → Type 0) (status : Status) (old new : Told) : Type 0 where
   pub answer : Answer
-  pub answers : AnswerOf asked old.files answer
+  pub answers : Answers old.files answer
   pub status_is : answer.status ≡ status
   pub carried_out : IsCarriedOut answer.writes answer.line old new
 
--- the command's answer is carried out up to a call that failed
-pub record StopsWith (asked : Option Asked) (old new : Told) : Type 0 where
+-- one of these answers is carried out up to a call that failed
+pub record StopsBy (Answers : Files → Answer → Type 0) (old new : Told) : Type 0 where
   pub answer : Answer
-  pub answers : AnswerOf asked old.files answer
+  pub answers : Answers old.files answer
   pub stopped : StoppedIn answer.writes answer.line old new
 
--- what is told after a run that ended so
-abbrev pub Tells : Option Asked → Status → Told → Told → Type 0
-Tells asked Failed old new = IsUntouched old new ⊎ StopsWith asked old new
-Tells asked NoMemory old new = IsUntouched old new
-Tells asked Done old new = EndsWith asked Done old new
-Tells asked No old new = EndsWith asked No old new
-Tells asked BadWords old new = EndsWith asked BadWords old new
-Tells asked Refused old new = EndsWith asked Refused old new
-
--- the statuses that a command, or words that are none, may end with at all
-abbrev pub StatusFits : Status → Option Asked → Type 0
-StatusFits Done None = ⊥
-StatusFits Done (Some (cells names options)) = ⊤
-StatusFits Done (Some (build names options)) = ⊤
-StatusFits Done (Some (check names output options)) = ⊤
-StatusFits Done (Some (demo count seed)) = ⊤
-StatusFits No None = ⊥
-StatusFits No (Some (cells names options)) = ⊥
-StatusFits No (Some (build names options)) = ⊥
-StatusFits No (Some (check names output options)) = ⊤
-StatusFits No (Some (demo count seed)) = ⊥
-StatusFits BadWords None = ⊤
-StatusFits BadWords (Some asked) = ⊥
-StatusFits Refused None = ⊥
-StatusFits Refused (Some (cells names options)) = ⊤
-StatusFits Refused (Some (build names options)) = ⊤
-StatusFits Refused (Some (check names output options)) = ⊤
-StatusFits Refused (Some (demo count seed)) = ⊥
-StatusFits Failed asked = ⊤
-StatusFits NoMemory None = ⊥
-StatusFits NoMemory (Some asked) = ⊤
+-- what is told after a run that has these answers and ended so
+abbrev pub TellsBy : (Files → Answer → Type 0) → Status → Told → Told → Type 0
+TellsBy Answers Failed old new = IsUntouched old new ⊎ StopsBy Answers old new
+TellsBy Answers NoMemory old new = IsUntouched old new
+TellsBy Answers Done old new = EndsBy Answers Done old new
+TellsBy Answers No old new = EndsBy Answers No old new
+TellsBy Answers BadWords old new = EndsBy Answers BadWords old new
+TellsBy Answers Refused old new = EndsBy Answers Refused old new
 
 -- the count of faults rose where the run failed, and is else as it was
 abbrev pub FaultsFit : Status → (before after : ℕ) → Type 0
@@ -111,21 +90,59 @@ FaultsFit BadWords before after = after ≡ before
 FaultsFit Refused before after = after ≡ before
 FaultsFit NoMemory before after = after ≡ before
 
--- no more files were opened than the command's answer reads, however the run ended
-abbrev pub ReadsNoMore : Option Asked → State → State → Type 0
-ReadsNoMore asked before after = IfSome before.told (λ old. (answer : Answer) → AnswerOf asked old.files answer → after.opens ≤ before.opens + answer.reads)
+-- no more files were opened than each of these answers reads, however the run ended
+abbrev pub OpensNoMore : (Files → Answer → Type 0) → State → State → Type 0
+OpensNoMore Answers before after = IfSome before.told (λ old. (answer : Answer) → Answers old.files answer → after.opens ≤ before.opens + answer.reads)
 
--- what a run does to its host
-pub record Outcome (asked : Option Asked) (status : Status) (before after : State) : Type 0 where
-  -- a command ends so
-  pub fits : StatusFits status asked
+-- what a run does to its host that may end so, reads so many files at most, and has these answers
+pub record Run (Fits : Status → Type 0) (most : ℕ) (Answers : Files → Answer → Type 0) (status : Status) (before after : State) : Type 0 where
+  -- it may end so
+  pub fits : Fits status
   -- the count of faults rose exactly where the run failed
   pub faults : FaultsFit status before.faults after.faults
-  -- no more files were opened than such a command reads
-  pub opens : after.opens ≤ before.opens + most_reads asked
+  -- no more files were opened than such a run reads
+  pub opens : after.opens ≤ before.opens + most
   -- no file is left open for writing
   pub writing : after.writing ≡ false
   -- what is told
-  pub tells : WhereTold before after (λ old new. Tells asked status old new)
+  pub tells : WhereTold before after (λ old new. TellsBy Answers status old new)
   -- no more files were opened than this answer reads
-  pub reads : ReadsNoMore asked before after
+  pub reads : OpensNoMore Answers before after
+
+-- the command's answer is carried out, and has this status
+abbrev pub EndsWith : Option Asked → Status → Told → Told → Type 0
+EndsWith asked = EndsBy (AnswerOf asked)
+
+-- what is told after a run of the command that ended so
+abbrev pub Tells : Option Asked → Status → Told → Told → Type 0
+Tells asked = TellsBy (AnswerOf asked)
+
+-- the statuses that a command, or words that are none, may end with at all
+abbrev pub StatusFits : Status → Option Asked → Type 0
+StatusFits Done None = ⊥
+StatusFits Done (Some (cells names options)) = ⊤
+StatusFits Done (Some (build names options)) = ⊤
+StatusFits Done (Some (check names output options)) = ⊤
+StatusFits Done (Some (slice names height)) = ⊤
+StatusFits Done (Some (demo count seed)) = ⊤
+StatusFits No None = ⊥
+StatusFits No (Some (cells names options)) = ⊥
+StatusFits No (Some (build names options)) = ⊥
+StatusFits No (Some (check names output options)) = ⊤
+StatusFits No (Some (slice names height)) = ⊥
+StatusFits No (Some (demo count seed)) = ⊥
+StatusFits BadWords None = ⊤
+StatusFits BadWords (Some asked) = ⊥
+StatusFits Refused None = ⊥
+StatusFits Refused (Some (cells names options)) = ⊤
+StatusFits Refused (Some (build names options)) = ⊤
+StatusFits Refused (Some (check names output options)) = ⊤
+StatusFits Refused (Some (slice names height)) = ⊤
+StatusFits Refused (Some (demo count seed)) = ⊥
+StatusFits Failed asked = ⊤
+StatusFits NoMemory None = ⊥
+StatusFits NoMemory (Some asked) = ⊤
+
+-- what a run of a command, or on words that are none, does to its host
+abbrev pub Outcome : Option Asked → Status → State → State → Type 0
+Outcome asked = Run (λ status. StatusFits status asked) (most_reads asked) (AnswerOf asked)

@@ -4,7 +4,10 @@
 --   IsReplied asked reply before       the reply is the command's answer
 --   Bytes                              bytes that the program holds
 --   IsUnderstood, IsReading            what the bytes of a scan, and those of the named file, come to
---   ReadsFor asked before after        what the making of a reply does to the host
+--   IsUnderstoodMesh, IsMeshReading    the same of a mesh that is read first
+--   IsPrintedIfRead reading            a mesh that was read has a text
+--   ReadsBy most Answers before after  what the making of one of these answers does to the host
+--   ReadsFor asked before after        the same by the answers of a command
 --   StopsFor result before after       the count of faults, by whether there is a reply
 --   IsWritten writes before after      files were written, and nothing was said yet
 --   CarriesAllOut, StopsOnTheWay       an answer was carried out, or a call failed on the way
@@ -12,17 +15,20 @@
 use Rattle.std.specs.Prelude.{◌≡◌, ◌⊎◌, ℕ, ◌+◌, ◌≤◌, List, Vec, ⊤, false, length, Option, Some, IfSome, Result, Ok, Err}
 use Rattle.std.specs.declared.alloc.Global.{Global}
 use Rattle.host.specs.Counts.{Rose}
-use Rattle.host.specs.State.{State, Told}
+use Rattle.host.specs.State.{State, Told, Files}
 use Rattle.host.specs.Whole.{apart_from_left}
+use Rattle.mesh_ply.specs.Texts.{mesh_text, IsPrinted}
 use Rattle.scan.specs.Views.{shown_of}
-use Rattle.recon_cmd.specs.Answers.{AnswerOf, IsUnread, Write, file_limit, most_reads, read_as, refusal}
-use Rattle.recon_cmd.specs.Outcome.{WhereTold, IsCarriedOut, StoppedIn, StatusFits, ReadsNoMore, all_written}
+use Rattle.recon_cmd.specs.Answers.{Answer, AnswerOf, IsUnread, IsUnreadMesh, Write, file_limit, most_reads, read_as, refusal}
+use Rattle.recon_cmd.specs.Outcome.{WhereTold, IsCarriedOut, StoppedIn, StatusFits, OpensNoMore, all_written}
 use Rattle.recon_cmd.specs.Options.{Options}
 use Rattle.recon_cmd.specs.Replies.{answer_of, line_bytes}
 use Rattle.recon_cmd.specs.Words.{Asked}
 use Rattle.recon_cmd.specs.declared.answer.Reply.{Reply}
 use Rattle.recon_cmd.specs.declared.answer.reading.Reading.{Reading}
 use Rattle.recon_cmd.specs.declared.answer.reading.Reading.TheVariants as readings
+use Rattle.recon_cmd.specs.declared.answer.meshes.MeshReading.{MeshReading}
+use Rattle.recon_cmd.specs.declared.answer.meshes.MeshReading.TheVariants as mesh_readings
 use Rattle.recon_cmd.specs.declared.answer.Stop.{Stop}
 use Rattle.recon_cmd.specs.declared.answer.Stop.TheVariants as stops
 use Rattle.recon_cmd.specs.declared.status.Status.{Status}
@@ -56,12 +62,31 @@ IsUnderstood bytes options (readings.Refused line) = IsUnread options bytes (ref
 abbrev pub IsReading : (name : List ℕ) → Options → Reading → Told → Type 0
 IsReading name options reading told = (bytes : List ℕ) × (told.files name ≡ Some bytes) × IsUnderstood bytes options reading
 
--- nothing changed but what readings change, and no more files were opened than the command reads
-pub record ReadsFor (asked : Option Asked) (before after : State) : Type 0 where
+-- the mesh whose text the bytes are, or the line that refuses them
+abbrev pub IsUnderstoodMesh : (bytes : List ℕ) → MeshReading → Type 0
+IsUnderstoodMesh bytes (mesh_readings.Mesh mesh) =
+    (length bytes ≤ file_limit) × IsPrinted mesh.points.items mesh.faces.items × (bytes ≡ mesh_text mesh.points.items mesh.faces.items)
+IsUnderstoodMesh bytes (mesh_readings.Refused line) = IsUnreadMesh bytes (refusal 1 (line_bytes line))
+
+-- the bytes of the named file are understood so
+abbrev pub IsMeshReading : (name : List ℕ) → MeshReading → Told → Type 0
+IsMeshReading name reading told = (bytes : List ℕ) × (told.files name ≡ Some bytes) × IsUnderstoodMesh bytes reading
+
+-- a mesh that was read has a text, whether the host tells it or not
+abbrev pub IsPrintedIfRead : MeshReading → Type 0
+IsPrintedIfRead (mesh_readings.Mesh mesh) = IsPrinted mesh.points.items mesh.faces.items
+IsPrintedIfRead (mesh_readings.Refused line) = ⊤
+
+-- nothing changed but what readings change, and no more files were opened than so many and than each of these answers reads
+pub record ReadsBy (most : ℕ) (Answers : Files → Answer → Type 0) (before after : State) : Type 0 where
   pub told : apart_from_left after.told ≡ apart_from_left before.told
   pub writing : after.writing ≡ false
-  pub opens : after.opens ≤ before.opens + most_reads asked
-  pub no_more : ReadsNoMore asked before after
+  pub opens : after.opens ≤ before.opens + most
+  pub no_more : OpensNoMore Answers before after
+
+-- the same by the answers of a command
+abbrev pub ReadsFor : Option Asked → State → State → Type 0
+ReadsFor asked = ReadsBy (most_reads asked) (AnswerOf asked)
 
 -- the count of faults rose where a call failed, and is else as it was
 abbrev pub StopsFor : {T : Type 0} → Result T Stop → ℕ → ℕ → Type 0

@@ -1,5 +1,6 @@
 //! What a command comes to, in memory, and the writing and saying of it. It stands on `host` alone.
 ghost use Rattle.std.specs.Prelude.{◌≡◌, false, Some, IfOk};
+ghost use Rattle.recon_cmd.specs.Answers.{file_limit};
 ghost use Rattle.recon_cmd.specs.Replies.{line_bytes, texts_of};
 ghost use Rattle.recon_cmd.specs.Steps.{CarriesOut, IsReplied, ReadsFor, StopsFor};
 ghost use Rattle.recon_cmd.specs.Words.{asked};
@@ -8,8 +9,11 @@ mod build;
 mod cells;
 mod check;
 mod demo;
+mod export;
+mod meshes;
 mod reading;
 mod refusals;
+mod slice;
 mod stamps;
 
 use crate::status::Status;
@@ -18,7 +22,10 @@ use build::reply_to_build;
 use cells::reply_to_cells;
 use check::reply_to_check;
 use demo::reply_to_demo;
+pub use export::export_mesh;
 use host::{Host, say_all, write_file};
+pub use reading::FILE_LIMIT;
+use slice::reply_to_slice;
 use std::alloc::Global;
 
 /// A line that is said last.
@@ -65,21 +72,25 @@ pub enum Stop {
     NoMemory,
 }
 
-/// Reads what a command reads, and makes its answer. Nothing is written or said.
+/// Reads what a command reads, each file of as many bytes as the limit at most, and makes its answer. Nothing is written or
+/// said.
 pub fn reply_to<'a, H: Host>(
     alloc: Global,
     host: &mut H,
     command: &Command<'a>,
+    limit: u64,
 ) -> Result<Reply<'a>, Stop>
     requires { (H.state host.old).writing ≡ false }
-    ensures replied { IfOk result (λ reply. IsReplied (asked command.now) reply (H.state host.old)) }
-    ensures reads { ReadsFor (Some (asked command.now)) (H.state host.old) (H.state host.new) }
+    ensures replied { limit ≡ file_limit → IfOk result (λ reply. IsReplied (asked command.now) reply (H.state host.old)) }
+    ensures reads { limit ≡ file_limit → ReadsFor (Some (asked command.now)) (H.state host.old) (H.state host.new) }
+    ensures closed { (H.state host.new).writing ≡ false }
     ensures cause { StopsFor result (H.state host.old).faults (H.state host.new).faults }
 {
     match command {
-        Command::Cells(names, options) => reply_to_cells(alloc, host, names, options),
-        Command::Build(names, options) => reply_to_build(alloc, host, names, options),
-        Command::Check(names, options) => reply_to_check(alloc, host, names, options),
+        Command::Cells(names, options) => reply_to_cells(alloc, host, names, options, limit),
+        Command::Build(names, options) => reply_to_build(alloc, host, names, options, limit),
+        Command::Check(names, options) => reply_to_check(alloc, host, names, options, limit),
+        Command::Slice(words) => reply_to_slice(alloc, host, words),
         Command::Demo(demo) => match reply_to_demo(alloc, *demo) {
             Ok(reply) => Ok(reply),
             Err(_) => Err(Stop::NoMemory),

@@ -8,6 +8,7 @@
 #![tactic(auto)]
 
 mod answer;
+mod forms_run;
 mod laws;
 mod lines;
 mod options;
@@ -17,6 +18,7 @@ mod tests;
 mod whole_run;
 mod words;
 
+pub use forms_run::run_forms;
 pub use laws::{
     a_check_says_what_its_files_are, a_command_has_one_answer, a_refused_scan_is_refused,
     a_surface_that_was_built_is_accepted, a_surface_that_was_built_is_best,
@@ -26,7 +28,10 @@ pub use options::Options;
 pub use status::Status;
 use std::alloc::AllocError;
 pub use whole_run::run;
-pub use words::{BuildNames, CellsNames, CheckNames, Command, Demo, understand};
+pub use words::{
+    BuildNames, CellsNames, CheckNames, Command, Demo, ExportWords, SliceWords, understand,
+    understand_export,
+};
 
 /// There was no memory.
 pub type NoMemory = AllocError;

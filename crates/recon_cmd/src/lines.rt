@@ -5,11 +5,13 @@ ghost use Rattle.std.specs.List.{flat_map};
 ghost use Rattle.cert_text.specs.Certificates.{claim_of};
 ghost use Rattle.recon_cmd.specs.Lines.{bad_words_line, too_long_scan_line, too_long_mesh_line, too_long_cert_line, cells_line, labelled, build_line, upgraded_line, demo_line, cells_text, row_line};
 
+mod meshes;
 mod refusals;
 mod verdicts;
 
 use crate::NoMemory;
 use cert_text::Certificate;
+pub use meshes::{line_of_export, line_of_mesh_refusal, line_of_slice, line_of_unbalanced_edge};
 use num_text::push_whole;
 pub use refusals::line_of_refusal;
 use std::alloc::Global;

@@ -5,6 +5,7 @@ ghost use Rattle.geo_sign.specs.Point.{IsWithin};
 ghost use Rattle.num_text.specs.declared.decimal.TheConstants.{UNIT_LIMIT};
 ghost use Rattle.geo_sign.specs.declared.point.TheConstants.{DATA_LIMIT};
 
+mod heights;
 mod keys;
 mod seeds;
 mod understood;
@@ -12,6 +13,7 @@ mod values;
 
 use flow_net::Settings;
 use geo_sign::Point;
+pub use heights::height_in;
 pub use keys::Key;
 pub use seeds::seed_in;
 pub use understood::understand_options;

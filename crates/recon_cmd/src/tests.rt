@@ -7,11 +7,16 @@ mod build;
 mod cells;
 mod check;
 mod demo;
+mod export;
 mod failures;
 mod limits;
 mod memory;
 mod refusals;
+mod slice;
+mod sweep;
+mod too_long;
 mod upgrade;
+mod watched;
 mod weights;
 mod words;
 

@@ -1,12 +1,13 @@
 //! A whole run of the program over any host. It stands on the words, on each command's answer, and on the carrying
 //! out of answers.
 ghost use Rattle.std.specs.Prelude.{◌≡◌, false, Some, None, map, string_bytes};
+ghost use Rattle.recon_cmd.specs.Answers.{file_limit};
 ghost use Rattle.recon_cmd.specs.Status.{code_of};
 ghost use Rattle.recon_cmd.specs.Words.{command_of, asked};
 ghost use Rattle.recon_cmd.specs.Outcome.{Outcome};
 ghost use Rattle.recon_cmd.specs.declared.status.Status.{Status as RunStatus};
 
-use crate::answer::{Stop, carry_out, conclude, reply_to};
+use crate::answer::{FILE_LIMIT, Stop, carry_out, conclude, reply_to};
 use crate::lines::line_of_bad_words;
 use crate::status::Status;
 use crate::words::{Command, understand};
@@ -39,8 +40,17 @@ pub fn run<H: Host>(alloc: Global, words: &[String], host: &mut H) -> u8
     ensures { (status : RunStatus) × (result ≡ code_of status)
         × Outcome (command_of (map string_bytes words.now)) status (H.state host.old) (H.state host.new) }
 {
+    run_within(alloc, words, host, FILE_LIMIT)
+}
+
+/// The same, where a file that is read may have as many bytes as this limit.
+pub fn run_within<H: Host>(alloc: Global, words: &[String], host: &mut H, limit: u64) -> u8
+    requires { (H.state host.old).writing ≡ false }
+    ensures { limit ≡ file_limit → (status : RunStatus) × (result ≡ code_of status)
+        × Outcome (command_of (map string_bytes words.now)) status (H.state host.old) (H.state host.new) }
+{
     let status = match understand(words) {
-        Some(command) => obey(alloc, &command, host),
+        Some(command) => obey(alloc, &command, host, limit),
         None => refuse_words(host),
     };
     status.code()
@@ -55,11 +65,11 @@ fn refuse_words<H: Host>(host: &mut H) -> Status
 }
 
 // Carries out the answer of a command.
-fn obey<H: Host>(alloc: Global, command: &Command, host: &mut H) -> Status
+fn obey<H: Host>(alloc: Global, command: &Command, host: &mut H, limit: u64) -> Status
     requires { (H.state host.old).writing ≡ false }
-    ensures { Outcome (Some (asked command.now)) result (H.state host.old) (H.state host.new) }
+    ensures { limit ≡ file_limit → Outcome (Some (asked command.now)) result (H.state host.old) (H.state host.new) }
 {
-    match reply_to(alloc, host, command) {
+    match reply_to(alloc, host, command, limit) {
         Ok(reply) => carry_out(host, &reply),
         Err(Stop::Failed) => Status::Failed,
         Err(Stop::NoMemory) => Status::NoMemory,

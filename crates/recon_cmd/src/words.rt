@@ -1,13 +1,17 @@
 //! The words of a command line, understood without taking memory. It stands on the options.
 ghost use Rattle.std.specs.Prelude.{◌≡◌, [], ◌∷◌, IfSome, IfNone, None, Some, map, string_bytes};
 ghost use Rattle.std.specs.Option.{option_map};
-ghost use Rattle.recon_cmd.specs.Words.{are_names, asked, build_of, cells_of, check_of, command_of, demo_of, upgrade_of};
+ghost use Rattle.recon_cmd.specs.Words.{are_names, asked, build_of, cells_of, check_of, command_of, demo_of, slice_of, upgrade_of};
 
 mod demo;
+mod export;
+mod slice;
 
-use crate::options::{Key, Options, number_in, seed_in, understand_options};
+use crate::options::{Key, Options, height_in, number_in, seed_in, understand_options};
 pub use demo::Demo;
+pub use export::{ExportWords, understand_export};
 use scan::POINT_LIMIT;
+pub use slice::SliceWords;
 
 // The options of each command.
 const CELLS_KEYS: [Key; 2] = [Key::Unit, Key::Scanner];
@@ -57,6 +61,8 @@ pub enum Command<'a> {
     /// `check IN MESH CERT`: whether a mesh is the best surface of a scan, and a certificate shows it best. And
     /// `upgrade IN MESH CERT OUT`: where it is so, the certificate with the stamp of this run is written.
     Check(CheckNames<'a>, Options),
+    /// `slice MESH H OUT`: the closed loops in which a level plane cuts a mesh.
+    Slice(SliceWords<'a>),
     /// `demo N SEED`: what `build` says of a scan that is made from a number.
     Demo(Demo),
 }
@@ -73,6 +79,7 @@ pub enum Command<'a> {
 /// | `build IN MESH CERT` | `unit=`, `vote=`, `smooth=`, `scanner=` |
 /// | `check IN MESH CERT` | `unit=`, `vote=`, `smooth=`, `scanner=` |
 /// | `upgrade IN MESH CERT OUT` | `unit=`, `vote=`, `smooth=`, `scanner=` |
+/// | `slice MESH H OUT` | none; H is 1 to 7 digits behind an optional `-`, at most 8,388,608 from 0 |
 /// | `demo N SEED` | none; N is 1 to 1,048,576 in 1 to 10 digits, SEED at most 2^64 - 1 in 1 to 20 |
 pub fn understand(words: &[String]) -> Option<Command<'_>>
     ensures some { IfSome result (λ command. command_of (map string_bytes words.now) ≡ Some (asked command)) }
@@ -86,6 +93,7 @@ pub fn understand(words: &[String]) -> Option<Command<'_>>
         "build" => build_command(words),
         "check" => check_command(words),
         "upgrade" => upgrade_command(words),
+        "slice" => slice_command(words),
         "demo" => demo_command(words),
         _ => None,
     }
@@ -171,6 +179,24 @@ fn upgrade_command(words: &[String]) -> Option<Command<'_>>
         output: Some(output.as_str()),
     };
     Some(Command::Check(names, options))
+}
+
+// What the words behind `slice` ask for.
+fn slice_command(words: &[String]) -> Option<Command<'_>>
+    ensures { option_map asked result ≡ slice_of (map string_bytes words.now) }
+{
+    let [mesh, height, output] = words else {
+        return None;
+    };
+    if !are_two_names(mesh.as_str(), output.as_str()) {
+        return None;
+    }
+    let height = height_in(height.as_str())?;
+    Some(Command::Slice(SliceWords {
+        mesh: mesh.as_str(),
+        height,
+        output: output.as_str(),
+    }))
 }
 
 // What the words behind `demo` ask for.

@@ -1,18 +1,28 @@
 -- How the program ends, by what the system handed in as its words.
 --
+--     WritesFormats outputs ..            the answer that writes a mesh as PLY, OFF and OBJ
+--     FormatsAnswer names ..              a refusal of the mesh, or this answer
+--     RunsFor export words status ..      what a run on these words does to its host
 --     RunsOn words status before after    a run on these words ended with this status
 --     DoesNothing status before after     there was no memory for the words
+--     RunsOrIdles words status ..         one of the two
 --     words_behind_name args              the words but the first
 --     EndsOn args status before after     the program ended so on what the system handed in
 --     fresh, EndsAfterARun status         a host that was not used; the program ended so on something, over that host
-use Rattle.std.specs.Prelude.{◌≡◌, ◌≢◌, ◌⊎◌, ℕ, List, [], map, drop, Result, Ok, Err, None, false, string_bytes}
+use Rattle.std.specs.Prelude.{◌≡◌, ◌≢◌, ◌⊎◌, ℕ, List, [], ◌∷◌, length, map, drop, Result, Ok, Err, Option, Some, None, false, string_bytes}
 use Rattle.std.specs.IoError.{error_kind}
-use Rattle.host.specs.State.{State}
-use Rattle.recon_cmd.specs.Outcome.{Outcome}
+use Rattle.std.specs.List.{zip}
+use Rattle.host.specs.State.{State, Files}
+use Rattle.mesh_form.specs.Texts.{off_text, obj_text}
+use Rattle.mesh_ply.specs.Meshes.{Surface}
+use Rattle.mesh_ply.specs.Texts.{mesh_text}
+use Rattle.recon_cmd.specs.Answers.{Answer, MeshFileAnswer}
+use Rattle.recon_cmd.specs.Exports.{ExportFits, ExportNames, export_of, exported_line}
+use Rattle.recon_cmd.specs.Outcome.{Outcome, Run}
 use Rattle.recon_cmd.specs.Status.{code_of}
 use Rattle.recon_cmd.specs.Words.{command_of}
 use Rattle.recon_cmd.specs.declared.status.Status.{Status}
-use Rattle.recon_cmd.specs.declared.status.Status.TheVariants.{NoMemory}
+use Rattle.recon_cmd.specs.declared.status.Status.TheVariants.{Done, NoMemory}
 use Rattle.std.specs.Vec.Iter.{into_iter_items}
 use Rattle.std.specs.declared.io.Error.{Error}
 use Rattle.std.specs.declared.io.ErrorKind.TheVariants.{OutOfMemory}
@@ -20,13 +30,37 @@ use Rattle.std.specs.declared.alloc.Global.{Global}
 use Rattle.std.specs.declared.string.String.{String}
 use Rattle.std.specs.declared.vec.IntoIter.{IntoIter}
 
+-- the mesh is written as PLY, as OFF and as OBJ, in this order
+abbrev pub WritesFormats : (outputs : List (List ℕ)) → Surface → Answer → Type 0
+WritesFormats outputs mesh answer =
+    answer ≡ record {
+      status = Done;
+      reads = 1;
+      writes = zip outputs (mesh_text mesh.points mesh.faces ∷ off_text mesh.points mesh.faces ∷ obj_text mesh.points mesh.faces ∷ []);
+      line = exported_line (length outputs) (length mesh.points) (length mesh.faces);
+    }
+
+-- the mesh is refused, or written in the three formats
+abbrev pub FormatsAnswer : ExportNames → Files → Answer → Type 0
+FormatsAnswer names files answer =
+    (bytes : List ℕ) × (files names.mesh ≡ Some bytes) × MeshFileAnswer (WritesFormats names.outputs) bytes answer
+
+-- what a run on these words does that ends so: `export` with three outputs, or else a command of `run`
+abbrev pub RunsFor : Option ExportNames → List (List ℕ) → Status → State → State → Type 0
+RunsFor (Some names) words status before after = Run ExportFits 1 (FormatsAnswer names) status before after
+RunsFor None words status before after = Outcome (command_of words) status before after
+
 -- a run on these words ended with this status
 abbrev pub RunsOn : List (List ℕ) → ℕ → State → State → Type 0
-RunsOn words code before after = (status : Status) × (code ≡ code_of status) × Outcome (command_of words) status before after
+RunsOn words code before after = (status : Status) × (code ≡ code_of status) × RunsFor (export_of 3 words) words status before after
 
 -- there was no memory for the words, and nothing is done
 abbrev pub DoesNothing : ℕ → State → State → Type 0
 DoesNothing code before after = (code ≡ code_of NoMemory) × (after ≡ before)
+
+-- a run on these words, or there was no memory for it
+abbrev pub RunsOrIdles : List (List ℕ) → ℕ → State → State → Type 0
+RunsOrIdles words code before after = RunsOn words code before after ⊎ DoesNothing code before after
 
 -- the words behind the program's name
 abbrev pub words_behind_name : {A : Type 0} → IntoIter (String A) A → List (List ℕ)
@@ -34,7 +68,7 @@ words_behind_name args = map string_bytes (drop 1 (into_iter_items args))
 
 -- a run on the words behind the program's name, where there is memory for them; words that are not text are no words
 abbrev pub EndsOn : {A : Type 0} → Result (IntoIter (String A) A) Error → ℕ → State → State → Type 0
-EndsOn (Ok args) code before after = RunsOn (words_behind_name args) code before after ⊎ DoesNothing code before after
+EndsOn (Ok args) code before after = RunsOrIdles (words_behind_name args) code before after
 EndsOn (Err error) code before after =
     ((error_kind error ≡ OutOfMemory) × DoesNothing code before after)
     ⊎ ((error_kind error ≢ OutOfMemory) × RunsOn [] code before after)

@@ -1,12 +1,13 @@
-//! How the program ends, by what the system hands in as its words. It stands on `recon_cmd`.
-ghost use Rattle.std.specs.Prelude.{◌≡◌, false, drop, IfOk};
+//! How the program ends, by what the system hands in as its words. It stands on `recon_cmd`, and on the forms of `mesh_form`.
+ghost use Rattle.std.specs.Prelude.{◌≡◌, false, drop, map, string_bytes, IfOk, OnErr};
 ghost use Rattle.std.specs.Process.{exit_status};
 ghost use Rattle.std.specs.Vec.Iter.{into_iter_items};
-ghost use Rattle.recon_main.specs.Ends.{EndsOn, EndsAfterARun};
+ghost use Rattle.recon_main.specs.Ends.{EndsOn, EndsAfterARun, RunsOn, RunsOrIdles};
 
 use crate::real::RealHost;
 use host::Host;
-use recon_cmd::{Status, run};
+use mesh_form::{Form, ObjForm, OffForm, PlyForm};
+use recon_cmd::{Status, run, run_forms};
 use std::alloc::{AllocError, Global};
 use std::env::Args;
 use std::io::ErrorKind;
@@ -28,21 +29,46 @@ pub fn ends_on<R: Env + Files + Print + AllocGlobal + Drop>(rt: R) -> ExitCode
 
 /// The status that the program ends with, after a run on the words behind the program's name.
 ///
-/// Words of which one is no text are no command, as if there were none. Where there is no memory for the words, the status
-/// is 5 and nothing is done.
+/// Words of which one is no text are no command, as if there were none. Where there is no memory for the words or for the forms
+/// of `export`, the status is 5 and nothing is done.
 pub fn ends<H: Host>(alloc: Global, args: io::Result<Args>, host: &mut H) -> ExitCode
     requires { (H.state host.old).writing ≡ false }
     ensures { EndsOn args (exit_status result) (H.state host.old) (H.state host.new) }
 {
     let status = match args {
         Ok(args) => match words_behind_name(alloc, args) {
-            Ok(words) => run(alloc, &words, host),
+            Ok(words) => run_on(alloc, &words, host),
             Err(AllocError) => Status::NoMemory.code(),
         },
         Err(error) if error.kind() == ErrorKind::OutOfMemory => Status::NoMemory.code(),
         Err(_) => run(alloc, &[], host),
     };
     ExitCode::from(status)
+}
+
+// The status of a run on these words, where `export` writes PLY, OFF and OBJ. Where there is no memory for the three forms,
+// nothing is done.
+fn run_on<H: Host>(alloc: Global, words: &[String], host: &mut H) -> u8
+    requires { (H.state host.old).writing ≡ false }
+    ensures { RunsOrIdles (map string_bytes words.now) result (H.state host.old) (H.state host.new) }
+{
+    match run_in_forms(alloc, words, host) {
+        Ok(status) => status,
+        Err(AllocError) => Status::NoMemory.code(),
+    }
+}
+
+// The same, and no status where there is no memory for the forms.
+fn run_in_forms<H: Host>(alloc: Global, words: &[String], host: &mut H) -> Result<u8, AllocError>
+    requires { (H.state host.old).writing ≡ false }
+    ensures ran { IfOk result (λ status. RunsOn (map string_bytes words.now) status (H.state host.old) (H.state host.new)) }
+    ensures idle { OnErr result (H.state host.new ≡ H.state host.old) }
+{
+    let mut forms: Vec<Box<dyn Form>> = Vec::new(alloc);
+    forms.push(Box::new(alloc, PlyForm::new(alloc))?)?;
+    forms.push(Box::new(alloc, OffForm::new(alloc))?)?;
+    forms.push(Box::new(alloc, ObjForm::new(alloc))?)?;
+    Ok(run_forms(alloc, words, host, &mut forms))
 }
 
 // All but the first.

@@ -5,7 +5,7 @@ ghost use Rattle.cert_text.specs.Certificates.{claim_of, IsWellFormed};
 ghost use Rattle.mesh_ply.specs.Meshes.{IsMesh};
 ghost use Rattle.scan.specs.Views.{shown_of};
 ghost use Rattle.solution.specs.Solutions.{surface_of};
-ghost use Rattle.recon_cmd.specs.Answers.{WritesSurface};
+ghost use Rattle.recon_cmd.specs.Answers.{WritesSurface, file_limit};
 ghost use Rattle.recon_cmd.specs.OptionViews.{options_view};
 ghost use Rattle.recon_cmd.specs.Replies.{answer_of, Shows};
 ghost use Rattle.recon_cmd.specs.Steps.{IsReplied, ReadsFor, StopsFor};
@@ -33,13 +33,14 @@ pub fn reply_to_build<'a, H: Host>(
     host: &mut H,
     names: &BuildNames<'a>,
     options: &Options,
+    limit: u64,
 ) -> Result<Reply<'a>, Stop>
     requires { (H.state host.old).writing ≡ false }
-    ensures replied { IfOk result (λ reply. IsReplied (build (build_names names.now) (options_view options.now)) reply (H.state host.old)) }
+    ensures replied { limit ≡ file_limit → IfOk result (λ reply. IsReplied (build (build_names names.now) (options_view options.now)) reply (H.state host.old)) }
     ensures reads { ReadsFor (Some (build (build_names names.now) (options_view options.now))) (H.state host.old) (H.state host.new) }
     ensures cause { StopsFor result (H.state host.old).faults (H.state host.new).faults }
 {
-    let reading = match read_input(alloc, host, names.input, options) {
+    let reading = match read_input(alloc, host, names.input, options, limit) {
         Ok(reading) => reading,
         Err(stop) => return Err(stop),
     };

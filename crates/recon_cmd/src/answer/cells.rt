@@ -6,7 +6,7 @@ ghost use Rattle.geo_sign.specs.Vertices.{vertices_of};
 ghost use Rattle.scan.specs.Shown.{Shown, IsShown};
 ghost use Rattle.scan.specs.Views.{shown_of};
 ghost use Rattle.solution.specs.Scans.{points_of};
-ghost use Rattle.recon_cmd.specs.Answers.{WritesCells};
+ghost use Rattle.recon_cmd.specs.Answers.{WritesCells, file_limit};
 ghost use Rattle.recon_cmd.specs.OptionViews.{options_view};
 ghost use Rattle.recon_cmd.specs.Replies.{answer_of};
 ghost use Rattle.recon_cmd.specs.Steps.{IsReplied, ReadsFor, StopsFor};
@@ -34,13 +34,14 @@ pub fn reply_to_cells<'a, H: Host>(
     host: &mut H,
     names: &CellsNames<'a>,
     options: &Options,
+    limit: u64,
 ) -> Result<Reply<'a>, Stop>
     requires { (H.state host.old).writing ≡ false }
-    ensures replied { IfOk result (λ reply. IsReplied (cells (cells_names names.now) (options_view options.now)) reply (H.state host.old)) }
+    ensures replied { limit ≡ file_limit → IfOk result (λ reply. IsReplied (cells (cells_names names.now) (options_view options.now)) reply (H.state host.old)) }
     ensures reads { ReadsFor (Some (cells (cells_names names.now) (options_view options.now))) (H.state host.old) (H.state host.new) }
     ensures cause { StopsFor result (H.state host.old).faults (H.state host.new).faults }
 {
-    let reading = match read_input(alloc, host, names.input, options) {
+    let reading = match read_input(alloc, host, names.input, options, limit) {
         Ok(reading) => reading,
         Err(stop) => return Err(stop),
     };

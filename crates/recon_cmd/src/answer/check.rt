@@ -16,7 +16,7 @@ ghost use Rattle.recon_cmd.specs.Steps.{IsReplied, ReadsFor, StopsFor};
 ghost use Rattle.recon_cmd.specs.Words.{check, check_names, output_of};
 
 use crate::NoMemory;
-use crate::answer::reading::{FILE_LIMIT, Reading, read_input};
+use crate::answer::reading::{Reading, read_input};
 use crate::answer::refusals::refusal;
 use crate::answer::stamps::stamp_of;
 use crate::answer::{Line, Reply, Stop, Text};
@@ -39,20 +39,22 @@ pub fn reply_to_check<'a, H: Host>(
     host: &mut H,
     names: &CheckNames<'a>,
     options: &Options,
+    limit: u64,
 ) -> Result<Reply<'a>, Stop>
     requires { (H.state host.old).writing ≡ false }
-    ensures replied { IfOk result (λ reply. IsReplied (check (check_names names.now) (output_of names.now) (options_view options.now)) reply (H.state host.old)) }
-    ensures reads { ReadsFor (Some (check (check_names names.now) (output_of names.now) (options_view options.now))) (H.state host.old) (H.state host.new) }
+    ensures replied { limit ≡ file_limit → IfOk result (λ reply. IsReplied (check (check_names names.now) (output_of names.now) (options_view options.now)) reply (H.state host.old)) }
+    ensures reads { limit ≡ file_limit → ReadsFor (Some (check (check_names names.now) (output_of names.now) (options_view options.now))) (H.state host.old) (H.state host.new) }
+    ensures closed { (H.state host.new).writing ≡ false }
     ensures cause { StopsFor result (H.state host.old).faults (H.state host.new).faults }
 {
-    let reading = match read_input(alloc, host, names.input, options) {
+    let reading = match read_input(alloc, host, names.input, options, limit) {
         Ok(reading) => reading,
         Err(stop) => return Err(stop),
     };
     match reading {
         Reading::Scan(scan, bytes) => {
             let stamp = stamp_of(bytes, options.unit, options.fixed);
-            reply_to_scan(alloc, host, &scan, &stamp, names, options)
+            reply_to_scan(alloc, host, &scan, &stamp, names, options, limit)
         }
         Reading::Refused(line) => Ok(refusal(alloc, line)),
     }
@@ -66,15 +68,17 @@ fn reply_to_scan<'a, H: Host>(
     stamp: &Stamp,
     names: &CheckNames<'a>,
     options: &Options,
+    limit: u64,
 ) -> Result<Reply<'a>, Stop>
     requires { (H.state host.old).writing ≡ false }
-    ensures replied { IfOk result (λ reply. IsCheckReply (check_names names.now) (output_of names.now) (options_view options.now)
+    ensures replied { limit ≡ file_limit → IfOk result (λ reply. IsCheckReply (check_names names.now) (output_of names.now) (options_view options.now)
         (MeshAnswer (check_names names.now) (HasVerdict (output_of names.now) (options_view options.now) (stamp_view stamp.now) (shown_of scan.now))) reply (H.state host.old)) }
-    ensures reads { ReadsOn 1 2 (MeshAnswer (check_names names.now) (HasVerdict (output_of names.now) (options_view options.now) (stamp_view stamp.now) (shown_of scan.now)))
+    ensures reads { limit ≡ file_limit → ReadsOn 1 2 (MeshAnswer (check_names names.now) (HasVerdict (output_of names.now) (options_view options.now) (stamp_view stamp.now) (shown_of scan.now)))
         (H.state host.old) (H.state host.new) }
+    ensures closed { (H.state host.new).writing ≡ false }
     ensures cause { StopsFor result (H.state host.old).faults (H.state host.new).faults }
 {
-    let mesh = match read_all(alloc, host, names.mesh, FILE_LIMIT) {
+    let mesh = match read_all(alloc, host, names.mesh, limit) {
         Ok(mesh) => mesh,
         Err(ReadRefusal::TooLong) => return Ok(refusal(
             alloc,
@@ -83,7 +87,7 @@ fn reply_to_scan<'a, H: Host>(
         Err(ReadRefusal::Failed) => return Err(Stop::Failed),
         Err(ReadRefusal::NoMemory) => return Err(Stop::NoMemory),
     };
-    reply_to_mesh(alloc, host, scan, stamp, names, options, &mesh)
+    reply_to_mesh(alloc, host, scan, stamp, names, options, limit, &mesh)
 }
 
 // Reads the certificate, and answers to a scan and a mesh.
@@ -94,16 +98,18 @@ fn reply_to_mesh<'a, H: Host>(
     stamp: &Stamp,
     names: &CheckNames<'a>,
     options: &Options,
+    limit: u64,
     mesh: &[u8],
 ) -> Result<Reply<'a>, Stop>
     requires { (H.state host.old).writing ≡ false }
-    ensures replied { IfOk result (λ reply. IsCheckReply (check_names names.now) (output_of names.now) (options_view options.now)
+    ensures replied { limit ≡ file_limit → IfOk result (λ reply. IsCheckReply (check_names names.now) (output_of names.now) (options_view options.now)
         (CertAnswer (check_names names.now) (HasVerdict (output_of names.now) (options_view options.now) (stamp_view stamp.now) (shown_of scan.now) mesh.now)) reply (H.state host.old)) }
-    ensures reads { ReadsOn 2 1 (CertAnswer (check_names names.now) (HasVerdict (output_of names.now) (options_view options.now) (stamp_view stamp.now) (shown_of scan.now) mesh.now))
+    ensures reads { limit ≡ file_limit → ReadsOn 2 1 (CertAnswer (check_names names.now) (HasVerdict (output_of names.now) (options_view options.now) (stamp_view stamp.now) (shown_of scan.now) mesh.now))
         (H.state host.old) (H.state host.new) }
+    ensures closed { (H.state host.new).writing ≡ false }
     ensures cause { StopsFor result (H.state host.old).faults (H.state host.new).faults }
 {
-    let cert = match read_all(alloc, host, names.cert, FILE_LIMIT) {
+    let cert = match read_all(alloc, host, names.cert, limit) {
         Ok(cert) => cert,
         Err(ReadRefusal::TooLong) => return Ok(refusal(
             alloc,

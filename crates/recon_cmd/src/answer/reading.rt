@@ -25,19 +25,21 @@ pub enum Reading {
     Refused(Line),
 }
 
-/// Reads the scan of the named file, in the unit and with the fixed scanner of these options.
+/// Reads the scan of the named file, in the unit and with the fixed scanner of these options. The file may have as many bytes
+/// as the limit.
 pub fn read_input<H: Host>(
     alloc: Global,
     host: &mut H,
     name: &str,
     options: &Options,
+    limit: u64,
 ) -> Result<Reading, Stop>
     requires { (H.state host.old).writing ≡ false }
-    ensures read { IfOk result (λ reading. IfSome (H.state host.old).told (IsReading name.now (options_view options.now) reading)) }
+    ensures read { limit ≡ file_limit → IfOk result (λ reading. IfSome (H.state host.old).told (IsReading name.now (options_view options.now) reading)) }
     ensures only { OnlyReads (H.state host.old) (H.state host.new) }
     ensures cause { StopsFor result (H.state host.old).faults (H.state host.new).faults }
 {
-    let bytes = match read_all(alloc, host, name, FILE_LIMIT) {
+    let bytes = match read_all(alloc, host, name, limit) {
         Ok(bytes) => bytes,
         Err(ReadRefusal::TooLong) => return Ok(Reading::Refused(Line::Fixed(
             line_of_too_long_scan(),
@@ -53,8 +55,7 @@ pub fn read_input<H: Host>(
 
 // What the bytes of a scan's file come to.
 fn understand_scan(alloc: Global, bytes: Vec<u8>, options: &Options) -> Result<Reading, NoMemory>
-    requires { length bytes.items ≤ file_limit }
-    ensures { IfOk result (IsUnderstood bytes.items (options_view options.now)) }
+    ensures { length bytes.items ≤ file_limit → IfOk result (IsUnderstood bytes.items (options_view options.now)) }
 {
     match read_scan(alloc, &bytes, options.unit, options.fixed) {
         Ok(scan) => Ok(Reading::Scan(scan, bytes)),

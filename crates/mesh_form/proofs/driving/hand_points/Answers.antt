@@ -8,4 +8,5 @@ loop-point-preserved g c =
     record {
       front = point_more _ _ _ _ _ c.loop-point.invariant.front (omega arith) c.point-item.is c.in_ok-hand_point.ensures.taken;
       due = ap (λ (r : Received). r.faces_due) c.in_ok-hand_point.ensures.taken ∙ c.loop-point.invariant.due;
+      kind = c.in_ok-hand_point.ensures.kind ∙ c.loop-point.invariant.kind;
     }

@@ -1,0 +1,113 @@
+-- What `export` asks for and does. Its answer is by what the forms that were handed in make of the mesh, so it is no command of
+-- the program alone.
+--
+--   ExportNames                      the name of the mesh, and the names of the outputs
+--   export_of forms words            what the words ask for, if they are `export` with so many outputs
+--   export_names words               the names that the program holds
+--   exported_line forms mesh         the line of `export`
+--   WritesForms outputs ..           the answer that writes the forms' texts
+--   ExportAnswer names ..            a refusal of the mesh, or this answer
+--   ExportFits status                the statuses that `export` may end with at all
+--   IsFileOf name mesh before        where the host tells its files, the named one is the mesh's text
+--   HaveAll, HaveFronts mesh forms   each form has received the whole mesh; a front of it
+--   FormsAfter name status ..        what the forms have received after a run that ended so
+--   FormsHandOut outputs mesh ..     what follows where the mesh was read
+--   ExportOutcome names status ..    what a run of `export` does to its host and to the forms
+use Rattle.std.specs.Prelude.{◌≡◌, ◌⊎◌, ℕ, List, [], ◌∷◌, ◌++◌, ◌&&◌, ◌==◌, nat_le, length, map, codes, string_bytes, All, Option, Some, None, IfSome, ⊤, if◌then◌else◌}
+use Rattle.std.specs.List.{zip}
+use Rattle.std.specs.Str.{bytes_eq}
+use Rattle.host.specs.State.{State, Files}
+use Rattle.mesh_form.specs.Received.{Received, HasAll, HasFront}
+use Rattle.mesh_ply.specs.Meshes.{Surface}
+use Rattle.mesh_ply.specs.Texts.{mesh_text}
+use Rattle.recon_cmd.specs.Answers.{Answer, MeshFileAnswer}
+use Rattle.recon_cmd.specs.Lines.{labelled}
+use Rattle.recon_cmd.specs.Outcome.{Run}
+use Rattle.recon_cmd.specs.Steps.{CarriesOut}
+use Rattle.recon_cmd.specs.Words.{are_names}
+use Rattle.recon_cmd.specs.declared.status.Status.{Status}
+use Rattle.recon_cmd.specs.declared.status.Status.TheVariants.{Done, No, BadWords, Refused, Failed, NoMemory}
+use Rattle.recon_cmd.specs.declared.words.export.ExportWords.{ExportWords}
+
+-- the names of `export MESH OUT1 .. OUTn`
+pub record ExportNames : Type 0 where
+  pub mesh : List ℕ
+  pub outputs : List (List ℕ)
+
+-- the command, a mesh, and as many outputs as there are forms, at least one
+abbrev pub export_of : (forms : ℕ) → List (List ℕ) → Option ExportNames
+export_of forms (word ∷ mesh ∷ outputs) =
+    if bytes_eq word (codes "export") && (nat_le 1 forms && ((length outputs == forms) && are_names (mesh ∷ outputs)))
+    then Some (record { mesh = mesh; outputs = outputs })
+    else None
+export_of forms words = None
+
+-- the names that the program holds
+abbrev pub export_names : ExportWords → ExportNames
+export_names words = record { mesh = words.mesh.now; outputs = map string_bytes words.outputs.now }
+
+-- `exported n points N faces M`
+unfoldable pub exported_line : (forms points faces : ℕ) → List ℕ
+exported_line forms points faces =
+    labelled (codes "exported ") forms ++ (labelled (codes " points ") points ++ (labelled (codes " faces ") faces ++ (10 ∷ [])))
+
+-- each form has received the whole mesh
+abbrev pub HaveAll : Surface → List Received → Type 0
+HaveAll mesh forms = All (λ r. HasAll r mesh.points mesh.faces) forms
+
+-- each form has received a front of the mesh, the whole included
+abbrev pub HaveFronts : Surface → List Received → Type 0
+HaveFronts mesh forms = All (λ r. HasFront r mesh.points mesh.faces) forms
+
+-- each form has received the whole mesh, and their texts are written to the outputs, in order
+pub record WritesForms (outputs : List (List ℕ)) (forms : List Received) (texts : List (List ℕ)) (mesh : Surface) (answer : Answer) : Type 0 where
+  pub each : HaveAll mesh forms
+  pub is : answer ≡ record {
+    status = Done;
+    reads = 1;
+    writes = zip outputs texts;
+    line = exported_line (length outputs) (length mesh.points) (length mesh.faces);
+  }
+
+-- the mesh is refused, or the texts of these forms are written
+abbrev pub ExportAnswer : ExportNames → (forms : List Received) → (texts : List (List ℕ)) → Files → Answer → Type 0
+ExportAnswer names forms texts files answer =
+    (bytes : List ℕ) × (files names.mesh ≡ Some bytes) × MeshFileAnswer (WritesForms names.outputs forms texts) bytes answer
+
+-- the statuses that `export` may end with at all
+abbrev pub ExportFits : Status → Type 0
+ExportFits Done = ⊤
+ExportFits No = ⊥
+ExportFits BadWords = ⊥
+ExportFits Refused = ⊤
+ExportFits Failed = ⊤
+ExportFits NoMemory = ⊤
+
+-- where the host tells its files, the named one is the mesh's text
+abbrev pub IsFileOf : (name : List ℕ) → Surface → State → Type 0
+IsFileOf name mesh before = IfSome before.told (λ told. told.files name ≡ Some (mesh_text mesh.points mesh.faces))
+
+-- the forms are as they were, or each has received a front of the mesh of the named file
+abbrev pub AreHandedFronts : (name : List ℕ) → State → (old new : List Received) → Type 0
+AreHandedFronts name before old new = (new ≡ old) ⊎ ((mesh : Surface) × IsFileOf name mesh before × HaveFronts mesh new)
+
+-- what the forms have received after a run that ended so
+abbrev pub FormsAfter : (name : List ℕ) → Status → State → (old new : List Received) → Type 0
+FormsAfter name Done before old new = (mesh : Surface) × IsFileOf name mesh before × HaveAll mesh new
+FormsAfter name Refused before old new = new ≡ old
+FormsAfter name Failed before old new = AreHandedFronts name before old new
+FormsAfter name NoMemory before old new = AreHandedFronts name before old new
+FormsAfter name No before old new = ⊥
+FormsAfter name BadWords before old new = ⊥
+
+-- What follows where the mesh was read: there was no memory, and each form has received a front of it; or each has received the
+-- whole, and their texts are written up to a call that failed.
+abbrev pub FormsHandOut : (outputs : List (List ℕ)) → Surface → Status → State → State → (new : List Received) → (texts : List (List ℕ)) → Type 0
+FormsHandOut outputs mesh status before after new texts =
+    ((status ≡ NoMemory) × HaveFronts mesh new × (after ≡ before))
+    ⊎ (HaveAll mesh new × CarriesOut (zip outputs texts) (exported_line (length outputs) (length mesh.points) (length mesh.faces)) Done status before after)
+
+-- what a run of `export` does to its host, and to forms that had received `old`, have received `new` and have these texts
+pub record ExportOutcome (names : ExportNames) (status : Status) (before after : State) (old new : List Received) (texts : List (List ℕ)) : Type 0 where
+  pub run : Run ExportFits 1 (ExportAnswer names new texts) status before after
+  pub forms : FormsAfter names.mesh status before old new

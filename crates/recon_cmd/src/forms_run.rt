@@ -1,0 +1,57 @@
+//! A whole run of the program with forms that the caller hands in. It stands on `run`, and on what `export` does.
+ghost use Rattle.std.specs.Prelude.{◌≡◌, false, length, map, string_bytes, All, IfSome, None};
+ghost use Rattle.mesh_form.specs.Received.{IsFresh};
+ghost use Rattle.recon_cmd.specs.Exports.{export_of, ExportOutcome};
+ghost use Rattle.recon_cmd.specs.Outcome.{Outcome};
+ghost use Rattle.recon_cmd.specs.Status.{code_of};
+ghost use Rattle.recon_cmd.specs.Words.{command_of};
+ghost use Rattle.recon_cmd.specs.declared.status.Status.{Status as RunStatus};
+
+use crate::answer::export_mesh;
+use crate::whole_run::run;
+use crate::words::understand_export;
+use host::Host;
+use mesh_form::Form;
+use std::alloc::Global;
+
+/// Does what the words ask for, and answers the exit status of the program: `export MESH OUT1 .. OUTn` with as many outputs as
+/// there are forms, and at least one; and all that [`run`] does, where the forms are left as they are. The words are those after
+/// the program's name.
+///
+/// `export` reads the mesh, hands it to each form, in order, and writes the text of the form `k` to `OUTk`, in order. It opens
+/// one file, and no file is made before all texts stand in memory.
+///
+/// | Status of `export` | When | The forms |
+/// |---|---|---|
+/// | 0 | the texts are written | each has received exactly the points and faces of the mesh, in order, once |
+/// | 3 | the mesh is refused, or its file is longer than 4,294,967,296 bytes | as they were |
+/// | 4 | a call of the host failed | each has received a front of the points and faces |
+/// | 5 | there was no memory | the same |
+///
+/// `export` with another number of outputs is no command. No form is put in the place of one of another type.
+pub fn run_forms<H: Host>(
+    alloc: Global,
+    words: &[String],
+    host: &mut H,
+    forms: &mut [Box<dyn Form>],
+) -> u8
+    requires closed { (H.state host.old).writing ≡ false }
+    requires fresh { All IsFresh (map (λ form. received form) forms.old) }
+
+    // What `export` does.
+    ensures exported { IfSome (export_of (length forms.old) (map string_bytes words.now)) (λ names. (status : RunStatus) × (result ≡ code_of status)
+        × ExportOutcome names status (H.state host.old) (H.state host.new)
+        (map (λ form. received form) forms.old) (map (λ form. received form) forms.new) (map (λ form. text_of form) forms.new)) }
+
+    // On all other words it is `run`, and leaves the forms.
+    ensures ran { export_of (length forms.old) (map string_bytes words.now) ≡ None → (status : RunStatus) × (result ≡ code_of status)
+        × Outcome (command_of (map string_bytes words.now)) status (H.state host.old) (H.state host.new) × (forms.new ≡ forms.old) }
+
+    // Each form is of the type of the one that was handed in.
+    ensures kinds { map (λ form. form.vtable) forms.new ≡ map (λ form. form.vtable) forms.old }
+{
+    match understand_export(words, forms.len()) {
+        Some(words) => export_mesh(alloc, host, &words, forms).code(),
+        None => run(alloc, words, host),
+    }
+}

@@ -1,0 +1,331 @@
+//! Each call of the host fails in turn: the first of its kind, the second, and so on until a run ends without a fault.
+//!
+//! What then stands is compared with what a run without a fault leaves. Of the texts that it writes, in their order, those that
+//! were whole before the failed call are there, the next one as far as it was written, and all else is as it was. Nothing is
+//! called after the failed call but the one that closes the file which is being written.
+ghost use Rattle.std.specs.Prelude.{◌<◌};
+
+use super::watched::{Files, Watched};
+use super::{owned, plain};
+use crate::run;
+use gen_scan::gen_scan;
+use host::HostCall;
+use scan::{Scan, push_scan, read_scan};
+use std::alloc::Global;
+use std::test::Fail;
+
+const CALLS: [HostCall; 6] = [
+    HostCall::Open,
+    HostCall::Read,
+    HostCall::Create,
+    HostCall::Append,
+    HostCall::Finish,
+    HostCall::Say,
+];
+
+// A command: its words, and the files that it writes, in their order.
+#[derive(Clone, Copy)]
+struct Command {
+    words: &'static [&'static str],
+    outputs: &'static [&'static str],
+}
+
+// The commands that read a scan. Each finds the files that those before it leave.
+const COMMANDS: [Command; 4] = [
+    Command {
+        words: &["cells", "in", "out"],
+        outputs: &["out"],
+    },
+    Command {
+        words: &["build", "in", "mesh", "cert"],
+        outputs: &["mesh", "cert"],
+    },
+    Command {
+        words: &["check", "in", "mesh", "cert"],
+        outputs: &[],
+    },
+    Command {
+        words: &["upgrade", "in", "mesh", "cert", "out"],
+        outputs: &["out"],
+    },
+];
+
+const DEMO: Command = Command {
+    words: &["demo", "5", "3"],
+    outputs: &[],
+};
+
+// A command on files, in calls that move so many bytes at most, and what it leaves and says where no call fails.
+#[derive(Clone, Copy)]
+struct Case<'a> {
+    command: Command,
+    piece: usize,
+    before: &'a Files,
+    whole: &'a Files,
+    said: &'a str,
+}
+
+// What stands after a failed call.
+#[derive(Drop)]
+struct Left {
+    files: Files,
+    // how many bytes of the line were said
+    said: usize,
+}
+
+// What stands where a call that writes or says fails behind so many of its kind. None where there are no more of that kind.
+fn left_by(alloc: Global, case: Case, call: HostCall, behind: u32) -> Result<Option<Left>, Fail>
+    requires { 0 < case.piece }
+{
+    let mut files = case.before.copied(alloc)?;
+    let mut behind = behind as usize;
+    for name in case.command.outputs {
+        let text = case.whole.named(name);
+        let calls = match call {
+            HostCall::Append => text.len().div_ceil(case.piece),
+            HostCall::Say => 0,
+            _ => 1,
+        };
+        if behind < calls {
+            let count = behind.saturating_mul(case.piece);
+            let arrived = match call {
+                HostCall::Append => Some(text.get(..count).unwrap_or(text)),
+                HostCall::Finish => Some(text),
+                _ => None,
+            };
+            if let Some(bytes) = arrived {
+                files.put(name, bytes.to_vec(alloc)?);
+            }
+            return Ok(Some(Left { files, said: 0 }));
+        }
+        behind -= calls;
+        files.put(name, text.to_vec(alloc)?);
+    }
+    let said = behind.saturating_mul(case.piece);
+    if call == HostCall::Say && said < case.said.len() {
+        return Ok(Some(Left { files, said }));
+    }
+    Ok(None)
+}
+
+// Whether a run stopped so.
+fn is_left(host: &Watched, call: HostCall, left: &Left, said: &str) -> bool {
+    let closed = if call == HostCall::Append { 1 } else { 0 };
+    let front = said.as_bytes().get(..left.said).unwrap_or(b"");
+    host.host.fault_count() == 1
+        && host.later == 0
+        && host.closed == closed
+        && host.has(&left.files)
+        && host.host.said() == front
+}
+
+// Whether a run came to its end.
+fn is_whole(host: &Watched, whole: &Files, said: &str) -> bool {
+    host.host.fault_count() == 0 && host.has(whole) && host.host.said() == said.as_bytes()
+}
+
+// One call fails behind so many of its kind. The answer says whether there was such a call.
+fn fail_once(alloc: Global, case: Case, call: HostCall, behind: u32) -> Result<bool, Fail>
+    requires { 0 < case.piece }
+{
+    let mut host = Watched::new(alloc, case.before, case.piece, Some((call, behind)))?;
+    let status = run(alloc, &owned(alloc, case.command.words)?, &mut host);
+    let left = match call {
+        HostCall::Open | HostCall::Read if status == 4 => Some(Left {
+            files: case.before.copied(alloc)?,
+            said: 0,
+        }),
+        HostCall::Open | HostCall::Read => None,
+        _ => left_by(alloc, case, call, behind)?,
+    };
+    let is_right = match &left {
+        Some(left) => status == 4 && is_left(&host, call, left, case.said),
+        None => status == 0 && is_whole(&host, case.whole, case.said),
+    };
+    if !is_right {
+        let words = case.command.words;
+        return Err(Fail::new(format_args!(
+            "{words:?}: {call:?} behind {behind} ends with {status}"
+        )));
+    }
+    Ok(left.is_some())
+}
+
+// Calls of one kind fail, the first, the second and so on, until there are no more.
+fn fail_in_turn(alloc: Global, case: Case, call: HostCall) -> Result<(), Fail>
+    requires { 0 < case.piece }
+{
+    for behind in 0..1_000_000 {
+        if !fail_once(alloc, case, call, behind)? {
+            return Ok(());
+        }
+    }
+    Err(Fail::new("a run without an end"))
+}
+
+// Each call of a command fails in turn. The answer is what a run leaves in which none fails.
+fn sweep(
+    alloc: Global,
+    command: Command,
+    piece: usize,
+    before: &Files,
+    said: &str,
+) -> Result<Files, Fail>
+    requires { 0 < piece }
+{
+    let mut host = Watched::new(alloc, before, piece, None)?;
+    let status = run(alloc, &owned(alloc, command.words)?, &mut host);
+    let whole = host.files(alloc)?;
+    if status != 0 || !is_whole(&host, &whole, said) {
+        let words = command.words;
+        return Err(Fail::new(format_args!("{words:?} ends with {status}")));
+    }
+    let case = Case {
+        command,
+        piece,
+        before,
+        whole: &whole,
+        said,
+    };
+    for call in CALLS {
+        fail_in_turn(alloc, case, call)?;
+    }
+    Ok(whole)
+}
+
+// The commands on a scan, in their order, where all outputs hold something before. Each says its line; one without a line is
+// left out.
+fn sweep_all(alloc: Global, input: &[u8], piece: usize, lines: [&str; 4]) -> Result<(), Fail> {
+    if piece == 0 {
+        return Err(Fail::new("calls that move nothing"));
+    }
+    let mut files = Files {
+        input: input.to_vec(alloc)?,
+        output: b"old cells".to_vec(alloc)?,
+        mesh: b"old mesh".to_vec(alloc)?,
+        cert: b"old certificate".to_vec(alloc)?,
+    };
+    for (command, said) in COMMANDS.iter().zip(lines) {
+        if !said.is_empty() {
+            files = sweep(alloc, *command, piece, &files, said)?;
+        }
+    }
+    Ok(())
+}
+
+// The binary form of a scan, of which each number has its lowest byte first.
+fn binary(alloc: Global, scan: &Scan) -> Result<Vec<u8>, Fail> {
+    let points = scan.points.len();
+    let scanners = scan.scanners.len();
+    let header = format!(in alloc;
+        "ply\nformat binary_little_endian 1.0\nelement vertex {points}\nproperty int x\nproperty int y\nproperty int z\nproperty uint scanner\nelement scanner {scanners}\nproperty int x\nproperty int y\nproperty int z\nend_header\n"
+    )?;
+    let mut bytes = header.as_bytes().to_vec(alloc)?;
+    for (point, seen) in scan.points.iter().zip(scan.seen.iter()) {
+        bytes.extend_from_slice(&point.x().to_le_bytes())?;
+        bytes.extend_from_slice(&point.y().to_le_bytes())?;
+        bytes.extend_from_slice(&point.z().to_le_bytes())?;
+        bytes.extend_from_slice(&seen.scanner.to_le_bytes())?;
+    }
+    for place in &scan.scanners {
+        bytes.extend_from_slice(&place.x().to_le_bytes())?;
+        bytes.extend_from_slice(&place.y().to_le_bytes())?;
+        bytes.extend_from_slice(&place.z().to_le_bytes())?;
+    }
+    Ok(bytes)
+}
+
+// The text of a scan in pieces of one size, its binary form in pieces of another, and both at once.
+fn sweep_forms(
+    alloc: Global,
+    text: &[u8],
+    text_piece: usize,
+    binary_piece: usize,
+    lines: [&str; 4],
+) -> Result<(), Fail> {
+    let bytes = binary(alloc, &read_scan(alloc, text, 1, None)?)?;
+    sweep_all(alloc, text, text_piece, lines)?;
+    sweep_all(alloc, &bytes, binary_piece, lines)?;
+    sweep_all(alloc, text, 65_536, lines)?;
+    sweep_all(alloc, &bytes, 65_536, lines)
+}
+
+#[test]
+fn each_call_fails_on_no_point(rt: HostRuntime) -> Result<(), Fail> {
+    let alloc = rt.alloc();
+    let text = plain(alloc, &[], &["0 0 0"])?;
+    let lines = [
+        "points 0 cells 6\n",
+        "points 0 scanners 1 sights 0 inside 0 faces 0 cost 0\n",
+        "yes inside 0 faces 0 cost 0\n",
+        "upgraded cost 0\n",
+    ];
+    sweep_forms(alloc, text.as_bytes(), 1, 7, lines)
+}
+
+#[test]
+fn each_call_fails_on_one_point(rt: HostRuntime) -> Result<(), Fail> {
+    let alloc = rt.alloc();
+    let text = plain(alloc, &["0 0 0 0"], &["100 0 0"])?;
+    let lines = [
+        "points 1 cells 12\n",
+        "points 1 scanners 1 sights 1 inside 0 faces 0 cost 8\n",
+        "yes inside 0 faces 0 cost 8\n",
+        "upgraded cost 8\n",
+    ];
+    sweep_forms(alloc, text.as_bytes(), 7, 7, lines)?;
+    let bytes = binary(alloc, &read_scan(alloc, text.as_bytes(), 1, None)?)?;
+    sweep_all(alloc, &bytes, 1, [lines[0], "", "", ""])
+}
+
+#[test]
+fn each_call_fails_on_five_points(rt: HostRuntime) -> Result<(), Fail> {
+    let alloc = rt.alloc();
+    let points = [
+        "100 100 100 0",
+        "100 -100 -100 0",
+        "-100 100 -100 1",
+        "-100 -100 100 1",
+        "7 -5 3 0",
+    ];
+    let text = plain(alloc, &points, &["1000 900 800", "-700 -1100 900"])?;
+    let lines = [
+        "points 5 cells 32\n",
+        "points 5 scanners 2 sights 5 inside 2 faces 6 cost 22\n",
+        "yes inside 2 faces 6 cost 22\n",
+        "upgraded cost 22\n",
+    ];
+    sweep_forms(alloc, text.as_bytes(), 7, 7, lines)
+}
+
+#[test]
+fn each_call_fails_on_many_points(rt: HostRuntime) -> Result<(), Fail> {
+    let alloc = rt.alloc();
+    let scan = gen_scan(alloc, 56, 7)?;
+    let mut text = Vec::new(alloc);
+    push_scan(&mut text, &scan)?;
+    let lines = [
+        "",
+        "points 56 scanners 6 sights 56 inside 61 faces 92 cost 196\n",
+        "yes inside 61 faces 92 cost 196\n",
+        "",
+    ];
+    sweep_all(alloc, &text, 65_536, lines)?;
+    sweep_all(alloc, &binary(alloc, &scan)?, 65_536, lines)
+}
+
+#[test]
+fn each_say_of_a_demonstration_fails(rt: HostRuntime) -> Result<(), Fail> {
+    let alloc = rt.alloc();
+    let before = Files {
+        input: Vec::new(alloc),
+        output: Vec::new(alloc),
+        mesh: Vec::new(alloc),
+        cert: Vec::new(alloc),
+    };
+    let said = "demo 5 3 points 5 scanners 6 sights 5 inside 1 faces 4 cost 36\n";
+    sweep(alloc, DEMO, 1, &before, said)?;
+    sweep(alloc, DEMO, 7, &before, said)?;
+    sweep(alloc, DEMO, 65_536, &before, said)?;
+    Ok(())
+}
