@@ -1,53 +1,104 @@
 #!/usr/bin/env python3
-"""Prints which files of specs/ the contract of a call rests on, and how long they are.
+"""Prints the definitions that a contract or a definition rests on, and how many lines they have.
 
-usage: tools/believed.py [CRATE FILE]      (by default recon_cmd src/whole_run.rt, where the top call stands)
+usage: tools/believed.py [CRATE FILE CALL]      (a call, as recon_cmd src/whole_run.rt run)
+       tools/believed.py [CRATE MODULE NAME]    (a definition, as recon_cmd CheckLaws CheckEnds)
 
-A file rests on what it imports, and so on. Files of the toolchain are left out, and so are types that the code declares.
+By default: what an answer of `recon check` says of its files, and then all of the contract of the top call. A contract rests on the
+definitions of specs/ that its clauses name, these on those that they name, and so on. Comments, imports and blank lines are not
+counted. Definitions of the toolchain are left out, and so are types that the code declares.
 """
 import pathlib
 import re
 import sys
 
 CRATES = pathlib.Path(__file__).resolve().parent.parent / "crates"
+CHECK = ("recon_cmd", "CheckLaws", "CheckEnds")
+ALL = ("recon_cmd", "src/whole_run.rt", "run")
+IMPORT = re.compile(r"(?ms)^[ ]*(?:pub |ghost )*use Rattle\.(\w+)\.specs\.(\w+)(?:\.\{(.*?)\}|(?: as (\w+))?)[;\s]")
+HEAD = re.compile(r"(?:(?:abbrev|unfoldable|pub|record|data) )+(\S+)")
+NAME = re.compile(r"[^\s(){}\[\],;.]+")
 
 
-def imports_of(path):
-    """Returns the files of specs/ that a file imports from."""
-    found = []
-    for crate, module in re.findall(r"(?m)^\s*(?:pub )?(?:ghost )?use Rattle\.(\w+)\.specs\.(\w+)", path.read_text()):
-        file = CRATES / crate / "specs" / f"{module}.antt"
-        if file.is_file():
-            found.append(file)
+def scope_of(text):
+    """Returns the places of the names that a text imports, and of the modules that it gives a name."""
+    names, modules = {}, {}
+    for crate, module, listed, alias in IMPORT.findall(text):
+        if not (CRATES / crate / "specs" / f"{module}.antt").is_file():
+            continue
+        if alias:
+            modules[alias] = (crate, module)
+        for item in filter(None, map(str.strip, listed.split(","))):
+            name, _, other = item.partition(" as ")
+            names[(other or name).strip("◌")] = (crate, module, name.strip("◌"))
+    return names, modules
+
+
+class File:
+    """A file of specs/: its definitions, each as its lines, and its scope."""
+
+    def __init__(self, crate, module):
+        text = (CRATES / crate / "specs" / f"{module}.antt").read_text()
+        self.names, self.modules = scope_of(text)
+        self.definitions = {}
+        name, in_import = None, False
+        for line in text.splitlines():
+            in_import = line.startswith("use ") or in_import and line.startswith((" ", "}"))
+            if not line.strip() or line.strip().startswith("--") or in_import:
+                continue
+            if head := HEAD.match(line):
+                name = head[1].strip("◌")
+                self.names[name] = (crate, module, name)
+            if name:
+                self.definitions.setdefault(name, []).append(line)
+
+
+def named_in(text, names, modules):
+    """Returns the places of all names of a scope that a text uses."""
+    found = {names[name] for name in NAME.findall(text) if name in names}
+    found |= {(*modules[alias], name) for alias, name in re.findall(r"(\w+)\.(\w+)", text) if alias in modules}
     return found
 
 
-def closure_of(path):
-    """Returns all files that a file rests on, sorted."""
-    left, seen = imports_of(path), set()
+def contract_of(crate, file, call):
+    """Returns the places that the contract of a call names."""
+    text = (CRATES / crate / file).read_text()
+    found = re.search(rf"(?ms)^ *(?:pub )?fn {call}\b(.*?)^ *\{{\}}?$", text)
+    if not found:
+        raise SystemExit(f"believed.py: no call {call} in crates/{crate}/{file}")
+    return named_in(found[1], *scope_of(text))
+
+
+def reached_from(places):
+    """Returns the lines of all definitions that these rest on, by place."""
+    files, reached, left = {}, {}, list(places)
     while left:
-        file = left.pop()
-        if file not in seen:
-            seen.add(file)
-            left += imports_of(file)
-    return sorted(seen)
+        crate, module, name = left.pop()
+        if (crate, module, name) in reached:
+            continue
+        file = files.setdefault((crate, module), None) or File(crate, module)
+        files[crate, module] = file
+        lines = file.definitions.get(name, [])
+        reached[crate, module, name] = lines
+        left += named_in("\n".join(lines), file.names, file.modules)
+    return reached
 
 
-def told(path):
-    """Returns the lines of a file that are neither blank, comments nor imports."""
-    lines = [line.strip() for line in path.read_text().splitlines()]
-    return [line for line in lines if line and not line.startswith(("--", "use ", "pub mod "))]
+def told(crate, place, name):
+    """Returns how many definitions and lines a contract or a definition rests on, and their files."""
+    reached = reached_from(contract_of(crate, place, name) if place.endswith(".rt") else [(crate, place, name)])
+    modules = {}
+    for (of, module, _), lines in reached.items():
+        modules.setdefault(of, {}).setdefault(module, []).append(len(lines))
+    count = sum(len(by_module) for by_module in modules.values())
+    head = f"`{name}`: {len(reached)} definitions of {count} files of `specs/`, together {sum(map(len, reached.values()))} lines. "
+    parts = (f"`{of}`: {', '.join(f'{module} {sum(by_module[module])}' for module in sorted(by_module))}" for of, by_module in sorted(modules.items()))
+    return head + "; ".join(parts)
 
 
 def main(words):
-    crate, file = words if words else ("recon_cmd", "src/whole_run.rt")
-    files = closure_of(CRATES / crate / file)
-    by_crate = {}
-    for it in files:
-        by_crate.setdefault(it.parent.parent.name, []).append(it.stem)
-    whole = sum(len(it.read_text().splitlines()) for it in files)
-    print(f"{len(files)} files of specs/, together {whole} lines, of which {sum(len(told(it)) for it in files)} are neither comments nor imports:")
-    print("; ".join(f"`{name}`: {', '.join(stems)}" for name, stems in sorted(by_crate.items())))
+    for call in [tuple(words)] if words else [CHECK, ALL]:
+        print(told(*call))
     return 0
 
 
