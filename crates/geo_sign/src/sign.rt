@@ -12,7 +12,7 @@ pub enum Sign {
 }
 
 impl Sign {
-    ghost use Rattle.std.specs.Prelude.{◌≡◌};
+    ghost use Rattle.std.specs.Prelude.{◌≡◌, ◌↔◌, IsTrue};
     ghost use Rattle.geo_sign.specs.Signs.{sign_of, first_sign};
 
     /// The sign of a number.
@@ -26,6 +26,20 @@ impl Sign {
         } else {
             Sign::Pos
         }
+    }
+
+    /// Whether this is `Pos`. Zero is not positive.
+    pub fn is_pos(self) -> bool
+        ensures { IsTrue result ↔ (self ≡ Sign.Pos) }
+    {
+        self == Sign::Pos
+    }
+
+    /// Whether this is `Neg`. Zero is not negative.
+    pub fn is_neg(self) -> bool
+        ensures { IsTrue result ↔ (self ≡ Sign.Neg) }
+    {
+        self == Sign::Neg
     }
 
     /// This sign, or the other where this one is zero.

@@ -3,6 +3,7 @@
 use crate::Sign::{Neg, Pos, Zero};
 use crate::{Point, Sign, corner, in_sphere, orient, orient_value, side_of_scanner};
 use std::process::Abort;
+use std::test::Fail;
 
 fn point(rt: &impl Abort, x: i64, y: i64, z: i64) -> Point {
     Point::data(x, y, z).expect(rt, "a data point")
@@ -10,6 +11,24 @@ fn point(rt: &impl Abort, x: i64, y: i64, z: i64) -> Point {
 
 fn assert_sign(rt: &impl Abort, found: Sign, expected: Sign) {
     assert_eq!(rt; found, expected);
+}
+
+#[test]
+fn example(rt: HostRuntime) -> Result<(), Fail> {
+    let a = Point::data(0, 0, 0).ok_or("a data point")?;
+    let b = Point::data(100, 0, 0).ok_or("a data point")?;
+    let c = Point::data(0, 100, 0).ok_or("a data point")?;
+    let d = Point::data(0, 0, 100).ok_or("a data point")?;
+    assert!(rt; orient(a, b, c, d).is_pos());
+    assert!(rt; orient(a, c, b, d).is_neg());
+
+    let inside = Point::data(99, 99, 99).ok_or("a data point")?;
+    let on = Point::data(100, 100, 100).ok_or("a data point")?;
+    let outside = Point::data(101, 101, 101).ok_or("a data point")?;
+    assert!(rt; in_sphere(a, b, c, d, inside).is_neg());
+    assert_eq!(rt; in_sphere(a, b, c, d, on), Sign::Zero);
+    assert!(rt; in_sphere(a, b, c, d, outside).is_pos());
+    Ok(())
 }
 
 #[test]
