@@ -1,3 +1,4 @@
+pub mod BuilderLemmas
 pub mod SumLemmas
 pub mod Duality
 pub mod Meets

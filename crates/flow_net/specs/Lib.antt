@@ -1,3 +1,4 @@
+pub mod Builders
 pub mod Flows
 pub mod Laws
 pub mod Nets

@@ -2,22 +2,24 @@
 //!
 //! The labelling of cells as inside or outside by minimum cut, as in Labatut, Pons and Keriven (2007 and 2009): each
 //! cell is a node, and each directed facet towards a free cell is an arc. The crate stands on the standard library
-//! alone and knows nothing of geometry.
+//! and `thiserror` alone, and knows nothing of geometry.
 //!
-//! This file holds the types. `lists` holds the lists that stand in their fields, `votes` the settings and sights,
-//! `sums` the cost of labels and the value of a flow, `laws` what holds between the two, and `validity` the test that
-//! `Net::is_valid` makes.
+//! This file holds the types. `lists` holds the lists that stand in their fields, `builder` makes a network node by node
+//! and join by join, `votes` holds the settings and sights, `sums` the cost of labels and the value of a flow, `laws` what
+//! holds between the two, and `validity` the test that `Net::is_valid` makes.
 #![tactic(auto)]
 
-ghost use Rattle.std.specs.Prelude.{◌≡◌, ◌↔◌, IsTrue};
+ghost use Rattle.std.specs.Prelude.{◌≡◌, ◌↔◌, IsTrue, IsSome, IfSome};
 ghost use Rattle.flow_net.specs.Nets.{IsValidNet};
 
+mod builder;
 mod laws;
 mod lists;
 mod sums;
 mod validity;
 mod votes;
 
+pub use builder::{NetBuilder, NetRefusal};
 pub use laws::{equal_value_and_cost_are_best, exactly_one_is_least_inside, value_is_at_most_cost};
 pub use lists::Sequence;
 pub use sums::{cost, value};
@@ -102,6 +104,19 @@ impl Net {
         ensures arcs { result.arcs ≡ arcs }
     {
         Net { fixed, sink, arcs }
+    }
+
+    /// The network of these parts, or None where they make no valid one by [`Net::is_valid`].
+    pub fn try_new(fixed: Sequence<bool>, sink: Sequence<u64>, arcs: Sequence<Arc>) -> Option<Net>
+        ensures valid { IsSome result ↔ IsValidNet fixed sink arcs }
+        ensures fixed { IfSome result (λ net. net.fixed ≡ fixed) }
+        ensures sink { IfSome result (λ net. net.sink ≡ sink) }
+        ensures arcs { IfSome result (λ net. net.arcs ≡ arcs) }
+    {
+        if !Net::is_valid(fixed.as_slice(), sink.as_slice(), arcs.as_slice()) {
+            return None;
+        }
+        Some(Net::new(fixed, sink, arcs))
     }
 }
 

@@ -1,6 +1,9 @@
-//! The sums at a network whose cost and value are known, and the limits of settings.
+//! The sums at a network whose cost and value are known, networks from builders and from parts, and the limits of
+//! settings.
 
-use crate::{Arc, Flow, Labels, Net, Sequence, Settings, cost, value};
+use crate::{
+    AMOUNT_LIMIT, Arc, Flow, Labels, Net, NetBuilder, NetRefusal, Sequence, Settings, cost, value,
+};
 use std::test::Fail;
 
 #[test]
@@ -58,4 +61,57 @@ fn settings_within_their_limits(rt: HostRuntime) {
             "{vote} {smooth}"
         );
     }
+}
+
+const fn arc(from: usize, to: usize, cap: u64, pair: Option<usize>) -> Arc {
+    Arc {
+        from,
+        to,
+        cap,
+        pair,
+    }
+}
+
+#[test]
+fn a_network_is_built_without_what_is_refused(rt: HostRuntime) -> Result<(), Fail> {
+    let mut builder = NetBuilder::new(rt.alloc());
+    let outer = builder.add_fixed()?;
+    let near = builder.add_free(3)?;
+    let far = builder.add_free(AMOUNT_LIMIT)?;
+    let over = AMOUNT_LIMIT + 1;
+    assert_eq!(rt; builder.feed(outer, near, 5)?, 0);
+    assert!(rt; builder.add_free(over) == Err(NetRefusal::OverLimit(over)));
+    assert!(rt; builder.feed(near, far, 1) == Err(NetRefusal::LeavesFree(near)));
+    assert!(rt; builder.feed(outer, outer, 1) == Err(NetRefusal::EntersFixed(outer)));
+    assert!(rt; builder.feed(outer, 3, 1) == Err(NetRefusal::NoNode(3)));
+    assert!(rt; builder.feed(outer, far, over) == Err(NetRefusal::OverLimit(over)));
+    assert!(rt; builder.join(near, near, 1, 1) == Err(NetRefusal::SameNode(near)));
+    assert!(rt; builder.join(near, outer, 1, 1) == Err(NetRefusal::EntersFixed(outer)));
+    assert!(rt; builder.join(3, far, 1, 1) == Err(NetRefusal::NoNode(3)));
+    assert!(rt; builder.join(near, far, 1, over) == Err(NetRefusal::OverLimit(over)));
+    assert_eq!(rt; builder.join(near, far, 2, 1)?, 1);
+    let net = builder.build();
+    assert_eq!(rt; net.fixed.as_slice(), [true, false, false].as_slice());
+    assert_eq!(rt; net.sink.as_slice(), [0, 3, AMOUNT_LIMIT].as_slice());
+    let arcs = [
+        arc(outer, near, 5, None),
+        arc(near, far, 2, Some(2)),
+        arc(far, near, 1, Some(1)),
+    ];
+    assert_eq!(rt; net.arcs.as_slice(), arcs.as_slice());
+    Ok(())
+}
+
+#[test]
+fn a_network_is_made_of_valid_parts_alone(rt: HostRuntime) -> Result<(), Fail> {
+    for (reverse, is_valid) in [(0, true), (1, false)] {
+        let arcs = vec![in rt.alloc(); arc(0, 1, 2, Some(1)), arc(1, 0, 1, Some(reverse))]?;
+        let made = Net::try_new(
+            Sequence::from(vec![in rt.alloc(); false; 2]?),
+            Sequence::from(vec![in rt.alloc(); 1u64; 2]?),
+            Sequence::from(arcs),
+        );
+        assert_eq!(rt; made.is_some(), is_valid, "{reverse}");
+    }
+    Ok(())
 }

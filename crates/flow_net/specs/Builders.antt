@@ -1,0 +1,79 @@
+-- What a builder has, what its calls add, and why they refuse.
+--
+--   Parts           nodes, a sink each, and arcs
+--   no_parts        none of them
+--   with_node       parts with a node more
+--   with_feed       parts with an arc more that has no reverse
+--   with_join       parts with an arc and its reverse more
+--   IsEither        a number is one of two
+--   IsNode          a node is there, and is fixed or free
+--   RefusesSink     what a refusal says of a sink
+--   RefusesFeed     what a refusal says of an arc from a fixed node
+--   RefusesJoin     what a refusal says of an arc and its reverse
+use Rattle.std.specs.Prelude.{ℕ, ◌≡◌, ◌<◌, ◌≤◌, ◌+◌, ◌⊎◌, ⊤, Bool, true, false, List, [], ◌∷◌, ◌++◌, length, Some, None}
+use Rattle.flow_net.specs.declared.Arc.{Arc}
+use Rattle.flow_net.specs.declared.builder.NetRefusal.{NetRefusal}
+use Rattle.flow_net.specs.declared.builder.NetRefusal.TheVariants.{NoNode, SameNode, EntersFixed, LeavesFree, OverLimit, NoMemory}
+use Rattle.flow_net.specs.declared.TheConstants.{AMOUNT_LIMIT}
+use Rattle.flow_net.specs.Nets.{flag_at}
+
+-- which nodes are fixed, the sink of each node, and the arcs
+pub record Parts : Type 0 where
+  pub fixed : List Bool
+  pub sink : List ℕ
+  pub arcs : List Arc
+
+-- no nodes and no arcs
+abbrev pub no_parts : Parts
+no_parts = record { fixed = []; sink = []; arcs = [] }
+
+-- a node more, fixed or free, with its sink
+abbrev pub with_node : Parts → Bool → ℕ → Parts
+with_node parts is_fixed sink = record parts { fixed = parts.fixed ++ is_fixed ∷ []; sink = parts.sink ++ sink ∷ [] }
+
+-- an arc more, without a reverse
+abbrev pub with_feed : Parts → ℕ → ℕ → ℕ → Parts
+with_feed parts from to cap =
+    record parts { arcs = parts.arcs ++ record { from = from; to = to; cap = cap; pair = None } ∷ [] }
+
+-- two arcs more, each the reverse of the other
+abbrev pub with_join : Parts → ℕ → ℕ → ℕ → ℕ → Parts
+with_join parts from to cap back_cap =
+    record parts {
+      arcs = parts.arcs
+          ++ record { from = from; to = to; cap = cap; pair = Some (length parts.arcs + 1) }
+          ∷ record { from = to; to = from; cap = back_cap; pair = Some (length parts.arcs) } ∷ [];
+    }
+
+-- a number is one of two
+abbrev pub IsEither : ℕ → ℕ → ℕ → Type 0
+IsEither n a b = (n ≡ a) ⊎ (n ≡ b)
+
+-- a node is there, and is fixed or free
+pub record IsNode (parts : Parts) (v : ℕ) (is_fixed : Bool) : Type 0 where
+  pub there : v < length parts.fixed
+  pub flag : flag_at parts.fixed v ≡ is_fixed
+
+-- what a refusal says of a sink
+abbrev pub RefusesSink : ℕ → NetRefusal → Type 0
+RefusesSink sink (OverLimit amount) = (amount ≡ sink) × AMOUNT_LIMIT < amount
+RefusesSink sink NoMemory = ⊤
+RefusesSink sink why = ⊥
+
+-- what a refusal says of an arc from a fixed node
+abbrev pub RefusesFeed : Parts → ℕ → ℕ → ℕ → NetRefusal → Type 0
+RefusesFeed parts from to cap (NoNode v) = IsEither v from to × length parts.fixed ≤ v
+RefusesFeed parts from to cap (SameNode v) = ⊥
+RefusesFeed parts from to cap (EntersFixed v) = (v ≡ to) × IsNode parts v true
+RefusesFeed parts from to cap (LeavesFree v) = (v ≡ from) × IsNode parts v false
+RefusesFeed parts from to cap (OverLimit amount) = (amount ≡ cap) × AMOUNT_LIMIT < amount
+RefusesFeed parts from to cap NoMemory = ⊤
+
+-- what a refusal says of an arc and its reverse
+abbrev pub RefusesJoin : Parts → ℕ → ℕ → ℕ → ℕ → NetRefusal → Type 0
+RefusesJoin parts from to cap back_cap (NoNode v) = IsEither v from to × length parts.fixed ≤ v
+RefusesJoin parts from to cap back_cap (SameNode v) = (v ≡ from) × (v ≡ to)
+RefusesJoin parts from to cap back_cap (EntersFixed v) = IsEither v from to × IsNode parts v true
+RefusesJoin parts from to cap back_cap (LeavesFree v) = ⊥
+RefusesJoin parts from to cap back_cap (OverLimit amount) = IsEither amount cap back_cap × AMOUNT_LIMIT < amount
+RefusesJoin parts from to cap back_cap NoMemory = ⊤
