@@ -1,5 +1,5 @@
 -- The reader and the grammar agree: where a header is read, the lines lead to it.
-use Rattle.std.proofs.Common.{◌≡◌, ℕ, zero, suc, ◌+◌, ◌<◌, ◌≤◌, Bool, true, false, cond, ltb, List, [], ◌∷◌, ◌++◌, length, get_or, drop, Option, Some, None, Result, Ok, Err, refl, sym, ap, subst, ◌∙◌, arith, All, codes, append_assoc, nat_eq, inl, inr, ◌⊎◌}
+use Rattle.std.proofs.Common.{◌≡◌, ℕ, zero, suc, ◌+◌, ◌<◌, ◌≤◌, Bool, true, false, cond, ltb, List, [], ◌∷◌, ◌++◌, length, get_or, drop, Option, Some, None, Err, refl, sym, ap, subst, ◌∙◌, arith, All, codes, append_assoc, nat_eq, inl, inr, ◌⊎◌}
 use Rattle.std.specs.List.{starts_with, join_with_byte, slice_split, onto_first}
 use Rattle.std.proofs.lemmas.Bool.{ltb-false}
 use Rattle.std.proofs.lemmas.Bool.Decides.{Decides-eqb}
@@ -10,63 +10,21 @@ use Rattle.std.proofs.lemmas.List.Splits.{join_with_byte-slice_split, slice_spli
 use Rattle.ply_head.specs.declared.header.Header.{Header}
 use Rattle.ply_head.specs.declared.header.Element.{Element}
 use Rattle.ply_head.specs.declared.header.Property.{Property}
-use Rattle.ply_head.specs.declared.refusal.HeadRefusal.{HeadRefusal}
 use Rattle.ply_head.specs.declared.refusal.HeadRefusal.TheVariants.{HeadCut, LongLine, NotPly}
 use Rattle.ply_head.specs.Lines.{parts_of, words_of, is_line_feed, line_text}
 use Rattle.ply_head.specs.Statements.{Statement, nothing, format, element, property, finish, statement_of_words}
-use Rattle.ply_head.specs.Headers.{◌>>=◌, text_of_line, with_property, has_property, has_element, step_of, Step, goes, ends, then_lines, header_from, header_of}
+use Rattle.ply_head.specs.Answers.{◌>>=◌}
+use Rattle.ply_head.specs.Headers.{text_of_line, with_property, has_property, has_element, step_of, Step, goes, ends, then_lines, header_from, header_of}
 use Rattle.ply_head.specs.Spelling.{joined}
 use Rattle.ply_head.specs.Grammar.{Says, Adds, Leads, HasHeader}
+use Rattle.ply_head.proofs.Answers.{bind_ok, guarded, done, same_done}
 use Rattle.ply_head.proofs.HeadLemmas.{Parts, some_part}
-use Rattle.ply_head.proofs.LoopLemmas.{Whole, whole_and}
+use Rattle.ply_head.proofs.LoopLemmas.{whole_and}
 
 -- ---- results
 
-bind_ok : {A B : Type 0} (r : Result A HeadRefusal) (f : A → Result B HeadRefusal) (y : B) → (r >>= f) ≡ Ok y → (x : A) × (r ≡ Ok x) × (f x ≡ Ok y)
-bind_ok (Ok x) f y e = (x, refl, e)
-bind_ok (Err d) f y e = absurd cc
-
-guarded : {A : Type 0} (b : Bool) (d : HeadRefusal) (r : Result A HeadRefusal) (y : A) → cond b (Err d) r ≡ Ok y → (b ≡ false) × (r ≡ Ok y)
-guarded true d r y e = absurd cc
-guarded false d r y e = (refl, e)
-
-two_refusals : {A : Type 0} (b : Bool) (d e : HeadRefusal) (y : A) → cond b (Err d) (Err e) ≡ Ok y → ⊥
-two_refusals true d e y is = cc
-two_refusals false d e y is = cc
-
-abbrev step_ok : Step → Result Step HeadRefusal
-step_ok step = Ok step
-
-same_step : (a b : Step) → step_ok a ≡ step_ok b → a ≡ b
-same_step a b e = cc
-
-abbrev elements_ok : List Element → Result (List Element) HeadRefusal
-elements_ok elements = Ok elements
-
-same_elements : (a b : List Element) → elements_ok a ≡ elements_ok b → a ≡ b
-same_elements a b e = cc
-
-abbrev text_ok : List ℕ → Result (List ℕ) HeadRefusal
-text_ok text = Ok text
-
-same_text : (a b : List ℕ) → text_ok a ≡ text_ok b → a ≡ b
-same_text a b e = cc
-
-head_in : Header → Whole → Header
-head_in d (Ok y) = y.0
-head_in d (Err f) = d
-
-same_head : (a h : Header) (x body : List ℕ) → whole_and a x ≡ whole_and h body → a ≡ h
-unfolding head_in
-same_head a h x body e = ap (head_in a) e
-
-body_in : List ℕ → Whole → List ℕ
-body_in d (Ok y) = y.1
-body_in d (Err f) = d
-
-same_body : (a h : Header) (x body : List ℕ) → whole_and a x ≡ whole_and h body → x ≡ body
-unfolding body_in
-same_body a h x body e = ap (body_in x) e
+whole_is : (a h : Header) (x body : List ℕ) → whole_and a x ≡ whole_and h body → (a ≡ h) × (x ≡ body)
+whole_is a h x body e = let same = same_done (a, x) (h, body) e in (ap (λ (y : Header × List ℕ). y.0) same, ap (λ (y : Header × List ℕ). y.1) same)
 
 -- ---- what a step makes is what its statement adds
 
@@ -77,20 +35,20 @@ record IsAdded (p : Property) (before after : List Element) : Type 0 where
   is_new : has_property p.name last.properties ≡ false
   is : after ≡ front ++ record last { properties = last.properties ++ p ∷ [] } ∷ []
 
-property_added : (n : ℕ) (p : Property) (before after : List Element) → with_property n p before ≡ elements_ok after → IsAdded p before after
+property_added : (n : ℕ) (p : Property) (before after : List Element) → with_property n p before ≡ done after → IsAdded p before after
 property_added n p [] after e = absurd cc
 property_added n p (x ∷ []) after e =
-    let g = guarded (has_property p.name x.properties) _ (elements_ok (record x { properties = x.properties ++ p ∷ [] } ∷ [])) after e in
-    record { front = []; last = x; is_last = refl; is_new = g.0; is = sym (same_elements (record x { properties = x.properties ++ p ∷ [] } ∷ []) after g.1) }
+    let g = guarded (has_property p.name x.properties) _ (done (record x { properties = x.properties ++ p ∷ [] } ∷ [])) after e in
+    record { front = []; last = x; is_last = refl; is_new = g.0; is = sym (same_done (record x { properties = x.properties ++ p ∷ [] } ∷ []) after g.1) }
 property_added n p (x ∷ y ∷ before) after e =
-    let b = bind_ok (with_property n p (y ∷ before)) (λ es. elements_ok (x ∷ es)) after e in
+    let b = bind_ok (with_property n p (y ∷ before)) (λ es. done (x ∷ es)) after e in
     let rest : IsAdded p (y ∷ before) b.0 = property_added n p (y ∷ before) b.0 b.1 in
     record {
       front = x ∷ rest.front;
       last = rest.last;
       is_last = ap (λ (es : List Element). x ∷ es) rest.is_last;
       is_new = rest.is_new;
-      is = sym (same_elements (x ∷ b.0) after b.2) ∙ ap (λ (es : List Element). x ∷ es) rest.is;
+      is = sym (same_done (x ∷ b.0) after b.2) ∙ ap (λ (es : List Element). x ∷ es) rest.is;
     }
 
 abbrev IsStep : Option Header → Option Statement → Step → Type 0
@@ -100,27 +58,27 @@ IsStep before said (ends whole) = (said ≡ Some finish) × (before ≡ Some who
 abbrev with_elements : Header → List Element → Option Header
 with_elements head es = Some (record head { elements = es })
 
-is_step : (n : ℕ) (before : Option Header) (said : Option Statement) (step : Step) → step_of n before said ≡ step_ok step → IsStep before said step
+is_step : (n : ℕ) (before : Option Header) (said : Option Statement) (step : Step) → step_of n before said ≡ done step → IsStep before said step
 unfolding step_of
 is_step n None None step e = absurd cc
 is_step n (Some head) None step e = absurd cc
-is_step n None (Some nothing) step e = subst (IsStep None (Some nothing)) (same_step (goes None) step e) (nothing, (refl, refl))
-is_step n (Some head) (Some nothing) step e = subst (IsStep (Some head) (Some nothing)) (same_step (goes (Some head)) step e) (nothing, (refl, refl))
-is_step n None (Some (format kind)) step e = subst (IsStep None (Some (format kind))) (same_step (goes (Some (record { kind = kind; elements = [] }))) step e) (format kind, (refl, refl))
+is_step n None (Some nothing) step e = subst (IsStep None (Some nothing)) (same_done (goes None) step e) (nothing, (refl, refl))
+is_step n (Some head) (Some nothing) step e = subst (IsStep (Some head) (Some nothing)) (same_done (goes (Some head)) step e) (nothing, (refl, refl))
+is_step n None (Some (format kind)) step e = subst (IsStep None (Some (format kind))) (same_done (goes (Some (record { kind = kind; elements = [] }))) step e) (format kind, (refl, refl))
 is_step n None (Some (element name count)) step e = absurd cc
 is_step n None (Some (property name shape)) step e = absurd cc
 is_step n None (Some finish) step e = absurd cc
 is_step n (Some head) (Some (format kind)) step e = absurd cc
 is_step n (Some head) (Some (element name count)) step e =
-    let g = guarded (has_element name head.elements) _ (step_ok (goes (Some (record head { elements = head.elements ++ record { name = name; count = count; properties = [] } ∷ [] })))) step e in
-    subst (IsStep (Some head) (Some (element name count))) (same_step (goes (Some (record head { elements = head.elements ++ record { name = name; count = count; properties = [] } ∷ [] }))) step g.1)
+    let g = guarded (has_element name head.elements) _ (done (goes (Some (record head { elements = head.elements ++ record { name = name; count = count; properties = [] } ∷ [] })))) step e in
+    subst (IsStep (Some head) (Some (element name count))) (same_done (goes (Some (record head { elements = head.elements ++ record { name = name; count = count; properties = [] } ∷ [] }))) step g.1)
     (element name count, (refl, record { is_new = g.0; is = refl }))
 is_step n (Some head) (Some (property name shape)) step e =
-    let b = bind_ok (with_property n (record { name = name; shape = shape }) head.elements) (λ es. step_ok (goes (Some (record head { elements = es })))) step e in
+    let b = bind_ok (with_property n (record { name = name; shape = shape }) head.elements) (λ es. done (goes (Some (record head { elements = es })))) step e in
     let added : IsAdded (record { name = name; shape = shape }) head.elements b.0 = property_added n (record { name = name; shape = shape }) head.elements b.0 b.1 in
-    subst (IsStep (Some head) (Some (property name shape))) (same_step (goes (Some (record head { elements = b.0 }))) step b.2)
+    subst (IsStep (Some head) (Some (property name shape))) (same_done (goes (Some (record head { elements = b.0 }))) step b.2)
     (property name shape, (refl, record { front = added.front; last = added.last; is_last = added.is_last; is_new = added.is_new; is = ap (λ (es : List Element). with_elements head es) added.is }))
-is_step n (Some head) (Some finish) step e = subst (IsStep (Some head) (Some finish)) (same_step (ends head) step e) (refl, refl)
+is_step n (Some head) (Some finish) step e = subst (IsStep (Some head) (Some finish)) (same_done (ends head) step e) (refl, refl)
 
 -- ---- lines
 
@@ -131,11 +89,11 @@ record IsText (part : List ℕ) (more : List (List ℕ)) (text : List ℕ) : Typ
   text_is : text ≡ line_text part
   short : length (line_text part) ≤ 1000
 
-text_found : (n : ℕ) (part : List ℕ) (more : List (List ℕ)) (text : List ℕ) → text_of_line n part more ≡ text_ok text → IsText part more text
-text_found n part [] text e = absurd (two_refusals (ltb (length part) 1002) HeadCut (LongLine n) text e)
+text_found : (n : ℕ) (part : List ℕ) (more : List (List ℕ)) (text : List ℕ) → text_of_line n part more ≡ done text → IsText part more text
+text_found n part [] text e = let g = guarded (ltb (length part) 1002) HeadCut (Err (LongLine n)) text e in let none = g.1 in absurd cc
 text_found n part (next ∷ rest) text e =
-    let g = guarded (ltb 1000 (length (line_text part))) (LongLine n) (text_ok (line_text part)) text e in
-    record { next = next; rest = rest; is = refl; text_is = sym (same_text (line_text part) text g.1); short = ltb-false 1000 (length (line_text part)) g.0 }
+    let g = guarded (ltb 1000 (length (line_text part))) (LongLine n) (done (line_text part)) text e in
+    record { next = next; rest = rest; is = refl; text_is = sym (same_done (line_text part) text g.1); short = ltb-false 1000 (length (line_text part)) g.0 }
 
 -- the lines that were read, and what is behind them
 record IsFound (n : ℕ) (before : Option Header) (parts : List (List ℕ)) (head : Header) (body : List ℕ) : Type 0 where
@@ -175,11 +133,11 @@ by_step n before part more head body text found (ends whole) is le later e =
       next = found.next;
       more = found.rest;
       are = ap (λ (ps : List (List ℕ)). part ∷ ps) found.is;
-      body_is = ap (join_with_byte 10) (sym found.is) ∙ same_body whole head (join_with_byte 10 more) body e;
+      body_is = ap (join_with_byte 10) (sym found.is) ∙ (whole_is whole head (join_with_byte 10 more) body e).1;
       few = omega (arith, le);
       short = λ i d lt. absurd (omega arith);
       last_short = found.short;
-      leads = sym (is.1 ∙ ap some_head (same_head whole head (join_with_byte 10 more) body e));
+      leads = sym (is.1 ∙ ap some_head ((whole_is whole head (join_with_byte 10 more) body e).0));
       ends = ap (λ (t : List ℕ). statement_of_words (words_of t)) (sym found.text_is) ∙ is.0;
     }
   where

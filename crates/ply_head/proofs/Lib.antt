@@ -1,3 +1,5 @@
+pub mod Answers
+pub mod Optional
 pub mod WordLemmas
 pub mod DigitLemmas
 pub mod HeadLemmas

@@ -18,17 +18,15 @@ use Rattle.ply_head.specs.declared.header.Property.{Property}
 use Rattle.ply_head.specs.declared.header.Element.{Element}
 use Rattle.ply_head.specs.declared.header.Header.{Header}
 use Rattle.ply_head.specs.Lines.{words_of, is_blank, has_bytes, line_text}
-use Rattle.ply_head.specs.Statements.{Statement, nothing, format, element, property, finish, either_word, is_name_byte, kind_of, scalar_of, whole_scalar, count_of, name_of, ◌>>=◌, format_line, element_line, property_line, finish_line, statement_of_words}
+use Rattle.ply_head.specs.Optional.{◌>>=◌}
+use Rattle.ply_head.specs.Statements.{Statement, nothing, format, element, property, finish, either_word, is_name_byte, kind_of, scalar_of, whole_scalar, count_of, name_of, format_line, element_line, property_line, finish_line, statement_of_words}
 use Rattle.ply_head.specs.Headers.{has_property, has_element}
 use Rattle.ply_head.specs.Grammar.{Adds, AddsProperty, Leads, HasHeader}
 use Rattle.ply_head.specs.Readable.{IsName, HasWholeCount, IsReadableProperty, IsReadable}
+use Rattle.ply_head.proofs.Optional.{bind_some, same_some}
 use Rattle.ply_head.proofs.SpellingLeads.{before_here}
 
 -- ---- what a statement's words tell
-
-bind_some : {A B : Type 0} (o : Option A) (f : A → Option B) (y : B) → (o >>= f) ≡ Some y → (x : A) × (o ≡ Some x) × (f x ≡ Some y)
-bind_some (Some x) f y e = (x, refl, e)
-bind_some None f y e = absurd cc
 
 guard_some : {A : Type 0} (b : Bool) (o : Option A) (y : A) → cond b o None ≡ Some y → (b ≡ true) × (o ≡ Some y)
 guard_some true o y e = (refl, e)
@@ -44,21 +42,6 @@ both_true true false e = cc
 both_true false true e = cc
 both_true false false e = cc
 
-abbrev some_name : List ℕ → Option (List ℕ)
-some_name a = Some a
-
-same_name : (a b : List ℕ) → some_name a ≡ some_name b → a ≡ b
-same_name a b e = cc
-
-same_count : (a b : ℕ) → Some a ≡ Some b → a ≡ b
-same_count a b e = cc
-
-same_scalar : (a b : Scalar) → Some a ≡ Some b → a ≡ b
-same_scalar a b e = cc
-
-same_statement : (a b : Statement) → Some a ≡ Some b → a ≡ b
-same_statement a b e = cc
-
 abbrev Stated : Statement → Type 0
 Stated nothing = Unit {0}
 Stated (format kind) = Unit {0}
@@ -70,7 +53,7 @@ name_told : (word name : List ℕ) → 0 < length word → name_of word ≡ Some
 unfolding name_of
 name_told word name some e =
     let g = guard_some (list_all is_name_byte word) (Some word) name e in
-    let is : word ≡ name = same_name word name g.1 in
+    let is : word ≡ name = same_some word name g.1 in
     subst IsName is (record { some = some; visible = g.0 })
 
 count_told : (word : List ℕ) (count : ℕ) → count_of word ≡ Some count → count ≤ 4294967295
@@ -80,19 +63,19 @@ count_told word count e =
     let b = both_true (leb 1 (length word)) (leb (length word) 10 && (list_all is_ascii_digit word && leb (digits_value 10 word) 4294967295)) g.0 in
     let c = both_true (leb (length word) 10) (list_all is_ascii_digit word && leb (digits_value 10 word) 4294967295) b.1 in
     let d = both_true (list_all is_ascii_digit word) (leb (digits_value 10 word) 4294967295) c.1 in
-    let is : digits_value 10 word ≡ count = same_count (digits_value 10 word) count g.1 in
+    let is : digits_value 10 word ≡ count = same_some (digits_value 10 word) count g.1 in
     subst (λ n. n ≤ 4294967295) is (within (digits_value 10 word) d.1)
   where
     within : (n : ℕ) → leb n 4294967295 ≡ true → n ≤ 4294967295
     within n h = grind (arith, nat_tests)
 
 whole_told : (scalar count : Scalar) → whole_scalar scalar ≡ Some count → whole_scalar count ≡ Some count
-whole_told Char count e = subst (λ s. whole_scalar s ≡ Some s) (same_scalar Char count e) refl
-whole_told Uchar count e = subst (λ s. whole_scalar s ≡ Some s) (same_scalar Uchar count e) refl
-whole_told Short count e = subst (λ s. whole_scalar s ≡ Some s) (same_scalar Short count e) refl
-whole_told Ushort count e = subst (λ s. whole_scalar s ≡ Some s) (same_scalar Ushort count e) refl
-whole_told Int count e = subst (λ s. whole_scalar s ≡ Some s) (same_scalar Int count e) refl
-whole_told Uint count e = subst (λ s. whole_scalar s ≡ Some s) (same_scalar Uint count e) refl
+whole_told Char count e = subst (λ s. whole_scalar s ≡ Some s) (same_some Char count e) refl
+whole_told Uchar count e = subst (λ s. whole_scalar s ≡ Some s) (same_some Uchar count e) refl
+whole_told Short count e = subst (λ s. whole_scalar s ≡ Some s) (same_some Short count e) refl
+whole_told Ushort count e = subst (λ s. whole_scalar s ≡ Some s) (same_some Ushort count e) refl
+whole_told Int count e = subst (λ s. whole_scalar s ≡ Some s) (same_some Int count e) refl
+whole_told Uint count e = subst (λ s. whole_scalar s ≡ Some s) (same_some Uint count e) refl
 whole_told Float count e = absurd cc
 whole_told Double count e = absurd cc
 
@@ -103,7 +86,7 @@ format_told (a ∷ []) s e = absurd cc
 format_told (kind ∷ version ∷ []) s e =
     let g = guard_some (bytes_eq version (codes "1.0")) (kind_of kind >>= λ k. Some (format k)) s e in
     let b = bind_some (kind_of kind) (λ k. Some (format k)) s g.1 in
-    subst Stated (same_statement (format b.0) s b.2) tt
+    subst Stated (same_some (format b.0) s b.2) tt
 format_told (a ∷ b ∷ c ∷ words) s e = absurd cc
 
 element_told : (words : List (List ℕ)) (s : Statement) → All (λ w. 0 < length w) words → element_line words ≡ Some s → Stated s
@@ -113,7 +96,7 @@ element_told (a ∷ []) s some e = absurd cc
 element_told (name ∷ count ∷ []) s some e =
     let b = bind_some (name_of name) (λ n. count_of count >>= λ c. Some (element n c)) s e in
     let c = bind_some (count_of count) (λ c. Some (element b.0 c)) s b.2 in
-    subst Stated (same_statement (element b.0 c.0) s c.2) (name_told name b.0 (some 0 name (omega arith)) b.1, count_told count c.0 c.1)
+    subst Stated (same_some (element b.0 c.0) s c.2) (name_told name b.0 (some 0 name (omega arith)) b.1, count_told count c.0 c.1)
 element_told (a ∷ b ∷ c ∷ words) s some e = absurd cc
 
 property_told : (words : List (List ℕ)) (s : Statement) → All (λ w. 0 < length w) words → property_line words ≡ Some s → Stated s
@@ -123,7 +106,7 @@ property_told (a ∷ []) s some e = absurd cc
 property_told (type ∷ name ∷ []) s some e =
     let b = bind_some (scalar_of type) (λ scalar. name_of name >>= λ n. Some (property n (One scalar))) s e in
     let c = bind_some (name_of name) (λ n. Some (property n (One b.0))) s b.2 in
-    subst Stated (same_statement (property c.0 (One b.0)) s c.2) (name_told name c.0 (some 1 name (omega arith)) c.1, tt)
+    subst Stated (same_some (property c.0 (One b.0)) s c.2) (name_told name c.0 (some 1 name (omega arith)) c.1, tt)
 property_told (a ∷ b ∷ c ∷ []) s some e = absurd cc
 property_told (list ∷ count ∷ item ∷ name ∷ []) s some e =
     let g = guard_some (bytes_eq list (codes "list")) (scalar_of count >>= λ t. whole_scalar t >>= λ w. scalar_of item >>= λ i. name_of name >>= λ n. Some (property n (Many w i))) s e in
@@ -131,21 +114,21 @@ property_told (list ∷ count ∷ item ∷ name ∷ []) s some e =
     let w = bind_some (whole_scalar t.0) (λ w. scalar_of item >>= λ i. name_of name >>= λ n. Some (property n (Many w i))) s t.2 in
     let i = bind_some (scalar_of item) (λ i. name_of name >>= λ n. Some (property n (Many w.0 i))) s w.2 in
     let n = bind_some (name_of name) (λ n. Some (property n (Many w.0 i.0))) s i.2 in
-    subst Stated (same_statement (property n.0 (Many w.0 i.0)) s n.2) (name_told name n.0 (some 3 name (omega arith)) n.1, whole_told t.0 w.0 w.1)
+    subst Stated (same_some (property n.0 (Many w.0 i.0)) s n.2) (name_told name n.0 (some 3 name (omega arith)) n.1, whole_told t.0 w.0 w.1)
 property_told (a ∷ b ∷ c ∷ d ∷ f ∷ words) s some e = absurd cc
 
 finish_told : (words : List (List ℕ)) (s : Statement) → finish_line words ≡ Some s → Stated s
 unfolding finish_line
-finish_told [] s e = subst Stated (same_statement finish s e) tt
+finish_told [] s e = subst Stated (same_some finish s e) tt
 finish_told (a ∷ words) s e = absurd cc
 
 told : (words : List (List ℕ)) (s : Statement) → All (λ w. 0 < length w) words → statement_of_words words ≡ Some s → Stated s
 unfolding statement_of_words
-told [] s some e = subst Stated (same_statement nothing s e) tt
+told [] s some e = subst Stated (same_some nothing s e) tt
 told (word ∷ words) s some e =
     let rest : All (λ w. 0 < length w) words = λ i d lt. some (suc i) d (omega arith) in
     elim (choice (either_word word (codes "comment") (codes "obj_info")) (Some nothing) _ s e) [
-      | inl skipped ↦ subst Stated (same_statement nothing s skipped) tt
+      | inl skipped ↦ subst Stated (same_some nothing s skipped) tt
       | inr e1 ↦ elim (choice (bytes_eq word (codes "format")) (format_line words) _ s e1) [
         | inl is ↦ format_told words s is
         | inr e2 ↦ elim (choice (bytes_eq word (codes "element")) (element_line words) _ s e2) [

@@ -19,14 +19,9 @@ use Rattle.ply_head.specs.declared.header.Element.{Element}
 use Rattle.ply_head.specs.declared.header.Property.{Property}
 use Rattle.ply_head.specs.declared.refusal.HeadRefusal.{HeadRefusal}
 use Rattle.ply_head.specs.declared.refusal.HeadRefusal.TheVariants.{NotPly, BadLine, LongLine, LongHeader, Twice, HeadCut, NoMemory}
+use Rattle.ply_head.specs.Answers.{◌>>=◌}
 use Rattle.ply_head.specs.Lines.{parts_of, line_text, words_of}
 use Rattle.ply_head.specs.Statements.{Statement, nothing, format, element, property, finish, statement_of_words}
-
--- a value, and then another made of it, or the first refusal
-infixl 10 ◌>>=◌
-abbrev pub ◌>>=◌ : {A B : Type 0} → Result A HeadRefusal → (A → Result B HeadRefusal) → Result B HeadRefusal
-(Ok x) >>= f = f x
-(Err e) >>= f = Err e
 
 -- the refusal is what reading gives, unless memory ran out
 abbrev pub Fails : {Y : Type 0} → HeadRefusal → Result Y HeadRefusal → Type 0

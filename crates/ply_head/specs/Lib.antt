@@ -1,3 +1,5 @@
+pub mod Answers
+pub mod Optional
 pub mod Lines
 pub mod Statements
 pub mod Headers

@@ -13,6 +13,7 @@ use Rattle.std.specs.List.{list_all}
 use Rattle.std.specs.Char.{is_ascii_digit}
 use Rattle.std.specs.Str.{bytes_eq}
 use Rattle.std.specs.Str.Parse.{digits_value}
+use Rattle.ply_head.specs.Optional.{◌>>=◌}
 use Rattle.ply_head.specs.declared.header.Kind.{Kind}
 use Rattle.ply_head.specs.declared.header.Kind.TheVariants.{Ascii, BinaryLittle, BinaryBig}
 use Rattle.ply_head.specs.declared.header.Scalar.{Scalar}
@@ -70,12 +71,6 @@ count_of word =
 -- a word of visible characters, which may be a name
 unfoldable pub name_of : List ℕ → Option (List ℕ)
 name_of word = if list_all is_name_byte word then Some word else None
-
--- a value, if there is one, and then another made of it
-infixl 10 ◌>>=◌
-abbrev pub ◌>>=◌ : {A B : Type 0} → Option A → (A → Option B) → Option B
-None >>= f = None
-(Some x) >>= f = f x
 
 -- `format KIND 1.0`
 unfoldable pub format_line : List (List ℕ) → Option Statement

@@ -9,12 +9,13 @@ use Rattle.ply_head.specs.declared.header.Kind.{Kind}
 use Rattle.ply_head.specs.declared.header.Shape.{Shape}
 use Rattle.ply_head.specs.declared.header.Shape.TheVariants.{One, Many}
 use Rattle.ply_head.specs.declared.header.Property.{Property}
+use Rattle.ply_head.specs.Answers.{◌>>=◌}
 use Rattle.ply_rows.specs.declared.place.Field.{Field}
 use Rattle.ply_rows.specs.declared.place.Place.{Place}
 use Rattle.ply_rows.specs.declared.refusal.RowRefusal.{RowRefusal}
 use Rattle.ply_rows.specs.declared.refusal.RowRefusal.TheVariants.{BadCount, Cut, Trailing, NoMemory}
 use Rattle.ply_rows.specs.Tokens.{Token}
-use Rattle.ply_rows.specs.Texts.{◌>>=◌, Fails, count_in, count_of, items_of, text_field}
+use Rattle.ply_rows.specs.Texts.{Fails, count_in, count_of, items_of, text_field}
 use Rattle.ply_rows.specs.Binaries.{size_of, number_of, bytes_of, binary_field}
 use Rattle.ply_rows.specs.Rests.{Rest, text, raw, field_of, fields_of}
 use Rattle.ply_rows.specs.Readers.{IsFieldOf, EndsInside}

@@ -1,5 +1,5 @@
 -- The reader and the grammar agree: what is read of a property is what the body begins with.
-use Rattle.std.proofs.Common.{◌≡◌, ℕ, ◌+◌, ◌*◌, ◌≤◌, Bool, true, false, cond, ltb, ℤ, pos, negsuc, List, [], ◌∷◌, ◌++◌, length, take, drop, Result, Ok, Err, refl, sym, ap, subst, ◌∙◌, arith}
+use Rattle.std.proofs.Common.{◌≡◌, ℕ, ◌+◌, ◌*◌, ◌≤◌, ltb, ℤ, pos, negsuc, List, [], ◌∷◌, ◌++◌, length, take, drop, Result, Ok, Err, refl, sym, ap, subst, ◌∙◌, arith}
 use Rattle.std.proofs.lemmas.Bool.{ltb-false}
 use Rattle.std.proofs.lemmas.List.{take-append-drop, length-take-le, length-append, append_assoc}
 use Rattle.std.proofs.Math.Seq.{take-append_seam}
@@ -8,43 +8,17 @@ use Rattle.num_text.specs.declared.refusal.NumRefusal.{NumRefusal}
 use Rattle.ply_head.specs.declared.header.Kind.{Kind}
 use Rattle.ply_head.specs.declared.header.Shape.{Shape}
 use Rattle.ply_head.specs.declared.header.Shape.TheVariants.{One, Many}
+use Rattle.ply_head.specs.Answers.{◌>>=◌}
+use Rattle.ply_head.proofs.Answers.{bind_ok, guarded, done, same_done}
 use Rattle.ply_rows.specs.declared.place.Field.{Field}
 use Rattle.ply_rows.specs.declared.place.Place.{Place}
-use Rattle.ply_rows.specs.declared.refusal.RowRefusal.{RowRefusal}
 use Rattle.ply_rows.specs.declared.refusal.RowRefusal.TheVariants.{BadCount, Cut}
 use Rattle.ply_rows.specs.Tokens.{Token}
-use Rattle.ply_rows.specs.Texts.{◌>>=◌, count_in, count_of, items_of, field_of_items, text_field}
+use Rattle.ply_rows.specs.Texts.{count_in, count_of, items_of, field_of_items, text_field}
 use Rattle.ply_rows.specs.Binaries.{size_of, number_of, bytes_of, list_field, binary_field}
 use Rattle.ply_rows.specs.Rests.{Rest, text, raw, field_of, fields_of}
 use Rattle.ply_head.specs.declared.header.Property.{Property}
 use Rattle.ply_rows.specs.Grammar.{BeginsText, BeginsBytes, Begins, BeginsRow}
-
--- ---- results
-
-pub bind_ok : {A B : Type 0} (r : Result A RowRefusal) (f : A → Result B RowRefusal) (y : B) → (r >>= f) ≡ Ok y → (x : A) × (r ≡ Ok x) × (f x ≡ Ok y)
-bind_ok (Ok x) f y e = (x, refl, e)
-bind_ok (Err d) f y e = absurd cc
-
-guarded : {A : Type 0} (b : Bool) (d : RowRefusal) (r : Result A RowRefusal) (y : A) → cond b (Err d) r ≡ Ok y → (b ≡ false) × (r ≡ Ok y)
-guarded true d r y e = absurd cc
-guarded false d r y e = (refl, e)
-
-abbrev pub done : {A : Type 0} → A → Result A RowRefusal
-done x = Ok x
-
-pub value_or : {A : Type 0} → A → Result A RowRefusal → A
-value_or d (Ok x) = x
-value_or d (Err e) = d
-
-pub same_done : {A : Type 0} (x y : A) → done x ≡ done y → x ≡ y
-unfolding value_or
-same_done x y e = ap (value_or x) e
-
-abbrev pub FieldRead : Type 0
-FieldRead = Result (Field × Rest) RowRefusal
-
-abbrev pub TextRead : Type 0
-TextRead = Result (Field × List Token) RowRefusal
 
 -- ---- in a text
 

@@ -9,15 +9,16 @@ use Rattle.ply_head.specs.declared.header.Scalar.{Scalar}
 use Rattle.ply_head.specs.declared.header.Property.{Property}
 use Rattle.ply_head.specs.declared.header.Shape.{Shape}
 use Rattle.ply_head.specs.declared.header.Shape.TheVariants.{One, Many}
+use Rattle.ply_head.specs.Answers.{◌>>=◌}
+use Rattle.ply_head.proofs.Answers.{done}
 use Rattle.ply_rows.specs.declared.place.Field.{Field}
 use Rattle.ply_rows.specs.declared.place.Place.{Place}
 use Rattle.ply_rows.specs.declared.refusal.RowRefusal.{RowRefusal}
 use Rattle.ply_rows.specs.Tokens.{Token}
-use Rattle.ply_rows.specs.Texts.{◌>>=◌, count_in, count_of, items_of, field_of_items, text_field}
+use Rattle.ply_rows.specs.Texts.{count_in, count_of, items_of, field_of_items, text_field}
 use Rattle.ply_rows.specs.Binaries.{size_of, number_of, bytes_of, list_field, binary_field}
 use Rattle.ply_rows.specs.Rests.{Rest, text, raw, field_of, fields_of}
 use Rattle.ply_rows.specs.Grammar.{IsGroup, group_field, IsPiece, piece_field, Begins, BeginsRow}
-use Rattle.ply_rows.proofs.GrammarFound.{done}
 
 abbrev fields_and : Field → List Token → Result (Field × List Token) RowRefusal
 fields_and field behind = done (field, behind)

@@ -2,12 +2,13 @@
 use Rattle.std.proofs.Common.{◌≡◌, ℕ, ◌+◌, ◌<◌, ◌≤◌, List, [], ◌∷◌, ◌++◌, length, get_or, drop, Result, Ok, Err, refl, sym, ap, ◌∙◌, append_assoc}
 use Rattle.std.proofs.lemmas.List.{drop_more, drop_all, append-nil}
 use Rattle.ply_head.specs.declared.header.Property.{Property}
+use Rattle.ply_head.specs.Answers.{◌>>=◌}
 use Rattle.ply_rows.specs.declared.place.Field.{Field}
 use Rattle.ply_rows.specs.declared.place.Place.{Place}
 use Rattle.ply_rows.specs.declared.refusal.RowRefusal.{RowRefusal}
 use Rattle.ply_rows.specs.declared.refusal.RowRefusal.TheVariants.{NoMemory}
 use Rattle.ply_rows.specs.Rests.{Rest, field_of, fields_of}
-use Rattle.ply_rows.specs.Texts.{◌>>=◌, Fails}
+use Rattle.ply_rows.specs.Texts.{Fails}
 
 abbrev pub FieldsRead : Type 0
 FieldsRead = Result (List Field × Rest) RowRefusal

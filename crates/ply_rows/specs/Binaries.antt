@@ -18,11 +18,12 @@ use Rattle.ply_head.specs.declared.header.Scalar.{Scalar}
 use Rattle.ply_head.specs.declared.header.Scalar.TheVariants.{Char, Uchar, Short, Ushort, Int, Uint, Float, Double}
 use Rattle.ply_head.specs.declared.header.Shape.{Shape}
 use Rattle.ply_head.specs.declared.header.Shape.TheVariants.{One, Many}
+use Rattle.ply_head.specs.Answers.{◌>>=◌}
 use Rattle.ply_rows.specs.declared.place.Field.{Field}
 use Rattle.ply_rows.specs.declared.place.Place.{Place}
 use Rattle.ply_rows.specs.declared.refusal.RowRefusal.{RowRefusal}
 use Rattle.ply_rows.specs.declared.refusal.RowRefusal.TheVariants.{Cut}
-use Rattle.ply_rows.specs.Texts.{◌>>=◌, count_in}
+use Rattle.ply_rows.specs.Texts.{count_in}
 
 -- how many bytes a value of a type has
 abbrev pub size_of : Scalar → ℕ

@@ -9,11 +9,12 @@ use Rattle.ply_head.specs.declared.header.Kind.{Kind}
 use Rattle.ply_head.specs.declared.header.Kind.TheVariants.{Ascii, BinaryLittle, BinaryBig}
 use Rattle.ply_head.specs.declared.header.Shape.{Shape}
 use Rattle.ply_head.specs.declared.header.Property.{Property}
+use Rattle.ply_head.specs.Answers.{◌>>=◌}
 use Rattle.ply_rows.specs.declared.place.Field.{Field}
 use Rattle.ply_rows.specs.declared.place.Place.{Place}
 use Rattle.ply_rows.specs.declared.refusal.RowRefusal.{RowRefusal}
 use Rattle.ply_rows.specs.Tokens.{Token, tokens_at}
-use Rattle.ply_rows.specs.Texts.{◌>>=◌, text_field}
+use Rattle.ply_rows.specs.Texts.{text_field}
 use Rattle.ply_rows.specs.Binaries.{binary_field}
 
 -- what is left of a body: tokens, or, in a binary body, bytes from a place on

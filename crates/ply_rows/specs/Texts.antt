@@ -13,17 +13,12 @@ use Rattle.num_text.specs.WholeNumbers.{whole_of}
 use Rattle.num_text.specs.declared.refusal.NumRefusal.{NumRefusal}
 use Rattle.ply_head.specs.declared.header.Shape.{Shape}
 use Rattle.ply_head.specs.declared.header.Shape.TheVariants.{One, Many}
+use Rattle.ply_head.specs.Answers.{◌>>=◌}
 use Rattle.ply_rows.specs.declared.place.Field.{Field}
 use Rattle.ply_rows.specs.declared.place.Place.{Place}
 use Rattle.ply_rows.specs.declared.refusal.RowRefusal.{RowRefusal}
 use Rattle.ply_rows.specs.declared.refusal.RowRefusal.TheVariants.{BadCount, Cut, NoMemory}
 use Rattle.ply_rows.specs.Tokens.{Token}
-
--- a value, and then another made of it, or the first refusal
-infixl 10 ◌>>=◌
-abbrev pub ◌>>=◌ : {A B : Type 0} → Result A RowRefusal → (A → Result B RowRefusal) → Result B RowRefusal
-(Ok x) >>= f = f x
-(Err e) >>= f = Err e
 
 -- the refusal is what reading gives, unless memory ran out
 abbrev pub Fails : {Y : Type 0} → RowRefusal → Result Y RowRefusal → Type 0
