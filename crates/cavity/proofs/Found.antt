@@ -1,11 +1,13 @@
 -- What a flood that has crossed all sides has found: the cavity.
 --
--- With each cell that was reached, each cell in conflict across a facet was reached. By the law of cavities, the cells in conflict are
--- connected across facets; so all were reached (`all`). A fan facet is one of a cell in conflict across which there is none, so by the
--- law of rims a Delaunay cell with p stands over it (`fan_at`), and each such cell stands over one (`fan_all`). What the store asks
--- before it replaces cells follows: p is in front of each fan facet and each directed edge of the fan is there once with its
--- reverse, by the laws of fans and of edges, and each vertex keeps a cell, by the law of vertices.
-use Rattle.std.proofs.Common.{ℕ, ◌≡◌, ◌<◌, ◌≤◌, ◌*◌, Bool, true, false, List, length, Option, Some, None, refl, sym, ◌∙◌, ◌⊎◌, inl, inr, ⊎_elim, subst, arith, slice_index, slice_index_or, Contains, ℤ, pos, ◌≤ℤ◌}
+-- With each cell that was reached, each cell in conflict across a facet was reached. By the law of cavities, the cells in
+-- conflict are connected across facets; so all were reached (`all`). A fan facet is one of a cell in conflict across which
+-- there is none, so by the law of rims a Delaunay cell with p stands over it (`fan_at`), and each such cell stands over one
+-- (`fan_all`). What the store asks before it replaces cells follows: p is in front of each fan facet and each directed edge of
+-- the fan is there once with its reverse, by the laws of fans and of edges, and each vertex keeps a cell, by the law of
+-- vertices.
+use Rattle.std.proofs.Common.{ℕ, ◌≡◌, ◌<◌, ◌≤◌, ◌*◌, Bool, true, false, List, length, Option, Some, None, refl, sym, ◌∙◌, ◌⊎◌}
+use Rattle.std.proofs.Common.{inl, inr, ⊎_elim, subst, arith, slice_index, slice_index_or, Contains, ℤ, pos, ◌≤ℤ◌}
 use Rattle.std.specs.Prelude.{nat_eq}
 use Rattle.std.specs.List.{list_any}
 use Rattle.std.proofs.lemmas.Bool.{eqb-true}
@@ -47,7 +49,8 @@ both v p t h k = absurd (omega (arith, ints, h, k))
 pub fan_edges : (fan : List Facet) → edges.AreEdges (length fan) (fan_facet fan) → fans.AreEdges fan
 fan_edges fan h =
     record {
-      turned = λ i e l m. let z = h.next i e l in record { facet = z.0; opposite = z.1; facet_in = z.2; opposite_in = z.3; start_is = z.4; end_is = z.5 };
+      turned = λ i e l m. let z = h.next i e l in
+          record { facet = z.0; opposite = z.1; facet_in = z.2; opposite_in = z.3; start_is = z.4; end_is = z.5 };
       once = λ i e j d l m n o a b. h.apart i e j d l n a b;
     }
 
@@ -80,11 +83,14 @@ moved g u (inr (inr e)) = inl e
 begins : (g f : geo.DirectedFacet) (u : ℕ) → IsRotated g f → IsCorner f u → Begins g u
 begins g f u (inl e) h = own g u (subst (λ (z : geo.DirectedFacet). IsCorner z u) e h)
 begins g f u (inr (inl e)) h = own g u (moved g u (subst (λ (z : geo.DirectedFacet). IsCorner z u) e h))
-begins g f u (inr (inr e)) h = own g u (moved g u (moved (facet g.b g.c g.a) u (subst (λ (z : geo.DirectedFacet). IsCorner z u) e h)))
+begins g f u (inr (inr e)) h =
+    own g u (moved g u (moved (facet g.b g.c g.a) u (subst (λ (z : geo.DirectedFacet). IsCorner z u) e h)))
 
 -- ---- the cavity
 
-module _ (s : Store) (p from : ℕ) (found : List ℕ) (fan : List Facet) (store_is : IsStore s) (delaunay : IsDelaunay (vertices_of s) (links_of s.slots)) (below : p < length s.points) (out : slice_index_or s.inserted p false ≡ false)
+module _ (s : Store) (p from : ℕ) (found : List ℕ) (fan : List Facet) (store_is : IsStore s)
+    (delaunay : IsDelaunay (vertices_of s) (links_of s.slots)) (below : p < length s.points)
+    (out : slice_index_or s.inserted p false ≡ false)
     (f : IsFlooding (vertices_of s) (links_of s.slots) p from found fan (4 * length found)) where
   abbrev at : ℕ → Tetrahedron
   at = (links_of s.slots).at
@@ -102,12 +108,15 @@ module _ (s : Store) (p from : ℕ) (found : List ℕ) (fan : List Facet) (store
   fan_of = fan_law (vertices_of s) (boxed s store_is) p new
 
   rims : IsRimLaw (vertices_of s) p (names s.slots) at next
-  rims = rim_law (vertices_of s) (boxed s store_is) p (names s.slots) at next (linked s store_is) (cells s delaunay) from (in_names s.slots from from_live)
+  rims =
+      rim_law (vertices_of s) (boxed s store_is) p (names s.slots) at next (linked s store_is) (cells s delaunay) from
+      (in_names s.slots from from_live)
 
   -- a side of a cell that was found
   passed : (x k : ℕ) → Contains found x → k < 4 → IsPassed found fan (facet_of (at x) k) (next x k)
   passed x k h l =
-      subst (λ (z : ℕ). IsPassed found fan (facet_of (at z) k) (next z k)) (listed_at found x h) (f.passed h.0 k h.1 l (let m : h.0 < length found = h.1 in omega arith))
+      subst (λ (z : ℕ). IsPassed found fan (facet_of (at z) k) (next z k)) (listed_at found x h)
+      (f.passed h.0 k h.1 l (let m : h.0 < length found = h.1 in omega arith))
 
   -- across it is no cell in conflict but one that was found
   abbrev marked : ℕ → Bool
@@ -119,17 +128,22 @@ module _ (s : Store) (p from : ℕ) (found : List ℕ) (fan : List Facet) (store
   is_marked : (x : ℕ) → Contains found x → marked x ≡ true
   is_marked x h = list_any-from_Contains nat_eq_equiv x found h
 
-  entered : (x k y : ℕ) → Contains found x → k < 4 → next x k ≡ Some y → IsInConflict (vertices_of s) p (at y) → Contains found y
+  entered : (x k y : ℕ) → Contains found x → k < 4 → next x k ≡ Some y → IsInConflict (vertices_of s) p (at y)
+      → Contains found y
   entered x k y h l e c =
-      ⊎_elim (λ (z : (w : ℕ) × (next x k ≡ Some w) × Contains found w). let q : y ≡ z.0 = (let a : Some y ≡ Some z.0 = sym e ∙ z.1 in cc) in subst (λ (w : ℕ). Contains found w) (sym q) z.2)
-      (λ (z : IsInFan fan (facet_of (at x) k) (next x k)). absurd (both (vertices_of s) p (at y) c ((f.rim z.facet z.facet_in).clear y (z.outer ∙ e)))) (passed x k h l)
+      ⊎_elim (λ (z : (w : ℕ) × (next x k ≡ Some w) × Contains found w).
+      let q : y ≡ z.0 = (let a : Some y ≡ Some z.0 = sym e ∙ z.1 in cc) in
+      subst (λ (w : ℕ). Contains found w) (sym q) z.2)
+      (λ (z : IsInFan fan (facet_of (at x) k) (next x k)).
+      absurd (both (vertices_of s) p (at y) c ((f.rim z.facet z.facet_in).clear y (z.outer ∙ e)))) (passed x k h l)
 
   flooded : IsFlooded (vertices_of s) p (names s.slots) at next marked
   flooded x k y live m c l e d = is_marked y (entered x k y (listed x m) l e d)
 
   conflicts : AreConflicts (vertices_of s) p (names s.slots) at marked
   conflicts =
-      cavity_law (vertices_of s) (boxed s store_is) p new (names s.slots) at next (linked s store_is) (cells s delaunay) marked flooded (λ x live m. f.conflict x (listed x m)) from
+      cavity_law (vertices_of s) (boxed s store_is) p new (names s.slots) at next (linked s store_is) (cells s delaunay) marked
+      flooded (λ x live m. f.conflict x (listed x m)) from
       (in_names s.slots from from_live) (is_marked from f.start)
 
   all : (x : ℕ) → IsLive (links_of s.slots) x → IsInConflict (vertices_of s) p (at x) → Contains found x
@@ -141,7 +155,8 @@ module _ (s : Store) (p from : ℕ) (found : List ℕ) (fan : List Facet) (store
 
   -- ---- the fan
 
-  law_rim : (x k : ℕ) (o : Option ℕ) → o ≡ next x k → ((y : ℕ) → o ≡ Some y → IsClearOf (vertices_of s) p (at y)) → IsRim (vertices_of s) p at next x k
+  law_rim : (x k : ℕ) (o : Option ℕ) → o ≡ next x k → ((y : ℕ) → o ≡ Some y → IsClearOf (vertices_of s) p (at y))
+      → IsRim (vertices_of s) p at next x k
   law_rim x k None e h = inl (sym e)
   law_rim x k (Some y) e h = inr (y, sym e, h y refl)
 
@@ -150,10 +165,13 @@ module _ (s : Store) (p from : ℕ) (found : List ℕ) (fan : List Facet) (store
       let r = f.rim i l in
       let x = slice_index found r.cell in
       let h = contains_at found r.cell r.cell_in in
-      subst (λ (g : geo.DirectedFacet). IsFan (vertices_of s) p g.a g.b g.c) (sym r.facet) (rims.fan x r.side (in_names s.slots x (f.live x h)) r.side_in (f.conflict x h) (law_rim x r.side (fan_outer fan i) r.outer r.clear))
+      subst (λ (g : geo.DirectedFacet). IsFan (vertices_of s) p g.a g.b g.c) (sym r.facet)
+      (rims.fan x r.side (in_names s.slots x (f.live x h)) r.side_in (f.conflict x h)
+      (law_rim x r.side (fan_outer fan i) r.outer r.clear))
 
   -- a facet of a found cell across which there is none or one that is clear of p
-  at_rim : (x k : ℕ) → Contains found x → k < 4 → IsRim (vertices_of s) p at next x k → IsInFan fan (facet_of (at x) k) (next x k)
+  at_rim : (x k : ℕ) → Contains found x → k < 4 → IsRim (vertices_of s) p at next x k
+      → IsInFan fan (facet_of (at x) k) (next x k)
   at_rim x k h l r =
       ⊎_elim
       (λ (z : (y : ℕ) × (next x k ≡ Some y) × Contains found y).
@@ -162,7 +180,8 @@ module _ (s : Store) (p from : ℕ) (found : List ℕ) (fan : List Facet) (store
       (λ (q : (y : ℕ) × (next x k ≡ Some y) × IsClearOf (vertices_of s) p (at y)).
       let a : Some z.0 ≡ Some q.0 = sym z.1 ∙ q.1 in
       let b : z.0 ≡ q.0 = cc in
-      both (vertices_of s) p (at z.0) (f.conflict z.0 z.2) (subst (λ (w : ℕ). IsClearOf (vertices_of s) p (at w)) (sym b) q.2)) r))
+      both (vertices_of s) p (at z.0) (f.conflict z.0 z.2) (subst (λ (w : ℕ). IsClearOf (vertices_of s) p (at w)) (sym b) q.2))
+      r))
       (λ (z : IsInFan fan (facet_of (at x) k) (next x k)). z) (passed x k h l)
 
   fan_all : (a b c : ℕ) → IsFan (vertices_of s) p a b c → (i : ℕ) × (i < length fan) × IsRotated (fan_facet fan i) (facet a b c)
@@ -194,9 +213,11 @@ module _ (s : Store) (p from : ℕ) (found : List ℕ) (fan : List Facet) (store
   inside y None e h = absurd (let a : None ≡ Some y = e in cc)
   inside y (Some z) e h = let q : z ≡ y = (let a : Some z ≡ Some y = e in cc) in subst (λ (w : ℕ). ¬ Contains found w) q h
 
-  store_all : (id k : ℕ) → Contains found id → k < 4 → IsOutside found (next id k) → (i : ℕ) × (i < length fan) × IsRotated (facet_of (at id) k) (fan_facet fan i)
+  store_all : (id k : ℕ) → Contains found id → k < 4 → IsOutside found (next id k)
+      → (i : ℕ) × (i < length fan) × IsRotated (facet_of (at id) k) (fan_facet fan i)
   store_all id k h l o =
-      ⊎_elim (λ (z : (y : ℕ) × (next id k ≡ Some y) × Contains found y). absurd (inside z.0 (next id k) z.1 o z.2)) (λ (z : IsInFan fan (facet_of (at id) k) (next id k)). (z.facet, z.facet_in, inl z.is)) (passed id k h l)
+      ⊎_elim (λ (z : (y : ℕ) × (next id k ≡ Some y) × Contains found y). absurd (inside z.0 (next id k) z.1 o z.2))
+      (λ (z : IsInFan fan (facet_of (at id) k) (next id k)). (z.facet, z.facet_in, inl z.is)) (passed id k h l)
 
   some_facet : 0 < length fan
   some_facet =
@@ -207,7 +228,9 @@ module _ (s : Store) (p from : ℕ) (found : List ℕ) (fan : List Facet) (store
       omega arith
 
   listing : IsListing (vertices_of s) (names s.slots) at
-  listing = linked_law (vertices_of s) (boxed s store_is) (names s.slots) at next (linked s store_is) (cells s delaunay) from (in_names s.slots from from_live)
+  listing =
+      linked_law (vertices_of s) (boxed s store_is) (names s.slots) at next (linked s store_is) (cells s delaunay) from
+      (in_names s.slots from from_live)
 
   held : (u : ℕ) → Has (vertices_of s) u → fans.IsInFan fan u ⊎ IsHeld (links_of s.slots) found u
   held u h =
@@ -225,7 +248,8 @@ module _ (s : Store) (p from : ℕ) (found : List ℕ) (fan : List Facet) (store
         live = of_names s.slots w.0 w.1;
         outside = λ l. both (vertices_of s) p (at w.0) (f.conflict w.0 l) (subst (λ (y : ℤ). pos 0 ≤ℤ y) e z.3);
         has = same_vertex u z.0 (at w.0) (rewritten_back (at w.0) z.0 w.2) z.2;
-      })) (vertex_law (vertices_of s) (boxed s store_is) p new (at from).a (at from).b (at from).c (at from).d c (f.conflict from f.start) u h)
+      })) (vertex_law (vertices_of s) (boxed s store_is) p new (at from).a (at from).b (at from).c (at from).d c
+      (f.conflict from f.start) u h)
 
   can : (room : ℕ) → length fan ≤ room → CanReplace (record s { spare = room }) found fan p
   can room l = record {
@@ -235,7 +259,10 @@ module _ (s : Store) (p from : ℕ) (found : List ℕ) (fan : List Facet) (store
     some_facet = some_facet;
     rim = record { rim = store_rim; all = store_all; once = f.once };
     before = λ i m. fan_of.before (fan_facet fan i).a (fan_facet fan i).b (fan_facet fan i).c (fan_at i m);
-    edges = fan_edges fan (edge_law (vertices_of s) (boxed s store_is) p new (length fan) (fan_facet fan) (record { fan = fan_at; all = fan_all; once = f.once }));
+    edges =
+        fan_edges fan
+        (edge_law (vertices_of s) (boxed s store_is) p new (length fan) (fan_facet fan)
+        (record { fan = fan_at; all = fan_all; once = f.once }));
     below = below;
     out = out;
     held = held;

@@ -1,5 +1,6 @@
 -- Lists that grow at their end, what is marked of them, and how long a list of distinct numbers below a bound may be.
-use Rattle.std.proofs.Common.{ℕ, ◌≡◌, ◌≢◌, ◌<◌, ◌≤◌, ◌+◌, Bool, true, false, List, [], ◌∷◌, ◌++◌, length, refl, sym, ap, ◌∙◌, ◌⊎◌, inl, inr, ⊎_elim, subst, arith, slice_index, get_or, Contains, ◌↔◌}
+use Rattle.std.proofs.Common.{ℕ, ◌≡◌, ◌≢◌, ◌<◌, ◌≤◌, ◌+◌, Bool, true, false, List, [], ◌∷◌, ◌++◌, length, refl, sym, ap, ◌∙◌}
+use Rattle.std.proofs.Common.{◌⊎◌, inl, inr, ⊎_elim, subst, arith, slice_index, get_or, Contains, ◌↔◌}
 use Rattle.std.specs.Prelude.{nat_eq}
 use Rattle.std.proofs.lemmas.Bool.{cases_lt, eqb-true}
 use Rattle.std.proofs.lemmas.Map.Steps.{length-le_from_distinct_below}
@@ -50,29 +51,40 @@ listed_at cells x h = get_or_default cells h.0 0 x h.1 ∙ h.2
 
 -- ---- marks: after one more number is marked and listed, exactly the listed ones are marked
 
-pub marked_more : (stamps stamps' : List ℕ) (round round' : ℕ) (cells : List ℕ) (y n : ℕ) (cells' : List ℕ) → n ≡ y → AreMarked stamps round cells → ((x : ℕ) → IsMarked stamps' round' x ↔ (IsMarked stamps round x ⊎ (x ≡ n))) → cells' ≡ cells ++ y ∷ [] →
-    AreMarked stamps' round' cells'
+pub marked_more : (stamps stamps' : List ℕ) (round round' : ℕ) (cells : List ℕ) (y n : ℕ) (cells' : List ℕ) → n ≡ y
+    → AreMarked stamps round cells → ((x : ℕ) → IsMarked stamps' round' x ↔ (IsMarked stamps round x ⊎ (x ≡ n)))
+    → cells' ≡ cells ++ y ∷ []
+    → AreMarked stamps' round' cells'
 marked_more stamps stamps' round round' cells y n cells' q h m e =
     subst (λ (c : List ℕ). AreMarked stamps' round' c) (sym e)
     (record {
-      listed = λ x i. ⊎_elim (λ (l : IsMarked stamps round x). Contains-append_left cells (y ∷ []) x (h.listed x l)) (λ (l : x ≡ n). subst (λ (z : ℕ). Contains (cells ++ y ∷ []) z) (sym (l ∙ q)) (Contains-push cells y)) ((m x).0 i);
-      marked = λ x i. (m x).1 (⊎_elim (λ (l : Contains cells x). inl (h.marked x l)) (λ (l : Contains (y ∷ []) x). inr (only_one y x l ∙ sym q)) (Contains-append_cases cells (y ∷ []) x i));
+      listed =
+          λ x i. ⊎_elim (λ (l : IsMarked stamps round x). Contains-append_left cells (y ∷ []) x (h.listed x l))
+          (λ (l : x ≡ n). subst (λ (z : ℕ). Contains (cells ++ y ∷ []) z) (sym (l ∙ q)) (Contains-push cells y)) ((m x).0 i);
+      marked =
+          λ x i. (m x).1
+          (⊎_elim (λ (l : Contains cells x). inl (h.marked x l)) (λ (l : Contains (y ∷ []) x). inr (only_one y x l ∙ sym q))
+          (Contains-append_cases cells (y ∷ []) x i));
     })
 
 -- ---- how many: distinct numbers below n are at most n
 
 apart_not : (x y : ℕ) → x ≢ y → nat_eq x y ≡ false
-apart_not x y h = ⊎_elim (λ (e : nat_eq x y ≡ true). absurd (h (eqb-true x y e))) (λ (e : nat_eq x y ≡ false). e) (cases (nat_eq x y))
+apart_not x y h =
+    ⊎_elim (λ (e : nat_eq x y ≡ true). absurd (h (eqb-true x y e))) (λ (e : nat_eq x y ≡ false). e) (cases (nat_eq x y))
   where
     cases : (b : Bool) → (b ≡ true) ⊎ (b ≡ false)
     cases true = inl refl
     cases false = inr refl
 
-pub few : (cells : List ℕ) (n : ℕ) → ((j k : ℕ) → j < length cells → k < length cells → slice_index cells j ≡ slice_index cells k → j ≡ k) → ((x : ℕ) → Contains cells x → x < n) → length cells ≤ n
+pub few : (cells : List ℕ) (n : ℕ)
+    → ((j k : ℕ) → j < length cells → k < length cells → slice_index cells j ≡ slice_index cells k → j ≡ k)
+    → ((x : ℕ) → Contains cells x → x < n) → length cells ≤ n
 few cells n distinct below =
     length-le_from_distinct_below cells n
     (IsDistinct-from_apart nat_eq cells (λ i j d l m.
     apart_not (get_or cells i d) (get_or cells j d) (λ e.
-    let q : i ≡ j = distinct i j (omega arith) m (sym (get_or_default cells i d 0 (omega arith)) ∙ (e ∙ get_or_default cells j d 0 m)) in
+    let q : i ≡ j =
+    distinct i j (omega arith) m (sym (get_or_default cells i d 0 (omega arith)) ∙ (e ∙ get_or_default cells j d 0 m)) in
     absurd (omega arith))))
     (λ x e. below x (Contains-from_any eqb-true x cells e))

@@ -1,8 +1,10 @@
 -- What a store keeps, in the words of the laws of Delaunay cells. The laws speak of a list of names: here it is the list of the
--- live numbers below the count of slots. Then `boxed`, `linked` and `cells` are the premises of the laws, read off the store, and
--- the second half shows that the call that decides a conflict may be asked of a cell and a vertex that is not inserted, and that
--- its answer is the sign of the power that the laws speak of.
-use Rattle.std.proofs.Common.{ℕ, zero, suc, ◌≡◌, ◌≢◌, ◌<◌, ◌≤◌, Bool, true, false, List, [], ◌∷◌, length, Option, Some, refl, sym, ap, ◌∙◌, ◌⊎◌, inl, inr, ⊎_elim, subst, arith, slice_index_or, get_or, ℤ, pos, ◌<ℤ◌, ◌≤ℤ◌, IsTrue, IsFalse, ◌↔◌, true≢false}
+-- live numbers below the count of slots. Then `boxed`, `linked` and `cells` are the premises of the laws, read off the store,
+-- and the second half shows that the call that decides a conflict may be asked of a cell and a vertex that is not inserted, and
+-- that its answer is the sign of the power that the laws speak of.
+use Rattle.std.proofs.Common.{ℕ, zero, suc, ◌≡◌, ◌≢◌, ◌<◌, ◌≤◌, Bool, true, false, List, [], ◌∷◌, length, Option, Some, refl}
+use Rattle.std.proofs.Common.{sym, ap, ◌∙◌, ◌⊎◌, inl, inr, ⊎_elim, subst, arith, slice_index_or, get_or, ℤ, pos, ◌<ℤ◌, ◌≤ℤ◌}
+use Rattle.std.proofs.Common.{IsTrue, IsFalse, ◌↔◌, true≢false}
 use Rattle.std.specs.Prelude.{is_some}
 use Rattle.std.proofs.lemmas.Bool.{cases_lt, false≢true}
 use Rattle.std.proofs.lemmas.Int.{ints}
@@ -47,12 +49,15 @@ below_in : (links : Links) (n x : ℕ) → x < n → IsLive links x → IsIn (li
 below_in links zero x l h = absurd (omega arith)
 below_in links (suc n) x l h =
     ⊎_elim (λ (m : x < n). pick_keeps (links.is_live n) n x (live_below links n) (below_in links n x m h))
-    (λ (m : n ≤ x). let e : n ≡ x = omega arith in subst (λ (z : ℕ). IsIn (pick (links.is_live n) n (live_below links n)) z) e (pick_has (links.is_live n) n (live_below links n) (subst (λ (z : ℕ). IsLive links z) (sym e) h))) (cases_lt x n)
+    (λ (m : n ≤ x). let e : n ≡ x = omega arith in
+    subst (λ (z : ℕ). IsIn (pick (links.is_live n) n (live_below links n)) z) e
+    (pick_has (links.is_live n) n (live_below links n) (subst (λ (z : ℕ). IsLive links z) (sym e) h))) (cases_lt x n)
 
 in_below : (links : Links) (n x : ℕ) → IsIn (live_below links n) x → IsLive links x
 in_below links zero x h = absurd h
 in_below links (suc n) x h =
-    ⊎_elim (λ (b : (links.is_live n ≡ true) × (n ≡ x)). subst (λ (z : ℕ). IsLive links z) b.1 b.0) (λ (b : IsIn (live_below links n) x). in_below links n x b) (pick_gives (links.is_live n) n x (live_below links n) h)
+    ⊎_elim (λ (b : (links.is_live n ≡ true) × (n ≡ x)). subst (λ (z : ℕ). IsLive links z) b.1 b.0)
+    (λ (b : IsIn (live_below links n) x). in_below links n x b) (pick_gives (links.is_live n) n x (live_below links n) h)
 
 abbrev pub names : List (Option Cell) → List ℕ
 names slots = live_below (links_of slots) (length slots)
@@ -71,18 +76,23 @@ boxed s store = store.vertices.boxed
 pub linked : (s : Store) → IsStore s → IsLinked (vertices_of s) (names s.slots) (links_of s.slots).at (links_of s.slots).next
 linked s store =
     record {
-      back = λ x k y h l e. let b = store.linked.back x k y (of_names s.slots x h) l e in record { listed = in_names s.slots y b.live; side = b.side; in_range = b.in_range; turned = b.turned };
+      back = λ x k y h l e. let b = store.linked.back x k y (of_names s.slots x h) l e in
+          record { listed = in_names s.slots y b.live; side = b.side; in_range = b.in_range; turned = b.turned };
       walls = λ x k h l e. store.linked.walls x k (of_names s.slots x h) l e;
       apart = λ x y j k h i l m r. store.linked.apart x y j k (of_names s.slots x h) (of_names s.slots y i) l m r;
     }
 
-pub cells : (s : Store) → IsDelaunay (vertices_of s) (links_of s.slots) → AreCells (vertices_of s) (names s.slots) (links_of s.slots).at
+pub cells : (s : Store) → IsDelaunay (vertices_of s) (links_of s.slots)
+    → AreCells (vertices_of s) (names s.slots) (links_of s.slots).at
 cells s delaunay = λ x h. delaunay.cells x (of_names s.slots x h)
 
-pub new_vertex : (s : Store) (p : ℕ) → IsStore s → p < length s.points → slice_index_or s.inserted p false ≡ false → IsNew (vertices_of s) p
+pub new_vertex : (s : Store) (p : ℕ) → IsStore s → p < length s.points → slice_index_or s.inserted p false ≡ false
+    → IsNew (vertices_of s) p
 new_vertex s p store below out =
     record {
-      above = ⊎_elim (λ (l : p < 8). absurd (true≢false (sym ((store.vertices.boxed.corner_in p l).1) ∙ out))) (λ (l : 8 ≤ p). l) (cases_lt p 8);
+      above =
+          ⊎_elim (λ (l : p < 8). absurd (true≢false (sym ((store.vertices.boxed.corner_in p l).1) ∙ out))) (λ (l : 8 ≤ p). l)
+          (cases_lt p 8);
       below = below;
       out = out;
     }
@@ -95,19 +105,25 @@ pub record IsCellBeside (s : Store) (p : ℕ) (t : Tetrahedron) : Type 0 where
   pub other : (k : ℕ) → k < 4 → vertex_of t k ≢ p
   pub positive : pos 0 <ℤ orientation_of (vertices_of s) t.a t.b t.c t.d
 
-pub beside_at : (s : Store) (p id : ℕ) → IsStore s → slice_index_or s.inserted p false ≡ false → IsLive (links_of s.slots) id → IsCellBeside s p ((links_of s.slots).at id)
+pub beside_at : (s : Store) (p id : ℕ) → IsStore s → slice_index_or s.inserted p false ≡ false → IsLive (links_of s.slots) id
+    → IsCellBeside s p ((links_of s.slots).at id)
 beside_at s p id store out live =
     record {
       below = λ k l. (store.linked.has id k live l).0;
       distinct = λ j k l m e. store.linked.distinct id j k live l m e;
-      other = λ k l e. true≢false (sym (store.linked.has id k live l).1 ∙ (ap (λ (u : ℕ). slice_index_or s.inserted u false) e ∙ out));
+      other =
+          λ k l e.
+          true≢false (sym (store.linked.has id k live l).1 ∙ (ap (λ (u : ℕ). slice_index_or s.inserted u false) e ∙ out));
       positive = store.linked.positive id live;
     }
 
-pub beside : (s : Store) (p id : ℕ) (c : Cell) → IsStore s → slice_index_or s.inserted p false ≡ false → slot_at s.slots id ≡ Some c → IsCellBeside s p (tetrahedron_from c.v)
-beside s p id c store out e = subst (λ (t : Tetrahedron). IsCellBeside s p t) (ap vertices_in e) (beside_at s p id store out (ap is_some e))
+pub beside : (s : Store) (p id : ℕ) (c : Cell) → IsStore s → slice_index_or s.inserted p false ≡ false
+    → slot_at s.slots id ≡ Some c → IsCellBeside s p (tetrahedron_from c.v)
+beside s p id c store out e =
+    subst (λ (t : Tetrahedron). IsCellBeside s p t) (ap vertices_in e) (beside_at s p id store out (ap is_some e))
 
-pub apart : (s : Store) (p : ℕ) (t : Tetrahedron) (x y z w q : Point) → IsCellBeside s p t → AreApart (t.a, x) (t.b, y) (t.c, z) (t.d, w) (p, q)
+pub apart : (s : Store) (p : ℕ) (t : Tetrahedron) (x y z w q : Point) → IsCellBeside s p t
+    → AreApart (t.a, x) (t.b, y) (t.c, z) (t.d, w) (p, q)
 apart s p t x y z w q h =
     record {
       a_b = λ e. absurd (let i = h.distinct 0 1 (omega arith) (omega arith) e in omega arith);
@@ -122,18 +138,30 @@ apart s p t x y z w q h =
       d_p = h.other 3 (omega arith);
     }
 
-pub all_below : (s : Store) (p : ℕ) (t : Tetrahedron) (x y z w q : Point) → IsCellBeside s p t → p < length s.points → AreBelow (length s.points) (t.a, x) (t.b, y) (t.c, z) (t.d, w) (p, q)
-all_below s p t x y z w q h l = record { a_below = h.below 0 (omega arith); b_below = h.below 1 (omega arith); c_below = h.below 2 (omega arith); d_below = h.below 3 (omega arith); p_below = l }
+pub all_below : (s : Store) (p : ℕ) (t : Tetrahedron) (x y z w q : Point) → IsCellBeside s p t → p < length s.points
+    → AreBelow (length s.points) (t.a, x) (t.b, y) (t.c, z) (t.d, w) (p, q)
+all_below s p t x y z w q h l = record {
+  a_below = h.below 0 (omega arith);
+  b_below = h.below 1 (omega arith);
+  c_below = h.below 2 (omega arith);
+  d_below = h.below 3 (omega arith);
+  p_below = l;
+}
 
-pub power_same : (s : Store) (p : ℕ) (t : Tetrahedron) (x y z w q : Point) → x ≡ get_or s.points t.a origin → y ≡ get_or s.points t.b origin → z ≡ get_or s.points t.c origin → w ≡ get_or s.points t.d origin → q ≡ get_or s.points p origin →
-    tied_power (length s.points) (t.a, x) (t.b, y) (t.c, z) (t.d, w) (p, q) ≡ power_of (vertices_of s) t.a t.b t.c t.d p
+pub power_same : (s : Store) (p : ℕ) (t : Tetrahedron) (x y z w q : Point) → x ≡ get_or s.points t.a origin
+    → y ≡ get_or s.points t.b origin → z ≡ get_or s.points t.c origin → w ≡ get_or s.points t.d origin
+    → q ≡ get_or s.points p origin
+    → tied_power (length s.points) (t.a, x) (t.b, y) (t.c, z) (t.d, w) (p, q) ≡ power_of (vertices_of s) t.a t.b t.c t.d p
 power_same s p t x y z w q e f g h i =
     let n = length s.points in
     ap (λ (o : Point). tied_power n (t.a, o) (t.b, y) (t.c, z) (t.d, w) (p, q)) e ∙
     (ap (λ (o : Point). tied_power n (t.a, get_or s.points t.a origin) (t.b, o) (t.c, z) (t.d, w) (p, q)) f ∙
-    (ap (λ (o : Point). tied_power n (t.a, get_or s.points t.a origin) (t.b, get_or s.points t.b origin) (t.c, o) (t.d, w) (p, q)) g ∙
-    (ap (λ (o : Point). tied_power n (t.a, get_or s.points t.a origin) (t.b, get_or s.points t.b origin) (t.c, get_or s.points t.c origin) (t.d, o) (p, q)) h ∙
-    ap (λ (o : Point). tied_power n (t.a, get_or s.points t.a origin) (t.b, get_or s.points t.b origin) (t.c, get_or s.points t.c origin) (t.d, get_or s.points t.d origin) (p, o)) i)))
+    (ap (λ (o : Point).
+    tied_power n (t.a, get_or s.points t.a origin) (t.b, get_or s.points t.b origin) (t.c, o) (t.d, w) (p, q)) g ∙
+    (ap (λ (o : Point). tied_power n (t.a, get_or s.points t.a origin) (t.b, get_or s.points t.b origin)
+    (t.c, get_or s.points t.c origin) (t.d, o) (p, q)) h ∙
+    ap (λ (o : Point). tied_power n (t.a, get_or s.points t.a origin) (t.b, get_or s.points t.b origin)
+    (t.c, get_or s.points t.c origin) (t.d, get_or s.points t.d origin) (p, o)) i)))
 
 -- a sign that is never zero
 pub outside : (r : Bool) (z : ℤ) → (IsTrue r ↔ (z <ℤ pos 0)) → (IsFalse r ↔ (pos 0 <ℤ z)) → IsFalse r ↔ (pos 0 ≤ℤ z)

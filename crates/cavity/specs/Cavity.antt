@@ -1,6 +1,7 @@
 -- The cavity of a vertex.
 --
---   IsCavity s p cells fan    the cells are exactly the live ones in conflict with p, each once, and the fan is the rim over which
+--   IsCavity s p cells fan    the cells are exactly the live ones in conflict with p, each once, and the fan is the rim over
+--   which
 --                             Delaunay cells with p stand; the store can put these in place of those
 use Rattle.std.specs.Prelude.{ℕ, ◌<◌, ◌≤◌, List, length, Contains}
 use Rattle.tetra_store.specs.declared.fan.Facet.{Facet}
@@ -10,11 +11,12 @@ use Rattle.tetra_store.specs.Fan.{fan_facet, CanReplace}
 use Rattle.geo_sign.specs.Boxes.{IsInConflict}
 use Rattle.cell_laws.specs.Fans.{IsFan}
 
--- The cells are exactly those in conflict with p, each once (`can_replace` has that they are distinct). Each facet of the fan is one
--- over which a Delaunay cell with p stands. As soon as there is room, cells over the fan can be put in place of these.
+-- The cells are exactly those in conflict with p, each once (`can_replace` has that they are distinct). Each facet of the fan
+-- is one over which a Delaunay cell with p stands. As soon as there is room, cells over the fan can be put in place of these.
 pub record IsCavity (s : Store) (p : ℕ) (cells : List ℕ) (fan : List Facet) : Type 0 where
   pub live : (id : ℕ) → Contains cells id → IsLive (links_of s.slots) id
   pub conflict : (id : ℕ) → Contains cells id → IsInConflict (vertices_of s) p ((links_of s.slots).at id)
-  pub all : (id : ℕ) → IsLive (links_of s.slots) id → IsInConflict (vertices_of s) p ((links_of s.slots).at id) → Contains cells id
+  pub all : (id : ℕ) → IsLive (links_of s.slots) id → IsInConflict (vertices_of s) p ((links_of s.slots).at id)
+      → Contains cells id
   pub rim : (i : ℕ) → i < length fan → IsFan (vertices_of s) p (fan_facet fan i).a (fan_facet fan i).b (fan_facet fan i).c
   pub can_replace : (room : ℕ) → length fan ≤ room → CanReplace (record s { spare = room }) cells fan p

@@ -1,12 +1,14 @@
--- A flood over the links of cells, from cell to cell across facets. Sides are counted through the list of cells that were reached:
+-- A flood over the links of cells, from cell to cell across facets. Sides are counted through the list of cells that were
+-- reached:
 -- side k of the cell at index j is number 4 * j + k.
 --
 --   AreMarked stamps round cells             exactly the cells reached are marked
 --   facet_on f across                        a facet with the cell across it
---   IsReached, IsEntered, IsLeft             the three ways to cross a facet: the cell across was reached before; it is reached now;
+--   IsReached, IsEntered, IsLeft             the three ways to cross a facet: the cell across was reached before; it is reached
+--   now;
 --                                            none in conflict is across, and the facet goes into the fan
---   IsCrossed v links p f across c g c' g'   the facet f was crossed in one of the three ways, from cells c and fan g to c' and g'
---   IsRimAt v links p cells fan n i          fan facet i is that of a side that was crossed
+--   IsCrossed v links p f across c g c' g'   the facet f was crossed in one of the three ways, from cells c and fan g to c' and
+--   g' IsRimAt v links p cells fan n i          fan facet i is that of a side that was crossed
 --   IsInFan fan f across                     the fan has the facet f, with this cell across
 --   IsPassed cells fan f across              the cell across was reached, or the facet is in the fan
 --   IsFlooding v links p from cells fan n    the first n sides of the cells reached were crossed
@@ -30,7 +32,8 @@ abbrev pub facet_on : List ℕ → Option ℕ → Facet
 facet_on f across = record { v = f; outer = across }
 
 -- the cell across was reached before
-pub record IsReached (across : Option ℕ) (cells : List ℕ) (fan : List Facet) (cells' : List ℕ) (fan' : List Facet) : Type 0 where
+pub record IsReached (across : Option ℕ) (cells : List ℕ) (fan : List Facet) (cells' : List ℕ)
+    (fan' : List Facet) : Type 0 where
   pub cell : ℕ
   pub is : across ≡ Some cell
   pub listed : Contains cells cell
@@ -38,7 +41,8 @@ pub record IsReached (across : Option ℕ) (cells : List ℕ) (fan : List Facet)
   pub fan_same : fan' ≡ fan
 
 -- the cell across is in conflict, and is reached now
-pub record IsEntered (v : Vertices) (links : Links) (p : ℕ) (across : Option ℕ) (cells : List ℕ) (fan : List Facet) (cells' : List ℕ) (fan' : List Facet) : Type 0 where
+pub record IsEntered (v : Vertices) (links : Links) (p : ℕ) (across : Option ℕ) (cells : List ℕ) (fan : List Facet)
+    (cells' : List ℕ) (fan' : List Facet) : Type 0 where
   pub cell : ℕ
   pub is : across ≡ Some cell
   pub new : ¬ Contains cells cell
@@ -47,14 +51,18 @@ pub record IsEntered (v : Vertices) (links : Links) (p : ℕ) (across : Option �
   pub fan_same : fan' ≡ fan
 
 -- no cell in conflict is across
-pub record IsLeft (v : Vertices) (links : Links) (p : ℕ) (f : List ℕ) (across : Option ℕ) (cells : List ℕ) (fan : List Facet) (cells' : List ℕ) (fan' : List Facet) : Type 0 where
+pub record IsLeft (v : Vertices) (links : Links) (p : ℕ) (f : List ℕ) (across : Option ℕ) (cells : List ℕ) (fan : List Facet)
+    (cells' : List ℕ) (fan' : List Facet) : Type 0 where
   pub clear : (y : ℕ) → across ≡ Some y → IsClearOf v p (links.at y)
   pub cells_same : cells' ≡ cells
   pub fan_more : fan' ≡ fan ++ facet_on f across ∷ []
 
 -- in one of the three ways
-abbrev pub IsCrossed : (v : Vertices) (links : Links) (p : ℕ) (f : List ℕ) (across : Option ℕ) (cells : List ℕ) (fan : List Facet) (cells' : List ℕ) (fan' : List Facet) → Type 0
-IsCrossed v links p f across cells fan cells' fan' = IsReached across cells fan cells' fan' ⊎ (IsEntered v links p across cells fan cells' fan' ⊎ IsLeft v links p f across cells fan cells' fan')
+abbrev pub IsCrossed : (v : Vertices) (links : Links) (p : ℕ) (f : List ℕ) (across : Option ℕ) (cells : List ℕ)
+    (fan : List Facet) (cells' : List ℕ) (fan' : List Facet) → Type 0
+IsCrossed v links p f across cells fan cells' fan' =
+    IsReached across cells fan cells' fan'
+    ⊎ (IsEntered v links p across cells fan cells' fan' ⊎ IsLeft v links p f across cells fan cells' fan')
 
 -- fan facet i is that of a side before side n, and across it is no cell in conflict
 pub record IsRimAt (v : Vertices) (links : Links) (p : ℕ) (cells : List ℕ) (fan : List Facet) (n i : ℕ) : Type 0 where
@@ -78,13 +86,14 @@ pub record IsInFan (fan : List Facet) (f : geo.DirectedFacet) (across : Option �
 abbrev pub IsPassed : (cells : List ℕ) (fan : List Facet) (f : geo.DirectedFacet) (across : Option ℕ) → Type 0
 IsPassed cells fan f across = ((y : ℕ) × (across ≡ Some y) × Contains cells y) ⊎ IsInFan fan f across
 
--- The cells reached have the first one, are live, in conflict and distinct. Of the first n sides each has been dealt with, the fan has
--- facets of such sides alone, and no facet twice.
+-- The cells reached have the first one, are live, in conflict and distinct. Of the first n sides each has been dealt with, the
+-- fan has facets of such sides alone, and no facet twice.
 pub record IsFlooding (v : Vertices) (links : Links) (p from : ℕ) (cells : List ℕ) (fan : List Facet) (n : ℕ) : Type 0 where
   pub start : Contains cells from
   pub live : (id : ℕ) → Contains cells id → IsLive links id
   pub conflict : (id : ℕ) → Contains cells id → IsInConflict v p (links.at id)
   pub distinct : (j k : ℕ) → j < length cells → k < length cells → slice_index cells j ≡ slice_index cells k → j ≡ k
   pub rim : (i : ℕ) → i < length fan → IsRimAt v links p cells fan n i
-  pub passed : (j k : ℕ) → j < length cells → k < 4 → 4 * j + k < n → IsPassed cells fan (facet_of (links.at (slice_index cells j)) k) (links.next (slice_index cells j) k)
+  pub passed : (j k : ℕ) → j < length cells → k < 4 → 4 * j + k < n
+      → IsPassed cells fan (facet_of (links.at (slice_index cells j)) k) (links.next (slice_index cells j) k)
   pub once : (i j : ℕ) → i < length fan → j < length fan → IsRotated (fan_facet fan i) (fan_facet fan j) → i ≡ j

@@ -1,7 +1,8 @@
--- The least of some ratios over a list that pass a test. All that takes a cell from a finite list stands on it: the next cell over a
--- facet, the highest cell at a place and the lowest.
+-- The least of some ratios over a list that pass a test. All that takes a cell from a finite list stands on it: the next cell
+-- over a facet, the highest cell at a place and the lowest.
 -- Stands on: Order (products).
-use Rattle.std.proofs.Common.{◌≡◌, refl, ap, sym, subst, ◌∙◌, ◌⊎◌, arith, Bool, true, false, ℤ, pos, ◌*ℤ◌, ◌≤ℤ◌, ◌<ℤ◌, List, [], ◌∷◌, inl, inr, ⊎_elim, true≢false}
+use Rattle.std.proofs.Common.{◌≡◌, refl, ap, sym, subst, ◌∙◌, ◌⊎◌, arith, Bool, true, false, ℤ, pos, ◌*ℤ◌, ◌≤ℤ◌, ◌<ℤ◌, List, []}
+use Rattle.std.proofs.Common.{◌∷◌, inl, inr, ⊎_elim, true≢false}
 use Rattle.std.proofs.lemmas.Int.{ints, by_lt_z}
 use Rattle.geo_sign.specs.Polynomial.{product, variable}
 use Rattle.geo_sign.proofs.Ring.{ring}
@@ -16,13 +17,15 @@ pub record IsBest {X : Type 0} (f : X → Bool) (num den : X → ℤ) (xs : List
 
 exchange : (a b c : ℤ) → (a *ℤ b) *ℤ c ≡ (a *ℤ c) *ℤ b
 exchange a b c =
-    ring (a ∷ b ∷ c ∷ []) (product (product (variable 0) (variable 1)) (variable 2)) (product (product (variable 0) (variable 2)) (variable 1)) tt
+    ring (a ∷ b ∷ c ∷ []) (product (product (variable 0) (variable 1)) (variable 2))
+    (product (product (variable 0) (variable 2)) (variable 1)) tt
 
 same : (a : ℤ) → a ≤ℤ a
 same a = omega (arith, ints)
 
 pub cancel_le : (a b c : ℤ) → (a *ℤ c) ≤ℤ (b *ℤ c) → pos 0 <ℤ c → a ≤ℤ b
-cancel_le a b c h k = by_lt_z b a (λ l. let e : (b *ℤ c) <ℤ (a *ℤ c) = mul_lt b a c l k in absurd (omega (arith, ints))) (λ l. l)
+cancel_le a b c h k =
+    by_lt_z b a (λ l. let e : (b *ℤ c) <ℤ (a *ℤ c) = mul_lt b a c l k in absurd (omega (arith, ints))) (λ l. l)
 
 -- a / b ≤ c / d ≤ e / f
 pub ratio_trans :
@@ -48,21 +51,55 @@ skip :
 skip {X} f num den x xs e (inl n) = inl (λ y i. ⊎_elim (λ (q : x ≡ y). ap f (sym q) ∙ e) (n y) i)
 skip {X} f num den x xs e (inr z) =
     let b : IsBest f num den xs z.0 = z.1 in
-    inr (z.0, record { listed = inr b.listed; passes = b.passes; least = λ y i g. ⊎_elim (λ (q : x ≡ y). absurd (true≢false (sym g ∙ ap f (sym q) ∙ e))) (λ j. b.least y j g) i })
+    inr (
+      z.0,
+      record {
+        listed = inr b.listed;
+        passes = b.passes;
+        least = λ y i g. ⊎_elim (λ (q : x ≡ y). absurd (true≢false (sym g ∙ ap f (sym q) ∙ e))) (λ j. b.least y j g) i;
+      },
+    )
 
 take :
     {X : Type 0} (f : X → Bool) (num den : X → ℤ) (x : X) (xs : List X) →
     ((y : X) → IsIn (x ∷ xs) y → f y ≡ true → pos 0 <ℤ den y) → f x ≡ true → Found f num den xs → Found f num den (x ∷ xs)
 take {X} f num den x xs h e (inl n) =
-    inr (x, record { listed = inl refl; passes = e; least = λ y i g. ⊎_elim (λ (q : x ≡ y). subst (λ (t : X). (num x *ℤ den t) ≤ℤ (num t *ℤ den x)) q (same (num x *ℤ den x))) (λ j. absurd (true≢false (sym g ∙ n y j))) i })
+    inr (
+      x,
+      record {
+        listed = inl refl;
+        passes = e;
+        least =
+            λ y i g. ⊎_elim (λ (q : x ≡ y). subst (λ (t : X). (num x *ℤ den t) ≤ℤ (num t *ℤ den x)) q (same (num x *ℤ den x)))
+            (λ j. absurd (true≢false (sym g ∙ n y j))) i;
+      },
+    )
 take {X} f num den x xs h e (inr z) =
     let b : IsBest f num den xs z.0 = z.1 in
     let w : X = z.0 in
     by_lt_z (num x *ℤ den w) (num w *ℤ den x)
     (λ l.
     let m : (num x *ℤ den w) ≤ℤ (num w *ℤ den x) = omega (arith, ints) in
-    inr (x, record { listed = inl refl; passes = e; least = λ y i g. ⊎_elim (λ (q : x ≡ y). subst (λ (t : X). (num x *ℤ den t) ≤ℤ (num t *ℤ den x)) q (same (num x *ℤ den x))) (λ j. ratio_trans (num x) (den x) (num w) (den w) (num y) (den y) (h x (inl refl) e) (h w (inr b.listed) b.passes) (h y (inr j) g) m (b.least y j g)) i }))
-    (λ l. inr (w, record { listed = inr b.listed; passes = b.passes; least = λ y i g. ⊎_elim (λ (q : x ≡ y). subst (λ (t : X). (num w *ℤ den t) ≤ℤ (num t *ℤ den w)) q l) (λ j. b.least y j g) i }))
+    inr (
+      x,
+      record {
+        listed = inl refl;
+        passes = e;
+        least =
+            λ y i g. ⊎_elim (λ (q : x ≡ y). subst (λ (t : X). (num x *ℤ den t) ≤ℤ (num t *ℤ den x)) q (same (num x *ℤ den x)))
+            (λ j. ratio_trans (num x) (den x) (num w) (den w) (num y) (den y) (h x (inl refl) e) (h w (inr b.listed) b.passes)
+            (h y (inr j) g) m (b.least y j g)) i;
+      },
+    ))
+    (λ l. inr (
+      w,
+      record {
+        listed = inr b.listed;
+        passes = b.passes;
+        least =
+            λ y i g. ⊎_elim (λ (q : x ≡ y). subst (λ (t : X). (num w *ℤ den t) ≤ℤ (num t *ℤ den w)) q l) (λ j. b.least y j g) i;
+      },
+    ))
 
 pub best :
     {X : Type 0} (f : X → Bool) (num den : X → ℤ) → (xs : List X) → ((x : X) → IsIn xs x → f x ≡ true → pos 0 <ℤ den x) →

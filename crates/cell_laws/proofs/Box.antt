@@ -1,10 +1,14 @@
--- What is outer in the box. A facet is outer where all vertices that are in are before it or in its plane. Each axis of the normal has
--- one wall that is lowest along it, so one corner of the box is lowest along the normal, and it is in. An outer facet has that corner
--- in its plane or before it; then each of the facet's own vertices is as low along each axis as the box, or the facet is level there.
--- A facet of a cell is not level along all axes, so along some axis all three vertices are on one wall: they are corners, since data
--- points are strictly inside. So an outer facet of a cell is on a wall, and each data point is strictly before every outer facet.
+-- What is outer in the box. A facet is outer where all vertices that are in are before it or in its plane. Each axis of the
+-- normal has one wall that is lowest along it, so one corner of the box is lowest along the normal, and it is in. An outer
+-- facet has that corner in its plane or before it; then each of the facet's own vertices is as low along each axis as the box,
+-- or the facet is level there.
+-- A facet of a cell is not level along all axes, so along some axis all three vertices are on one wall: they are corners, since
+-- data points are strictly inside. So an outer facet of a cell is on a wall, and each data point is strictly before every outer
+-- facet.
 -- Stands on: Order, Writing, and geo_sign's places.
-use Rattle.std.proofs.Common.{ℕ, zero, suc, ◌≡◌, ◌≢◌, ◌<◌, ◌≤◌, refl, ap, ap₂, sym, subst, ◌∙◌, ◌⊎◌, inl, inr, ⊎_elim, arith, Bool, true, false, int_lt, bit_and, cond, ◌==◌, unsigned_abs, ℤ, pos, negsuc, neg_ℤ, ◌+ℤ◌, ◌-ℤ◌, ◌*ℤ◌, ◌≤ℤ◌, ◌<ℤ◌, [], ◌∷◌}
+use Rattle.std.proofs.Common.{ℕ, zero, suc, ◌≡◌, ◌≢◌, ◌<◌, ◌≤◌, refl, ap, ap₂, sym, subst, ◌∙◌, ◌⊎◌, inl, inr, ⊎_elim, arith}
+use Rattle.std.proofs.Common.{Bool, true, false, int_lt, bit_and, cond, ◌==◌, unsigned_abs, ℤ, pos, negsuc, neg_ℤ, ◌+ℤ◌, ◌-ℤ◌}
+use Rattle.std.proofs.Common.{◌*ℤ◌, ◌≤ℤ◌, ◌<ℤ◌, [], ◌∷◌}
 use Rattle.std.proofs.lemmas.Bool.{cases_lt}
 use Rattle.std.proofs.lemmas.Int.{ints, by_lt_z}
 use lib.IntN.{zero-*ℤ}
@@ -69,7 +73,8 @@ test_above n h = grind (arith, ints)
 pub both_negative : (a b : ℤ) → a ≤ℤ pos 0 → b ≤ℤ pos 0 → pos 0 ≤ℤ (a *ℤ b)
 both_negative a b h k =
     let m = mul_not_negative (neg_ℤ a) (neg_ℤ b) (omega (arith, ints)) (omega (arith, ints)) in
-    let e : neg_ℤ a *ℤ neg_ℤ b ≡ a *ℤ b = ring (a ∷ b ∷ []) (product (negation (variable 0)) (negation (variable 1))) (product (variable 0) (variable 1)) tt in
+    let e : neg_ℤ a *ℤ neg_ℤ b ≡ a *ℤ b =
+    ring (a ∷ b ∷ []) (product (negation (variable 0)) (negation (variable 1))) (product (variable 0) (variable 1)) tt in
     subst (λ x. pos 0 ≤ℤ x) e m
 
 axis : (n p : ℤ) → unsigned_abs p ≤ BOX_LIMIT → pos 0 ≤ℤ (n *ℤ (p -ℤ low n))
@@ -81,7 +86,11 @@ axis n p h = pick (int_lt n (pos 0)) refl
 
 -- ---- where the vertices are
 corner_within : (k : ℕ) → IsWithin BOX_LIMIT (corner_point k)
-corner_within k = record { x_within = wall_within (bit_and k 1 == 0); y_within = wall_within (bit_and k 2 == 0); z_within = wall_within (bit_and k 4 == 0) }
+corner_within k = record {
+  x_within = wall_within (bit_and k 1 == 0);
+  y_within = wall_within (bit_and k 2 == 0);
+  z_within = wall_within (bit_and k 4 == 0);
+}
   where
     wall_within : (b : Bool) → unsigned_abs (cond b (neg_ℤ (pos BOX_LIMIT)) (pos BOX_LIMIT)) ≤ BOX_LIMIT
     wall_within true = omega (arith, ints)
@@ -104,12 +113,19 @@ lowest n = point (low n.x) (low n.y) (low n.z)
 
 shift :
     (a b c w p : Point) → orientation a b c p ≡
-    orientation a b c w +ℤ ((facet_normal a b c).x *ℤ (p.x -ℤ w.x) +ℤ (facet_normal a b c).y *ℤ (p.y -ℤ w.y) +ℤ (facet_normal a b c).z *ℤ (p.z -ℤ w.z))
+    orientation a b c w +ℤ ((facet_normal a b c).x *ℤ (p.x -ℤ w.x) +ℤ (facet_normal a b c).y *ℤ (p.y -ℤ w.y)
+    +ℤ (facet_normal a b c).z *ℤ (p.z -ℤ w.z))
 unfolding orientation
 shift a b c w p =
-    let A : Symbols = symbols 0 in let B : Symbols = symbols 3 in let C : Symbols = symbols 6 in let W : Symbols = symbols 9 in let P : Symbols = symbols 12 in
+    let A : Symbols = symbols 0 in
+    let B : Symbols = symbols 3 in
+    let C : Symbols = symbols 6 in
+    let W : Symbols = symbols 9 in
+    let P : Symbols = symbols 12 in
     let N : Symbols = cross' (step' A B) (step' A C) in
-    ring (coordinates a (coordinates b (coordinates c (coordinates w (coordinates p []))))) (orientation' A B C P) (sum (orientation' A B C W) (sum (sum (product N.x (difference P.x W.x)) (product N.y (difference P.y W.y))) (product N.z (difference P.z W.z)))) tt
+    ring (coordinates a (coordinates b (coordinates c (coordinates w (coordinates p []))))) (orientation' A B C P)
+    (sum (orientation' A B C W)
+    (sum (sum (product N.x (difference P.x W.x)) (product N.y (difference P.y W.y))) (product N.z (difference P.z W.z)))) tt
 
 -- what is left over the lowest corner, along each axis
 abbrev over_x : Vertices → (a b c : ℕ) → Point → ℤ
@@ -140,7 +156,9 @@ over v x a b c o p w =
     record {
       bottom = orientation (v.at a) (v.at b) (v.at c) (lowest n);
       is = shift (v.at a) (v.at b) (v.at c) (lowest n) p;
-      bottom_in = subst (λ (q : Point). pos 0 ≤ℤ orientation (v.at a) (v.at b) (v.at c) q) e (o (far i j k) (x.corner_in (far i j k) (far_below i j k)));
+      bottom_in =
+          subst (λ (q : Point). pos 0 ≤ℤ orientation (v.at a) (v.at b) (v.at c) q) e
+          (o (far i j k) (x.corner_in (far i j k) (far_below i j k)));
       x_in = axis n.x p.x w.x_within;
       y_in = axis n.y p.y w.y_within;
       z_in = axis n.z p.z w.z_within;
@@ -150,7 +168,9 @@ over v x a b c o p w =
 pub factor_is_zero : (a b : ℤ) → a *ℤ b ≡ pos 0 → (a ≡ pos 0) ⊎ (b ≡ pos 0)
 factor_is_zero (pos zero) b e = inl refl
 factor_is_zero (pos (suc m)) (pos zero) e = inr refl
-factor_is_zero (pos (suc m)) (pos (suc n)) e = let h = mul_positive (pos (suc m)) (pos (suc n)) (omega (arith, ints)) (omega (arith, ints)) in absurd (omega (arith, ints, h, e))
+factor_is_zero (pos (suc m)) (pos (suc n)) e =
+    let h = mul_positive (pos (suc m)) (pos (suc n)) (omega (arith, ints)) (omega (arith, ints)) in
+    absurd (omega (arith, ints, h, e))
 factor_is_zero (pos (suc m)) (negsuc n) e =
     let h = mul_positive (pos (suc m)) (neg_ℤ (negsuc n)) (omega (arith, ints)) (omega (arith, ints)) in
     let f = neg_right (pos (suc m)) (negsuc n) in
@@ -162,7 +182,9 @@ factor_is_zero (negsuc m) (pos (suc n)) e =
     absurd (omega (arith, ints, h, e, f))
 factor_is_zero (negsuc m) (negsuc n) e =
     let h = mul_positive (neg_ℤ (negsuc m)) (neg_ℤ (negsuc n)) (omega (arith, ints)) (omega (arith, ints)) in
-    let f : neg_ℤ (negsuc m) *ℤ neg_ℤ (negsuc n) ≡ negsuc m *ℤ negsuc n = ring (negsuc m ∷ negsuc n ∷ []) (product (negation (variable 0)) (negation (variable 1))) (product (variable 0) (variable 1)) tt in
+    let f : neg_ℤ (negsuc m) *ℤ neg_ℤ (negsuc n) ≡ negsuc m *ℤ negsuc n =
+    ring (negsuc m ∷ negsuc n ∷ []) (product (negation (variable 0)) (negation (variable 1)))
+    (product (variable 0) (variable 1)) tt in
     absurd (omega (arith, ints, h, e, f))
 
 -- along each axis the facet is level, or the point is as low as the box
@@ -221,7 +243,9 @@ data_inner v x p h l =
           let w = x.data_at p h l in
           let n = facet_normal (v.at a) (v.at b) (v.at c) in
           let y = down v x a b c o (v.at p) (vertex_within v x p l) m in
-          let z = level (v.at a) (v.at b) (v.at c) (v.at d) (not_low n.x (v.at p).x w.x_within y.x_down) (not_low n.y (v.at p).y w.y_within y.y_down) (not_low n.z (v.at p).z w.z_within y.z_down) in
+          let z =
+          level (v.at a) (v.at b) (v.at c) (v.at d) (not_low n.x (v.at p).x w.x_within y.x_down)
+          (not_low n.y (v.at p).y w.y_within y.y_down) (not_low n.z (v.at p).z w.z_within y.z_down) in
           absurd (omega (arith, ints, z, k)));
     }
 
@@ -248,19 +272,28 @@ not_within n p e h = pick (int_lt n (pos 0)) e
 -- an outer facet of a cell is on a wall
 pub outer_wall : (v : Vertices) → IsBoxed v → (a b c d : ℕ) → IsCell v a b c d → IsOuter v a b c → IsWall v (facet a b c)
 outer_wall v x a b c d k o =
-    ⊎_elim (λ e. ⊎_elim (λ f. ⊎_elim (λ g. absurd (let z = level (v.at a) (v.at b) (v.at c) (v.at d) e f g in let q = k.positive in omega (arith, ints, z, q))) along_z (zero_or_not n.z)) along_y (zero_or_not n.y)) along_x (zero_or_not n.x)
+    ⊎_elim (λ e. ⊎_elim
+    (λ f. ⊎_elim
+    (λ g. absurd (let z = level (v.at a) (v.at b) (v.at c) (v.at d) e f g in let q = k.positive in omega (arith, ints, z, q)))
+    along_z (zero_or_not n.z)) along_y (zero_or_not n.y)) along_x (zero_or_not n.x)
   where
     n : Point
     n = facet_normal (v.at a) (v.at b) (v.at c)
 
     da : Down n (v.at a)
-    da = down v x a b c o (v.at a) (vertex_within v x a k.has_a.0) (let z = flat_a (v.at a) (v.at b) (v.at c) in omega (arith, ints, z))
+    da =
+        down v x a b c o (v.at a) (vertex_within v x a k.has_a.0)
+        (let z = flat_a (v.at a) (v.at b) (v.at c) in omega (arith, ints, z))
 
     db : Down n (v.at b)
-    db = down v x a b c o (v.at b) (vertex_within v x b k.has_b.0) (let z = flat_b (v.at a) (v.at b) (v.at c) in omega (arith, ints, z))
+    db =
+        down v x a b c o (v.at b) (vertex_within v x b k.has_b.0)
+        (let z = flat_b (v.at a) (v.at b) (v.at c) in omega (arith, ints, z))
 
     dc : Down n (v.at c)
-    dc = down v x a b c o (v.at c) (vertex_within v x c k.has_c.0) (let z = flat_c (v.at a) (v.at b) (v.at c) in omega (arith, ints, z))
+    dc =
+        down v x a b c o (v.at c) (vertex_within v x c k.has_c.0)
+        (let z = flat_c (v.at a) (v.at b) (v.at c) in omega (arith, ints, z))
 
     along_x : n.x ≢ pos 0 → IsWall v (facet a b c)
     along_x h =

@@ -45,21 +45,51 @@ wall_x :
     (corner_point a).x ≡ (corner_point c).x → IsWall v (facet a b c)
 wall_x v x a b c ha hb hc e f =
     let i = ap (λ (p : Point). p.x) (x.corner_at a ha) in
-    record { first = ha; second = hb; third = hc; agree = inl (i ∙ e ∙ sym (ap (λ (p : Point). p.x) (x.corner_at b hb)), i ∙ f ∙ sym (ap (λ (p : Point). p.x) (x.corner_at c hc))) }
+    record {
+      first = ha;
+      second = hb;
+      third = hc;
+      agree =
+          inl (
+            i ∙ e ∙ sym (ap (λ (p : Point). p.x) (x.corner_at b hb)),
+            i ∙ f
+                ∙ sym (ap (λ (p : Point). p.x) (x.corner_at c hc)),
+          );
+    }
 
 wall_y :
     (v : Vertices) → IsBoxed v → (a b c : ℕ) → a < 8 → b < 8 → c < 8 → (corner_point a).y ≡ (corner_point b).y →
     (corner_point a).y ≡ (corner_point c).y → IsWall v (facet a b c)
 wall_y v x a b c ha hb hc e f =
     let i = ap (λ (p : Point). p.y) (x.corner_at a ha) in
-    record { first = ha; second = hb; third = hc; agree = inr (inl (i ∙ e ∙ sym (ap (λ (p : Point). p.y) (x.corner_at b hb)), i ∙ f ∙ sym (ap (λ (p : Point). p.y) (x.corner_at c hc)))) }
+    record {
+      first = ha;
+      second = hb;
+      third = hc;
+      agree =
+          inr (inl (
+            i ∙ e ∙ sym (ap (λ (p : Point). p.y) (x.corner_at b hb)),
+            i ∙ f
+                ∙ sym (ap (λ (p : Point). p.y) (x.corner_at c hc)),
+          ));
+    }
 
 wall_z :
     (v : Vertices) → IsBoxed v → (a b c : ℕ) → a < 8 → b < 8 → c < 8 → (corner_point a).z ≡ (corner_point b).z →
     (corner_point a).z ≡ (corner_point c).z → IsWall v (facet a b c)
 wall_z v x a b c ha hb hc e f =
     let i = ap (λ (p : Point). p.z) (x.corner_at a ha) in
-    record { first = ha; second = hb; third = hc; agree = inr (inr (i ∙ e ∙ sym (ap (λ (p : Point). p.z) (x.corner_at b hb)), i ∙ f ∙ sym (ap (λ (p : Point). p.z) (x.corner_at c hc)))) }
+    record {
+      first = ha;
+      second = hb;
+      third = hc;
+      agree =
+          inr (inr (
+            i ∙ e ∙ sym (ap (λ (p : Point). p.z) (x.corner_at b hb)),
+            i ∙ f
+                ∙ sym (ap (λ (p : Point). p.z) (x.corner_at c hc)),
+          ));
+    }
 
 -- ---- no two of the six have a facet in common: they are different cells by the sums of their numbers
 total : Tetrahedron → ℕ
@@ -82,7 +112,8 @@ once x y i j w = sym (named x i) ∙ sym (ap name_of (same_total (six_cell x) (s
 
 listed : (x : ℕ) → IsIn six_names x → IsIn six (six_cell x)
 listed x i =
-    at_name (λ y. IsIn six (six_cell y)) (inl refl) (inr (inl refl)) (inr (inr (inl refl))) (inr (inr (inr (inl refl)))) (inr (inr (inr (inr (inl refl))))) (inr (inr (inr (inr (inr (inl refl)))))) x i
+    at_name (λ y. IsIn six (six_cell y)) (inl refl) (inr (inl refl)) (inr (inr (inl refl))) (inr (inr (inr (inl refl))))
+    (inr (inr (inr (inr (inl refl))))) (inr (inr (inr (inr (inr (inl refl)))))) x i
 
 cells : (v : Vertices) → IsBoxed v → ((u : ℕ) → Has v u → u < 8) → AreCells v six_names six_cell
 cells v b f x i = six_cells v b f (listed x i)
@@ -93,7 +124,8 @@ apart :
 apart v b f x y j k ix iy hj hk r =
     let t = facet_of (six_cell x) j in
     let e = vertex_of (six_cell y) k in
-    once_apart v (tied_generic v b) six_names six_cell (cells v b f) once x y t.a t.b t.c (vertex_of (six_cell x) j) e ix iy (facet_same (six_cell x) j)
+    once_apart v (tied_generic v b) six_names six_cell (cells v b f) once x y t.a t.b t.c (vertex_of (six_cell x) j) e ix iy
+    (facet_same (six_cell x) j)
     (facet_of_same (six_cell y) (tetrahedron t.a t.b t.c e) (k, hk, rotated_back t (facet_of (six_cell y) k) r, refl))
 
 back :
@@ -102,34 +134,46 @@ back :
 back x i =
     at_name (λ x. (k : ℕ) → k < 4 → (y : ℕ) → six_next x k ≡ Some y → IsBackAt six_names six_cell (facet_of (six_cell x) k) y)
     (at_side (λ k. (y : ℕ) → six_next 0 k ≡ Some y → IsBackAt six_names six_cell (facet_of (six_cell 0) k) y)
-    (λ y e. subst (IsBackAt six_names six_cell (facet_of (six_cell 0) 0)) (some_same 1 y e) (record { listed = inr (inl refl); side = 3; in_range = omega arith; turned = inl refl }))
+    (λ y e. subst (IsBackAt six_names six_cell (facet_of (six_cell 0) 0)) (some_same 1 y e)
+    (record { listed = inr (inl refl); side = 3; in_range = omega arith; turned = inl refl }))
     (λ y e. absurd (none_some y e))
     (λ y e. absurd (none_some y e))
     (λ y e. absurd (none_some y e)))
     (at_side (λ k. (y : ℕ) → six_next 1 k ≡ Some y → IsBackAt six_names six_cell (facet_of (six_cell 1) k) y)
-    (λ y e. subst (IsBackAt six_names six_cell (facet_of (six_cell 1) 0)) (some_same 3 y e) (record { listed = inr (inr (inr (inl refl))); side = 2; in_range = omega arith; turned = inl refl }))
-    (λ y e. subst (IsBackAt six_names six_cell (facet_of (six_cell 1) 1)) (some_same 2 y e) (record { listed = inr (inr (inl refl)); side = 3; in_range = omega arith; turned = inl refl }))
+    (λ y e. subst (IsBackAt six_names six_cell (facet_of (six_cell 1) 0)) (some_same 3 y e)
+    (record { listed = inr (inr (inr (inl refl))); side = 2; in_range = omega arith; turned = inl refl }))
+    (λ y e. subst (IsBackAt six_names six_cell (facet_of (six_cell 1) 1)) (some_same 2 y e)
+    (record { listed = inr (inr (inl refl)); side = 3; in_range = omega arith; turned = inl refl }))
     (λ y e. absurd (none_some y e))
-    (λ y e. subst (IsBackAt six_names six_cell (facet_of (six_cell 1) 3)) (some_same 0 y e) (record { listed = inl refl; side = 0; in_range = omega arith; turned = inl refl })))
+    (λ y e. subst (IsBackAt six_names six_cell (facet_of (six_cell 1) 3)) (some_same 0 y e)
+    (record { listed = inl refl; side = 0; in_range = omega arith; turned = inl refl })))
     (at_side (λ k. (y : ℕ) → six_next 2 k ≡ Some y → IsBackAt six_names six_cell (facet_of (six_cell 2) k) y)
-    (λ y e. subst (IsBackAt six_names six_cell (facet_of (six_cell 2) 0)) (some_same 4 y e) (record { listed = inr (inr (inr (inr (inl refl)))); side = 3; in_range = omega arith; turned = inl refl }))
+    (λ y e. subst (IsBackAt six_names six_cell (facet_of (six_cell 2) 0)) (some_same 4 y e)
+    (record { listed = inr (inr (inr (inr (inl refl)))); side = 3; in_range = omega arith; turned = inl refl }))
     (λ y e. absurd (none_some y e))
     (λ y e. absurd (none_some y e))
-    (λ y e. subst (IsBackAt six_names six_cell (facet_of (six_cell 2) 3)) (some_same 1 y e) (record { listed = inr (inl refl); side = 1; in_range = omega arith; turned = inl refl })))
+    (λ y e. subst (IsBackAt six_names six_cell (facet_of (six_cell 2) 3)) (some_same 1 y e)
+    (record { listed = inr (inl refl); side = 1; in_range = omega arith; turned = inl refl })))
     (at_side (λ k. (y : ℕ) → six_next 3 k ≡ Some y → IsBackAt six_names six_cell (facet_of (six_cell 3) k) y)
-    (λ y e. subst (IsBackAt six_names six_cell (facet_of (six_cell 3) 0)) (some_same 4 y e) (record { listed = inr (inr (inr (inr (inl refl)))); side = 2; in_range = omega arith; turned = inl refl }))
+    (λ y e. subst (IsBackAt six_names six_cell (facet_of (six_cell 3) 0)) (some_same 4 y e)
+    (record { listed = inr (inr (inr (inr (inl refl)))); side = 2; in_range = omega arith; turned = inl refl }))
     (λ y e. absurd (none_some y e))
-    (λ y e. subst (IsBackAt six_names six_cell (facet_of (six_cell 3) 2)) (some_same 1 y e) (record { listed = inr (inl refl); side = 0; in_range = omega arith; turned = inl refl }))
+    (λ y e. subst (IsBackAt six_names six_cell (facet_of (six_cell 3) 2)) (some_same 1 y e)
+    (record { listed = inr (inl refl); side = 0; in_range = omega arith; turned = inl refl }))
     (λ y e. absurd (none_some y e)))
     (at_side (λ k. (y : ℕ) → six_next 4 k ≡ Some y → IsBackAt six_names six_cell (facet_of (six_cell 4) k) y)
     (λ y e. absurd (none_some y e))
-    (λ y e. subst (IsBackAt six_names six_cell (facet_of (six_cell 4) 1)) (some_same 5 y e) (record { listed = inr (inr (inr (inr (inr (inl refl))))); side = 2; in_range = omega arith; turned = inl refl }))
-    (λ y e. subst (IsBackAt six_names six_cell (facet_of (six_cell 4) 2)) (some_same 3 y e) (record { listed = inr (inr (inr (inl refl))); side = 0; in_range = omega arith; turned = inl refl }))
-    (λ y e. subst (IsBackAt six_names six_cell (facet_of (six_cell 4) 3)) (some_same 2 y e) (record { listed = inr (inr (inl refl)); side = 0; in_range = omega arith; turned = inl refl })))
+    (λ y e. subst (IsBackAt six_names six_cell (facet_of (six_cell 4) 1)) (some_same 5 y e)
+    (record { listed = inr (inr (inr (inr (inr (inl refl))))); side = 2; in_range = omega arith; turned = inl refl }))
+    (λ y e. subst (IsBackAt six_names six_cell (facet_of (six_cell 4) 2)) (some_same 3 y e)
+    (record { listed = inr (inr (inr (inl refl))); side = 0; in_range = omega arith; turned = inl refl }))
+    (λ y e. subst (IsBackAt six_names six_cell (facet_of (six_cell 4) 3)) (some_same 2 y e)
+    (record { listed = inr (inr (inl refl)); side = 0; in_range = omega arith; turned = inl refl })))
     (at_side (λ k. (y : ℕ) → six_next 5 k ≡ Some y → IsBackAt six_names six_cell (facet_of (six_cell 5) k) y)
     (λ y e. absurd (none_some y e))
     (λ y e. absurd (none_some y e))
-    (λ y e. subst (IsBackAt six_names six_cell (facet_of (six_cell 5) 2)) (some_same 4 y e) (record { listed = inr (inr (inr (inr (inl refl)))); side = 1; in_range = omega arith; turned = inl refl }))
+    (λ y e. subst (IsBackAt six_names six_cell (facet_of (six_cell 5) 2)) (some_same 4 y e)
+    (record { listed = inr (inr (inr (inr (inl refl)))); side = 1; in_range = omega arith; turned = inl refl }))
     (λ y e. absurd (none_some y e)))
     x i
 
@@ -174,10 +218,14 @@ pub box_law : BoxLaw
 box_law v b f =
     let g = tied_generic v b in
     let c = cells v b f in
-    let l : IsLinked v six_names six_cell six_next = record { back = λ x k y i h e. back x i k h y e; walls = λ x k i h e. walls v b x i k h e; apart = apart v b f } in
+    let l : IsLinked v six_names six_cell six_next =
+    record { back = λ x k y i h e. back x i k h y e; walls = λ x k i h e. walls v b x i k h e; apart = apart v b f } in
     record { boxed = b; linked = l; cells = c; listing = linked_listing v b g six_names six_cell six_next l c 0 (inl refl) }
 
 pub corner_law : CornerLaw
 corner_law v b f =
     let full = (box_law v b f).listing.full in
-    record { cells = λ t i. six_cells v b f i; all = λ a b c d k. (let x = full.all a b c d k in (six_cell x.0, listed x.0 x.1, x.2)) }
+    record {
+      cells = λ t i. six_cells v b f i;
+      all = λ a b c d k. (let x = full.all a b c d k in (six_cell x.0, listed x.0 x.1, x.2));
+    }

@@ -1,6 +1,6 @@
--- A list of cells that no step across a facet leaves has all cells. Take any cell and its middle, a place strictly in it. Of the list the
--- cell that is highest over this place has it, since else there would be a higher one across a facet, in the list too. The place lies
--- strictly in one cell alone, so the cell is in the list.
+-- A list of cells that no step across a facet leaves has all cells. Take any cell and its middle, a place strictly in it. Of
+-- the list the cell that is highest over this place has it, since else there would be a higher one across a facet, in the list
+-- too. The place lies strictly in one cell alone, so the cell is in the list.
 -- Stands on: Cover, and Flood (a place lies strictly in one cell).
 use Rattle.std.proofs.Common.{ℕ, ◌≡◌, sym, subst, ◌⊎◌, inl, inr, arith, pos, ◌+ℤ◌, ◌≤ℤ◌, ◌<ℤ◌, List, []}
 use Rattle.std.proofs.lemmas.Int.{ints}
@@ -47,7 +47,9 @@ middle_side a b c e f g h =
     let F : Symbols = symbols 12 in
     let G : Symbols = symbols 15 in
     let H : Symbols = symbols 18 in
-    ring (coordinates a (coordinates b (coordinates c (coordinates e (coordinates f (coordinates g (coordinates h []))))))) (side' A B C (middle' E F G H)) (sum (sum (sum (orientation' A B C E) (orientation' A B C F)) (orientation' A B C G)) (orientation' A B C H)) tt
+    ring (coordinates a (coordinates b (coordinates c (coordinates e (coordinates f (coordinates g (coordinates h [])))))))
+    (side' A B C (middle' E F G H))
+    (sum (sum (sum (orientation' A B C E) (orientation' A B C F)) (orientation' A B C G)) (orientation' A B C H)) tt
 
 middle_bdc : (a b c d : Point) → side b d c (middle a b c d) ≡ orientation a b c d
 unfolding side orientation
@@ -56,7 +58,8 @@ middle_bdc a b c d =
     let B : Symbols = symbols 3 in
     let C : Symbols = symbols 6 in
     let D : Symbols = symbols 9 in
-    ring (coordinates a (coordinates b (coordinates c (coordinates d [])))) (side' B D C (middle' A B C D)) (orientation' A B C D) tt
+    ring (coordinates a (coordinates b (coordinates c (coordinates d [])))) (side' B D C (middle' A B C D))
+    (orientation' A B C D) tt
 
 middle_acd : (a b c d : Point) → side a c d (middle a b c d) ≡ orientation a b c d
 unfolding side orientation
@@ -65,7 +68,8 @@ middle_acd a b c d =
     let B : Symbols = symbols 3 in
     let C : Symbols = symbols 6 in
     let D : Symbols = symbols 9 in
-    ring (coordinates a (coordinates b (coordinates c (coordinates d [])))) (side' A C D (middle' A B C D)) (orientation' A B C D) tt
+    ring (coordinates a (coordinates b (coordinates c (coordinates d [])))) (side' A C D (middle' A B C D))
+    (orientation' A B C D) tt
 
 middle_adb : (a b c d : Point) → side a d b (middle a b c d) ≡ orientation a b c d
 unfolding side orientation
@@ -74,7 +78,8 @@ middle_adb a b c d =
     let B : Symbols = symbols 3 in
     let C : Symbols = symbols 6 in
     let D : Symbols = symbols 9 in
-    ring (coordinates a (coordinates b (coordinates c (coordinates d [])))) (side' A D B (middle' A B C D)) (orientation' A B C D) tt
+    ring (coordinates a (coordinates b (coordinates c (coordinates d [])))) (side' A D B (middle' A B C D))
+    (orientation' A B C D) tt
 
 middle_abc : (a b c d : Point) → side a b c (middle a b c d) ≡ orientation a b c d
 unfolding side orientation
@@ -83,7 +88,8 @@ middle_abc a b c d =
     let B : Symbols = symbols 3 in
     let C : Symbols = symbols 6 in
     let D : Symbols = symbols 9 in
-    ring (coordinates a (coordinates b (coordinates c (coordinates d [])))) (side' A B C (middle' A B C D)) (orientation' A B C D) tt
+    ring (coordinates a (coordinates b (coordinates c (coordinates d [])))) (side' A B C (middle' A B C D))
+    (orientation' A B C D) tt
 
 abbrev middle_of : Vertices → Tetrahedron → RationalPoint
 middle_of v r = middle (v.at r.a) (v.at r.b) (v.at r.c) (v.at r.d)
@@ -126,9 +132,10 @@ outer_none v a b c e o k =
 
 -- each facet has a cell of the list across it, or is an outer one
 pub linked_joined :
-    {X : Type 0} (v : Vertices) → IsGeneric v → (live : List X) (cell : X → Tetrahedron) →
-    ((x : X) → IsIn live x → IsCellOf v (cell x)) →
-    ((x : X) (a b c d : ℕ) → IsIn live x → IsRewritten (cell x) (tetrahedron a b c d) → IsOuter v a b c ⊎ ((y : X) × (e : ℕ) × IsIn live y × IsRewritten (cell y) (tetrahedron a c b e))) → IsJoined v live cell
+    {X : Type 0} (v : Vertices) → IsGeneric v → (live : List X) (cell : X → Tetrahedron)
+    → ((x : X) → IsIn live x → IsCellOf v (cell x))
+    → ((x : X) (a b c d : ℕ) → IsIn live x → IsRewritten (cell x) (tetrahedron a b c d)
+    → IsOuter v a b c ⊎ ((y : X) × (e : ℕ) × IsIn live y × IsRewritten (cell y) (tetrahedron a c b e))) → IsJoined v live cell
 linked_joined {X} v g live cell cells links =
     record { cells = cells; next = λ x a b c d e i w k. pick a b c d e k (links x a b c d i w) }
   where
@@ -137,5 +144,9 @@ linked_joined {X} v g live cell cells links =
         IsOuter v a b c ⊎ ((y : X) × (e : ℕ) × IsIn live y × IsRewritten (cell y) (tetrahedron a c b e)) →
         (y : X) × IsIn live y × IsRewritten (cell y) (tetrahedron a c b e)
     pick a b c d e k (inl o) = absurd (outer_none v a b c e o k)
-    pick a b c d e k (inr z) =
-        (z.0, z.2, subst (λ t. IsRewritten (cell z.0) (tetrahedron a c b t)) (one_over v g a c b z.1 e (same_cell v (cell z.0) (tetrahedron a c b z.1) z.3 (cells z.0 z.2)) k) z.3)
+    pick a b c d e k (inr z) = (
+      z.0,
+      z.2,
+      subst (λ t. IsRewritten (cell z.0) (tetrahedron a c b t))
+          (one_over v g a c b z.1 e (same_cell v (cell z.0) (tetrahedron a c b z.1) z.3 (cells z.0 z.2)) k) z.3,
+    )

@@ -1,9 +1,11 @@
--- The facets between cells inside and outside are closed. Take all sides of the cells inside. A cell's four facets have each of its
--- six edges in both directions, so these sides are balanced. Those with an inside cell across come in pairs, a facet and the same
--- facet turned, so they are balanced too. What is left are the sides with an outside cell across, since no cell inside has a facet
--- on a wall; turned round, they are the sides of outside cells with an inside cell across.
--- Stands on: Sums (pairs), CutSides, NamedBack (a facet and the turned one name each other) and RimLists (a cell's facets are different).
-use Rattle.std.proofs.Common.{ℕ, ◌+◌, ◌<◌, ◌≡◌, refl, sym, ap, subst, ◌∙◌, arith, Bool, true, false, true≢false, not, ◌&&◌, Option, Some, None, List, [], ◌∷◌}
+-- The facets between cells inside and outside are closed. Take all sides of the cells inside. A cell's four facets have each of
+-- its six edges in both directions, so these sides are balanced. Those with an inside cell across come in pairs, a facet and
+-- the same facet turned, so they are balanced too. What is left are the sides with an outside cell across, since no cell inside
+-- has a facet on a wall; turned round, they are the sides of outside cells with an inside cell across.
+-- Stands on: Sums (pairs), CutSides, NamedBack (a facet and the turned one name each other) and RimLists (a cell's facets are
+-- different).
+use Rattle.std.proofs.Common.{ℕ, ◌+◌, ◌<◌, ◌≡◌, refl, sym, ap, subst, ◌∙◌, arith, Bool, true, false, true≢false, not, ◌&&◌}
+use Rattle.std.proofs.Common.{Option, Some, None, List, [], ◌∷◌}
 use Rattle.std.proofs.lemmas.Bool.{and_parts, and_from}
 use Rattle.std.proofs.lemmas.List.Sums.{sum_by-cons}
 use Rattle.geo_sign.specs.Tetrahedron.{Tetrahedron, DirectedFacet, facet_of, IsRotated}
@@ -14,12 +16,17 @@ use Rattle.cell_laws.specs.LinkLaws.{IsNamedBack}
 use Rattle.cell_laws.specs.Links.{Side, IsLinked, IsBackAt}
 use Rattle.cell_laws.specs.Lists.{IsIn, AreCells}
 use Rattle.geo_sign.proofs.Rotations.{turned_back, turned_turned}
-use Rattle.cell_laws.proofs.CutSides.{edges_turned, boundary, side_at, all_sides, side_listed, listed_side, sides_once, is_turned, turned_means, means_turned, is_same_side, same_side_means, same_side_is, is_inside, corner_first}
+use Rattle.cell_laws.proofs.CutSides.{edges_turned, boundary, side_at, all_sides, side_listed, listed_side, sides_once}
+use Rattle.cell_laws.proofs.CutSides.{is_turned, turned_means, means_turned, is_same_side, same_side_means, same_side_is}
+use Rattle.cell_laws.proofs.CutSides.{is_inside, corner_first}
 use Rattle.cell_laws.proofs.NamedBack.{back_law}
 use Rattle.cell_laws.proofs.RimLists.{one_side}
-use Rattle.cell_laws.proofs.Sums.{IsOnce, once_pairs, named_once, named_in, in_named, named_is_once, total, pick, sum_same, sum_plus, paired}
+use Rattle.cell_laws.proofs.Sums.{IsOnce, once_pairs, named_once, named_in, in_named, named_is_once, total, pick, sum_same}
+use Rattle.cell_laws.proofs.Sums.{sum_plus, paired}
 
-module _ (v : Vertices) (b : IsBoxed v) (live : List ℕ) (cell : ℕ → Tetrahedron) (next : ℕ → ℕ → Option ℕ) (l : IsLinked v live cell next) (cells : AreCells v live cell) (inside : ℕ → Bool) (free : HasNoCorner live cell inside) where
+module _ (v : Vertices) (b : IsBoxed v) (live : List ℕ) (cell : ℕ → Tetrahedron) (next : ℕ → ℕ → Option ℕ)
+    (l : IsLinked v live cell next) (cells : AreCells v live cell) (inside : ℕ → Bool)
+    (free : HasNoCorner live cell inside) where
   abbrev facet_at_side : Side → DirectedFacet
   facet_at_side s = facet_of (cell s.at) s.side
 
@@ -50,17 +57,22 @@ module _ (v : Vertices) (b : IsBoxed v) (live : List ℕ) (cell : ℕ → Tetrah
       let x = listed s i in
       let y = listed t j in
       let e : s.at ≡ t.at = l.apart s.at t.at s.side t.side x.0 y.0 x.1 y.1 r in
-      let q : IsRotated (facet_of (cell s.at) s.side) (facet_of (cell s.at) t.side) = subst (λ n. IsRotated (facet_of (cell s.at) s.side) (facet_of (cell n) t.side)) (sym e) r in
+      let q : IsRotated (facet_of (cell s.at) s.side) (facet_of (cell s.at) t.side) =
+      subst (λ n. IsRotated (facet_of (cell s.at) s.side) (facet_of (cell n) t.side)) (sym e) r in
       let f : s.side ≡ t.side = one_side v (cell s.at) s.side t.side x.1 y.1 (cells s.at x.0).positive q in
       ap (λ n. side_at n s.side) e ∙ ap (λ n. side_at t.at n) f
 
   one_partner : (s t r : Side) → IsIn every t → IsIn every r → pair s t ≡ true → pair s r ≡ true → t ≡ r
   one_partner s t r i j x y =
-      one_of_facet t r i j (turned_turned (facet_at_side t) (facet_at_side s) (facet_at_side r) (turned_back (facet_at_side s) (facet_at_side t) (turned_means (facet_at_side s) (facet_at_side t) x)) (turned_means (facet_at_side s) (facet_at_side r) y))
+      one_of_facet t r i j
+      (turned_turned (facet_at_side t) (facet_at_side s) (facet_at_side r)
+      (turned_back (facet_at_side s) (facet_at_side t) (turned_means (facet_at_side s) (facet_at_side t) x))
+      (turned_means (facet_at_side s) (facet_at_side r) y))
 
   pair_back : (s t : Side) → pair s t ≡ true → pair t s ≡ true
   pair_back s t e =
-      means_turned (facet_at_side t) (facet_at_side s) (turned_back (facet_at_side s) (facet_at_side t) (turned_means (facet_at_side s) (facet_at_side t) e))
+      means_turned (facet_at_side t) (facet_at_side s)
+      (turned_back (facet_at_side s) (facet_at_side t) (turned_means (facet_at_side s) (facet_at_side t) e))
 
   -- the other side of a facet
   record IsMate (s : Side) (y : ℕ) : Type 0 where
@@ -135,14 +147,21 @@ module _ (v : Vertices) (b : IsBoxed v) (live : List ℕ) (cell : ℕ → Tetrah
   cut s = not (within s) && beyond s
 
   same_edges : (u w : ℕ) (s t : Side) → pair s t ≡ true → edges u w s ≡ edges w u t
-  same_edges u w s t e = edges_turned u w (facet_at_side s) (facet_at_side t) (turned_means (facet_at_side s) (facet_at_side t) e)
+  same_edges u w s t e =
+      edges_turned u w (facet_at_side s) (facet_at_side t) (turned_means (facet_at_side s) (facet_at_side t) e)
 
   inner_even : (u w : ℕ) → total (λ s. pick (edges u w s) (inner s)) every ≡ total (λ s. pick (edges w u s) (inner s)) every
   inner_even u w =
       paired pair every every inner inner (edges u w) (edges w u) every_once every_once
       (record {
-        partner = λ s i e. (let x = and_parts (within s) (beyond s) e in let t = over s i x.1 in (t.0, t.1, and_from (within t.0) (beyond t.0) t.2 (t.3 ∙ x.0), t.4));
-        partner_of = λ s i e. (let x = and_parts (within s) (beyond s) e in let t = over s i x.1 in (t.0, t.1, and_from (within t.0) (beyond t.0) t.2 (t.3 ∙ x.0), pair_back s t.0 t.4));
+        partner =
+            λ s i e. (let x = and_parts (within s) (beyond s) e in
+            let t = over s i x.1 in
+            (t.0, t.1, and_from (within t.0) (beyond t.0) t.2 (t.3 ∙ x.0), t.4));
+        partner_of =
+            λ s i e. (let x = and_parts (within s) (beyond s) e in
+            let t = over s i x.1 in
+            (t.0, t.1, and_from (within t.0) (beyond t.0) t.2 (t.3 ∙ x.0), pair_back s t.0 t.4));
         one = λ s t r i j k x y. one_partner s t r j k x y;
         one_of = λ s r t i k j x y. one_partner t s r i k (pair_back s t x) (pair_back r t y);
         same = same_edges u w;
@@ -158,8 +177,12 @@ module _ (v : Vertices) (b : IsBoxed v) (live : List ℕ) (cell : ℕ → Tetrah
             (t.0, t.1, and_from (not (within t.0)) (beyond t.0) (true_not (within t.0) t.2) t.3, t.4));
         partner_of = λ s i e.
             (let x = and_parts (not (within s)) (beyond s) e in
-            let t = over s i x.1 in
-            (t.0, t.1, and_from (within t.0) (not (beyond t.0)) t.2 (true_not (beyond t.0) (t.3 ∙ not_true (within s) x.0)), pair_back s t.0 t.4));
+            let t = over s i x.1 in (
+              t.0,
+              t.1,
+              and_from (within t.0) (not (beyond t.0)) t.2 (true_not (beyond t.0) (t.3 ∙ not_true (within s) x.0)),
+              pair_back s t.0 t.4,
+            ));
         one = λ s t r i j k x y. one_partner s t r j k x y;
         one_of = λ s r t i k j x y. one_partner t s r i k (pair_back s t x) (pair_back r t y);
         same = same_edges u w;
@@ -175,11 +198,19 @@ module _ (v : Vertices) (b : IsBoxed v) (live : List ℕ) (cell : ℕ → Tetrah
       by :
           (c : Bool) →
           total (λ s. pick (edges u w s) (within s)) (all_sides xs) ≡ total (λ s. pick (edges w u s) (within s)) (all_sides xs)
-          → pick (edges u w (side_at x 0)) c + (pick (edges u w (side_at x 1)) c + (pick (edges u w (side_at x 2)) c + (pick (edges u w (side_at x 3)) c + total (λ s. pick (edges u w s) (within s)) (all_sides xs))))
-          ≡ pick (edges w u (side_at x 0)) c + (pick (edges w u (side_at x 1)) c + (pick (edges w u (side_at x 2)) c + (pick (edges w u (side_at x 3)) c + total (λ s. pick (edges w u s) (within s)) (all_sides xs))))
+          → pick (edges u w (side_at x 0)) c
+          + (pick (edges u w (side_at x 1)) c
+          + (pick (edges u w (side_at x 2)) c
+          + (pick (edges u w (side_at x 3)) c + total (λ s. pick (edges u w s) (within s)) (all_sides xs))))
+          ≡ pick (edges w u (side_at x 0)) c
+          + (pick (edges w u (side_at x 1)) c
+          + (pick (edges w u (side_at x 2)) c
+          + (pick (edges w u (side_at x 3)) c + total (λ s. pick (edges w u s) (within s)) (all_sides xs))))
       by true e =
-          five (edges u w (side_at x 0)) (edges u w (side_at x 1)) (edges u w (side_at x 2)) (edges u w (side_at x 3)) (total (λ s. pick (edges u w s) (within s)) (all_sides xs))
-          (edges w u (side_at x 0)) (edges w u (side_at x 1)) (edges w u (side_at x 2)) (edges w u (side_at x 3)) (total (λ s. pick (edges w u s) (within s)) (all_sides xs)) (boundary u w (cell x)) e
+          five (edges u w (side_at x 0)) (edges u w (side_at x 1)) (edges u w (side_at x 2)) (edges u w (side_at x 3))
+          (total (λ s. pick (edges u w s) (within s)) (all_sides xs))
+          (edges w u (side_at x 0)) (edges w u (side_at x 1)) (edges w u (side_at x 2)) (edges w u (side_at x 3))
+          (total (λ s. pick (edges w u s) (within s)) (all_sides xs)) (boundary u w (cell x)) e
         where
           five :
               (a b c d e a' b' c' d' e' : ℕ) → a + (b + (c + d)) ≡ a' + (b' + (c' + d')) → e ≡ e' →
@@ -191,7 +222,9 @@ module _ (v : Vertices) (b : IsBoxed v) (live : List ℕ) (cell : ℕ → Tetrah
       (u w : ℕ) → total (λ s. pick (edges u w s) (within s)) every ≡
       total (λ s. pick (edges u w s) (inner s)) every + total (λ s. pick (edges u w s) (rim s)) every
   parts u w =
-      sum_same (λ s. pick (edges u w s) (within s)) (λ s. pick (edges u w s) (inner s) + pick (edges u w s) (rim s)) every (λ s i. split (edges u w s) (within s) (beyond s)) ∙ sum_plus (λ s. pick (edges u w s) (inner s)) (λ s. pick (edges u w s) (rim s)) every
+      sum_same (λ s. pick (edges u w s) (within s)) (λ s. pick (edges u w s) (inner s) + pick (edges u w s) (rim s)) every
+      (λ s i. split (edges u w s) (within s) (beyond s))
+      ∙ sum_plus (λ s. pick (edges u w s) (inner s)) (λ s. pick (edges u w s) (rim s)) every
     where
       split : (n : ℕ) (a c : Bool) → pick n a ≡ pick n (a && c) + pick n (a && not c)
       split n true true = omega arith

@@ -13,8 +13,9 @@ use Rattle.cell_laws.proofs.Identities.{three_terms}
 use Rattle.cell_laws.proofs.Order.{factor_above, factor_below, mul_below, mul_not_above, mul_not_negative, neg_left, neg_right}
 
 -- a fan facet faces p
-pub fan_faces : (a b c d e p : Point) (ha hb hc hd he hp : ℤ) → pos 0 <ℤ orientation a b c d → pos 0 <ℤ orientation a c b e →
-    pos 0 <ℤ power a b c d e ha hb hc hd he → power a b c d p ha hb hc hd hp <ℤ pos 0 → pos 0 ≤ℤ power a c b e p ha hc hb he hp → pos 0 <ℤ orientation a b c p
+pub fan_faces : (a b c d e p : Point) (ha hb hc hd he hp : ℤ) → pos 0 <ℤ orientation a b c d → pos 0 <ℤ orientation a c b e
+    → pos 0 <ℤ power a b c d e ha hb hc hd he → power a b c d p ha hb hc hd hp <ℤ pos 0
+    → pos 0 ≤ℤ power a c b e p ha hc hb he hp → pos 0 <ℤ orientation a b c p
 fan_faces a b c d e p ha hb hc hd he hp v w x y z =
     let s = three_terms a b c d e p ha hb hc hd he hp in
     let v' : pos 0 ≤ℤ orientation a b c d = omega (arith, ints) in
@@ -23,8 +24,10 @@ fan_faces a b c d e p ha hb hc hd he hp v w x y z =
     factor_above (power a b c d e ha hb hc hd he) (orientation a b c p) x (omega (arith, ints, s, t, u))
 
 -- the cell across a facet that doesn't face p is in conflict too
-pub conflict_across : (a b c d e p : Point) (ha hb hc hd he hp : ℤ) → pos 0 <ℤ orientation a b c d → pos 0 <ℤ orientation a c b e →
-    pos 0 <ℤ power a b c d e ha hb hc hd he → power a b c d p ha hb hc hd hp <ℤ pos 0 → orientation a b c p ≤ℤ pos 0 → power a c b e p ha hc hb he hp <ℤ pos 0
+pub conflict_across : (a b c d e p : Point) (ha hb hc hd he hp : ℤ) → pos 0 <ℤ orientation a b c d
+    → pos 0 <ℤ orientation a c b e
+    → pos 0 <ℤ power a b c d e ha hb hc hd he → power a b c d p ha hb hc hd hp <ℤ pos 0 → orientation a b c p ≤ℤ pos 0
+    → power a c b e p ha hc hb he hp <ℤ pos 0
 conflict_across a b c d e p ha hb hc hd he hp v w x y z =
     let s = three_terms a b c d e p ha hb hc hd he hp in
     let x' : pos 0 ≤ℤ power a b c d e ha hb hc hd he = omega (arith, ints) in
@@ -35,23 +38,33 @@ conflict_across a b c d e p ha hb hc hd he hp v w x y z =
 turn_power : (a b c d p : Point) (ha hb hc hd hp : ℤ) → power a c b d p ha hc hb hd hp ≡ neg_ℤ (power a b c d p ha hb hc hd hp)
 unfolding power orientation
 turn_power a b c d p ha hb hc hd hp =
-    let xs : List ℤ = coordinates a (coordinates b (coordinates c (coordinates d (coordinates p (ha ∷ hb ∷ hc ∷ hd ∷ hp ∷ []))))) in
-    ring xs (power' (symbols 0) (symbols 6) (symbols 3) (symbols 9) (symbols 12) (variable 15) (variable 17) (variable 16) (variable 18) (variable 19)) (negation (power' (symbols 0) (symbols 3) (symbols 6) (symbols 9) (symbols 12) (variable 15) (variable 16) (variable 17) (variable 18) (variable 19))) tt
+    let xs : List ℤ =
+    coordinates a (coordinates b (coordinates c (coordinates d (coordinates p (ha ∷ hb ∷ hc ∷ hd ∷ hp ∷ []))))) in
+    ring xs (power' (symbols 0) (symbols 6) (symbols 3) (symbols 9) (symbols 12) (variable 15) (variable 17) (variable 16)
+    (variable 18) (variable 19))
+    (negation (power' (symbols 0) (symbols 3) (symbols 6) (symbols 9) (symbols 12) (variable 15) (variable 16) (variable 17)
+    (variable 18) (variable 19))) tt
 
 turn_orientation : (a b c d : Point) → orientation a c b d ≡ neg_ℤ (orientation a b c d)
 unfolding orientation
 turn_orientation a b c d =
-    ring (coordinates a (coordinates b (coordinates c (coordinates d [])))) (orientation' (symbols 0) (symbols 6) (symbols 3) (symbols 9)) (negation (orientation' (symbols 0) (symbols 3) (symbols 6) (symbols 9))) tt
+    ring (coordinates a (coordinates b (coordinates c (coordinates d []))))
+    (orientation' (symbols 0) (symbols 6) (symbols 3) (symbols 9))
+    (negation (orientation' (symbols 0) (symbols 3) (symbols 6) (symbols 9))) tt
 
 -- no vertex u on v's side of the facet is in conflict with the new cell a b c p
-pub new_clear_before : (a b c d p u : Point) (ha hb hc hd hp hu : ℤ) → pos 0 <ℤ orientation a b c d → pos 0 <ℤ orientation a b c p →
-    power a b c d p ha hb hc hd hp <ℤ pos 0 → pos 0 ≤ℤ power a b c d u ha hb hc hd hu → pos 0 ≤ℤ orientation a b c u → pos 0 ≤ℤ power a b c p u ha hb hc hp hu
+pub new_clear_before : (a b c d p u : Point) (ha hb hc hd hp hu : ℤ) → pos 0 <ℤ orientation a b c d
+    → pos 0 <ℤ orientation a b c p
+    → power a b c d p ha hb hc hd hp <ℤ pos 0 → pos 0 ≤ℤ power a b c d u ha hb hc hd hu → pos 0 ≤ℤ orientation a b c u
+    → pos 0 ≤ℤ power a b c p u ha hb hc hp hu
 new_clear_before a b c d p u ha hb hc hd hp hu v w x y z =
     let s = three_terms a b c d p u ha hb hc hd hp hu in
     let P = power a b c p u ha hb hc hp hu in
     let O = orientation a b c p in
-    let f : orientation a b c d *ℤ power a c b p u ha hc hb hp hu ≡ neg_ℤ (orientation a b c d *ℤ P) = ap (λ y. orientation a b c d *ℤ y) (turn_power a b c p u ha hb hc hp hu) ∙ neg_right (orientation a b c d) P in
-    let g : orientation a c b p *ℤ power a b c d u ha hb hc hd hu ≡ neg_ℤ (O *ℤ power a b c d u ha hb hc hd hu) = ap (λ y. y *ℤ power a b c d u ha hb hc hd hu) (turn_orientation a b c p) ∙ neg_left O (power a b c d u ha hb hc hd hu) in
+    let f : orientation a b c d *ℤ power a c b p u ha hc hb hp hu ≡ neg_ℤ (orientation a b c d *ℤ P) =
+    ap (λ y. orientation a b c d *ℤ y) (turn_power a b c p u ha hb hc hp hu) ∙ neg_right (orientation a b c d) P in
+    let g : orientation a c b p *ℤ power a b c d u ha hb hc hd hu ≡ neg_ℤ (O *ℤ power a b c d u ha hb hc hd hu) =
+    ap (λ y. y *ℤ power a b c d u ha hb hc hd hu) (turn_orientation a b c p) ∙ neg_left O (power a b c d u ha hb hc hd hu) in
     let w' : pos 0 ≤ℤ O = omega (arith, ints) in
     let t = mul_not_negative O (power a b c d u ha hb hc hd hu) w' y in
     let x' : power a b c d p ha hb hc hd hp ≤ℤ pos 0 = omega (arith, ints) in
@@ -62,8 +75,10 @@ new_clear_before a b c d p u ha hb hc hd hp hu v w x y z =
     (λ l. l)
 
 -- nor one on the other side
-pub new_clear_behind : (a b c e p u : Point) (ha hb hc he hp hu : ℤ) → pos 0 <ℤ orientation a c b e → pos 0 <ℤ orientation a b c p →
-    pos 0 ≤ℤ power a c b e p ha hc hb he hp → pos 0 ≤ℤ power a c b e u ha hc hb he hu → orientation a b c u ≤ℤ pos 0 → pos 0 ≤ℤ power a b c p u ha hb hc hp hu
+pub new_clear_behind : (a b c e p u : Point) (ha hb hc he hp hu : ℤ) → pos 0 <ℤ orientation a c b e
+    → pos 0 <ℤ orientation a b c p
+    → pos 0 ≤ℤ power a c b e p ha hc hb he hp → pos 0 ≤ℤ power a c b e u ha hc hb he hu → orientation a b c u ≤ℤ pos 0
+    → pos 0 ≤ℤ power a b c p u ha hb hc hp hu
 new_clear_behind a b c e p u ha hb hc he hp hu v w x y z =
     let s = three_terms a c b e p u ha hc hb he hp hu in
     let g = turn_orientation a b c u in
@@ -72,5 +87,6 @@ new_clear_behind a b c e p u ha hb hc he hp hu v w x y z =
     let t = mul_not_negative (orientation a b c p) (power a c b e u ha hc hb he hu) w' y in
     let q = mul_not_negative (power a c b e p ha hc hb he hp) (orientation a c b u) x n in
     by_lt_z (power a b c p u ha hb hc hp hu) (pos 0)
-    (λ l. let m = mul_below (orientation a c b e) (power a b c p u ha hb hc hp hu) v l in absurd (omega (arith, ints, s, t, q, m)))
+    (λ l. let m = mul_below (orientation a c b e) (power a b c p u ha hb hc hp hu) v l in
+    absurd (omega (arith, ints, s, t, q, m)))
     (λ l. l)

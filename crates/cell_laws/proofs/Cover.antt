@@ -1,9 +1,10 @@
--- Each place of the hull lies in a cell, and each vertex is one of a cell's. The cells are a finite list, made by trying all sets of four
--- vertices. Take the one that is highest over the place. Were the place behind one of its facets, then that facet would be no outer one,
--- so there would be a cell across, and it would be higher over the place. A vertex lies in a cell by this, and is one of its four, since
--- it would be in conflict with the cell otherwise.
+-- Each place of the hull lies in a cell, and each vertex is one of a cell's. The cells are a finite list, made by trying all
+-- sets of four vertices. Take the one that is highest over the place. Were the place behind one of its facets, then that facet
+-- would be no outer one, so there would be a cell across, and it would be higher over the place. A vertex lies in a cell by
+-- this, and is one of its four, since it would be in conflict with the cell otherwise.
 -- Stands on: Best, Wrap, Fan and Ways.
-use Rattle.std.proofs.Common.{ℕ, zero, suc, ◌<◌, ◌≤◌, ◌≡◌, refl, sym, subst, ◌∙◌, ◌⊎◌, inl, inr, ⊎_elim, arith, Bool, true, false, true≢false, pos, neg_ℤ, ◌*ℤ◌, ◌≤ℤ◌, ◌<ℤ◌, List, [], ◌∷◌, ◌++◌}
+use Rattle.std.proofs.Common.{ℕ, zero, suc, ◌<◌, ◌≤◌, ◌≡◌, refl, sym, subst, ◌∙◌, ◌⊎◌, inl, inr, ⊎_elim, arith, Bool, true}
+use Rattle.std.proofs.Common.{false, true≢false, pos, neg_ℤ, ◌*ℤ◌, ◌≤ℤ◌, ◌<ℤ◌, List, [], ◌∷◌, ◌++◌}
 use Rattle.std.proofs.lemmas.Int.{ints, by_lt_z}
 use Rattle.std.proofs.lemmas.Bool.{cases_lt}
 use lib.IntN.{*ℤ_comm}
@@ -30,10 +31,11 @@ use Rattle.cell_laws.proofs.Ways.{beside, lying, same_lift}
 use Rattle.cell_laws.proofs.Wrap.{across, below, below_has}
 
 highest :
-    {X : Type 0} (v : Vertices) → IsGeneric v → (q : RationalPoint) →
-    ((a b c d : ℕ) → IsCell v a b c d → IsOuter v a b c → pos 0 ≤ℤ beside v a b c q) →
-    (live : List X) (cell : X → Tetrahedron) → IsJoined v live cell →
-    (x : X) → IsBest (λ y. true) (λ y. neg_ℤ (lift_of v (cell y) q)) (λ y. orientation_at v (cell y)) live x → IsLyingIn v (cell x) q
+    {X : Type 0} (v : Vertices) → IsGeneric v → (q : RationalPoint)
+    → ((a b c d : ℕ) → IsCell v a b c d → IsOuter v a b c → pos 0 ≤ℤ beside v a b c q)
+    → (live : List X) (cell : X → Tetrahedron) → IsJoined v live cell
+    → (x : X) → IsBest (λ y. true) (λ y. neg_ℤ (lift_of v (cell y) q)) (λ y. orientation_at v (cell y)) live x
+    → IsLyingIn v (cell x) q
 highest {X} v g q inside live cell list x k =
     lying v (cell x) q
     (level (cell x).b (cell x).d (cell x).c (cell x).a (true ∷ false ∷ true ∷ [], refl))
@@ -46,11 +48,17 @@ highest {X} v g q inside live cell list x k =
         beside v a b c q <ℤ pos 0 → ⊥
     step a b c d e w f z l =
         let y = list.next x a b c d e k.listed w z in
-        let m : (neg_ℤ (lift_of v (cell x) q) *ℤ orientation_at v (cell y.0)) ≤ℤ (neg_ℤ (lift_of v (cell y.0) q) *ℤ orientation_at v (cell x)) = k.least y.0 y.1 refl in
-        let n : IsLater (orientation_at v (cell x)) (lift_of v (cell x) q) (orientation_at v (cell y.0)) (lift_of v (cell y.0) q) =
-        move (orientation_at v (cell x)) (lift_of v (cell x) q) (orientation_at v (cell y.0)) (lift_of v (cell y.0) q) (orientation_of v a b c d) (lift_of v (tetrahedron a b c d) q) (orientation_of v a c b e) (lift_of v (tetrahedron a c b e) q)
-        (same_orientation v (cell x) (tetrahedron a b c d) w) (same_lift v q (cell x) (tetrahedron a b c d) w) (same_orientation v (cell y.0) (tetrahedron a c b e) y.2) (same_lift v q (cell y.0) (tetrahedron a c b e) y.2)
-        (walk_step (v.at a) (v.at b) (v.at c) (v.at d) (v.at e) q (v.high a) (v.high b) (v.high c) (v.high d) (v.high e) (across_above v g a b c d e f z) l) in
+        let m : (neg_ℤ (lift_of v (cell x) q) *ℤ orientation_at v (cell y.0))
+        ≤ℤ (neg_ℤ (lift_of v (cell y.0) q) *ℤ orientation_at v (cell x)) = k.least y.0 y.1 refl in
+        let n : IsLater (orientation_at v (cell x)) (lift_of v (cell x) q) (orientation_at v (cell y.0))
+        (lift_of v (cell y.0) q) =
+        move (orientation_at v (cell x)) (lift_of v (cell x) q) (orientation_at v (cell y.0)) (lift_of v (cell y.0) q)
+        (orientation_of v a b c d) (lift_of v (tetrahedron a b c d) q) (orientation_of v a c b e)
+        (lift_of v (tetrahedron a c b e) q)
+        (same_orientation v (cell x) (tetrahedron a b c d) w) (same_lift v q (cell x) (tetrahedron a b c d) w)
+        (same_orientation v (cell y.0) (tetrahedron a c b e) y.2) (same_lift v q (cell y.0) (tetrahedron a c b e) y.2)
+        (walk_step (v.at a) (v.at b) (v.at c) (v.at d) (v.at e) q (v.high a) (v.high b) (v.high c) (v.high d) (v.high e)
+        (across_above v g a b c d e f z) l) in
         let i = neg_left (lift_of v (cell x) q) (orientation_at v (cell y.0)) in
         let j = neg_left (lift_of v (cell y.0) q) (orientation_at v (cell x)) in
         let i' = *ℤ_comm (lift_of v (cell x) q) (orientation_at v (cell y.0)) in
@@ -61,10 +69,13 @@ highest {X} v g q inside live cell list x k =
     level a b c d w =
         let f : IsCell v a b c d = same_cell v (cell x) (tetrahedron a b c d) w (list.cells x k.listed) in
         by_lt_z (beside v a b c q) (pos 0)
-        (λ m. absurd (⊎_elim (λ (o : IsOuter v a b c). let n = inside a b c d f o in absurd (omega (arith, ints, n, m))) (λ (z : (e : ℕ) × IsCell v a c b e). step a b c d z.0 w f z.1 m) (across v a b c d f)))
+        (λ m. absurd
+        (⊎_elim (λ (o : IsOuter v a b c). let n = inside a b c d f o in absurd (omega (arith, ints, n, m)))
+        (λ (z : (e : ℕ) × IsCell v a c b e). step a b c d z.0 w f z.1 m) (across v a b c d f)))
         (λ l. l)
 
-pub full_joined : {X : Type 0} (v : Vertices) (live : List X) (cell : X → Tetrahedron) → IsFull v live cell → IsJoined v live cell
+pub full_joined : {X : Type 0} (v : Vertices) (live : List X) (cell : X → Tetrahedron) → IsFull v live cell
+    → IsJoined v live cell
 full_joined v live cell f = record { cells = f.cells; next = λ x a b c d e i w k. f.all a c b e k }
 
 -- each place of the hull lies in a cell
@@ -75,13 +86,18 @@ pub cover :
     (x : X) → IsIn live x → (y : X) × IsIn live y × IsLyingIn v (cell y) q
 cover {X} v g q inside live cell list x i =
     ⊎_elim (λ n. absurd (true≢false (n x i)))
-    (λ (z : (y : X) × IsBest (λ y. true) (λ y. neg_ℤ (lift_of v (cell y) q)) (λ y. orientation_at v (cell y)) live y). let k : IsBest (λ y. true) (λ y. neg_ℤ (lift_of v (cell y) q)) (λ y. orientation_at v (cell y)) live z.0 = z.1 in (z.0, k.listed, highest v g q inside live cell list z.0 k))
-    (best (λ y. true) (λ y. neg_ℤ (lift_of v (cell y) q)) (λ y. orientation_at v (cell y)) live (λ y j k. (list.cells y j).positive))
+    (λ (z : (y : X) × IsBest (λ y. true) (λ y. neg_ℤ (lift_of v (cell y) q)) (λ y. orientation_at v (cell y)) live y).
+    let k : IsBest (λ y. true) (λ y. neg_ℤ (lift_of v (cell y) q)) (λ y. orientation_at v (cell y)) live z.0 = z.1 in
+    (z.0, k.listed, highest v g q inside live cell list z.0 k))
+    (best (λ y. true) (λ y. neg_ℤ (lift_of v (cell y) q)) (λ y. orientation_at v (cell y)) live
+    (λ y j k. (list.cells y j).positive))
 
 pub point_side : (a b c u : Point) → side a b c (rational u) ≡ orientation a b c u
 unfolding side orientation
 point_side a b c u =
-    ring (coordinates a (coordinates b (coordinates c (coordinates u [])))) (side' (symbols 0) (symbols 3) (symbols 6) (record { at = symbols 9; over = constant (pos 1) })) (orientation' (symbols 0) (symbols 3) (symbols 6) (symbols 9)) tt
+    ring (coordinates a (coordinates b (coordinates c (coordinates u []))))
+    (side' (symbols 0) (symbols 3) (symbols 6) (record { at = symbols 9; over = constant (pos 1) }))
+    (orientation' (symbols 0) (symbols 3) (symbols 6) (symbols 9)) tt
 
 pub lies_of :
     (v : Vertices) → IsConvex v → (r : Tetrahedron) (u : ℕ) → IsCellOf v r → Has v u → IsLyingIn v r (rational (v.at u)) →
@@ -93,7 +109,10 @@ pub no_vertex_lost :
     {X : Type 0} (v : Vertices) → IsGeneric v → IsConvex v → (live : List X) (cell : X → Tetrahedron) → IsFull v live cell →
     (x : X) → IsIn live x → (u : ℕ) → Has v u → (y : X) × IsIn live y × IsVertexOf (cell y) u
 no_vertex_lost {X} v g c live cell list x i u h =
-    let z = cover v g (rational (v.at u)) (λ a b c d k o. subst (λ t. pos 0 ≤ℤ t) (sym (point_side (v.at a) (v.at b) (v.at c) (v.at u))) (o u h)) live cell (full_joined v live cell list) x i in
+    let z =
+    cover v g (rational (v.at u))
+    (λ a b c d k o. subst (λ t. pos 0 ≤ℤ t) (sym (point_side (v.at a) (v.at b) (v.at c) (v.at u))) (o u h)) live cell
+    (full_joined v live cell list) x i in
     (z.0, z.1, lies_of v c (cell z.0) u (list.cells z.0 z.1) h z.2)
 
 -- ---- the same with no list: all sets of four are tried
@@ -119,7 +138,8 @@ Decision P = P ⊎ (¬ P)
 
 has_or_not : (v : Vertices) (u : ℕ) → Decision (Has v u)
 has_or_not v u =
-    ⊎_elim (λ (l : u < v.count). flag (v.is_in u) refl l) (λ (l : v.count ≤ u). inr (λ h. let k : u < v.count = h.0 in absurd (omega arith))) (cases_lt u v.count)
+    ⊎_elim (λ (l : u < v.count). flag (v.is_in u) refl l)
+    (λ (l : v.count ≤ u). inr (λ h. let k : u < v.count = h.0 in absurd (omega arith))) (cases_lt u v.count)
   where
     flag : (b : Bool) → v.is_in u ≡ b → u < v.count → Decision (Has v u)
     flag true e l = inl (l, e)
@@ -133,7 +153,9 @@ Unclear v r = (u : ℕ) × Has v u × (power_at v r u <ℤ pos 0)
 
 clear_more : (v : Vertices) (r : Tetrahedron) (n : ℕ) → (Has v n → pos 0 ≤ℤ power_at v r n) → Clear v r n → Clear v r (suc n)
 clear_more v r n g f u l h =
-    ⊎_elim (λ (m : u < n). f u m h) (λ (m : n ≤ u). let e : n ≡ u = omega arith in subst (λ t. pos 0 ≤ℤ power_at v r t) e (g (subst (λ t. Has v t) (sym e) h))) (cases_lt u n)
+    ⊎_elim (λ (m : u < n). f u m h)
+    (λ (m : n ≤ u). let e : n ≡ u = omega arith in subst (λ t. pos 0 ≤ℤ power_at v r t) e (g (subst (λ t. Has v t) (sym e) h)))
+    (cases_lt u n)
 
 clear_or_not : (v : Vertices) (r : Tetrahedron) (n : ℕ) → Clear v r n ⊎ Unclear v r
 clear_or_not v r zero = inl (λ u l h. absurd (omega arith))
@@ -156,7 +178,8 @@ cell_or_not v r = pick (has_or_not v r.a) (has_or_not v r.b) (has_or_not v r.c) 
     pick (inl a) (inl b) (inl c) (inl d) (inr z) =
         inr (λ (h : IsCellOf v r). let x = h.clear z.0 z.1 in let y = z.2 in absurd (omega (arith, ints, x, y)))
     pick (inl a) (inl b) (inl c) (inl d) (inl f) =
-        by_lt_z (pos 0) (orientation_at v r) (λ l. inl (record { has_a = a; has_b = b; has_c = c; has_d = d; positive = l; clear = λ u h. f u h.0 h }))
+        by_lt_z (pos 0) (orientation_at v r)
+        (λ l. inl (record { has_a = a; has_b = b; has_c = c; has_d = d; positive = l; clear = λ u h. f u h.0 h }))
         (λ l. inr (λ (h : IsCellOf v r). let x = h.positive in absurd (omega (arith, ints, x, l))))
 
 -- the cells of a vertices, with what makes them cells
@@ -192,10 +215,16 @@ certified_full v =
       cells = λ x h. x.1;
       all = λ a b c d k.
           let n = below v.count in
-          let z = each_listed v (λ a. each (λ b. each (λ c. each (λ d. picked v (tetrahedron a b c d) (cell_or_not v (tetrahedron a b c d))) n) n) n) n a (tetrahedron a b c d) (below_has v.count a k.has_a.0)
-          (each_listed v (λ b. each (λ c. each (λ d. picked v (tetrahedron a b c d) (cell_or_not v (tetrahedron a b c d))) n) n) n b (tetrahedron a b c d) (below_has v.count b k.has_b.0)
-          (each_listed v (λ c. each (λ d. picked v (tetrahedron a b c d) (cell_or_not v (tetrahedron a b c d))) n) n c (tetrahedron a b c d) (below_has v.count c k.has_c.0)
-          (each_listed v (λ d. picked v (tetrahedron a b c d) (cell_or_not v (tetrahedron a b c d))) n d (tetrahedron a b c d) (below_has v.count d k.has_d.0)
+          let z =
+          each_listed v
+          (λ a. each (λ b. each (λ c. each (λ d. picked v (tetrahedron a b c d) (cell_or_not v (tetrahedron a b c d))) n) n) n)
+          n a (tetrahedron a b c d) (below_has v.count a k.has_a.0)
+          (each_listed v (λ b. each (λ c. each (λ d. picked v (tetrahedron a b c d) (cell_or_not v (tetrahedron a b c d))) n) n)
+          n b (tetrahedron a b c d) (below_has v.count b k.has_b.0)
+          (each_listed v (λ c. each (λ d. picked v (tetrahedron a b c d) (cell_or_not v (tetrahedron a b c d))) n) n c
+          (tetrahedron a b c d) (below_has v.count c k.has_c.0)
+          (each_listed v (λ d. picked v (tetrahedron a b c d) (cell_or_not v (tetrahedron a b c d))) n d (tetrahedron a b c d)
+          (below_has v.count d k.has_d.0)
           (picked_has v (tetrahedron a b c d) (cell_or_not v (tetrahedron a b c d)) k)))) in
           (z.0, z.1, ([], z.2));
     }

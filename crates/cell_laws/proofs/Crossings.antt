@@ -1,7 +1,8 @@
--- Where a sight crosses the facets of a cell. The sight begins at a vertex p and ends at the place s. A cell's facet k has the side
--- p k of the vertex and s k of the place; the sides of the edges are the minors of these.
+-- Where a sight crosses the facets of a cell. The sight begins at a vertex p and ends at the place s. A cell's facet k has the
+-- side p k of the vertex and s k of the place; the sides of the edges are the minors of these.
 -- Stands on: Sides, and Firsts (the minors).
-use Rattle.std.proofs.Common.{ℕ, zero, suc, ◌<◌, ◌≡◌, ◌≢◌, refl, sym, subst, inl, inr, ⊎_elim, ◌⊎◌, arith, ℤ, pos, ◌*ℤ◌, ◌<ℤ◌, List, [], ◌∷◌}
+use Rattle.std.proofs.Common.{ℕ, zero, suc, ◌<◌, ◌≡◌, ◌≢◌, refl, sym, subst, inl, inr, ⊎_elim, ◌⊎◌, arith, ℤ, pos, ◌*ℤ◌, ◌<ℤ◌}
+use Rattle.std.proofs.Common.{List, [], ◌∷◌}
 use Rattle.std.proofs.lemmas.Int.{ints}
 use Rattle.geo_sign.specs.Polynomial.{constant, difference, Polynomial, product, variable}
 use Rattle.geo_sign.proofs.Ring.{ring}
@@ -131,7 +132,9 @@ lead' l k = difference (product (face' k start') (face' l end')) (product (face'
 
 abbrev numbers : Vertices → ℕ → RationalPoint → Tetrahedron → List ℤ
 numbers v p s cell =
-    coordinates (v.at cell.a) (coordinates (v.at cell.b) (coordinates (v.at cell.c) (coordinates (v.at cell.d) (coordinates (v.at p) (coordinates s.at (s.over ∷ []))))))
+    coordinates (v.at cell.a)
+    (coordinates (v.at cell.b)
+    (coordinates (v.at cell.c) (coordinates (v.at cell.d) (coordinates (v.at p) (coordinates s.at (s.over ∷ []))))))
 
 pub edge_ab :
     (v : Vertices) (p : ℕ) (s : RationalPoint) (cell : Tetrahedron) (l : ℕ) →
@@ -225,10 +228,22 @@ entry_of v p s cell l b o h =
       start = h.behind;
       end = h.ahead;
       others = λ k c n.
-          ⊎_elim (λ (e : k ≡ third_of l). subst P (sym e) (subst Q (edge_ab v p s cell l) (mul_positive (orientation_at v cell) (side (v.at p) (v.at (facet_of cell l).a) (v.at (facet_of cell l).b) s) o h.ab)))
+          ⊎_elim (λ (e : k ≡ third_of l).
+          subst P (sym e)
+          (subst Q (edge_ab v p s cell l)
+          (mul_positive (orientation_at v cell)
+          (side (v.at p) (v.at (facet_of cell l).a) (v.at (facet_of cell l).b) s) o h.ab)))
           (λ (r : (k ≡ first_of l) ⊎ (k ≡ second_of l)).
-          ⊎_elim (λ (e : k ≡ first_of l). subst P (sym e) (subst Q (edge_bc v p s cell l) (mul_positive (orientation_at v cell) (side (v.at p) (v.at (facet_of cell l).b) (v.at (facet_of cell l).c) s) o h.bc)))
-          (λ (e : k ≡ second_of l). subst P (sym e) (subst Q (edge_ca v p s cell l) (mul_positive (orientation_at v cell) (side (v.at p) (v.at (facet_of cell l).c) (v.at (facet_of cell l).a) s) o h.ca))) r)
+          ⊎_elim (λ (e : k ≡ first_of l).
+          subst P (sym e)
+          (subst Q (edge_bc v p s cell l)
+          (mul_positive (orientation_at v cell)
+          (side (v.at p) (v.at (facet_of cell l).b) (v.at (facet_of cell l).c) s) o h.bc)))
+          (λ (e : k ≡ second_of l).
+          subst P (sym e)
+          (subst Q (edge_ca v p s cell l)
+          (mul_positive (orientation_at v cell) (side (v.at p) (v.at (facet_of cell l).c) (v.at (facet_of cell l).a) s)
+          o h.ca))) r)
           (other_index l k b c n);
     }
 
@@ -241,9 +256,15 @@ exit_left v p s cell l b o h =
     record {
       ahead = h.end;
       behind = h.start;
-      ab = factor_below (orientation_at v cell) (side (v.at p) (v.at (facet_of cell l).a) (v.at (facet_of cell l).b) s) o (subst Q (sym (edge_ab v p s cell l)) (h.others (third_of l) x.0 x.1));
-      bc = factor_below (orientation_at v cell) (side (v.at p) (v.at (facet_of cell l).b) (v.at (facet_of cell l).c) s) o (subst Q (sym (edge_bc v p s cell l)) (h.others (first_of l) y.0 y.1));
-      ca = factor_below (orientation_at v cell) (side (v.at p) (v.at (facet_of cell l).c) (v.at (facet_of cell l).a) s) o (subst Q (sym (edge_ca v p s cell l)) (h.others (second_of l) z.0 z.1));
+      ab =
+          factor_below (orientation_at v cell) (side (v.at p) (v.at (facet_of cell l).a) (v.at (facet_of cell l).b) s) o
+          (subst Q (sym (edge_ab v p s cell l)) (h.others (third_of l) x.0 x.1));
+      bc =
+          factor_below (orientation_at v cell) (side (v.at p) (v.at (facet_of cell l).b) (v.at (facet_of cell l).c) s) o
+          (subst Q (sym (edge_bc v p s cell l)) (h.others (first_of l) y.0 y.1));
+      ca =
+          factor_below (orientation_at v cell) (side (v.at p) (v.at (facet_of cell l).c) (v.at (facet_of cell l).a) s) o
+          (subst Q (sym (edge_ca v p s cell l)) (h.others (second_of l) z.0 z.1));
     }
 
 pub left_exit :
@@ -256,9 +277,19 @@ left_exit v p s cell l b o h =
       start = h.behind;
       end = h.ahead;
       others = λ k c n.
-          ⊎_elim (λ (e : k ≡ third_of l). subst P (sym e) (subst Q (edge_ab v p s cell l) (mul_below (orientation_at v cell) (side (v.at p) (v.at (facet_of cell l).a) (v.at (facet_of cell l).b) s) o h.ab)))
+          ⊎_elim (λ (e : k ≡ third_of l).
+          subst P (sym e)
+          (subst Q (edge_ab v p s cell l)
+          (mul_below (orientation_at v cell) (side (v.at p) (v.at (facet_of cell l).a) (v.at (facet_of cell l).b) s) o h.ab)))
           (λ (r : (k ≡ first_of l) ⊎ (k ≡ second_of l)).
-          ⊎_elim (λ (e : k ≡ first_of l). subst P (sym e) (subst Q (edge_bc v p s cell l) (mul_below (orientation_at v cell) (side (v.at p) (v.at (facet_of cell l).b) (v.at (facet_of cell l).c) s) o h.bc)))
-          (λ (e : k ≡ second_of l). subst P (sym e) (subst Q (edge_ca v p s cell l) (mul_below (orientation_at v cell) (side (v.at p) (v.at (facet_of cell l).c) (v.at (facet_of cell l).a) s) o h.ca))) r)
+          ⊎_elim (λ (e : k ≡ first_of l).
+          subst P (sym e)
+          (subst Q (edge_bc v p s cell l)
+          (mul_below (orientation_at v cell) (side (v.at p) (v.at (facet_of cell l).b) (v.at (facet_of cell l).c) s) o h.bc)))
+          (λ (e : k ≡ second_of l).
+          subst P (sym e)
+          (subst Q (edge_ca v p s cell l)
+          (mul_below (orientation_at v cell) (side (v.at p) (v.at (facet_of cell l).c) (v.at (facet_of cell l).a) s) o h.ca)))
+          r)
           (other_index l k b c n);
     }

@@ -7,7 +7,8 @@
 --   is_inside           whether there is an inside cell
 --
 -- Stands on: the definitions, and Sums (nothing twice).
-use Rattle.std.proofs.Common.{ℕ, zero, suc, ◌+◌, ◌<◌, ◌≡◌, ◌≢◌, refl, sym, ap, subst, ◌∙◌, inl, inr, ⊎_elim, arith, Bool, true, false, ◌&&◌, ◌==◌, cond, eqb, Option, Some, None, List, [], ◌∷◌}
+use Rattle.std.proofs.Common.{ℕ, zero, suc, ◌+◌, ◌<◌, ◌≡◌, ◌≢◌, refl, sym, ap, subst, ◌∙◌, inl, inr, ⊎_elim, arith, Bool, true}
+use Rattle.std.proofs.Common.{false, ◌&&◌, ◌==◌, cond, eqb, Option, Some, None, List, [], ◌∷◌}
 use Rattle.std.proofs.lemmas.Bool.{eqb-true, eq-eqb, and_parts, and_from}
 use Rattle.geo_sign.specs.Tetrahedron.{Tetrahedron, DirectedFacet, facet, facet_of, vertex_of, IsTurned, is_same_facet}
 use Rattle.cell_laws.specs.ClosedLaws.{one_edge, edges_of}
@@ -51,14 +52,18 @@ pub boundary :
 boundary u w t =
     let n = λ (x y : ℕ). one_edge u w x y in
     let m = λ (x y : ℕ). one_edge w u x y in
-    twelve (n t.a t.b) (n t.b t.a) (n t.a t.c) (n t.c t.a) (n t.a t.d) (n t.d t.a) (n t.b t.c) (n t.c t.b) (n t.b t.d) (n t.d t.b) (n t.c t.d) (n t.d t.c)
-    (m t.a t.b) (m t.b t.a) (m t.a t.c) (m t.c t.a) (m t.a t.d) (m t.d t.a) (m t.b t.c) (m t.c t.b) (m t.b t.d) (m t.d t.b) (m t.c t.d) (m t.d t.c)
+    twelve (n t.a t.b) (n t.b t.a) (n t.a t.c) (n t.c t.a) (n t.a t.d) (n t.d t.a) (n t.b t.c) (n t.c t.b) (n t.b t.d)
+    (n t.d t.b) (n t.c t.d) (n t.d t.c)
+    (m t.a t.b) (m t.b t.a) (m t.a t.c) (m t.c t.a) (m t.a t.d) (m t.d t.a) (m t.b t.c) (m t.c t.b) (m t.b t.d) (m t.d t.b)
+    (m t.c t.d) (m t.d t.c)
     (flip u w t.a t.b) (flip u w t.b t.a) (flip u w t.a t.c) (flip u w t.c t.a) (flip u w t.a t.d) (flip u w t.d t.a)
     (flip u w t.b t.c) (flip u w t.c t.b) (flip u w t.b t.d) (flip u w t.d t.b) (flip u w t.c t.d) (flip u w t.d t.c)
   where
-    twelve : (ab ba ac ca ad da bc cb bd db cd dc ab' ba' ac' ca' ad' da' bc' cb' bd' db' cd' dc' : ℕ) →
-        ab ≡ ba' → ba ≡ ab' → ac ≡ ca' → ca ≡ ac' → ad ≡ da' → da ≡ ad' → bc ≡ cb' → cb ≡ bc' → bd ≡ db' → db ≡ bd' → cd ≡ dc' → dc ≡ cd' →
-        (bd + dc + cb) + ((ac + cd + da) + ((ad + db + ba) + (ab + bc + ca))) ≡ (bd' + dc' + cb') + ((ac' + cd' + da') + ((ad' + db' + ba') + (ab' + bc' + ca')))
+    twelve : (ab ba ac ca ad da bc cb bd db cd dc ab' ba' ac' ca' ad' da' bc' cb' bd' db' cd' dc' : ℕ)
+        → ab ≡ ba' → ba ≡ ab' → ac ≡ ca' → ca ≡ ac' → ad ≡ da' → da ≡ ad' → bc ≡ cb' → cb ≡ bc' → bd ≡ db' → db ≡ bd' → cd ≡ dc'
+        → dc ≡ cd'
+        → (bd + dc + cb) + ((ac + cd + da) + ((ad + db + ba) + (ab + bc + ca)))
+        ≡ (bd' + dc' + cb') + ((ac' + cd' + da') + ((ad' + db' + ba') + (ab' + bc' + ca')))
     twelve ab ba ac ca ad da bc cb bd db cd dc ab' ba' ac' ca' ad' da' bc' cb' bd' db' cd' dc' a b c d e f g h i j k l =
         omega (arith, a, b, c, d, e, f, g, h, i, j, k, l)
 
@@ -73,7 +78,8 @@ all_sides (x ∷ xs) = side_at x 0 ∷ side_at x 1 ∷ side_at x 2 ∷ side_at x
 pub side_listed : (xs : List ℕ) (s : Side) → IsIn (all_sides xs) s → IsIn xs s.at × (s.side < 4)
 side_listed [] s h = absurd h
 side_listed (x ∷ xs) s (inl e) = (inl (ap (λ (z : Side). z.at) e), let i = ap (λ (z : Side). z.side) e in omega (arith, i))
-side_listed (x ∷ xs) s (inr (inl e)) = (inl (ap (λ (z : Side). z.at) e), let i = ap (λ (z : Side). z.side) e in omega (arith, i))
+side_listed (x ∷ xs) s (inr (inl e)) =
+    (inl (ap (λ (z : Side). z.at) e), let i = ap (λ (z : Side). z.side) e in omega (arith, i))
 side_listed (x ∷ xs) s (inr (inr (inl e))) =
     (inl (ap (λ (z : Side). z.at) e), let i = ap (λ (z : Side). z.side) e in omega (arith, i))
 side_listed (x ∷ xs) s (inr (inr (inr (inl e)))) =
@@ -92,7 +98,8 @@ listed_side (y ∷ ys) x k (inr h) l = inr (inr (inr (inr (listed_side ys x k h 
 pub sides_once : (xs : List ℕ) → IsOnce xs → IsOnce (all_sides xs)
 sides_once [] o = tt
 sides_once (x ∷ xs) o = (
-  (λ h. ⊎_elim (other 1 0 (λ e. omega (arith, e))) (⊎_elim (other 2 0 (λ e. omega (arith, e))) (⊎_elim (other 3 0 (λ e. omega (arith, e))) (later 0))) h),
+  (λ h. ⊎_elim (other 1 0 (λ e. omega (arith, e)))
+      (⊎_elim (other 2 0 (λ e. omega (arith, e))) (⊎_elim (other 3 0 (λ e. omega (arith, e))) (later 0))) h),
   (
     (λ h. ⊎_elim (other 2 1 (λ e. omega (arith, e))) (⊎_elim (other 3 1 (λ e. omega (arith, e))) (later 1)) h),
     ((λ h. ⊎_elim (other 3 2 (λ e. omega (arith, e))) (later 2) h), (later 3, sides_once xs o.1)),
@@ -111,7 +118,8 @@ means_same f g e = subst (λ h. is_same_facet f h ≡ true) (sym e) (same_itself
 
 abbrev pub is_turned : DirectedFacet → DirectedFacet → Bool
 is_turned f g =
-    cond (is_same_facet (facet f.a f.c f.b) g) true (cond (is_same_facet (facet f.c f.b f.a) g) true (is_same_facet (facet f.b f.a f.c) g))
+    cond (is_same_facet (facet f.a f.c f.b) g) true
+    (cond (is_same_facet (facet f.c f.b f.a) g) true (is_same_facet (facet f.b f.a f.c) g))
 
 pub turned_means : (f g : DirectedFacet) → is_turned f g ≡ true → IsTurned f g
 turned_means f g e = first (is_same_facet (facet f.a f.c f.b) g) refl e
@@ -131,7 +139,8 @@ turned_means f g e = first (is_same_facet (facet f.a f.c f.b) g) refl e
 
 pub means_turned : (f g : DirectedFacet) → IsTurned f g → is_turned f g ≡ true
 means_turned f g (inl e) =
-    ap (λ b. cond b true (cond (is_same_facet (facet f.c f.b f.a) g) true (is_same_facet (facet f.b f.a f.c) g))) (means_same (facet f.a f.c f.b) g e)
+    ap (λ b. cond b true (cond (is_same_facet (facet f.c f.b f.a) g) true (is_same_facet (facet f.b f.a f.c) g)))
+    (means_same (facet f.a f.c f.b) g e)
 means_turned f g (inr (inl e)) = by (is_same_facet (facet f.a f.c f.b) g)
   where
     by : (b : Bool) → cond b true (cond (is_same_facet (facet f.c f.b f.a) g) true (is_same_facet (facet f.b f.a f.c) g)) ≡ true

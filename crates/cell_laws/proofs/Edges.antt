@@ -1,6 +1,7 @@
--- New cells over facets: a reversed edge makes them neighbours, and a common side makes a common edge. The side e of the cell over f with
--- apex p is the edge e of f with p, so two such sides are turned facets of each other exactly where the edges are reversed. In a list of
--- the fan's facets, each once, the facet with the reversed edge is there since the fan's edges meet, and it is the only one.
+-- New cells over facets: a reversed edge makes them neighbours, and a common side makes a common edge. The side e of the cell
+-- over f with apex p is the edge e of f with p, so two such sides are turned facets of each other exactly where the edges are
+-- reversed. In a list of the fan's facets, each once, the facet with the reversed edge is there since the fan's edges meet, and
+-- it is the only one.
 -- Stands on: LinkedCells (the twelve writings by sides).
 use Rattle.std.proofs.Common.{ℕ, zero, suc, ◌≡◌, ◌≢◌, ◌<◌, refl, ap, sym, subst, ◌∙◌, ◌⊎◌, inl, inr, ⊎_elim, arith}
 use Rattle.geo_sign.specs.Tetrahedron.{DirectedFacet, facet, facet_of, IsRotated, IsTurned, Tetrahedron, tetrahedron, vertex_of}
@@ -55,10 +56,12 @@ edges_turned f g p i (suc (suc (suc j))) hi hj s e = absurd (omega arith)
 -- the first three of a writing are the facet, or an edge with p between
 abbrev Kind : Tetrahedron → Tetrahedron → Type 0
 Kind q t =
-    ((t.d ≡ q.d) × IsTurn t.a t.b t.c q.a q.b q.c) ⊎ ((i : ℕ) × (i < 3) × IsTurn t.a t.b t.c (edge_start (base q) i) q.d (edge_end (base q) i))
+    ((t.d ≡ q.d) × IsTurn t.a t.b t.c q.a q.b q.c)
+    ⊎ ((i : ℕ) × (i < 3) × IsTurn t.a t.b t.c (edge_start (base q) i) q.d (edge_end (base q) i))
 
 turn_spin : (x y z u v w : ℕ) → IsTurn x y z u v w → IsTurn y z x u v w
-turn_spin x y z u v w = ⊎_elim (λ e. inr (inl (e.1, e.2, e.0))) (⊎_elim (λ e. inr (inr (e.1, e.2, e.0))) (λ e. inl (e.1, e.2, e.0)))
+turn_spin x y z u v w =
+    ⊎_elim (λ e. inr (inl (e.1, e.2, e.0))) (⊎_elim (λ e. inr (inr (e.1, e.2, e.0))) (λ e. inl (e.1, e.2, e.0)))
 
 kind_spin : (q t : Tetrahedron) → Kind q t → Kind q (spin t)
 kind_spin q t (inl h) = inl (h.0, turn_spin t.a t.b t.c q.a q.b q.c h.1)
@@ -101,7 +104,8 @@ mixed x y z a b c u p w na nb nc (inr (inl e)) =
 mixed x y z a b c u p w na nb nc (inr (inr e)) =
     ⊎_elim (λ f. na (sym e.1 ∙ f.1)) (⊎_elim (λ f. nc (sym e.0 ∙ f.0)) (λ f. nb (sym e.2 ∙ f.2)))
 
-around : (x y z u w u' w' p : ℕ) → u ≢ p → w ≢ p → u' ≢ p → w' ≢ p → IsTurn x y z u p w → IsTurn x y z u' p w' → (u ≡ u') × (w ≡ w')
+around : (x y z u w u' w' p : ℕ) → u ≢ p → w ≢ p → u' ≢ p → w' ≢ p → IsTurn x y z u p w → IsTurn x y z u' p w'
+    → (u ≡ u') × (w ≡ w')
 around x y z u w u' w' p n m n' m' (inl e) (inl f) = (sym e.0 ∙ f.0, sym e.2 ∙ f.2)
 around x y z u w u' w' p n m n' m' (inl e) (inr (inl f)) = absurd (m' (sym f.1 ∙ e.1))
 around x y z u w u' w' p n m n' m' (inl e) (inr (inr f)) = absurd (n' (sym f.1 ∙ e.1))
@@ -124,14 +128,19 @@ common_edge f g p a b c d e hf hg of og w w' = pick (kind_of f (tetrahedron a b 
         let y = turn_edge (base g) a b c k.1 in
         record { i = x.0; j = y.0; i_in = x.1; j_in = y.1; same_start = x.2 ∙ sym y.2; same_end = x.3 ∙ sym y.3 }
     pick (inl h) (inr k) =
-        absurd (mixed a b c f.a f.b f.c (edge_start (base g) k.0) g.d (edge_end (base g) k.0) (λ q. of.a_d (q ∙ hg ∙ sym hf)) (λ q. of.b_d (q ∙ hg ∙ sym hf)) (λ q. of.c_d (q ∙ hg ∙ sym hf)) h.1 k.2)
+        absurd (mixed a b c f.a f.b f.c (edge_start (base g) k.0) g.d (edge_end (base g) k.0) (λ q. of.a_d (q ∙ hg ∙ sym hf))
+        (λ q. of.b_d (q ∙ hg ∙ sym hf)) (λ q. of.c_d (q ∙ hg ∙ sym hf)) h.1 k.2)
     pick (inr h) (inl k) =
-        absurd (mixed a b c g.a g.b g.c (edge_start (base f) h.0) f.d (edge_end (base f) h.0) (λ q. og.a_d (q ∙ hf ∙ sym hg)) (λ q. og.b_d (q ∙ hf ∙ sym hg)) (λ q. og.c_d (q ∙ hf ∙ sym hg)) k.1 h.2)
+        absurd (mixed a b c g.a g.b g.c (edge_start (base f) h.0) f.d (edge_end (base f) h.0) (λ q. og.a_d (q ∙ hf ∙ sym hg))
+        (λ q. og.b_d (q ∙ hf ∙ sym hg)) (λ q. og.c_d (q ∙ hf ∙ sym hg)) k.1 h.2)
     pick (inr h) (inr k) =
         let m = edge_over f of h.0 in
         let n = edge_over g og k.0 in
         let q : g.d ≡ f.d = hg ∙ sym hf in
-        let r = around a b c (edge_start (base f) h.0) (edge_end (base f) h.0) (edge_start (base g) k.0) (edge_end (base g) k.0) f.d m.0 m.1 (λ t. n.0 (t ∙ sym q)) (λ t. n.1 (t ∙ sym q)) h.2 (subst (λ t. IsTurn a b c (edge_start (base g) k.0) t (edge_end (base g) k.0)) q k.2) in
+        let r =
+        around a b c (edge_start (base f) h.0) (edge_end (base f) h.0) (edge_start (base g) k.0) (edge_end (base g) k.0) f.d m.0
+        m.1 (λ t. n.0 (t ∙ sym q)) (λ t. n.1 (t ∙ sym q)) h.2
+        (subst (λ t. IsTurn a b c (edge_start (base g) k.0) t (edge_end (base g) k.0)) q k.2) in
         record { i = h.0; j = k.0; i_in = h.1; j_in = k.1; same_start = r.0; same_end = r.1 }
 
 -- the same of sides
@@ -141,7 +150,8 @@ pub side_edge :
 side_edge f g p fa fb fc ga gb gc i j hi hj r =
     let t = facet_of (over f p) i in
     let e = vertex_of (over g p) j in
-    common_edge (over f p) (over g p) p t.a t.b t.c (vertex_of (over f p) i) e refl refl (record { a_d = fa; b_d = fb; c_d = fc }) (record { a_d = ga; b_d = gb; c_d = gc }) (facet_same (over f p) i)
+    common_edge (over f p) (over g p) p t.a t.b t.c (vertex_of (over f p) i) e refl refl
+    (record { a_d = fa; b_d = fb; c_d = fc }) (record { a_d = ga; b_d = gb; c_d = gc }) (facet_same (over f p) i)
     (facet_of_same (over g p) (tetrahedron t.a t.b t.c e) (j, hj, rotated_back t (facet_of (over g p) j) r, refl))
 
 pub side_law : SideLaw
@@ -174,19 +184,27 @@ fan_edges v p l n f h = record { next = next; apart = apart }
     next i e k =
         let x = l.next (edge_start (f i) e) (edge_end (f i) e) (opposite (f i) e) (edge_fan v p l (f i) (h.fan i k) e) in
         let j = h.all (edge_end (f i) e) (edge_start (f i) e) x.0 x.1 in
-        let y = turn_edge (f j.0) (edge_end (f i) e) (edge_start (f i) e) x.0 (turn_of (f j.0) (edge_end (f i) e) (edge_start (f i) e) x.0 j.2) in
+        let y =
+        turn_edge (f j.0) (edge_end (f i) e) (edge_start (f i) e) x.0
+        (turn_of (f j.0) (edge_end (f i) e) (edge_start (f i) e) x.0 j.2) in
         (j.0, y.0, j.1, y.1, y.2, y.3)
 
-    apart : (i e j e' : ℕ) → i < n → j < n → edge_start (f i) e ≡ edge_start (f j) e' → edge_end (f i) e ≡ edge_end (f j) e' → i ≡ j
+    apart : (i e j e' : ℕ) → i < n → j < n → edge_start (f i) e ≡ edge_start (f j) e' → edge_end (f i) e ≡ edge_end (f j) e'
+        → i ≡ j
     apart i e j e' k m a b =
         let x = edge_fan v p l (f i) (h.fan i k) e in
         let y = edge_fan v p l (f j) (h.fan j m) e' in
-        let y' : IsFan v p (edge_start (f i) e) (edge_end (f i) e) (opposite (f j) e') = subst (λ t. IsFan v p t (edge_end (f i) e) (opposite (f j) e')) (sym a) (subst (λ t. IsFan v p (edge_start (f j) e') t (opposite (f j) e')) (sym b) y) in
-        let c : opposite (f i) e ≡ opposite (f j) e' = l.once (edge_start (f i) e) (edge_end (f i) e) (opposite (f i) e) (opposite (f j) e') x y' in
+        let y' : IsFan v p (edge_start (f i) e) (edge_end (f i) e) (opposite (f j) e') =
+        subst (λ t. IsFan v p t (edge_end (f i) e) (opposite (f j) e')) (sym a)
+        (subst (λ t. IsFan v p (edge_start (f j) e') t (opposite (f j) e')) (sym b) y) in
+        let c : opposite (f i) e ≡ opposite (f j) e' =
+        l.once (edge_start (f i) e) (edge_end (f i) e) (opposite (f i) e) (opposite (f j) e') x y' in
         let t = edge_turn (f j) e' in
         let t' : IsTurn (edge_start (f i) e) (edge_end (f i) e) (opposite (f i) e) (f j).a (f j).b (f j).c =
         subst (λ z. IsTurn z (edge_end (f i) e) (opposite (f i) e) (f j).a (f j).b (f j).c) (sym a)
         (subst (λ z. IsTurn (edge_start (f j) e') z (opposite (f i) e) (f j).a (f j).b (f j).c) (sym b)
         (subst (λ z. IsTurn (edge_start (f j) e') (edge_end (f j) e') z (f j).a (f j).b (f j).c) (sym c) t)) in
         let w = facet (edge_start (f i) e) (edge_end (f i) e) (opposite (f i) e) in
-        h.once i j k m (rotated_after (f i) w (f j) (rotated_of (f i) w.a w.b w.c (edge_turn (f i) e)) (rotated_back (f j) w (rotated_of (f j) w.a w.b w.c t')))
+        h.once i j k m
+        (rotated_after (f i) w (f j) (rotated_of (f i) w.a w.b w.c (edge_turn (f i) e))
+        (rotated_back (f j) w (rotated_of (f j) w.a w.b w.c t')))

@@ -1,7 +1,8 @@
 -- All cells after the middle of the box has been put in, by the law of renewal: twelve cells over the facets of the walls. The
 -- tables were made by a script. Names are used again.
 -- Stands on: Example, BoxLinks and Renewal.
-use Rattle.std.proofs.Common.{ℕ, zero, suc, ◌<◌, ◌≡◌, refl, ap, sym, subst, ◌∙◌, ◌⊎◌, inl, inr, arith, Bool, true, false, true≢false, int_lt, pos, Option, Some, None, List, [], ◌∷◌, get_or}
+use Rattle.std.proofs.Common.{ℕ, zero, suc, ◌<◌, ◌≡◌, refl, ap, sym, subst, ◌∙◌, ◌⊎◌, inl, inr, arith, Bool, true, false}
+use Rattle.std.proofs.Common.{true≢false, int_lt, pos, Option, Some, None, List, [], ◌∷◌, get_or}
 use Rattle.geo_sign.specs.Orientation.{orientation}
 use Rattle.geo_sign.specs.Power.{power}
 use Rattle.geo_sign.specs.Tetrahedron.{Tetrahedron, DirectedFacet, facet_of, IsRotated}
@@ -49,7 +50,12 @@ twelve_cell i = over (twelve_facet i) 8
 
 twelve_next : ℕ → ℕ → Option ℕ
 twelve_next i k =
-    get_or (get_or ((Some 6 ∷ Some 1 ∷ Some 2 ∷ None ∷ []) ∷ (Some 4 ∷ Some 2 ∷ Some 0 ∷ None ∷ []) ∷ (Some 3 ∷ Some 0 ∷ Some 1 ∷ None ∷ []) ∷ (Some 7 ∷ Some 2 ∷ Some 5 ∷ None ∷ []) ∷ (Some 8 ∷ Some 5 ∷ Some 1 ∷ None ∷ []) ∷ (Some 11 ∷ Some 3 ∷ Some 4 ∷ None ∷ []) ∷ (Some 8 ∷ Some 0 ∷ Some 7 ∷ None ∷ []) ∷ (Some 10 ∷ Some 6 ∷ Some 3 ∷ None ∷ []) ∷ (Some 9 ∷ Some 4 ∷ Some 6 ∷ None ∷ []) ∷ (Some 10 ∷ Some 11 ∷ Some 8 ∷ None ∷ []) ∷ (Some 9 ∷ Some 7 ∷ Some 11 ∷ None ∷ []) ∷ (Some 9 ∷ Some 10 ∷ Some 5 ∷ None ∷ []) ∷ []) i []) k None
+    get_or (get_or
+    ((Some 6 ∷ Some 1 ∷ Some 2 ∷ None ∷ []) ∷ (Some 4 ∷ Some 2 ∷ Some 0 ∷ None ∷ []) ∷ (Some 3 ∷ Some 0 ∷ Some 1 ∷ None ∷ [])
+    ∷ (Some 7 ∷ Some 2 ∷ Some 5 ∷ None ∷ []) ∷ (Some 8 ∷ Some 5 ∷ Some 1 ∷ None ∷ []) ∷ (Some 11 ∷ Some 3 ∷ Some 4 ∷ None ∷ [])
+    ∷ (Some 8 ∷ Some 0 ∷ Some 7 ∷ None ∷ []) ∷ (Some 10 ∷ Some 6 ∷ Some 3 ∷ None ∷ []) ∷ (Some 9 ∷ Some 4 ∷ Some 6 ∷ None ∷ [])
+    ∷ (Some 10 ∷ Some 11 ∷ Some 8 ∷ None ∷ []) ∷ (Some 9 ∷ Some 7 ∷ Some 11 ∷ None ∷ [])
+    ∷ (Some 9 ∷ Some 10 ∷ Some 5 ∷ None ∷ []) ∷ []) i []) k None
 
 -- what holds of each of the twelve
 at_facet : (P : ℕ → Type 0) → P 0 → P 1 → P 2 → P 3 → P 4 → P 5 → P 6 → P 7 → P 8 → P 9 → P 10 → P 11 → (i : ℕ) → i < 12 → P i
@@ -73,11 +79,16 @@ in_conflict :
     int_lt (power_of example (six_cell x).a (six_cell x).b (six_cell x).c (six_cell x).d 8) (pos 0) ≡ true
 unfolding power orientation
 in_conflict x i =
-    at_name (λ y. int_lt (power_of example (six_cell y).a (six_cell y).b (six_cell y).c (six_cell y).d 8) (pos 0) ≡ true) refl refl refl refl refl refl x i
+    at_name (λ y. int_lt (power_of example (six_cell y).a (six_cell y).b (six_cell y).c (six_cell y).d 8) (pos 0) ≡ true) refl
+    refl refl refl refl refl x i
 
 conflicts : AreConflicts example 8 six_names six_cell all_removed
 unfolding all_removed
-conflicts = record { taken = λ x i e. below_true (power_of example (six_cell x).a (six_cell x).b (six_cell x).c (six_cell x).d 8) (in_conflict x i); kept = λ x i e. absurd (true≢false e) }
+conflicts = record {
+  taken =
+      λ x i e. below_true (power_of example (six_cell x).a (six_cell x).b (six_cell x).c (six_cell x).d 8) (in_conflict x i);
+  kept = λ x i e. absurd (true≢false e);
+}
 
 -- a side with a neighbour is not at the rim, since all are taken out
 none_of : (o : Option ℕ) (y : ℕ) → o ≡ Some y → ((o ≡ None) ⊎ ((z : ℕ) × (o ≡ Some z) × (true ≡ false))) → ⊥
@@ -125,26 +136,34 @@ every_rim x i =
 -- a facet is found again from its cell and side
 found : ℕ → ℕ → ℕ
 found x k =
-    get_or (get_or ((0 ∷ 0 ∷ 1 ∷ 2 ∷ []) ∷ (0 ∷ 0 ∷ 3 ∷ 0 ∷ []) ∷ (0 ∷ 4 ∷ 5 ∷ 0 ∷ []) ∷ (0 ∷ 6 ∷ 0 ∷ 7 ∷ []) ∷ (8 ∷ 0 ∷ 0 ∷ 0 ∷ []) ∷ (9 ∷ 10 ∷ 0 ∷ 11 ∷ []) ∷ []) x []) k 0
+    get_or (get_or
+    ((0 ∷ 0 ∷ 1 ∷ 2 ∷ []) ∷ (0 ∷ 0 ∷ 3 ∷ 0 ∷ []) ∷ (0 ∷ 4 ∷ 5 ∷ 0 ∷ []) ∷ (0 ∷ 6 ∷ 0 ∷ 7 ∷ []) ∷ (8 ∷ 0 ∷ 0 ∷ 0 ∷ [])
+    ∷ (9 ∷ 10 ∷ 0 ∷ 11 ∷ []) ∷ []) x []) k 0
 
 found_is : (i : ℕ) → i < 12 → found (at i) (side i) ≡ i
 unfolding found at side
 found_is i h =
-    at_facet (λ i. found (at i) (side i) ≡ i) (refl) (refl) (refl) (refl) (refl) (refl) (refl) (refl) (refl) (refl) (refl) (refl) i h
+    at_facet (λ i. found (at i) (side i) ≡ i) (refl) (refl) (refl) (refl) (refl) (refl) (refl) (refl) (refl) (refl)
+    (refl) (refl) i h
 
 listed : (i : ℕ) → i < 12 → IsIn six_names (at i)
 unfolding at
 listed i h =
-    at_facet (λ i. IsIn six_names (at i)) (inl refl) (inl refl) (inl refl) (inr (inl refl)) (inr (inr (inl refl))) (inr (inr (inl refl))) (inr (inr (inr (inl refl)))) (inr (inr (inr (inl refl)))) (inr (inr (inr (inr (inl refl))))) (inr (inr (inr (inr (inr (inl refl)))))) (inr (inr (inr (inr (inr (inl refl)))))) (inr (inr (inr (inr (inr (inl refl)))))) i h
+    at_facet (λ i. IsIn six_names (at i)) (inl refl) (inl refl) (inl refl) (inr (inl refl)) (inr (inr (inl refl)))
+    (inr (inr (inl refl))) (inr (inr (inr (inl refl)))) (inr (inr (inr (inl refl)))) (inr (inr (inr (inr (inl refl)))))
+    (inr (inr (inr (inr (inr (inl refl)))))) (inr (inr (inr (inr (inr (inl refl))))))
+    (inr (inr (inr (inr (inr (inl refl)))))) i h
 
 in_range : (i : ℕ) → i < 12 → side i < 4
 unfolding side
 in_range i h =
-    at_facet (λ i. side i < 4) (omega arith) (omega arith) (omega arith) (omega arith) (omega arith) (omega arith) (omega arith) (omega arith) (omega arith) (omega arith) (omega arith) (omega arith) i h
+    at_facet (λ i. side i < 4) (omega arith) (omega arith) (omega arith) (omega arith) (omega arith) (omega arith) (omega arith)
+    (omega arith) (omega arith) (omega arith) (omega arith) (omega arith) i h
 
 no_neighbour : (i : ℕ) → i < 12 → six_next (at i) (side i) ≡ None
 unfolding at side
-no_neighbour i h = at_facet (λ i. six_next (at i) (side i) ≡ None) refl refl refl refl refl refl refl refl refl refl refl refl i h
+no_neighbour i h =
+    at_facet (λ i. six_next (at i) (side i) ≡ None) refl refl refl refl refl refl refl refl refl refl refl refl i h
 
 cells : AreCells example six_names six_cell
 cells = (box_law example example_boxed example_corners).cells
@@ -155,18 +174,34 @@ unfolding twelve_facet
 apart i j h k q =
     let l : IsLinked example six_names six_cell six_next = (box_law example example_boxed example_corners).linked in
     let e : at i ≡ at j = l.apart (at i) (at j) (side i) (side j) (listed i h) (listed j k) (in_range i h) (in_range j k) q in
-    let q' : IsRotated (facet_of (six_cell (at j)) (side i)) (facet_of (six_cell (at j)) (side j)) = subst (λ x. IsRotated (facet_of (six_cell x) (side i)) (facet_of (six_cell (at j)) (side j))) e q in
-    let f : side i ≡ side j = one_side example (six_cell (at j)) (side i) (side j) (in_range i h) (in_range j k) (cells (at j) (listed j k)).positive q' in
+    let q' : IsRotated (facet_of (six_cell (at j)) (side i)) (facet_of (six_cell (at j)) (side j)) =
+    subst (λ x. IsRotated (facet_of (six_cell x) (side i)) (facet_of (six_cell (at j)) (side j))) e q in
+    let f : side i ≡ side j =
+    one_side example (six_cell (at j)) (side i) (side j) (in_range i h) (in_range j k)
+    (cells (at j) (listed j k)).positive q' in
     sym (found_is i h) ∙ ap (λ x. found x (side i)) e ∙ ap (λ k. found (at j) k) f ∙ found_is j k
 
 rim_list : IsRimList six_names six_cell six_next all_removed 12 twelve_facet nothing
 unfolding all_removed twelve_facet nothing
 rim_list =
     record {
-      each = λ i h. record { at = at i; side = side i; listed = listed i h; taken = refl; in_range = in_range i h; rotated = inl refl; across = no_neighbour i h; outside = inl refl };
+      each = λ i h. record {
+        at = at i;
+        side = side i;
+        listed = listed i h;
+        taken = refl;
+        in_range = in_range i h;
+        rotated = inl refl;
+        across = no_neighbour i h;
+        outside = inl refl;
+      };
       all = λ x k i e m r.
-          (let z = every_rim x i k m r in
-          (z.0, z.1, subst (λ y. IsRotated (facet_of (six_cell x) k) (facet_of (six_cell y) (side z.0))) (sym z.2) (subst (λ n. IsRotated (facet_of (six_cell x) k) (facet_of (six_cell x) n)) (sym z.3) (inl refl))));
+          (let z = every_rim x i k m r in (
+            z.0,
+            z.1,
+            subst (λ y. IsRotated (facet_of (six_cell x) k) (facet_of (six_cell y) (side z.0))) (sym z.2)
+                (subst (λ n. IsRotated (facet_of (six_cell x) k) (facet_of (six_cell x) n)) (sym z.3) (inl refl)),
+          ));
       once = apart;
     }
 
@@ -192,7 +227,14 @@ unfolding all_removed same twelve_names twelve_cell
 renewed =
     record {
       kept = λ x i e. absurd (true≢false e);
-      made = λ i h. at_facet (λ i. IsIn twelve_names i) (inl refl) (inr (inl refl)) (inr (inr (inl refl))) (inr (inr (inr (inl refl)))) (inr (inr (inr (inr (inl refl))))) (inr (inr (inr (inr (inr (inl refl)))))) (inr (inr (inr (inr (inr (inr (inl refl))))))) (inr (inr (inr (inr (inr (inr (inr (inl refl)))))))) (inr (inr (inr (inr (inr (inr (inr (inr (inl refl))))))))) (inr (inr (inr (inr (inr (inr (inr (inr (inr (inl refl)))))))))) (inr (inr (inr (inr (inr (inr (inr (inr (inr (inr (inl refl))))))))))) (inr (inr (inr (inr (inr (inr (inr (inr (inr (inr (inr (inl refl)))))))))))) i h;
+      made =
+          λ i h. at_facet (λ i. IsIn twelve_names i) (inl refl) (inr (inl refl)) (inr (inr (inl refl)))
+          (inr (inr (inr (inl refl)))) (inr (inr (inr (inr (inl refl))))) (inr (inr (inr (inr (inr (inl refl))))))
+          (inr (inr (inr (inr (inr (inr (inl refl))))))) (inr (inr (inr (inr (inr (inr (inr (inl refl))))))))
+          (inr (inr (inr (inr (inr (inr (inr (inr (inl refl)))))))))
+          (inr (inr (inr (inr (inr (inr (inr (inr (inr (inl refl))))))))))
+          (inr (inr (inr (inr (inr (inr (inr (inr (inr (inr (inl refl)))))))))))
+          (inr (inr (inr (inr (inr (inr (inr (inr (inr (inr (inr (inl refl)))))))))))) i h;
       only = λ x i. inr (x, name_below x i, refl);
       kept_cell = λ x i e. absurd (true≢false e);
       made_cell = λ i h. refl;
@@ -201,7 +243,8 @@ renewed =
 -- the edges of each facet, and those of the facets that have them reversed
 abbrev IsInner : (i e : ℕ) → Type 0
 IsInner i e =
-    (j : ℕ) × (k : ℕ) × (j < 12) × (k < 3) × (twelve_next (same i) e ≡ Some (same j)) × (edge_start (twelve_facet i) e ≡ edge_end (twelve_facet j) k) ×
+    (j : ℕ) × (k : ℕ) × (j < 12) × (k < 3) × (twelve_next (same i) e ≡ Some (same j))
+    × (edge_start (twelve_facet i) e ≡ edge_end (twelve_facet j) k) ×
     (edge_end (twelve_facet i) e ≡ edge_start (twelve_facet j) k)
 
 at_edge : (P : ℕ → Type 0) → P 0 → P 1 → P 2 → (e : ℕ) → e < 3 → P e
@@ -214,18 +257,30 @@ inner : (i e : ℕ) → i < 12 → e < 3 → IsInner i e
 unfolding at side same twelve_next twelve_facet
 inner i e h =
     at_facet (λ i. (e : ℕ) → e < 3 → IsInner i e)
-    (at_edge (λ e. IsInner 0 e) (6, 1, omega arith, omega arith, refl, refl, refl) (1, 2, omega arith, omega arith, refl, refl, refl) (2, 1, omega arith, omega arith, refl, refl, refl))
-    (at_edge (λ e. IsInner 1 e) (4, 2, omega arith, omega arith, refl, refl, refl) (2, 2, omega arith, omega arith, refl, refl, refl) (0, 1, omega arith, omega arith, refl, refl, refl))
-    (at_edge (λ e. IsInner 2 e) (3, 1, omega arith, omega arith, refl, refl, refl) (0, 2, omega arith, omega arith, refl, refl, refl) (1, 1, omega arith, omega arith, refl, refl, refl))
-    (at_edge (λ e. IsInner 3 e) (7, 2, omega arith, omega arith, refl, refl, refl) (2, 0, omega arith, omega arith, refl, refl, refl) (5, 1, omega arith, omega arith, refl, refl, refl))
-    (at_edge (λ e. IsInner 4 e) (8, 1, omega arith, omega arith, refl, refl, refl) (5, 2, omega arith, omega arith, refl, refl, refl) (1, 0, omega arith, omega arith, refl, refl, refl))
-    (at_edge (λ e. IsInner 5 e) (11, 2, omega arith, omega arith, refl, refl, refl) (3, 2, omega arith, omega arith, refl, refl, refl) (4, 1, omega arith, omega arith, refl, refl, refl))
-    (at_edge (λ e. IsInner 6 e) (8, 2, omega arith, omega arith, refl, refl, refl) (0, 0, omega arith, omega arith, refl, refl, refl) (7, 1, omega arith, omega arith, refl, refl, refl))
-    (at_edge (λ e. IsInner 7 e) (10, 1, omega arith, omega arith, refl, refl, refl) (6, 2, omega arith, omega arith, refl, refl, refl) (3, 0, omega arith, omega arith, refl, refl, refl))
-    (at_edge (λ e. IsInner 8 e) (9, 2, omega arith, omega arith, refl, refl, refl) (4, 0, omega arith, omega arith, refl, refl, refl) (6, 0, omega arith, omega arith, refl, refl, refl))
-    (at_edge (λ e. IsInner 9 e) (10, 0, omega arith, omega arith, refl, refl, refl) (11, 0, omega arith, omega arith, refl, refl, refl) (8, 0, omega arith, omega arith, refl, refl, refl))
-    (at_edge (λ e. IsInner 10 e) (9, 0, omega arith, omega arith, refl, refl, refl) (7, 0, omega arith, omega arith, refl, refl, refl) (11, 1, omega arith, omega arith, refl, refl, refl))
-    (at_edge (λ e. IsInner 11 e) (9, 1, omega arith, omega arith, refl, refl, refl) (10, 2, omega arith, omega arith, refl, refl, refl) (5, 0, omega arith, omega arith, refl, refl, refl))
+    (at_edge (λ e. IsInner 0 e) (6, 1, omega arith, omega arith, refl, refl, refl)
+    (1, 2, omega arith, omega arith, refl, refl, refl) (2, 1, omega arith, omega arith, refl, refl, refl))
+    (at_edge (λ e. IsInner 1 e) (4, 2, omega arith, omega arith, refl, refl, refl)
+    (2, 2, omega arith, omega arith, refl, refl, refl) (0, 1, omega arith, omega arith, refl, refl, refl))
+    (at_edge (λ e. IsInner 2 e) (3, 1, omega arith, omega arith, refl, refl, refl)
+    (0, 2, omega arith, omega arith, refl, refl, refl) (1, 1, omega arith, omega arith, refl, refl, refl))
+    (at_edge (λ e. IsInner 3 e) (7, 2, omega arith, omega arith, refl, refl, refl)
+    (2, 0, omega arith, omega arith, refl, refl, refl) (5, 1, omega arith, omega arith, refl, refl, refl))
+    (at_edge (λ e. IsInner 4 e) (8, 1, omega arith, omega arith, refl, refl, refl)
+    (5, 2, omega arith, omega arith, refl, refl, refl) (1, 0, omega arith, omega arith, refl, refl, refl))
+    (at_edge (λ e. IsInner 5 e) (11, 2, omega arith, omega arith, refl, refl, refl)
+    (3, 2, omega arith, omega arith, refl, refl, refl) (4, 1, omega arith, omega arith, refl, refl, refl))
+    (at_edge (λ e. IsInner 6 e) (8, 2, omega arith, omega arith, refl, refl, refl)
+    (0, 0, omega arith, omega arith, refl, refl, refl) (7, 1, omega arith, omega arith, refl, refl, refl))
+    (at_edge (λ e. IsInner 7 e) (10, 1, omega arith, omega arith, refl, refl, refl)
+    (6, 2, omega arith, omega arith, refl, refl, refl) (3, 0, omega arith, omega arith, refl, refl, refl))
+    (at_edge (λ e. IsInner 8 e) (9, 2, omega arith, omega arith, refl, refl, refl)
+    (4, 0, omega arith, omega arith, refl, refl, refl) (6, 0, omega arith, omega arith, refl, refl, refl))
+    (at_edge (λ e. IsInner 9 e) (10, 0, omega arith, omega arith, refl, refl, refl)
+    (11, 0, omega arith, omega arith, refl, refl, refl) (8, 0, omega arith, omega arith, refl, refl, refl))
+    (at_edge (λ e. IsInner 10 e) (9, 0, omega arith, omega arith, refl, refl, refl)
+    (7, 0, omega arith, omega arith, refl, refl, refl) (11, 1, omega arith, omega arith, refl, refl, refl))
+    (at_edge (λ e. IsInner 11 e) (9, 1, omega arith, omega arith, refl, refl, refl)
+    (10, 2, omega arith, omega arith, refl, refl, refl) (5, 0, omega arith, omega arith, refl, refl, refl))
     i h e
 
 relinked : IsRelinked six_names six_cell six_next all_removed 12 twelve_facet nothing same twelve_next
@@ -235,7 +290,9 @@ relinked =
       kept_none = λ x k i e. absurd (true≢false e);
       kept_some = λ x k y i e. absurd (true≢false e);
       kept_new = λ x k y i e. absurd (true≢false e);
-      across = λ i h. at_facet (λ i. twelve_next (same i) 3 ≡ nothing i) (refl) (refl) (refl) (refl) (refl) (refl) (refl) (refl) (refl) (refl) (refl) (refl) i h;
+      across =
+          λ i h. at_facet (λ i. twelve_next (same i) 3 ≡ nothing i) (refl) (refl) (refl) (refl) (refl) (refl) (refl) (refl)
+          (refl) (refl) (refl) (refl) i h;
       inner = inner;
     }
 
@@ -253,6 +310,7 @@ inserted_law =
       twelve_names,
       twelve_cell,
       twelve_next,
-      renew_law example six_names six_cell six_next given 8 example_new all_removed conflicts 12 twelve_facet nothing rim_list 0 (inl refl) removed_first same twelve_names twelve_cell twelve_next (record { names = renewed; links = relinked }),
+      renew_law example six_names six_cell six_next given 8 example_new all_removed conflicts 12 twelve_facet nothing rim_list 0
+          (inl refl) removed_first same twelve_names twelve_cell twelve_next (record { names = renewed; links = relinked }),
       joins example 8 (omega arith),
     )

@@ -14,12 +14,22 @@ pub record OnFacets (P : Tetrahedron → Type 0) (t : Tetrahedron) : Type 0 wher
 spin_facets :
     (P : Tetrahedron → Type 0) → ((t : Tetrahedron) → P t → P (spin t)) → (t : Tetrahedron) → OnFacets P t → OnFacets P (spin t)
 spin_facets P f t h =
-    record { opposite_a = f (tetrahedron t.a t.c t.d t.b) h.opposite_b; opposite_b = f (tetrahedron t.d t.b t.a t.c) (f (tetrahedron t.a t.d t.b t.c) h.opposite_c); opposite_c = h.opposite_a; opposite_d = f (tetrahedron t.a t.b t.c t.d) h.opposite_d }
+    record {
+      opposite_a = f (tetrahedron t.a t.c t.d t.b) h.opposite_b;
+      opposite_b = f (tetrahedron t.d t.b t.a t.c) (f (tetrahedron t.a t.d t.b t.c) h.opposite_c);
+      opposite_c = h.opposite_a;
+      opposite_d = f (tetrahedron t.a t.b t.c t.d) h.opposite_d;
+    }
 
 swap_facets :
     (P : Tetrahedron → Type 0) → ((t : Tetrahedron) → P t → P (spin t)) → (t : Tetrahedron) → OnFacets P t → OnFacets P (swap t)
 swap_facets P f t h =
-    record { opposite_a = h.opposite_b; opposite_b = h.opposite_a; opposite_c = f (tetrahedron t.a t.b t.c t.d) h.opposite_d; opposite_d = f (tetrahedron t.d t.b t.a t.c) (f (tetrahedron t.a t.d t.b t.c) h.opposite_c) }
+    record {
+      opposite_a = h.opposite_b;
+      opposite_b = h.opposite_a;
+      opposite_c = f (tetrahedron t.a t.b t.c t.d) h.opposite_d;
+      opposite_d = f (tetrahedron t.d t.b t.a t.c) (f (tetrahedron t.a t.d t.b t.c) h.opposite_c);
+    }
 
 pub by_facets :
     (P : Tetrahedron → Type 0) → ((t : Tetrahedron) → P t → P (spin t)) → (q r : Tetrahedron) → IsRewritten q r → OnFacets P q →

@@ -1,7 +1,8 @@
--- The first of four lines that a moving place passes. Number k is p k at the start and s k at the end; among those that end below 0
--- one gets to 0 first. There is no geometry here.
+-- The first of four lines that a moving place passes. Number k is p k at the start and s k at the end; among those that end
+-- below 0 one gets to 0 first. There is no geometry here.
 -- Stands on: Order.
-use Rattle.std.proofs.Common.{ℕ, zero, suc, ◌<◌, ◌≡◌, ◌≢◌, refl, sym, subst, inl, inr, ⊎_elim, ◌⊎◌, arith, Bool, true, false, eqb, ℤ, pos, neg_ℤ, ◌+ℤ◌, ◌-ℤ◌, ◌*ℤ◌, ◌≤ℤ◌, ◌<ℤ◌, [], ◌∷◌}
+use Rattle.std.proofs.Common.{ℕ, zero, suc, ◌<◌, ◌≡◌, ◌≢◌, refl, sym, subst, inl, inr, ⊎_elim, ◌⊎◌, arith, Bool, true, false}
+use Rattle.std.proofs.Common.{eqb, ℤ, pos, neg_ℤ, ◌+ℤ◌, ◌-ℤ◌, ◌*ℤ◌, ◌≤ℤ◌, ◌<ℤ◌, [], ◌∷◌}
 use Rattle.std.proofs.lemmas.Int.{ints, by_lt_z}
 use Rattle.std.proofs.lemmas.Bool.{eqb-true, eqb-false}
 use Rattle.geo_sign.specs.Polynomial.{constant, difference, product, sum, variable}
@@ -24,7 +25,10 @@ lead_self a b =
 
 three_leads : (a b c x y z : ℤ) → a *ℤ (b *ℤ z -ℤ c *ℤ y) ≡ b *ℤ (a *ℤ z -ℤ c *ℤ x) +ℤ c *ℤ (b *ℤ x -ℤ a *ℤ y)
 three_leads a b c x y z =
-    ring (a ∷ b ∷ c ∷ x ∷ y ∷ z ∷ []) (product (variable 0) (difference (product (variable 1) (variable 5)) (product (variable 2) (variable 4)))) (sum (product (variable 1) (difference (product (variable 0) (variable 5)) (product (variable 2) (variable 3)))) (product (variable 2) (difference (product (variable 1) (variable 3)) (product (variable 0) (variable 4))))) tt
+    ring (a ∷ b ∷ c ∷ x ∷ y ∷ z ∷ [])
+    (product (variable 0) (difference (product (variable 1) (variable 5)) (product (variable 2) (variable 4))))
+    (sum (product (variable 1) (difference (product (variable 0) (variable 5)) (product (variable 2) (variable 3))))
+    (product (variable 2) (difference (product (variable 1) (variable 3)) (product (variable 0) (variable 4))))) tt
 
 flip : (a b x y : ℤ) → a *ℤ y -ℤ b *ℤ x ≡ neg_ℤ (b *ℤ x -ℤ a *ℤ y)
 flip a b x y = omega (arith, ints)
@@ -61,7 +65,10 @@ first_or_none p s h (suc n) = by (first_or_none p s h n)
           at = n;
           below = omega arith;
           passed = l;
-          first = λ k b m. below_last k n b (λ i. f k i m) (λ i. subst (λ (j : ℕ). lead_of p s n j ≤ℤ pos 0) (sym i) (let e = lead_self (p n) (s n) in omega (arith, ints, e)));
+          first =
+              λ k b m. below_last k n b (λ i. f k i m)
+              (λ i. subst (λ (j : ℕ). lead_of p s n j ≤ℤ pos 0) (sym i)
+              (let e = lead_self (p n) (s n) in omega (arith, ints, e)));
         }
 
     old : (i : IsFirst p s n) → (s n <ℤ pos 0 → lead_of p s i.at n ≤ℤ pos 0) → IsFirst p s (suc n)
@@ -71,7 +78,9 @@ first_or_none p s h (suc n) = by (first_or_none p s h n)
           at = i.at;
           below = omega arith;
           passed = i.passed;
-          first = λ k b m. below_last k n b (λ j. i.first k j m) (λ j. subst (λ (x : ℕ). lead_of p s i.at x ≤ℤ pos 0) (sym j) (f (subst (λ (x : ℕ). s x <ℤ pos 0) j m)));
+          first =
+              λ k b m. below_last k n b (λ j. i.first k j m)
+              (λ j. subst (λ (x : ℕ). lead_of p s i.at x ≤ℤ pos 0) (sym j) (f (subst (λ (x : ℕ). s x <ℤ pos 0) j m)));
         }
 
     by : IsFirst p s n ⊎ ((k : ℕ) → k < n → pos 0 ≤ℤ s k) → IsFirst p s (suc n) ⊎ ((k : ℕ) → k < suc n → pos 0 ≤ℤ s k)
@@ -95,12 +104,15 @@ pub record IsPast (p s : ℕ → ℤ) (i j : ℤ) : Type 0 where
 
 pub past_ended : (p s : ℕ → ℤ) (i j : ℤ) → IsPast p s i j → (k : ℕ) → s k <ℤ pos 0 → pos 0 <ℤ (i *ℤ p k +ℤ j *ℤ s k)
 past_ended p s i j h k l =
-    ⊎_elim (λ (a : pos 0 <ℤ (i *ℤ p k +ℤ j *ℤ s k)). a) (λ (a : (i *ℤ p k +ℤ j *ℤ s k ≡ pos 0) × (pos 0 <ℤ s k)). let b = a.1 in absurd (omega (arith, ints, b, l))) (h.at k)
+    ⊎_elim (λ (a : pos 0 <ℤ (i *ℤ p k +ℤ j *ℤ s k)). a)
+    (λ (a : (i *ℤ p k +ℤ j *ℤ s k ≡ pos 0) × (pos 0 <ℤ s k)). let b = a.1 in absurd (omega (arith, ints, b, l))) (h.at k)
 
 pub past_not_below : (p s : ℕ → ℤ) (i j : ℤ) → IsPast p s i j → (k : ℕ) → pos 0 ≤ℤ (i *ℤ p k +ℤ j *ℤ s k)
 past_not_below p s i j h k =
     ⊎_elim (λ (a : pos 0 <ℤ (i *ℤ p k +ℤ j *ℤ s k)). let r : pos 0 ≤ℤ (i *ℤ p k +ℤ j *ℤ s k) = omega (arith, ints, a) in r)
-    (λ (a : (i *ℤ p k +ℤ j *ℤ s k ≡ pos 0) × (pos 0 <ℤ s k)). let b = a.0 in let r : pos 0 ≤ℤ (i *ℤ p k +ℤ j *ℤ s k) = omega (arith, ints, b) in r) (h.at k)
+    (λ (a : (i *ℤ p k +ℤ j *ℤ s k ≡ pos 0) × (pos 0 <ℤ s k)). let b = a.0 in
+    let r : pos 0 ≤ℤ (i *ℤ p k +ℤ j *ℤ s k) = omega (arith, ints, b) in
+    r) (h.at k)
 
 pub starts_above : (p s : ℕ → ℤ) (i j : ℤ) → pos 0 <ℤ i → pos 0 ≤ℤ j → IsPast p s i j → (k : ℕ) → s k <ℤ pos 0 → pos 0 <ℤ p k
 starts_above p s i j hi hj h k l =
@@ -111,7 +123,10 @@ starts_above p s i j hi hj h k l =
 
 lead_mixed : (i j a b x y : ℤ) → i *ℤ (b *ℤ x -ℤ a *ℤ y) ≡ x *ℤ (i *ℤ b +ℤ j *ℤ y) -ℤ y *ℤ (i *ℤ a +ℤ j *ℤ x)
 lead_mixed i j a b x y =
-    ring (i ∷ j ∷ a ∷ b ∷ x ∷ y ∷ []) (product (variable 0) (difference (product (variable 3) (variable 4)) (product (variable 2) (variable 5)))) (difference (product (variable 4) (sum (product (variable 0) (variable 3)) (product (variable 1) (variable 5)))) (product (variable 5) (sum (product (variable 0) (variable 2)) (product (variable 1) (variable 4))))) tt
+    ring (i ∷ j ∷ a ∷ b ∷ x ∷ y ∷ [])
+    (product (variable 0) (difference (product (variable 3) (variable 4)) (product (variable 2) (variable 5))))
+    (difference (product (variable 4) (sum (product (variable 0) (variable 3)) (product (variable 1) (variable 5))))
+    (product (variable 5) (sum (product (variable 0) (variable 2)) (product (variable 1) (variable 4))))) tt
 
 mul_comm_below : (a b : ℤ) → a <ℤ pos 0 → pos 0 ≤ℤ b → (a *ℤ b) ≤ℤ pos 0
 mul_comm_below a b h k =
@@ -147,8 +162,11 @@ exit_or_end p s i j hi hj h n e =
     λ k b d. by_lt_z (s k) (pos 0)
     (λ m. let r = f.first k b m in
     let x : p f.at ≢ pos 0 = λ y. absurd (omega (arith, ints, y, up)) in
-    let q = e f.at k f.below b d x in by_lt_z (lead_of p s f.at k) (pos 0) (λ g. g) (λ g. absurd (q (omega (arith, ints, g, r)))))
-    (λ m. let z = n k in by_lt_z (pos 0) (s k) (λ g. not_passed p s i j hi h f.at k f.passed g) (λ g. absurd (z (omega (arith, ints, g, m))))) in
+    let q = e f.at k f.below b d x in
+    by_lt_z (lead_of p s f.at k) (pos 0) (λ g. g) (λ g. absurd (q (omega (arith, ints, g, r)))))
+    (λ m. let z = n k in
+    by_lt_z (pos 0) (s k) (λ g. not_passed p s i j hi h f.at k f.passed g) (λ g. absurd (z (omega (arith, ints, g, m))))) in
     inl (f.at, f.below, record { start = up; end = f.passed; others = others }))
-    (λ (g : (k : ℕ) → k < 4 → pos 0 ≤ℤ s k). inr (λ k b. let m = g k b in let z = n k in by_lt_z (pos 0) (s k) (λ l. l) (λ l. absurd (z (omega (arith, ints, l, m))))))
+    (λ (g : (k : ℕ) → k < 4 → pos 0 ≤ℤ s k).
+    inr (λ k b. let m = g k b in let z = n k in by_lt_z (pos 0) (s k) (λ l. l) (λ l. absurd (z (omega (arith, ints, l, m))))))
     (first_or_none p s (starts_above p s i j hi hj h) 4)

@@ -1,8 +1,10 @@
--- The displaced place of a data point can stand for it; and a facet on a wall is an outer one. The side of the displaced place is a number of
--- four digits of which the side of the point is the first, so it has the sign of that where this is not zero, and it is zero for no facet
--- of a cell. So a cell has the displaced place only if it has the point too, and no facet's plane goes through it.
+-- The displaced place of a data point can stand for it; and a facet on a wall is an outer one. The side of the displaced place
+-- is a number of four digits of which the side of the point is the first, so it has the sign of that where this is not zero,
+-- and it is zero for no facet of a cell. So a cell has the displaced place only if it has the point too, and no facet's plane
+-- goes through it.
 -- Stands on: Box and Heights.
-use Rattle.std.proofs.Common.{ℕ, ◌≡◌, ◌<◌, ◌≤◌, ◌^◌, refl, ap, ap₂, sym, subst, ◌∙◌, ◌⊎◌, inl, inr, arith, Bool, true, false, bit_and, cond, ◌==◌, unsigned_abs, ℤ, pos, neg_ℤ, ◌+ℤ◌, ◌-ℤ◌, ◌*ℤ◌, ◌≤ℤ◌, ◌<ℤ◌, [], ◌∷◌}
+use Rattle.std.proofs.Common.{ℕ, ◌≡◌, ◌<◌, ◌≤◌, ◌^◌, refl, ap, ap₂, sym, subst, ◌∙◌, ◌⊎◌, inl, inr, arith, Bool, true, false}
+use Rattle.std.proofs.Common.{bit_and, cond, ◌==◌, unsigned_abs, ℤ, pos, neg_ℤ, ◌+ℤ◌, ◌-ℤ◌, ◌*ℤ◌, ◌≤ℤ◌, ◌<ℤ◌, [], ◌∷◌}
 use Rattle.std.proofs.lemmas.Int.{ints, by_lt_z}
 use lib.IntN.{*ℤ_comm}
 use Rattle.geo_sign.specs.Polynomial.{difference, Polynomial, product, variable}
@@ -26,7 +28,8 @@ use Rattle.cell_laws.proofs.Regions.{IsGoal, IsInner, IsOuter}
 -- the side of a displaced place, from its four digits
 digits :
     (a b c s : Point) → side a b c (displaced s) ≡
-    pos (2 ^ 192) *ℤ orientation a b c s +ℤ pos (2 ^ 128) *ℤ (facet_normal a b c).x +ℤ pos (2 ^ 64) *ℤ (facet_normal a b c).y +ℤ (facet_normal a b c).z
+    pos (2 ^ 192) *ℤ orientation a b c s +ℤ pos (2 ^ 128) *ℤ (facet_normal a b c).x +ℤ pos (2 ^ 64) *ℤ (facet_normal a b c).y
+    +ℤ (facet_normal a b c).z
 unfolding side orientation
 digits a b c s = sym (side_digits (facet_normal a b c) a s)
 
@@ -44,18 +47,24 @@ goal v x p h l =
           (let n = facet_normal (v.at a) (v.at b) (v.at c) in
           let w = within a b c d k in
           let z : n ≡ origin = side_on_line (v.at a) (v.at b) (v.at c) (v.at p) n refl w e in
-          let o = level (v.at a) (v.at b) (v.at c) (v.at d) (ap (λ (q : Point). q.x) z) (ap (λ (q : Point). q.y) z) (ap (λ (q : Point). q.z) z) in
+          let o =
+          level (v.at a) (v.at b) (v.at c) (v.at d) (ap (λ (q : Point). q.x) z) (ap (λ (q : Point). q.y) z)
+          (ap (λ (q : Point). q.z) z) in
           let m = k.positive in
           absurd (omega (arith, ints, o, m)));
       inside = λ a b c d k o.
           by_lt_z (side (v.at a) (v.at b) (v.at c) (displaced (v.at p))) (pos 0)
-          (λ m. let n = near a b c d k m in let i : IsInner v p = data_inner v x p h l in let q = i.strict a b c d k.has_d k.positive o in absurd (omega (arith, ints, n, q)))
+          (λ m. let n = near a b c d k m in
+          let i : IsInner v p = data_inner v x p h l in
+          let q = i.strict a b c d k.has_d k.positive o in
+          absurd (omega (arith, ints, n, q)))
           (λ m. m);
     }
   where
     within : (a b c d : ℕ) → IsCell v a b c d → IsWithin (2 ^ 49) (facet_normal (v.at a) (v.at b) (v.at c))
     within a b c d k =
-        normal_within (v.at a) (v.at b) (v.at c) (vertex_within v x a k.has_a.0) (vertex_within v x b k.has_b.0) (vertex_within v x c k.has_c.0)
+        normal_within (v.at a) (v.at b) (v.at c) (vertex_within v x a k.has_a.0) (vertex_within v x b k.has_b.0)
+        (vertex_within v x c k.has_c.0)
 
     near :
         (a b c d : ℕ) → IsCell v a b c d → side (v.at a) (v.at b) (v.at c) (displaced (v.at p)) <ℤ pos 0 →
@@ -63,7 +72,8 @@ goal v x p h l =
     near a b c d k m =
         let n = facet_normal (v.at a) (v.at b) (v.at c) in
         let w = within a b c d k in
-        not_behind (orientation_of v a b c p) n.x n.y n.z w.x_within w.y_within w.z_within (subst (λ t. t <ℤ pos 0) (digits (v.at a) (v.at b) (v.at c) (v.at p)) m)
+        not_behind (orientation_of v a b c p) n.x n.y n.z w.x_within w.y_within w.z_within
+        (subst (λ t. t <ℤ pos 0) (digits (v.at a) (v.at b) (v.at c) (v.at p)) m)
 
 -- ---- a facet on a wall
 pub corner_edge : (k bit : ℕ) → (wall k bit ≡ pos BOX_LIMIT) ⊎ (wall k bit ≡ neg_ℤ (pos BOX_LIMIT))
@@ -76,8 +86,8 @@ corner_edge k bit = pick (bit_and k bit == 0)
     pick false = inl refl
 
 wall_side :
-    (n e d u : ℤ) → (e ≡ pos BOX_LIMIT) ⊎ (e ≡ neg_ℤ (pos BOX_LIMIT)) → unsigned_abs d ≤ BOX_LIMIT → unsigned_abs u ≤ BOX_LIMIT →
-    pos 0 <ℤ (n *ℤ (d -ℤ e)) → pos 0 ≤ℤ (n *ℤ (u -ℤ e))
+    (n e d u : ℤ) → (e ≡ pos BOX_LIMIT) ⊎ (e ≡ neg_ℤ (pos BOX_LIMIT)) → unsigned_abs d ≤ BOX_LIMIT → unsigned_abs u ≤ BOX_LIMIT
+    → pos 0 <ℤ (n *ℤ (d -ℤ e)) → pos 0 ≤ℤ (n *ℤ (u -ℤ e))
 wall_side n e d u (inl q) h k m =
     by_lt_z n (pos 0)
     (λ l. both_negative n (u -ℤ e) (omega (arith, ints)) (omega (arith, ints)))
@@ -102,10 +112,14 @@ level_x a i j k l u =
     let J : Polynomial = variable 7 in
     let K : Polynomial = variable 8 in
     let L : Polynomial = variable 9 in
-    ring (coordinates a (coordinates u (i ∷ j ∷ k ∷ l ∷ []))) (orientation' A (record { x = A.x; y = I; z = J }) (record { x = A.x; y = K; z = L }) U) (product (difference (product (difference I A.y) (difference L A.z)) (product (difference J A.z) (difference K A.y))) (difference U.x A.x)) tt
+    ring (coordinates a (coordinates u (i ∷ j ∷ k ∷ l ∷ [])))
+    (orientation' A (record { x = A.x; y = I; z = J }) (record { x = A.x; y = K; z = L }) U)
+    (product (difference (product (difference I A.y) (difference L A.z)) (product (difference J A.z) (difference K A.y)))
+    (difference U.x A.x)) tt
 
 flat_x : (a b c u : Point) → a.x ≡ b.x → a.x ≡ c.x → orientation a b c u ≡ (facet_normal a b c).x *ℤ (u.x -ℤ a.x)
-flat_x a b c u e f = ap₂ (λ x y. orientation a (point x b.y b.z) (point y c.y c.z) u) (sym e) (sym f) ∙ level_x a b.y b.z c.y c.z u
+flat_x a b c u e f =
+    ap₂ (λ x y. orientation a (point x b.y b.z) (point y c.y c.z) u) (sym e) (sym f) ∙ level_x a b.y b.z c.y c.z u
 
 level_y :
     (a : Point) (i j k l : ℤ) (u : Point) →
@@ -118,10 +132,14 @@ level_y a i j k l u =
     let J : Polynomial = variable 7 in
     let K : Polynomial = variable 8 in
     let L : Polynomial = variable 9 in
-    ring (coordinates a (coordinates u (i ∷ j ∷ k ∷ l ∷ []))) (orientation' A (record { x = I; y = A.y; z = J }) (record { x = K; y = A.y; z = L }) U) (product (difference (product (difference J A.z) (difference K A.x)) (product (difference I A.x) (difference L A.z))) (difference U.y A.y)) tt
+    ring (coordinates a (coordinates u (i ∷ j ∷ k ∷ l ∷ [])))
+    (orientation' A (record { x = I; y = A.y; z = J }) (record { x = K; y = A.y; z = L }) U)
+    (product (difference (product (difference J A.z) (difference K A.x)) (product (difference I A.x) (difference L A.z)))
+    (difference U.y A.y)) tt
 
 flat_y : (a b c u : Point) → a.y ≡ b.y → a.y ≡ c.y → orientation a b c u ≡ (facet_normal a b c).y *ℤ (u.y -ℤ a.y)
-flat_y a b c u e f = ap₂ (λ x y. orientation a (point b.x x b.z) (point c.x y c.z) u) (sym e) (sym f) ∙ level_y a b.x b.z c.x c.z u
+flat_y a b c u e f =
+    ap₂ (λ x y. orientation a (point b.x x b.z) (point c.x y c.z) u) (sym e) (sym f) ∙ level_y a b.x b.z c.x c.z u
 
 level_z :
     (a : Point) (i j k l : ℤ) (u : Point) →
@@ -134,10 +152,14 @@ level_z a i j k l u =
     let J : Polynomial = variable 7 in
     let K : Polynomial = variable 8 in
     let L : Polynomial = variable 9 in
-    ring (coordinates a (coordinates u (i ∷ j ∷ k ∷ l ∷ []))) (orientation' A (record { x = I; y = J; z = A.z }) (record { x = K; y = L; z = A.z }) U) (product (difference (product (difference I A.x) (difference L A.y)) (product (difference J A.y) (difference K A.x))) (difference U.z A.z)) tt
+    ring (coordinates a (coordinates u (i ∷ j ∷ k ∷ l ∷ [])))
+    (orientation' A (record { x = I; y = J; z = A.z }) (record { x = K; y = L; z = A.z }) U)
+    (product (difference (product (difference I A.x) (difference L A.y)) (product (difference J A.y) (difference K A.x)))
+    (difference U.z A.z)) tt
 
 flat_z : (a b c u : Point) → a.z ≡ b.z → a.z ≡ c.z → orientation a b c u ≡ (facet_normal a b c).z *ℤ (u.z -ℤ a.z)
-flat_z a b c u e f = ap₂ (λ x y. orientation a (point b.x b.y x) (point c.x c.y y) u) (sym e) (sym f) ∙ level_z a b.x b.y c.x c.y u
+flat_z a b c u e f =
+    ap₂ (λ x y. orientation a (point b.x b.y x) (point c.x c.y y) u) (sym e) (sym f) ∙ level_z a b.x b.y c.x c.y u
 
 -- a facet of a cell that is on a wall is an outer one
 pub wall_outer : (v : Vertices) → IsBoxed v → (a b c d : ℕ) → IsCell v a b c d → IsWall v (facet a b c) → IsOuter v a b c
@@ -150,13 +172,19 @@ wall_outer v x a b c d k w u h = pick w.agree
     wu = vertex_within v x u h.0
 
     edge_x : ((v.at a).x ≡ pos BOX_LIMIT) ⊎ ((v.at a).x ≡ neg_ℤ (pos BOX_LIMIT))
-    edge_x = subst (λ (p : Point). (p.x ≡ pos BOX_LIMIT) ⊎ (p.x ≡ neg_ℤ (pos BOX_LIMIT))) (sym (x.corner_at a w.first)) (corner_edge a 1)
+    edge_x =
+        subst (λ (p : Point). (p.x ≡ pos BOX_LIMIT) ⊎ (p.x ≡ neg_ℤ (pos BOX_LIMIT))) (sym (x.corner_at a w.first))
+        (corner_edge a 1)
 
     edge_y : ((v.at a).y ≡ pos BOX_LIMIT) ⊎ ((v.at a).y ≡ neg_ℤ (pos BOX_LIMIT))
-    edge_y = subst (λ (p : Point). (p.y ≡ pos BOX_LIMIT) ⊎ (p.y ≡ neg_ℤ (pos BOX_LIMIT))) (sym (x.corner_at a w.first)) (corner_edge a 2)
+    edge_y =
+        subst (λ (p : Point). (p.y ≡ pos BOX_LIMIT) ⊎ (p.y ≡ neg_ℤ (pos BOX_LIMIT))) (sym (x.corner_at a w.first))
+        (corner_edge a 2)
 
     edge_z : ((v.at a).z ≡ pos BOX_LIMIT) ⊎ ((v.at a).z ≡ neg_ℤ (pos BOX_LIMIT))
-    edge_z = subst (λ (p : Point). (p.z ≡ pos BOX_LIMIT) ⊎ (p.z ≡ neg_ℤ (pos BOX_LIMIT))) (sym (x.corner_at a w.first)) (corner_edge a 4)
+    edge_z =
+        subst (λ (p : Point). (p.z ≡ pos BOX_LIMIT) ⊎ (p.z ≡ neg_ℤ (pos BOX_LIMIT))) (sym (x.corner_at a w.first))
+        (corner_edge a 4)
 
     pick :
         (((v.at a).x ≡ (v.at b).x) × ((v.at a).x ≡ (v.at c).x)) ⊎
@@ -164,10 +192,13 @@ wall_outer v x a b c d k w u h = pick w.agree
         pos 0 ≤ℤ orientation_of v a b c u
     pick (inl e) =
         subst (λ t. pos 0 ≤ℤ t) (sym (flat_x (v.at a) (v.at b) (v.at c) (v.at u) e.0 e.1))
-        (wall_side (facet_normal (v.at a) (v.at b) (v.at c)).x (v.at a).x (v.at d).x (v.at u).x edge_x wd.x_within wu.x_within (subst (λ t. pos 0 <ℤ t) (flat_x (v.at a) (v.at b) (v.at c) (v.at d) e.0 e.1) k.positive))
+        (wall_side (facet_normal (v.at a) (v.at b) (v.at c)).x (v.at a).x (v.at d).x (v.at u).x edge_x wd.x_within wu.x_within
+        (subst (λ t. pos 0 <ℤ t) (flat_x (v.at a) (v.at b) (v.at c) (v.at d) e.0 e.1) k.positive))
     pick (inr (inl e)) =
         subst (λ t. pos 0 ≤ℤ t) (sym (flat_y (v.at a) (v.at b) (v.at c) (v.at u) e.0 e.1))
-        (wall_side (facet_normal (v.at a) (v.at b) (v.at c)).y (v.at a).y (v.at d).y (v.at u).y edge_y wd.y_within wu.y_within (subst (λ t. pos 0 <ℤ t) (flat_y (v.at a) (v.at b) (v.at c) (v.at d) e.0 e.1) k.positive))
+        (wall_side (facet_normal (v.at a) (v.at b) (v.at c)).y (v.at a).y (v.at d).y (v.at u).y edge_y wd.y_within wu.y_within
+        (subst (λ t. pos 0 <ℤ t) (flat_y (v.at a) (v.at b) (v.at c) (v.at d) e.0 e.1) k.positive))
     pick (inr (inr e)) =
         subst (λ t. pos 0 ≤ℤ t) (sym (flat_z (v.at a) (v.at b) (v.at c) (v.at u) e.0 e.1))
-        (wall_side (facet_normal (v.at a) (v.at b) (v.at c)).z (v.at a).z (v.at d).z (v.at u).z edge_z wd.z_within wu.z_within (subst (λ t. pos 0 <ℤ t) (flat_z (v.at a) (v.at b) (v.at c) (v.at d) e.0 e.1) k.positive))
+        (wall_side (facet_normal (v.at a) (v.at b) (v.at c)).z (v.at a).z (v.at d).z (v.at u).z edge_z wd.z_within wu.z_within
+        (subst (λ t. pos 0 <ℤ t) (flat_z (v.at a) (v.at b) (v.at c) (v.at d) e.0 e.1) k.positive))

@@ -1,9 +1,10 @@
--- The heights of the tie rule make vertices of the box generic and convex. Generic: at a fifth vertex the power is below zero or above
--- it, as the base decides by the greatest number. Convex: the plain power of a point that lies in a cell is minus a sum of four products,
--- each a side of the point times the squared distance of a vertex from it; the sides are not negative, not all of them are zero, and the
--- point is none of the vertices, so the plain power is below zero and decides before any tie.
+-- The heights of the tie rule make vertices of the box generic and convex. Generic: at a fifth vertex the power is below zero
+-- or above it, as the base decides by the greatest number. Convex: the plain power of a point that lies in a cell is minus a
+-- sum of four products, each a side of the point times the squared distance of a vertex from it; the sides are not negative,
+-- not all of them are zero, and the point is none of the vertices, so the plain power is below zero and decides before any tie.
 -- Stands on: geo_sign's law of ties, Box and Insert (a vertex is one of four or none).
-use Rattle.std.proofs.Common.{ℕ, ◌≡◌, ◌≢◌, ◌<◌, ◌≤◌, ◌^◌, refl, ap, sym, subst, ◌∙◌, ◌⊎◌, inl, inr, ⊎_elim, arith, Bool, true, false, unsigned_abs, ℤ, pos, negsuc, neg_ℤ, ◌+ℤ◌, ◌-ℤ◌, ◌*ℤ◌, ◌≤ℤ◌, ◌<ℤ◌, [], ◌∷◌}
+use Rattle.std.proofs.Common.{ℕ, ◌≡◌, ◌≢◌, ◌<◌, ◌≤◌, ◌^◌, refl, ap, sym, subst, ◌∙◌, ◌⊎◌, inl, inr, ⊎_elim, arith, Bool, true}
+use Rattle.std.proofs.Common.{false, unsigned_abs, ℤ, pos, negsuc, neg_ℤ, ◌+ℤ◌, ◌-ℤ◌, ◌*ℤ◌, ◌≤ℤ◌, ◌<ℤ◌, [], ◌∷◌}
 use Rattle.std.proofs.lemmas.Int.{ints, by_lt_z}
 use Rattle.geo_sign.specs.Polynomial.{difference, negation, product, sum, variable}
 use Rattle.geo_sign.proofs.Ring.{ring}
@@ -35,7 +36,11 @@ use Rattle.cell_laws.proofs.Regions.{IsConvex, IsGeneric}
 -- ---- how large a normal is
 pub step_within : (a b : Point) → IsWithin BOX_LIMIT a → IsWithin BOX_LIMIT b → IsWithin (2 ^ 24) (step a b)
 step_within a b h k =
-    record { x_within = abs_sub b.x a.x BOX_LIMIT BOX_LIMIT k.x_within h.x_within; y_within = abs_sub b.y a.y BOX_LIMIT BOX_LIMIT k.y_within h.y_within; z_within = abs_sub b.z a.z BOX_LIMIT BOX_LIMIT k.z_within h.z_within }
+    record {
+      x_within = abs_sub b.x a.x BOX_LIMIT BOX_LIMIT k.x_within h.x_within;
+      y_within = abs_sub b.y a.y BOX_LIMIT BOX_LIMIT k.y_within h.y_within;
+      z_within = abs_sub b.z a.z BOX_LIMIT BOX_LIMIT k.z_within h.z_within;
+    }
 
 minor :
     (a b c d : ℤ) → unsigned_abs a ≤ 2 ^ 24 → unsigned_abs b ≤ 2 ^ 24 → unsigned_abs c ≤ 2 ^ 24 → unsigned_abs d ≤ 2 ^ 24 →
@@ -64,10 +69,14 @@ pub power_tied :
     power_of v a b c d u ≡ tied_power v.count (tied v a) (tied v b) (tied v c) (tied v d) (tied v u)
 power_tied v t a b c d u =
     ap (λ x. power (v.at a) (v.at b) (v.at c) (v.at d) (v.at u) x (v.high b) (v.high c) (v.high d) (v.high u)) (t a)
-    ∙ ap (λ x. power (v.at a) (v.at b) (v.at c) (v.at d) (v.at u) (height v.count a (v.at a)) x (v.high c) (v.high d) (v.high u)) (t b)
-    ∙ ap (λ x. power (v.at a) (v.at b) (v.at c) (v.at d) (v.at u) (height v.count a (v.at a)) (height v.count b (v.at b)) x (v.high d) (v.high u)) (t c)
-    ∙ ap (λ x. power (v.at a) (v.at b) (v.at c) (v.at d) (v.at u) (height v.count a (v.at a)) (height v.count b (v.at b)) (height v.count c (v.at c)) x (v.high u)) (t d)
-    ∙ ap (λ x. power (v.at a) (v.at b) (v.at c) (v.at d) (v.at u) (height v.count a (v.at a)) (height v.count b (v.at b)) (height v.count c (v.at c)) (height v.count d (v.at d)) x) (t u)
+    ∙ ap (λ x.
+    power (v.at a) (v.at b) (v.at c) (v.at d) (v.at u) (height v.count a (v.at a)) x (v.high c) (v.high d) (v.high u)) (t b)
+    ∙ ap (λ x. power (v.at a) (v.at b) (v.at c) (v.at d) (v.at u) (height v.count a (v.at a)) (height v.count b (v.at b)) x
+    (v.high d) (v.high u)) (t c)
+    ∙ ap (λ x. power (v.at a) (v.at b) (v.at c) (v.at d) (v.at u) (height v.count a (v.at a)) (height v.count b (v.at b))
+    (height v.count c (v.at c)) x (v.high u)) (t d)
+    ∙ ap (λ x. power (v.at a) (v.at b) (v.at c) (v.at d) (v.at u) (height v.count a (v.at a)) (height v.count b (v.at b))
+    (height v.count c (v.at c)) (height v.count d (v.at d)) x) (t u)
 
 -- four vertices written positively, and a fifth that is none of them
 pub record AreFive (v : Vertices) (r : Tetrahedron) (u : ℕ) : Type 0 where
@@ -82,7 +91,10 @@ pub record AreFive (v : Vertices) (r : Tetrahedron) (u : ℕ) : Type 0 where
 -- the power is below zero or above it
 abbrev Decided : Vertices → Tetrahedron → ℕ → Type 0
 Decided v r u =
-    (x : Bool) × (x ≡ is_below_zero (first_sign (sign_of (plain_power (v.at r.a) (v.at r.b) (v.at r.c) (v.at r.d) (v.at u))) (deciding_term (tied v r.a) (tied v r.b) (tied v r.c) (tied v r.d) (tied v u)).sign)) × ((x ≡ true) → power_of v r.a r.b r.c r.d u <ℤ pos 0) × ((x ≡ false) → pos 0 <ℤ power_of v r.a r.b r.c r.d u)
+    (x : Bool) × (x ≡ is_below_zero
+    (first_sign (sign_of (plain_power (v.at r.a) (v.at r.b) (v.at r.c) (v.at r.d) (v.at u)))
+    (deciding_term (tied v r.a) (tied v r.b) (tied v r.c) (tied v r.d) (tied v u)).sign))
+    × ((x ≡ true) → power_of v r.a r.b r.c r.d u <ℤ pos 0) × ((x ≡ false) → pos 0 <ℤ power_of v r.a r.b r.c r.d u)
 
 decide : (v : Vertices) → IsBoxed v → (r : Tetrahedron) (u : ℕ) → AreFive v r u → Decided v r u
 decide v x r u h =
@@ -93,7 +105,8 @@ decide v x r u h =
     let wd = vertex_within v x r.d h.d_below in
     let wu = vertex_within v x u h.u_below in
     let n = distinct v r h.positive in
-    let below : AreBelow v.count a b c d p = record { a_below = h.a_below; b_below = h.b_below; c_below = h.c_below; d_below = h.d_below; p_below = h.u_below } in
+    let below : AreBelow v.count a b c d p =
+    record { a_below = h.a_below; b_below = h.b_below; c_below = h.c_below; d_below = h.d_below; p_below = h.u_below } in
     let apart : AreApart a b c d p = record {
       a_b = λ e. n.b_a (sym e);
       a_c = λ e. n.c_a (sym e);
@@ -123,13 +136,16 @@ tied_generic v x a b c d u ha hb hc hd hu o e = pick (of_or_not (tetrahedron a b
     pick : IsVertexOf (tetrahedron a b c d) u ⊎ IsNoneOf (tetrahedron a b c d) u → (u ≡ a) ⊎ ((u ≡ b) ⊎ ((u ≡ c) ⊎ (u ≡ d)))
     pick (inl h) = h
     pick (inr n) =
-        let z = decide v x (tetrahedron a b c d) u (record { a_below = ha; b_below = hb; c_below = hc; d_below = hd; u_below = hu; positive = o; none = n }) in
+        let z =
+        decide v x (tetrahedron a b c d) u
+        (record { a_below = ha; b_below = hb; c_below = hc; d_below = hd; u_below = hu; positive = o; none = n }) in
         absurd (by n z.0 z.2 z.3)
 
 -- ---- a point inside a cell is inside its sphere
 plain_sum :
     (a b c d p : Point) → plain_power a b c d p ≡
-    neg_ℤ (square (step a p) *ℤ orientation b d c p +ℤ square (step b p) *ℤ orientation a c d p +ℤ square (step c p) *ℤ orientation a d b p +ℤ square (step d p) *ℤ orientation a b c p)
+    neg_ℤ (square (step a p) *ℤ orientation b d c p +ℤ square (step b p) *ℤ orientation a c d p
+    +ℤ square (step c p) *ℤ orientation a d b p +ℤ square (step d p) *ℤ orientation a b c p)
 unfolding orientation power
 plain_sum a b c d p =
     let A : Symbols = symbols 0 in
@@ -139,8 +155,12 @@ plain_sum a b c d p =
     let P : Symbols = symbols 12 in
     let sq = λ (u : Symbols). dot' (step' u P) (step' u P) in
     ring (coordinates a (coordinates b (coordinates c (coordinates d (coordinates p [])))))
-    (difference (product (orientation' A B C D) (dot' P P)) (sum (sum (sum (product (dot' A A) (orientation' P B C D)) (product (dot' B B) (orientation' A P C D))) (product (dot' C C) (orientation' A B P D))) (product (dot' D D) (orientation' A B C P))))
-    (negation (sum (sum (sum (product (sq A) (orientation' B D C P)) (product (sq B) (orientation' A C D P))) (product (sq C) (orientation' A D B P))) (product (sq D) (orientation' A B C P)))) tt
+    (difference (product (orientation' A B C D) (dot' P P))
+    (sum (sum (sum (product (dot' A A) (orientation' P B C D)) (product (dot' B B) (orientation' A P C D)))
+    (product (dot' C C) (orientation' A B P D))) (product (dot' D D) (orientation' A B C P))))
+    (negation (sum
+    (sum (sum (product (sq A) (orientation' B D C P)) (product (sq B) (orientation' A C D P)))
+    (product (sq C) (orientation' A D B P))) (product (sq D) (orientation' A B C P)))) tt
 
 sides_sum :
     (a b c d p : Point) →
@@ -152,13 +172,15 @@ sides_sum a b c d p =
     let C : Symbols = symbols 6 in
     let D : Symbols = symbols 9 in
     let P : Symbols = symbols 12 in
-    ring (coordinates a (coordinates b (coordinates c (coordinates d (coordinates p []))))) (orientation' A B C D) (sum (sum (sum (orientation' B D C P) (orientation' A C D P)) (orientation' A D B P)) (orientation' A B C P)) tt
+    ring (coordinates a (coordinates b (coordinates c (coordinates d (coordinates p []))))) (orientation' A B C D)
+    (sum (sum (sum (orientation' B D C P) (orientation' A C D P)) (orientation' A D B P)) (orientation' A B C P)) tt
 
 square_in : (z : ℤ) → pos 0 ≤ℤ (z *ℤ z)
 square_in (pos n) = mul_not_negative (pos n) (pos n) (omega (arith, ints)) (omega (arith, ints))
 square_in (negsuc n) =
     let h = mul_not_negative (neg_ℤ (negsuc n)) (neg_ℤ (negsuc n)) (omega (arith, ints)) (omega (arith, ints)) in
-    let e : neg_ℤ (negsuc n) *ℤ neg_ℤ (negsuc n) ≡ negsuc n *ℤ negsuc n = ring (negsuc n ∷ []) (product (negation (variable 0)) (negation (variable 0))) (product (variable 0) (variable 0)) tt in
+    let e : neg_ℤ (negsuc n) *ℤ neg_ℤ (negsuc n) ≡ negsuc n *ℤ negsuc n =
+    ring (negsuc n ∷ []) (product (negation (variable 0)) (negation (variable 0))) (product (variable 0) (variable 0)) tt in
     subst (λ x. pos 0 ≤ℤ x) e h
 
 root : (z : ℤ) → z *ℤ z ≡ pos 0 → z ≡ pos 0
@@ -176,7 +198,9 @@ square_above a p n =
     let t = step a p in
     let i = square_in t.x in let j = square_in t.y in let k = square_in t.z in
     by_lt_z (pos 0) (square t) (λ l. l)
-    (λ l. absurd (n (same_place a p (root t.x (omega (arith, ints, i, j, k, l))) (root t.y (omega (arith, ints, i, j, k, l))) (root t.z (omega (arith, ints, i, j, k, l))))))
+    (λ l. absurd
+    (n (same_place a p (root t.x (omega (arith, ints, i, j, k, l))) (root t.y (omega (arith, ints, i, j, k, l)))
+    (root t.z (omega (arith, ints, i, j, k, l))))))
 
 part_zero : (s o : ℤ) → pos 0 <ℤ s → pos 0 ≤ℤ o → (s *ℤ o) ≤ℤ pos 0 → o ≤ℤ pos 0
 part_zero s o h k m = by_lt_z (pos 0) o (λ l. let n = mul_positive s o h l in absurd (omega (arith, ints, n, m))) (λ l. l)
@@ -190,7 +214,10 @@ weighted :
     pos 0 ≤ℤ l → pos 0 <ℤ o → o ≡ i +ℤ j +ℤ k +ℤ l →
     pos 0 <ℤ (s *ℤ i +ℤ t *ℤ j +ℤ u *ℤ k +ℤ v *ℤ l)
 weighted s t u v i j k l o hs ht hu hv hi hj hk hl ho e =
-    let a = product_in s i hs hi in let b = product_in t j ht hj in let c = product_in u k hu hk in let d = product_in v l hv hl in
+    let a = product_in s i hs hi in
+    let b = product_in t j ht hj in
+    let c = product_in u k hu hk in
+    let d = product_in v l hv hl in
     by_lt_z (pos 0) (s *ℤ i +ℤ t *ℤ j +ℤ u *ℤ k +ℤ v *ℤ l) (λ m. m)
     (λ m.
     let w = part_zero s i hs hi (omega (arith, ints, a, b, c, d, m)) in
@@ -205,10 +232,15 @@ plain_inside :
 plain_inside v x r u h l =
     let a = v.at r.a in let b = v.at r.b in let c = v.at r.c in let d = v.at r.d in let p = v.at u in
     let e = plain_sum a b c d p in
-    let m = weighted (square (step a p)) (square (step b p)) (square (step c p)) (square (step d p)) (orientation b d c p) (orientation a c d p) (orientation a d b p) (orientation a b c p) (orientation a b c d)
-    (square_above a p (λ y. h.none.a (x.apart r.a u h.a_below h.u_below y))) (square_above b p (λ y. h.none.b (x.apart r.b u h.b_below h.u_below y)))
-    (square_above c p (λ y. h.none.c (x.apart r.c u h.c_below h.u_below y))) (square_above d p (λ y. h.none.d (x.apart r.d u h.d_below h.u_below y)))
-    (subst (λ t. pos 0 ≤ℤ t) (point_side b d c p) (l.at 0)) (subst (λ t. pos 0 ≤ℤ t) (point_side a c d p) (l.at 1)) (subst (λ t. pos 0 ≤ℤ t) (point_side a d b p) (l.at 2)) (subst (λ t. pos 0 ≤ℤ t) (point_side a b c p) (l.at 3))
+    let m =
+    weighted (square (step a p)) (square (step b p)) (square (step c p)) (square (step d p)) (orientation b d c p)
+    (orientation a c d p) (orientation a d b p) (orientation a b c p) (orientation a b c d)
+    (square_above a p (λ y. h.none.a (x.apart r.a u h.a_below h.u_below y)))
+    (square_above b p (λ y. h.none.b (x.apart r.b u h.b_below h.u_below y)))
+    (square_above c p (λ y. h.none.c (x.apart r.c u h.c_below h.u_below y)))
+    (square_above d p (λ y. h.none.d (x.apart r.d u h.d_below h.u_below y)))
+    (subst (λ t. pos 0 ≤ℤ t) (point_side b d c p) (l.at 0)) (subst (λ t. pos 0 ≤ℤ t) (point_side a c d p) (l.at 1))
+    (subst (λ t. pos 0 ≤ℤ t) (point_side a d b p) (l.at 2)) (subst (λ t. pos 0 ≤ℤ t) (point_side a b c p) (l.at 3))
     h.positive (sides_sum a b c d p) in
     omega (arith, ints, e, m)
 
@@ -218,8 +250,11 @@ tied_convex v x r u ha hb hc hd hu o l k = pick (of_or_not r u)
     pick : IsVertexOf r u ⊎ IsNoneOf r u → IsVertexOf r u
     pick (inl h) = h
     pick (inr n) =
-        let five : AreFive v r u = record { a_below = ha; b_below = hb; c_below = hc; d_below = hd; u_below = hu; positive = o; none = n } in
+        let five : AreFive v r u =
+        record { a_below = ha; b_below = hb; c_below = hc; d_below = hd; u_below = hu; positive = o; none = n } in
         let z = decide v x r u five in
         let tie = (deciding_term (tied v r.a) (tied v r.b) (tied v r.c) (tied v r.d) (tied v u)).sign in
-        let m = z.2 (z.1 ∙ ap (λ y. is_below_zero (first_sign y tie)) (sign_below (plain_power (v.at r.a) (v.at r.b) (v.at r.c) (v.at r.d) (v.at u)) (plain_inside v x r u five l))) in
+        let m =
+        z.2 (z.1 ∙ ap (λ y. is_below_zero (first_sign y tie))
+        (sign_below (plain_power (v.at r.a) (v.at r.b) (v.at r.c) (v.at r.d) (v.at u)) (plain_inside v x r u five l))) in
         absurd (omega (arith, ints, m, k))

@@ -1,6 +1,7 @@
 -- The cells with one vertex more: those that stay and those over the fan.
 -- Stands on: Fan and Ways.
-use Rattle.std.proofs.Common.{ℕ, ◌≡◌, ◌≢◌, ◌<◌, refl, ap, sym, subst, ◌⊎◌, inl, inr, ⊎_elim, Bool, true, false, eqb, pos, ◌≤ℤ◌, List, [], ◌∷◌}
+use Rattle.std.proofs.Common.{ℕ, ◌≡◌, ◌≢◌, ◌<◌, refl, ap, sym, subst, ◌⊎◌, inl, inr, ⊎_elim, Bool, true, false, eqb, pos, ◌≤ℤ◌}
+use Rattle.std.proofs.Common.{List, [], ◌∷◌}
 use Rattle.std.proofs.lemmas.Bool.{eqb-true, eqb-false}
 use Rattle.geo_sign.specs.Tetrahedron.{Tetrahedron, tetrahedron}
 use Rattle.geo_sign.specs.Vertices.{Vertices}
@@ -28,14 +29,20 @@ pub record IsNoneOf (q : Tetrahedron) (u : ℕ) : Type 0 where
 
 pub of_or_not : (q : Tetrahedron) (u : ℕ) → IsVertexOf q u ⊎ IsNoneOf q u
 of_or_not q u =
-    ⊎_elim (λ e. inl (inl e)) (λ a. ⊎_elim (λ e. inl (inr (inl e))) (λ b. ⊎_elim (λ e. inl (inr (inr (inl e)))) (λ c. ⊎_elim (λ e. inl (inr (inr (inr e))))
-    (λ d. inr (record { a = λ e. a (sym e); b = λ e. b (sym e); c = λ e. c (sym e); d = λ e. d (sym e) })) (number_or_not u q.d)) (number_or_not u q.c)) (number_or_not u q.b)) (number_or_not u q.a)
+    ⊎_elim (λ e. inl (inl e))
+    (λ a.
+    ⊎_elim (λ e. inl (inr (inl e))) (λ b. ⊎_elim (λ e. inl (inr (inr (inl e)))) (λ c. ⊎_elim (λ e. inl (inr (inr (inr e))))
+    (λ d. inr (record { a = λ e. a (sym e); b = λ e. b (sym e); c = λ e. c (sym e); d = λ e. d (sym e) }))
+    (number_or_not u q.d)) (number_or_not u q.c)) (number_or_not u q.b)) (number_or_not u q.a)
 
 -- written with u last
 pub last : (q : Tetrahedron) (u : ℕ) → IsVertexOf q u → (r : Tetrahedron) × IsRewritten q r × (r.d ≡ u)
 last q u h =
-    let x : Led q u = first q u h in
-    (swap (spin (spin (swap x.0))), rewritten_after q x.0 (swap (spin (spin (swap x.0)))) x.1 (false ∷ true ∷ true ∷ false ∷ [], refl), x.2)
+    let x : Led q u = first q u h in (
+      swap (spin (spin (swap x.0))),
+      rewritten_after q x.0 (swap (spin (spin (swap x.0)))) x.1 (false ∷ true ∷ true ∷ false ∷ [], refl),
+      x.2,
+    )
 
 -- cells that were made so are cells
 pub made_cells :
@@ -45,14 +52,20 @@ pub made_cells :
 made_cells {X} v p g i h live cell cells live' cell' made y j =
     ⊎_elim
     (λ (z : (x : X) × IsIn live x × IsRewritten (cell x) (cell' y) × IsClearOf v p (cell x)).
-    same_cell (with_vertex v p) (cell z.0) (cell' y) z.2 (stays_cell v p (cell z.0).a (cell z.0).b (cell z.0).c (cell z.0).d (cells z.0 z.1) z.3))
-    (λ (z : (a b c : ℕ) × IsFan v p a b c × IsRewritten (tetrahedron a b c p) (cell' y)). same_cell (with_vertex v p) (tetrahedron z.0 z.1 z.2 p) (cell' y) z.4 (fan_cell v p g i h z.0 z.1 z.2 z.3))
+    same_cell (with_vertex v p) (cell z.0) (cell' y) z.2
+    (stays_cell v p (cell z.0).a (cell z.0).b (cell z.0).c (cell z.0).d (cells z.0 z.1) z.3))
+    (λ (z : (a b c : ℕ) × IsFan v p a b c × IsRewritten (tetrahedron a b c p) (cell' y)).
+    same_cell (with_vertex v p) (tetrahedron z.0 z.1 z.2 p) (cell' y) z.4 (fan_cell v p g i h z.0 z.1 z.2 z.3))
     (made y j)
 
-pub inserted : {X : Type 0} (v : Vertices) (p : ℕ) → IsGeneric v → IsInner v p → v.is_in p ≡ false → p < v.count →
-    (live : List X) (cell : X → Tetrahedron) (live' : List X) (cell' : X → Tetrahedron) → IsFull v live cell → IsReplaced v p live cell live' cell' → IsFull (with_vertex v p) live' cell'
+pub inserted : {X : Type 0} (v : Vertices) (p : ℕ) → IsGeneric v → IsInner v p → v.is_in p ≡ false → p < v.count
+    → (live : List X) (cell : X → Tetrahedron) (live' : List X) (cell' : X → Tetrahedron) → IsFull v live cell
+    → IsReplaced v p live cell live' cell' → IsFull (with_vertex v p) live' cell'
 inserted {X} v p g i f h live cell live' cell' full re =
-    record { cells = made_cells v p g i h live cell full.cells live' cell' re.only; all = λ a b c d k. all (tetrahedron a b c d) k (of_or_not (tetrahedron a b c d) p) }
+    record {
+      cells = made_cells v p g i h live cell full.cells live' cell' re.only;
+      all = λ a b c d k. all (tetrahedron a b c d) k (of_or_not (tetrahedron a b c d) p);
+    }
   where
     old : (q : Tetrahedron) → IsCellOf (with_vertex v p) q → IsNoneOf q p → (y : X) × IsIn live' y × IsRewritten (cell' y) q
     old q k n =
@@ -68,8 +81,11 @@ inserted {X} v p g i f h live cell live' cell' full re =
         let e : t ≡ tetrahedron t.a t.b t.c p = ap (λ x. tetrahedron t.a t.b t.c x) r.2 in
         let w : IsRewritten q (tetrahedron t.a t.b t.c p) = subst (λ x. IsRewritten q x) e r.1 in
         let fan = cell_fan v p g i f h t.a t.b t.c (same_cell (with_vertex v p) q (tetrahedron t.a t.b t.c p) w k) in
-        let y = re.come t.a t.b t.c fan in
-        (y.0, y.1, rewritten_after (cell' y.0) (tetrahedron t.a t.b t.c p) q y.2 (rewritten_back q (tetrahedron t.a t.b t.c p) w))
+        let y = re.come t.a t.b t.c fan in (
+          y.0,
+          y.1,
+          rewritten_after (cell' y.0) (tetrahedron t.a t.b t.c p) q y.2 (rewritten_back q (tetrahedron t.a t.b t.c p) w),
+        )
 
     all :
         (q : Tetrahedron) → IsCellOf (with_vertex v p) q → IsVertexOf q p ⊎ IsNoneOf q p →

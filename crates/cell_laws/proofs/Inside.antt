@@ -1,6 +1,7 @@
 -- A place of the box is behind no outer facet.
 -- Stands on: Box.
-use Rattle.std.proofs.Common.{ℕ, ◌≡◌, ◌≤◌, ◌*◌, refl, subst, ◌∙◌, arith, Bool, true, false, int_lt, unsigned_abs, ℤ, pos, neg_ℤ, ◌+ℤ◌, ◌-ℤ◌, ◌*ℤ◌, ◌≤ℤ◌, ◌<ℤ◌, [], ◌∷◌}
+use Rattle.std.proofs.Common.{ℕ, ◌≡◌, ◌≤◌, ◌*◌, refl, subst, ◌∙◌, arith, Bool, true, false, int_lt, unsigned_abs, ℤ, pos, neg_ℤ}
+use Rattle.std.proofs.Common.{◌+ℤ◌, ◌-ℤ◌, ◌*ℤ◌, ◌≤ℤ◌, ◌<ℤ◌, [], ◌∷◌}
 use Rattle.std.proofs.lemmas.Int.{ints}
 use Rattle.geo_sign.specs.Polynomial.{difference, product, sum, variable}
 use Rattle.geo_sign.proofs.Ring.{ring}
@@ -12,7 +13,8 @@ use Rattle.geo_sign.proofs.Written.{coordinates, cross', orientation', RationalS
 use Rattle.geo_sign.specs.Vertices.{Vertices}
 use Rattle.geo_sign.specs.Boxes.{IsBoxed}
 use Rattle.geo_sign.specs.Places.{IsInBox}
-use Rattle.cell_laws.proofs.Box.{both_negative, edge, facet_normal, far, far_below, far_place, low, lowest, test_above, test_below}
+use Rattle.cell_laws.proofs.Box.{both_negative, edge, facet_normal, far, far_below, far_place, low, lowest, test_above}
+use Rattle.cell_laws.proofs.Box.{test_below}
 use Rattle.cell_laws.proofs.Order.{mul_not_negative}
 use Rattle.cell_laws.proofs.Regions.{IsOuter}
 
@@ -20,12 +22,15 @@ axis_over : (n p w : ℤ) → pos 0 <ℤ w → unsigned_abs p ≤ BOX_LIMIT * un
 axis_over n p w o h = pick (int_lt n (pos 0)) refl
   where
     pick : (b : Bool) → int_lt n (pos 0) ≡ b → pos 0 ≤ℤ (n *ℤ (p -ℤ edge b *ℤ w))
-    pick true e = both_negative n (p -ℤ pos BOX_LIMIT *ℤ w) (let m = test_below n e in omega (arith, ints, m)) (omega (arith, ints))
+    pick true e =
+        both_negative n (p -ℤ pos BOX_LIMIT *ℤ w) (let m = test_below n e in omega (arith, ints, m)) (omega (arith, ints))
     pick false e = mul_not_negative n (p -ℤ neg_ℤ (pos BOX_LIMIT) *ℤ w) (test_above n e) (omega (arith, ints))
 
 side_shift :
     (a b c w : Point) (q : RationalPoint) → side a b c q ≡
-    q.over *ℤ orientation a b c w +ℤ ((facet_normal a b c).x *ℤ (q.at.x -ℤ w.x *ℤ q.over) +ℤ (facet_normal a b c).y *ℤ (q.at.y -ℤ w.y *ℤ q.over) +ℤ (facet_normal a b c).z *ℤ (q.at.z -ℤ w.z *ℤ q.over))
+    q.over *ℤ orientation a b c w
+    +ℤ ((facet_normal a b c).x *ℤ (q.at.x -ℤ w.x *ℤ q.over) +ℤ (facet_normal a b c).y *ℤ (q.at.y -ℤ w.y *ℤ q.over)
+    +ℤ (facet_normal a b c).z *ℤ (q.at.z -ℤ w.z *ℤ q.over))
 unfolding side orientation
 side_shift a b c w q =
     let A : Symbols = symbols 0 in
@@ -35,7 +40,10 @@ side_shift a b c w q =
     let Q : RationalSymbols = record { at = symbols 12; over = variable 15 } in
     let N : Symbols = cross' (step' A B) (step' A C) in
     ring (coordinates a (coordinates b (coordinates c (coordinates w (coordinates q.at (q.over ∷ [])))))) (side' A B C Q)
-    (sum (product (variable 15) (orientation' A B C W)) (sum (sum (product N.x (difference Q.at.x (product W.x (variable 15)))) (product N.y (difference Q.at.y (product W.y (variable 15))))) (product N.z (difference Q.at.z (product W.z (variable 15)))))) tt
+    (sum (product (variable 15) (orientation' A B C W))
+    (sum (sum (product N.x (difference Q.at.x (product W.x (variable 15))))
+    (product N.y (difference Q.at.y (product W.y (variable 15)))))
+    (product N.z (difference Q.at.z (product W.z (variable 15)))))) tt
 
 pub box_inside :
     (v : Vertices) → IsBoxed v → (q : RationalPoint) → IsInBox q → (a b c : ℕ) → IsOuter v a b c →
@@ -46,7 +54,9 @@ box_inside v x q h a b c o =
     let j = int_lt n.y (pos 0) in
     let k = int_lt n.z (pos 0) in
     let e : v.at (far i j k) ≡ lowest n = x.corner_at (far i j k) (far_below i j k) ∙ far_place i j k in
-    let z : pos 0 ≤ℤ orientation (v.at a) (v.at b) (v.at c) (lowest n) = subst (λ (p : Point). pos 0 ≤ℤ orientation (v.at a) (v.at b) (v.at c) p) e (o (far i j k) (x.corner_in (far i j k) (far_below i j k))) in
+    let z : pos 0 ≤ℤ orientation (v.at a) (v.at b) (v.at c) (lowest n) =
+    subst (λ (p : Point). pos 0 ≤ℤ orientation (v.at a) (v.at b) (v.at c) p) e
+    (o (far i j k) (x.corner_in (far i j k) (far_below i j k))) in
     let p = h.over_positive in
     let y = mul_not_negative q.over (orientation (v.at a) (v.at b) (v.at c) (lowest n)) (omega (arith, ints, p)) z in
     let f = side_shift (v.at a) (v.at b) (v.at c) (lowest n) q in

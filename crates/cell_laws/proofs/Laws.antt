@@ -43,7 +43,14 @@ pub across_law : AcrossLaw
 across_law v x a b c d k =
     ⊎_elim (λ (o : IsOuter v a b c). inl (outer_wall v x a b c d k o, λ e z. outer_none v a b c e o z))
     (λ (z : (e : ℕ) × IsCell v a c b e).
-    inr (λ w. outer_none v a b c z.0 (wall_outer v x a b c d k w) z.1, record { vertex = z.0; cell = z.1; one = λ e y. one_over v (tied_generic v x) a c b e z.0 y z.1 }))
+    inr (
+      λ w. outer_none v a b c z.0 (wall_outer v x a b c d k w) z.1,
+      record {
+        vertex = z.0;
+        cell = z.1;
+        one = λ e y. one_over v (tied_generic v x) a c b e z.0 y z.1;
+      },
+    ))
     (across v a b c d k)
 
 -- where there is a cell at all
@@ -85,11 +92,19 @@ flood_law v x p n live cell list marked closed y i m c z j d =
 
 pub boxed_with : (v : Vertices) (p : ℕ) → IsBoxed v → IsBoxed (with_vertex v p)
 boxed_with v p x =
-    record { corner_in = λ k h. stays v p k (x.corner_in k h); corner_at = x.corner_at; data_at = x.data_at; apart = x.apart; tied = x.tied }
+    record {
+      corner_in = λ k h. stays v p k (x.corner_in k h);
+      corner_at = x.corner_at;
+      data_at = x.data_at;
+      apart = x.apart;
+      tied = x.tied;
+    }
 
 pub insert_law : InsertLaw
-insert_law v x p n live cell live' cell' f r =
-    (boxed_with v p x, inserted v p (tied_generic v x) (data_inner v x p n.above n.below) n.out n.below live cell live' cell' f r)
+insert_law v x p n live cell live' cell' f r = (
+  boxed_with v p x,
+  inserted v p (tied_generic v x) (data_inner v x p n.above n.below) n.out n.below live cell live' cell' f r,
+)
 
 pub edge_law : EdgeLaw
 edge_law v x p n m f h = fan_edges v p (fan_law v x p n) m f h
@@ -116,11 +131,13 @@ linked_law v x live cell next l cells y i = linked_listing v x (tied_generic v x
 pub flooded_law : FloodedLaw
 flooded_law v x p n live cell next l cells marked f y i m c z j d =
     let g = tied_generic v x in
-    flood v g p (displaced (v.at p)) (goal v x p n.above n.below) live cell (linked_listing v x g live cell next l cells y i) marked (flooded_closed v x p live cell next l cells marked f) y i m c z j d
+    flood v g p (displaced (v.at p)) (goal v x p n.above n.below) live cell (linked_listing v x g live cell next l cells y i)
+    marked (flooded_closed v x p live cell next l cells marked f) y i m c z j d
 
 pub found_law : FoundLaw
 found_law v b p n t c l =
-    by_lt_z (power_at v t p) (pos 0) (λ h. h) (λ h. absurd (not_own (tied_convex v b t p c.has_a.0 c.has_b.0 c.has_c.0 c.has_d.0 n.below c.positive l h)))
+    by_lt_z (power_at v t p) (pos 0) (λ h. h)
+    (λ h. absurd (not_own (tied_convex v b t p c.has_a.0 c.has_b.0 c.has_c.0 c.has_d.0 n.below c.positive l h)))
   where
     not_own : IsVertexOf t p → ⊥
     not_own (inl e) = not_in v p t.a n.out c.has_a (sym e)
@@ -133,7 +150,9 @@ cavity_law v b p n live cell next l cells marked f conflict x i m =
     record {
       taken = conflict;
       kept = λ y j e.
-          by_lt_z (power_at v (cell y) p) (pos 0) (λ h. absurd (true≢false (sym (flooded_law v b p n live cell next l cells marked f x i m (conflict x i m) y j h) ∙ e))) (λ h. h);
+          by_lt_z (power_at v (cell y) p) (pos 0)
+          (λ h. absurd
+          (true≢false (sym (flooded_law v b p n live cell next l cells marked f x i m (conflict x i m) y j h) ∙ e))) (λ h. h);
     }
 
 pub rim_law : RimLaw

@@ -1,10 +1,11 @@
--- Linked cells that are cells of the vertices are all its cells, a flood over the links finds all cells in conflict, and the fan is what
--- lies at the rim. All three go from sides to writings: the ways to write a cell are its four facets with the vertices opposite, each in
--- three rotations, so what is said of each side of each name is said of each way to write its cell. Across a facet without a neighbour
--- there is no cell, since it is on a wall; across one with a neighbour there is one cell at most. So the list is closed under steps, and
--- Closed says that it has all cells.
+-- Linked cells that are cells of the vertices are all its cells, a flood over the links finds all cells in conflict, and the
+-- fan is what lies at the rim. All three go from sides to writings: the ways to write a cell are its four facets with the
+-- vertices opposite, each in three rotations, so what is said of each side of each name is said of each way to write its cell.
+-- Across a facet without a neighbour there is no cell, since it is on a wall; across one with a neighbour there is one cell at
+-- most. So the list is closed under steps, and Closed says that it has all cells.
 -- Stands on: Facets, Closed, Rim and Goal.
-use Rattle.std.proofs.Common.{ℕ, zero, suc, ◌≡◌, ◌<◌, refl, ap, sym, ◌∙◌, ◌⊎◌, inl, inr, arith, Bool, true, false, Option, Some, None, List, [], ◌∷◌, pos, ◌≤ℤ◌, ◌<ℤ◌, subst}
+use Rattle.std.proofs.Common.{ℕ, zero, suc, ◌≡◌, ◌<◌, refl, ap, sym, ◌∙◌, ◌⊎◌, inl, inr, arith, Bool, true, false, Option, Some}
+use Rattle.std.proofs.Common.{None, List, [], ◌∷◌, pos, ◌≤ℤ◌, ◌<ℤ◌, subst}
 use Rattle.geo_sign.specs.Cells.{IsCell}
 use Rattle.geo_sign.specs.Tetrahedron.{DirectedFacet, facet, facet_of, IsRotated, IsTurned, Tetrahedron, tetrahedron, vertex_of}
 use Rattle.geo_sign.specs.Vertices.{power_of, Vertices}
@@ -47,15 +48,24 @@ pub back_same :
     {X : Type 0} (live : List X) (v : X → Tetrahedron) (f : DirectedFacet) (y : X) → IsBackAt live v f y →
     (e : ℕ) × IsRewritten (v y) (tetrahedron f.a f.c f.b e)
 back_same live v f y h =
-    let e = vertex_of (v y) h.side in
-    (e, rewritten_after (v y) (from_facet (v y) h.side) (tetrahedron f.a f.c f.b e) (facet_same (v y) h.side) (turned_same f (facet_of (v y) h.side) e h.turned))
+    let e = vertex_of (v y) h.side in (
+      e,
+      rewritten_after (v y) (from_facet (v y) h.side) (tetrahedron f.a f.c f.b e) (facet_same (v y) h.side)
+          (turned_same f (facet_of (v y) h.side) e h.turned),
+    )
 
 -- what holds at each side holds of each way to write the cell
 pub by_sides :
     (P : Tetrahedron → Type 0) → ((t : Tetrahedron) → P t → P (spin t)) → (q r : Tetrahedron) → IsRewritten q r →
     ((k : ℕ) → k < 4 → P (from_facet q k)) → P r
 by_sides P f q r e h =
-    by_facets P f q r e (record { opposite_a = h 0 (omega arith); opposite_b = h 1 (omega arith); opposite_c = h 2 (omega arith); opposite_d = h 3 (omega arith) })
+    by_facets P f q r e
+    (record {
+      opposite_a = h 0 (omega arith);
+      opposite_b = h 1 (omega arith);
+      opposite_c = h 2 (omega arith);
+      opposite_d = h 3 (omega arith);
+    })
 
 -- ---- the ways to write a cell are its facets with the vertices opposite, each in three rotations
 -- r is one of q's facets with the vertex opposite to it
@@ -64,7 +74,9 @@ IsFacetOf q r = (k : ℕ) × (k < 4) × IsRotated (facet_of q k) (facet r.a r.b 
 
 pub same_facet : (q r : Tetrahedron) → IsRewritten q r → IsFacetOf q r
 same_facet q r w =
-    by_sides (IsFacetOf q) (λ t h. (h.0, h.1, rotated_after (facet_of q h.0) (facet t.a t.b t.c) (facet t.b t.c t.a) h.2 (inr (inl refl)), h.3)) q r w (λ k h. (k, h, inl refl, refl))
+    by_sides (IsFacetOf q)
+    (λ t h. (h.0, h.1, rotated_after (facet_of q h.0) (facet t.a t.b t.c) (facet t.b t.c t.a) h.2 (inr (inl refl)), h.3)) q r w
+    (λ k h. (k, h, inl refl, refl))
 
 rotated_same : (f g : DirectedFacet) (e : ℕ) → IsRotated f g → IsRewritten (under f e) (under g e)
 rotated_same f g e (inl h) = ([], ap (λ (x : DirectedFacet). under x e) (sym h))
@@ -74,17 +86,22 @@ rotated_same f g e (inr (inr h)) = (true ∷ true ∷ [], ap (λ (x : DirectedFa
 pub facet_of_same : (q r : Tetrahedron) → IsFacetOf q r → IsRewritten q r
 facet_of_same q r h =
     let k = h.0 in
-    let w : IsRewritten q (under (facet r.a r.b r.c) (vertex_of q k)) = rewritten_after q (from_facet q k) (under (facet r.a r.b r.c) (vertex_of q k)) (facet_same q k) (rotated_same (facet_of q k) (facet r.a r.b r.c) (vertex_of q k) h.2) in
+    let w : IsRewritten q (under (facet r.a r.b r.c) (vertex_of q k)) =
+    rewritten_after q (from_facet q k) (under (facet r.a r.b r.c) (vertex_of q k)) (facet_same q k)
+    (rotated_same (facet_of q k) (facet r.a r.b r.c) (vertex_of q k) h.2) in
     subst (λ e. IsRewritten q (tetrahedron r.a r.b r.c e)) (sym h.3) w
 
 -- cells that are written with one facet first are one
 pub apart_same :
-    {X : Type 0} (v : Vertices) (live : List X) (cell : X → Tetrahedron) (next : X → ℕ → Option X) → IsLinked v live cell next →
-    (x y : X) (a b c d e : ℕ) → IsIn live x → IsIn live y → IsRewritten (cell x) (tetrahedron a b c d) → IsRewritten (cell y) (tetrahedron a b c e) → x ≡ y
+    {X : Type 0} (v : Vertices) (live : List X) (cell : X → Tetrahedron) (next : X → ℕ → Option X) → IsLinked v live cell next
+    → (x y : X) (a b c d e : ℕ) → IsIn live x → IsIn live y → IsRewritten (cell x) (tetrahedron a b c d)
+    → IsRewritten (cell y) (tetrahedron a b c e) → x ≡ y
 apart_same v live cell next l x y a b c d e i j w w' =
     let f = same_facet (cell x) (tetrahedron a b c d) w in
     let g = same_facet (cell y) (tetrahedron a b c e) w' in
-    l.apart x y f.0 g.0 i j f.1 g.1 (rotated_after (facet_of (cell x) f.0) (facet a b c) (facet_of (cell y) g.0) f.2 (rotated_back (facet_of (cell y) g.0) (facet a b c) g.2))
+    l.apart x y f.0 g.0 i j f.1 g.1
+    (rotated_after (facet_of (cell x) f.0) (facet a b c) (facet_of (cell y) g.0) f.2
+    (rotated_back (facet_of (cell y) g.0) (facet a b c) g.2))
 
 abbrev Ahead : {X : Type 0} → Vertices → List X → (X → Tetrahedron) → Tetrahedron → Type 0
 Ahead {X} v live cell t =
@@ -108,8 +125,14 @@ pub linked_listing :
     IsLinked v live cell next → ((x : X) → IsIn live x → IsCellOf v (cell x)) → (x : X) → IsIn live x → IsListing v live cell
 linked_listing {X} v box g live cell next l cells x i =
     record {
-      full = closed_full v g live cell (linked_joined v g live cell cells (λ y a b c d j w. by_sides (Ahead v live cell) (ahead_spin v live cell) (cell y) (tetrahedron a b c d) w (λ k h. side y k j h (next y k) refl))) x i;
-      once = λ y z j k w. apart_same v live cell next l y z (cell z).a (cell z).b (cell z).c (cell z).d (cell z).d j k w ([], refl);
+      full =
+          closed_full v g live cell
+          (linked_joined v g live cell cells
+          (λ y a b c d j w. by_sides (Ahead v live cell) (ahead_spin v live cell) (cell y) (tetrahedron a b c d) w
+          (λ k h. side y k j h (next y k) refl))) x i;
+      once =
+          λ y z j k w.
+          apart_same v live cell next l y z (cell z).a (cell z).b (cell z).c (cell z).d (cell z).d j k w ([], refl);
     }
   where
     side : (y : X) (k : ℕ) → IsIn live y → k < 4 → (o : Option X) → next y k ≡ o → Ahead v live cell (from_facet (cell y) k)
@@ -138,7 +161,9 @@ flooded_closed {X} v box p live cell next l cells marked flooded x y a b c d e i
     side : (k : ℕ) → k < 4 → (o : Option X) → next x k ≡ o → Reached (from_facet (cell x) k)
     side k h None e f u =
         let q = from_facet (cell x) k in
-        absurd (outer_none v q.a q.b q.c f (wall_outer v box q.a q.b q.c q.d (same_cell v (cell x) q (facet_same (cell x) k) (cells x i)) (l.walls x k i h e)) (same_cell v (cell y) (tetrahedron q.a q.c q.b f) u (cells y j)))
+        absurd (outer_none v q.a q.b q.c f
+        (wall_outer v box q.a q.b q.c q.d (same_cell v (cell x) q (facet_same (cell x) k) (cells x i)) (l.walls x k i h e))
+        (same_cell v (cell y) (tetrahedron q.a q.c q.b f) u (cells y j)))
     side k h (Some z) e f u =
         let q = from_facet (cell x) k in
         let n : IsBackAt live cell (facet_of (cell x) k) z = l.back x k z i h e in
@@ -149,12 +174,18 @@ flooded_closed {X} v box p live cell next l cells marked flooded x y a b c d e i
 -- ---- the fan over the links
 -- a facet of a cell in conflict with no neighbour in conflict is a fan facet
 pub link_fan :
-    {X : Type 0} (v : Vertices) → IsBoxed v → IsGeneric v →
-    (p : ℕ) (live : List X) (cell : X → Tetrahedron) (next : X → ℕ → Option X) → IsLinked v live cell next →
-    ((x : X) → IsIn live x → IsCellOf v (cell x)) →
-    (x : X) (k : ℕ) → IsIn live x → k < 4 → IsInConflict v p (cell x) → IsRim v p cell next x k → IsFan v p (from_facet (cell x) k).a (from_facet (cell x) k).b (from_facet (cell x) k).c
+    {X : Type 0} (v : Vertices) → IsBoxed v → IsGeneric v
+    → (p : ℕ) (live : List X) (cell : X → Tetrahedron) (next : X → ℕ → Option X) → IsLinked v live cell next
+    → ((x : X) → IsIn live x → IsCellOf v (cell x))
+    → (x : X) (k : ℕ) → IsIn live x → k < 4 → IsInConflict v p (cell x) → IsRim v p cell next x k
+    → IsFan v p (from_facet (cell x) k).a (from_facet (cell x) k).b (from_facet (cell x) k).c
 link_fan {X} v box g p live cell next l cells x k i h cx rim =
-    record { apex = f.d; cell = fc; conflict = subst (λ t. t <ℤ pos 0) (sym (same_power v p (cell x) f (facet_same (cell x) k))) cx; outside = λ e z. outside e z rim }
+    record {
+      apex = f.d;
+      cell = fc;
+      conflict = subst (λ t. t <ℤ pos 0) (sym (same_power v p (cell x) f (facet_same (cell x) k))) cx;
+      outside = λ e z. outside e z rim;
+    }
   where
     f : Tetrahedron
     f = from_facet (cell x) k
@@ -169,7 +200,8 @@ link_fan {X} v box g p live cell next l cells x k i h cx rim =
         let w = back_same live cell (facet_of (cell x) k) y.0 b in
         let yc : IsCell v f.a f.c f.b w.0 = same_cell v (cell y.0) (tetrahedron f.a f.c f.b w.0) w.1 (cells y.0 b.listed) in
         let same : w.0 ≡ e = one_over v g f.a f.c f.b w.0 e yc z in
-        subst (λ t. pos 0 ≤ℤ power_of v f.a f.c f.b t p) same (subst (λ t. pos 0 ≤ℤ t) (sym (same_power v p (cell y.0) (tetrahedron f.a f.c f.b w.0) w.1)) y.2)
+        subst (λ t. pos 0 ≤ℤ power_of v f.a f.c f.b t p) same
+        (subst (λ t. pos 0 ≤ℤ t) (sym (same_power v p (cell y.0) (tetrahedron f.a f.c f.b w.0) w.1)) y.2)
 
 abbrev pub IsFanFacet : Vertices → ℕ → DirectedFacet → Type 0
 IsFanFacet v p f = IsFan v p f.a f.b f.c
@@ -209,10 +241,15 @@ fan_link {X} v p live cell next l full a b c h =
 
 -- cells that are each once have no facet in common
 pub once_apart :
-    {X : Type 0} (v : Vertices) → IsGeneric v → (live : List X) (cell : X → Tetrahedron) →
-    ((x : X) → IsIn live x → IsCellOf v (cell x)) →
-    ((x y : X) → IsIn live x → IsIn live y → IsRewritten (cell x) (cell y) → x ≡ y) →
-    (x y : X) (a b c d e : ℕ) → IsIn live x → IsIn live y → IsRewritten (cell x) (tetrahedron a b c d) → IsRewritten (cell y) (tetrahedron a b c e) → x ≡ y
+    {X : Type 0} (v : Vertices) → IsGeneric v → (live : List X) (cell : X → Tetrahedron)
+    → ((x : X) → IsIn live x → IsCellOf v (cell x))
+    → ((x y : X) → IsIn live x → IsIn live y → IsRewritten (cell x) (cell y) → x ≡ y)
+    → (x y : X) (a b c d e : ℕ) → IsIn live x → IsIn live y → IsRewritten (cell x) (tetrahedron a b c d)
+    → IsRewritten (cell y) (tetrahedron a b c e) → x ≡ y
 once_apart v g live cell cells once x y a b c d e i j w w' =
-    let same : d ≡ e = one_over v g a b c d e (same_cell v (cell x) (tetrahedron a b c d) w (cells x i)) (same_cell v (cell y) (tetrahedron a b c e) w' (cells y j)) in
-    once x y i j (rewritten_after (cell x) (tetrahedron a b c e) (cell y) (subst (λ t. IsRewritten (cell x) (tetrahedron a b c t)) same w) (rewritten_back (cell y) (tetrahedron a b c e) w'))
+    let same : d ≡ e =
+    one_over v g a b c d e (same_cell v (cell x) (tetrahedron a b c d) w (cells x i))
+    (same_cell v (cell y) (tetrahedron a b c e) w' (cells y j)) in
+    once x y i j
+    (rewritten_after (cell x) (tetrahedron a b c e) (cell y) (subst (λ t. IsRewritten (cell x) (tetrahedron a b c t)) same w)
+    (rewritten_back (cell y) (tetrahedron a b c e) w'))

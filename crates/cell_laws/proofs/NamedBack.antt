@@ -20,11 +20,21 @@ back_law v b live cell next l cells x k y i m e =
     by : (o : Option ℕ) → next y r.side ≡ o → next y r.side ≡ Some x
     by None f =
         let t = from_facet (cell y) r.side in
-        let o = wall_outer v b t.a t.b t.c t.d (same_cell v (cell y) t (facet_same (cell y) r.side) (cells y r.listed)) (l.walls y r.side r.listed r.in_range f) in
-        let z = back_same live cell (facet_of (cell y) r.side) x (record { listed = i; side = k; in_range = m; turned = turned_back (facet_of (cell x) k) (facet_of (cell y) r.side) r.turned }) in
+        let o =
+        wall_outer v b t.a t.b t.c t.d (same_cell v (cell y) t (facet_same (cell y) r.side) (cells y r.listed))
+        (l.walls y r.side r.listed r.in_range f) in
+        let z =
+        back_same live cell (facet_of (cell y) r.side) x
+        (record {
+          listed = i;
+          side = k;
+          in_range = m;
+          turned = turned_back (facet_of (cell x) k) (facet_of (cell y) r.side) r.turned;
+        }) in
         absurd (outer_none v t.a t.b t.c z.0 o (same_cell v (cell x) (tetrahedron t.a t.c t.b z.0) z.1 (cells x i)))
     by (Some w) f =
         let s : IsBackAt live cell (facet_of (cell y) r.side) w = l.back y r.side w r.listed r.in_range f in
-        let q : IsRotated (facet_of (cell x) k) (facet_of (cell w) s.side) = turned_turned (facet_of (cell x) k) (facet_of (cell y) r.side) (facet_of (cell w) s.side) r.turned s.turned in
+        let q : IsRotated (facet_of (cell x) k) (facet_of (cell w) s.side) =
+        turned_turned (facet_of (cell x) k) (facet_of (cell y) r.side) (facet_of (cell w) s.side) r.turned s.turned in
         let same : x ≡ w = l.apart x w k s.side i s.listed m s.in_range q in
         f ∙ ap Some (sym same)

@@ -1,9 +1,12 @@
--- Places as near to a vertex p as is wanted, on the way to a place s or away from it, and the one cell that has one. The side of the near
--- place is a large multiple of the side of p and once that of s, so the side of p decides, and where p is on the facet that of s does.
--- A cell with the near place therefore has p, and since the cell's own vertices alone lie in it, p is one of its four; at the facets with
--- p the place s is on the inner side. So it is the cell at p towards s; and no other is, since the near place lies strictly in it.
+-- Places as near to a vertex p as is wanted, on the way to a place s or away from it, and the one cell that has one. The side
+-- of the near place is a large multiple of the side of p and once that of s, so the side of p decides, and where p is on the
+-- facet that of s does.
+-- A cell with the near place therefore has p, and since the cell's own vertices alone lie in it, p is one of its four; at the
+-- facets with p the place s is on the inner side. So it is the cell at p towards s; and no other is, since the near place lies
+-- strictly in it.
 -- Stands on: Sides, Cover (a vertex in a cell is its own) and Flood (a place lies strictly in one cell).
-use Rattle.std.proofs.Common.{ℕ, zero, suc, ◌<◌, ◌≡◌, ◌≢◌, ap, ◌∙◌, ⊎_elim, arith, mul-suc, ℤ, pos, negsuc, ◌+ℤ◌, ◌*ℤ◌, ◌≤ℤ◌, ◌<ℤ◌, unsigned_abs, [], ◌∷◌}
+use Rattle.std.proofs.Common.{ℕ, zero, suc, ◌<◌, ◌≡◌, ◌≢◌, ap, ◌∙◌, ⊎_elim, arith, mul-suc, ℤ, pos, negsuc, ◌+ℤ◌, ◌*ℤ◌, ◌≤ℤ◌}
+use Rattle.std.proofs.Common.{◌<ℤ◌, unsigned_abs, [], ◌∷◌}
 use Rattle.std.proofs.lemmas.Int.{ints, by_lt_z}
 use lib.IntN.{*ℤ-zero}
 use Rattle.geo_sign.specs.Polynomial.{constant, Polynomial, product, sum, variable}
@@ -35,8 +38,17 @@ side_mix a b c p s i j =
     let S : Symbols = symbols 12 in
     let M : Polynomial = variable 15 in let I : Polynomial = variable 16 in let J : Polynomial = variable 17 in
     ring (coordinates a (coordinates b (coordinates c (coordinates p (coordinates s.at (s.over ∷ i ∷ j ∷ []))))))
-    (side' A B C (record { at = record { x = sum (product I P.x) (product J S.x); y = sum (product I P.y) (product J S.y); z = sum (product I P.z) (product J S.z) }; over = sum I (product J M) }))
-    (sum (product I (side' A B C (record { at = P; over = constant (pos 1) }))) (product J (side' A B C (record { at = S; over = M }))))
+    (side' A B C
+    (record {
+      at = record {
+        x = sum (product I P.x) (product J S.x);
+        y = sum (product I P.y) (product J S.y);
+        z = sum (product I P.z) (product J S.z);
+      };
+      over = sum I (product J M);
+    }))
+    (sum (product I (side' A B C (record { at = P; over = constant (pos 1) })))
+    (product J (side' A B C (record { at = S; over = M }))))
     tt
 
 pub inward_mix :
@@ -51,7 +63,8 @@ pub inward_near :
     (v : Vertices) (cell : Tetrahedron) (k : ℕ) (t : ℕ) (p : Point) (s : RationalPoint) →
     inward v cell k (near t p s) ≡ pos t *ℤ inward v cell k (rational p) +ℤ inward v cell k s
 inward_near v cell k t p s =
-    inward_mix v cell k p s (pos t) (pos 1) ∙ ap (λ y. pos t *ℤ inward v cell k (rational p) +ℤ y) (one_times (inward v cell k s))
+    inward_mix v cell k p s (pos t) (pos 1)
+    ∙ ap (λ y. pos t *ℤ inward v cell k (rational p) +ℤ y) (one_times (inward v cell k s))
 
 -- ---- the first of two numbers decides
 pub first_decides : (t : ℕ) (x y : ℤ) → unsigned_abs y < t → pos 0 ≤ℤ (pos t *ℤ x +ℤ y) → pos 0 ≤ℤ x
@@ -65,7 +78,8 @@ first_positive t (negsuc n) y h k = absurd (omega (arith, ints))
 
 pub first_zero : (t : ℕ) (x y : ℤ) → x ≡ pos 0 → pos t *ℤ x +ℤ y ≡ y
 first_zero t x y e =
-    ap (λ z. pos t *ℤ z +ℤ y) e ∙ ap (λ z. z +ℤ y) (*ℤ-zero (pos t)) ∙ ring (y ∷ []) (sum (constant (pos 0)) (variable 0)) (variable 0) tt
+    ap (λ z. pos t *ℤ z +ℤ y) e ∙ ap (λ z. z +ℤ y) (*ℤ-zero (pos t))
+    ∙ ring (y ∷ []) (sum (constant (pos 0)) (variable 0)) (variable 0) tt
 
 -- ---- a place that lies on no plane of a facet, at sides below t
 pub record IsFree (v : Vertices) (s : RationalPoint) (t : ℕ) : Type 0 where
@@ -106,10 +120,12 @@ towards_near v s t f u p d i =
           let e = inward_near v u k t (v.at p) s in
           ⊎_elim
           (λ (o : p ≡ vertex_of u k).
-          let g : inward v u k (rational (v.at p)) ≡ orientation_at v u = ap (λ (x : ℕ). inward v u k (rational (v.at x))) o ∙ opposite v u k in
+          let g : inward v u k (rational (v.at p)) ≡ orientation_at v u =
+          ap (λ (x : ℕ). inward v u k (rational (v.at x))) o ∙ opposite v u k in
           let cell = d.positive in
           let l : pos 0 <ℤ inward v u k (rational (v.at p)) = omega (arith, ints, g, cell) in
-          let r = first_positive t (inward v u k (rational (v.at p))) (inward v u k s) (f.bounded u d k) l in omega (arith, ints, e, r))
+          let r = first_positive t (inward v u k (rational (v.at p))) (inward v u k s) (f.bounded u d k) l in
+          omega (arith, ints, e, r))
           (λ (o : HasVertex (facet_of u k) p).
           let z = first_zero t (inward v u k (rational (v.at p))) (inward v u k s) (on_facet v (facet_of u k) p o) in
           let r = i.faces k o in omega (arith, ints, e, r, z)) (opposite_or_on u k p i.has);

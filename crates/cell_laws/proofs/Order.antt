@@ -1,6 +1,7 @@
 -- Inequalities of products, and the order of cells along a walk.
 -- Stands on: the identities.
-use Rattle.std.proofs.Common.{zero, suc, ◌≡◌, ◌*◌, ◌<◌, arith, ℤ, pos, negsuc, ◌-ℤ◌, ◌*ℤ◌, neg_ℤ, ◌≤ℤ◌, ◌<ℤ◌, zero-lt-suc, mul-pos, [], ◌∷◌}
+use Rattle.std.proofs.Common.{zero, suc, ◌≡◌, ◌*◌, ◌<◌, arith, ℤ, pos, negsuc, ◌-ℤ◌, ◌*ℤ◌, neg_ℤ, ◌≤ℤ◌, ◌<ℤ◌, zero-lt-suc}
+use Rattle.std.proofs.Common.{mul-pos, [], ◌∷◌}
 use Rattle.std.proofs.lemmas.Int.{ints, by_lt_z}
 use Rattle.geo_sign.specs.Polynomial.{difference, negation, product, variable}
 use Rattle.geo_sign.proofs.Ring.{ring}
@@ -13,7 +14,8 @@ use Rattle.cell_laws.proofs.Identities.{envelope, three_lifts}
 
 less_times : (a b c : ℤ) → (a -ℤ b) *ℤ c ≡ a *ℤ c -ℤ b *ℤ c
 less_times a b c =
-    ring (a ∷ b ∷ c ∷ []) (product (difference (variable 0) (variable 1)) (variable 2)) (difference (product (variable 0) (variable 2)) (product (variable 1) (variable 2))) tt
+    ring (a ∷ b ∷ c ∷ []) (product (difference (variable 0) (variable 1)) (variable 2))
+    (difference (product (variable 0) (variable 2)) (product (variable 1) (variable 2))) tt
 
 pub mul_not_negative : (a b : ℤ) → pos 0 ≤ℤ a → pos 0 ≤ℤ b → pos 0 ≤ℤ (a *ℤ b)
 mul_not_negative (pos m) (pos n) h k = omega (arith, ints)
@@ -43,13 +45,16 @@ mul_lt a b c h k =
     omega (arith, ints)
 
 pub cancel_lt : (a b c : ℤ) → (a *ℤ c) <ℤ (b *ℤ c) → pos 0 ≤ℤ c → a <ℤ b
-cancel_lt a b c h k = by_lt_z a b (λ l. l) (λ l. let e : (b *ℤ c) ≤ℤ (a *ℤ c) = mul_le b a c l k in absurd (omega (arith, ints)))
+cancel_lt a b c h k =
+    by_lt_z a b (λ l. l) (λ l. let e : (b *ℤ c) ≤ℤ (a *ℤ c) = mul_le b a c l k in absurd (omega (arith, ints)))
 
 pub neg_right : (a b : ℤ) → a *ℤ neg_ℤ b ≡ neg_ℤ (a *ℤ b)
-neg_right a b = ring (a ∷ b ∷ []) (product (variable 0) (negation (variable 1))) (negation (product (variable 0) (variable 1))) tt
+neg_right a b =
+    ring (a ∷ b ∷ []) (product (variable 0) (negation (variable 1))) (negation (product (variable 0) (variable 1))) tt
 
 pub neg_left : (a b : ℤ) → neg_ℤ a *ℤ b ≡ neg_ℤ (a *ℤ b)
-neg_left a b = ring (a ∷ b ∷ []) (product (negation (variable 0)) (variable 1)) (negation (product (variable 0) (variable 1))) tt
+neg_left a b =
+    ring (a ∷ b ∷ []) (product (negation (variable 0)) (variable 1)) (negation (product (variable 0) (variable 1))) tt
 
 pub mul_below : (a b : ℤ) → pos 0 <ℤ a → b <ℤ pos 0 → (a *ℤ b) <ℤ pos 0
 mul_below a b h k =
@@ -65,11 +70,15 @@ mul_not_above a b h k =
 
 pub factor_above : (a b : ℤ) → pos 0 <ℤ a → pos 0 <ℤ (a *ℤ b) → pos 0 <ℤ b
 factor_above a b h k =
-    by_lt_z (pos 0) b (λ l. l) (λ l. let m : (a *ℤ b) ≤ℤ pos 0 = mul_not_above a b (let q : pos 0 ≤ℤ a = omega (arith, ints) in q) l in absurd (omega (arith, ints)))
+    by_lt_z (pos 0) b (λ l. l)
+    (λ l. let m : (a *ℤ b) ≤ℤ pos 0 = mul_not_above a b (let q : pos 0 ≤ℤ a = omega (arith, ints) in q) l in
+    absurd (omega (arith, ints)))
 
 pub factor_below : (a b : ℤ) → pos 0 <ℤ a → (a *ℤ b) <ℤ pos 0 → b <ℤ pos 0
 factor_below a b h k =
-    by_lt_z b (pos 0) (λ l. l) (λ l. let m : pos 0 ≤ℤ (a *ℤ b) = mul_not_negative a b (let q : pos 0 ≤ℤ a = omega (arith, ints) in q) l in absurd (omega (arith, ints)))
+    by_lt_z b (pos 0) (λ l. l)
+    (λ l. let m : pos 0 ≤ℤ (a *ℤ b) = mul_not_negative a b (let q : pos 0 ≤ℤ a = omega (arith, ints) in q) l in
+    absurd (omega (arith, ints)))
 
 pub factor_not_above : (a b : ℤ) → pos 0 <ℤ a → (a *ℤ b) ≤ℤ pos 0 → b ≤ℤ pos 0
 factor_not_above a b h k = by_lt_z (pos 0) b (λ l. let m = mul_positive a b h l in absurd (omega (arith, ints, m, k))) (λ l. l)
@@ -77,13 +86,15 @@ factor_not_above a b h k = by_lt_z (pos 0) b (λ l. let m = mul_positive a b h l
 pub factor_none : (a b : ℤ) → pos 0 <ℤ a → a *ℤ b ≡ pos 0 → b ≡ pos 0
 factor_none a b h k =
     by_lt_z (pos 0) b (λ l. let m = mul_positive a b h l in absurd (omega (arith, ints, m, k)))
-    (λ l. by_lt_z b (pos 0) (λ n. let m = mul_below a b h n in absurd (omega (arith, ints, m, k))) (λ n. omega (arith, ints, l, n)))
+    (λ l. by_lt_z b (pos 0) (λ n. let m = mul_below a b h n in absurd (omega (arith, ints, m, k)))
+    (λ n. omega (arith, ints, l, n)))
 
 -- the envelope: where no vertex of w is in conflict with v, and q lies in w
-pub envelope_above : (a b c d e f g h : Point) (q : RationalPoint) (ha hb hc hd he hf hg hh : ℤ) →
-    pos 0 ≤ℤ power a b c d e ha hb hc hd he → pos 0 ≤ℤ power a b c d f ha hb hc hd hf → pos 0 ≤ℤ power a b c d g ha hb hc hd hg → pos 0 ≤ℤ power a b c d h ha hb hc hd hh →
-    pos 0 ≤ℤ side f h g q → pos 0 ≤ℤ side e g h q → pos 0 ≤ℤ side e h f q → pos 0 ≤ℤ side e f g q →
-    (orientation e f g h *ℤ lift a b c d ha hb hc hd q) ≤ℤ (orientation a b c d *ℤ lift e f g h he hf hg hh q)
+pub envelope_above : (a b c d e f g h : Point) (q : RationalPoint) (ha hb hc hd he hf hg hh : ℤ)
+    → pos 0 ≤ℤ power a b c d e ha hb hc hd he → pos 0 ≤ℤ power a b c d f ha hb hc hd hf
+    → pos 0 ≤ℤ power a b c d g ha hb hc hd hg → pos 0 ≤ℤ power a b c d h ha hb hc hd hh
+    → pos 0 ≤ℤ side f h g q → pos 0 ≤ℤ side e g h q → pos 0 ≤ℤ side e h f q → pos 0 ≤ℤ side e f g q
+    → (orientation e f g h *ℤ lift a b c d ha hb hc hd q) ≤ℤ (orientation a b c d *ℤ lift e f g h he hf hg hh q)
 envelope_above a b c d e f g h q ha hb hc hd he hf hg hh i j k l m n o p =
     let s = envelope a b c d e f g h q ha hb hc hd he hf hg hh in
     let t = mul_not_negative _ _ i m in
@@ -98,7 +109,8 @@ IsLater o e o' e' = (o' *ℤ e) <ℤ (o *ℤ e')
 
 pub turn_products : (a b c : ℤ) → (a *ℤ b) *ℤ c ≡ (c *ℤ b) *ℤ a
 turn_products a b c =
-    ring (a ∷ b ∷ c ∷ []) (product (product (variable 0) (variable 1)) (variable 2)) (product (product (variable 2) (variable 1)) (variable 0)) tt
+    ring (a ∷ b ∷ c ∷ []) (product (product (variable 0) (variable 1)) (variable 2))
+    (product (product (variable 2) (variable 1)) (variable 0)) tt
 
 pub later_trans :
     (o e o' e' o'' e'' : ℤ) → pos 0 <ℤ o → pos 0 <ℤ o' → pos 0 <ℤ o'' → IsLater o e o' e' → IsLater o' e' o'' e'' →
@@ -122,5 +134,6 @@ walk_step a b c d e q ha hb hc hd he h k =
     let n : pos 0 <ℤ neg_ℤ (side a b c q) = omega (arith, ints) in
     let t = mul_positive (power a b c d e ha hb hc hd he) (neg_ℤ (side a b c q)) h n in
     let u : power a b c d e ha hb hc hd he *ℤ neg_ℤ (side a b c q) ≡ neg_ℤ (power a b c d e ha hb hc hd he *ℤ side a b c q) =
-    ring (power a b c d e ha hb hc hd he ∷ side a b c q ∷ []) (product (variable 0) (negation (variable 1))) (negation (product (variable 0) (variable 1))) tt in
+    ring (power a b c d e ha hb hc hd he ∷ side a b c q ∷ []) (product (variable 0) (negation (variable 1)))
+    (negation (product (variable 0) (variable 1))) tt in
     omega (arith, ints, s, t, u)

@@ -1,5 +1,5 @@
--- What the proofs suppose of vertices, in the form that they use. Each is proved once of vertices of the box with the heights of
--- the tie rule: Heights, Box and Goal.
+-- What the proofs suppose of vertices, in the form that they use. Each is proved once of vertices of the box with the heights
+-- of the tie rule: Heights, Box and Goal.
 --
 --   IsGeneric v       the power is zero at a cell's own vertices alone
 --   IsConvex v        a vertex that lies in a cell is in conflict with it or one of its own
@@ -18,13 +18,15 @@ use Rattle.geo_sign.specs.Writings.{IsVertexOf}
 
 abbrev pub IsGeneric : Vertices → Type 0
 IsGeneric v =
-    (a b c d u : ℕ) → a < v.count → b < v.count → c < v.count → d < v.count → u < v.count → pos 0 <ℤ orientation_of v a b c d → power_of v a b c d u ≡ pos 0 →
-    (u ≡ a) ⊎ ((u ≡ b) ⊎ ((u ≡ c) ⊎ (u ≡ d)))
+    (a b c d u : ℕ) → a < v.count → b < v.count → c < v.count → d < v.count → u < v.count → pos 0 <ℤ orientation_of v a b c d
+    → power_of v a b c d u ≡ pos 0
+    → (u ≡ a) ⊎ ((u ≡ b) ⊎ ((u ≡ c) ⊎ (u ≡ d)))
 
 abbrev pub IsConvex : Vertices → Type 0
 IsConvex v =
-    (t : Tetrahedron) (u : ℕ) → t.a < v.count → t.b < v.count → t.c < v.count → t.d < v.count → u < v.count → pos 0 <ℤ orientation_of v t.a t.b t.c t.d → IsLyingIn v t (rational (v.at u)) →
-    pos 0 ≤ℤ power_of v t.a t.b t.c t.d u → IsVertexOf t u
+    (t : Tetrahedron) (u : ℕ) → t.a < v.count → t.b < v.count → t.c < v.count → t.d < v.count → u < v.count
+    → pos 0 <ℤ orientation_of v t.a t.b t.c t.d → IsLyingIn v t (rational (v.at u))
+    → pos 0 ≤ℤ power_of v t.a t.b t.c t.d u → IsVertexOf t u
 
 abbrev pub IsOuter : Vertices → (a b c : ℕ) → Type 0
 IsOuter v a b c = (u : ℕ) → Has v u → pos 0 ≤ℤ orientation_of v a b c u

@@ -1,10 +1,11 @@
--- What a replacement of linked cells leaves is linked. It is about numbers alone: no points, no heights. A side of a kept cell has across it
--- what it had, or the new cell over the turned facet if that was taken out. The side 3 of a new cell is the facet at the rim, and has
--- across it what was outside. Its other three sides have the apex p and an edge of that facet, and across them is the new cell whose
--- facet has the edge reversed. No facet stands twice: kept ones did not before; those with p stand over different edges; and a new cell's
--- side 3 is a facet of a cell that was taken out.
+-- What a replacement of linked cells leaves is linked. It is about numbers alone: no points, no heights. A side of a kept cell
+-- has across it what it had, or the new cell over the turned facet if that was taken out. The side 3 of a new cell is the facet
+-- at the rim, and has across it what was outside. Its other three sides have the apex p and an edge of that facet, and across
+-- them is the new cell whose facet has the edge reversed. No facet stands twice: kept ones did not before; those with p stand
+-- over different edges; and a new cell's side 3 is a facet of a cell that was taken out.
 -- Stands on: Edges and specs/Replacements.
-use Rattle.std.proofs.Common.{ℕ, zero, suc, ◌<◌, ◌≤◌, ◌≡◌, ◌≢◌, refl, ap, sym, subst, ◌∙◌, ◌⊎◌, inl, inr, ⊎_elim, arith, Bool, true, false, true≢false, Option, Some, None, List}
+use Rattle.std.proofs.Common.{ℕ, zero, suc, ◌<◌, ◌≤◌, ◌≡◌, ◌≢◌, refl, ap, sym, subst, ◌∙◌, ◌⊎◌, inl, inr, ⊎_elim, arith, Bool}
+use Rattle.std.proofs.Common.{true, false, true≢false, Option, Some, None, List}
 use Rattle.std.proofs.lemmas.Bool.{cases_lt}
 use Rattle.geo_sign.specs.Tetrahedron.{Tetrahedron, DirectedFacet, facet, facet_of, IsTurned, IsRotated}
 use Rattle.geo_sign.specs.Vertices.{Vertices, IsWall}
@@ -54,7 +55,14 @@ back_at :
     (live : List ℕ) (cell : ℕ → Tetrahedron) (f g : DirectedFacet) (t : Tetrahedron) (y side : ℕ) → g ≡ f → cell y ≡ t →
     IsIn live y → side < 4 → IsTurned f (facet_of t side) → IsBackAt live cell g y
 back_at live cell f g t y side e h i m r =
-    record { listed = i; side = side; in_range = m; turned = subst (λ (x : DirectedFacet). IsTurned x (facet_of (cell y) side)) (sym e) (subst (λ (u : Tetrahedron). IsTurned f (facet_of u side)) (sym h) r) }
+    record {
+      listed = i;
+      side = side;
+      in_range = m;
+      turned =
+          subst (λ (x : DirectedFacet). IsTurned x (facet_of (cell y) side)) (sym e)
+          (subst (λ (u : Tetrahedron). IsTurned f (facet_of u side)) (sym h) r);
+    }
 
 -- a facet on a wall is so however it is written
 wall_round : (v : Vertices) (f : DirectedFacet) → IsWall v f → IsWall v (facet f.b f.c f.a)
@@ -63,7 +71,9 @@ wall_round v f w =
       first = w.second;
       second = w.third;
       third = w.first;
-      agree = ⊎_elim (λ e. inl (sym e.0 ∙ e.1, sym e.0)) (⊎_elim (λ e. inr (inl (sym e.0 ∙ e.1, sym e.0))) (λ e. inr (inr (sym e.0 ∙ e.1, sym e.0)))) w.agree;
+      agree =
+          ⊎_elim (λ e. inl (sym e.0 ∙ e.1, sym e.0))
+          (⊎_elim (λ e. inr (inl (sym e.0 ∙ e.1, sym e.0))) (λ e. inr (inr (sym e.0 ∙ e.1, sym e.0)))) w.agree;
     }
 
 wall_rotated : (v : Vertices) (f g : DirectedFacet) → IsRotated f g → IsWall v f → IsWall v g
@@ -72,7 +82,8 @@ wall_rotated v f g (inr (inl e)) w = subst (IsWall v) (sym e) (wall_round v f w)
 wall_rotated v f g (inr (inr e)) w = subst (IsWall v) (sym e) (wall_round v (facet f.b f.c f.a) (wall_round v f w))
 
 -- the old cells are kept or taken out, and the new ones are over facets at the rim
-record IsRenewal (v : Vertices) (p : ℕ) (live : List ℕ) (cell : ℕ → Tetrahedron) (next : ℕ → ℕ → Option ℕ) (removed : ℕ → Bool) (n : ℕ) (fan : ℕ → DirectedFacet) (outer : ℕ → Option ℕ) (fresh : ℕ → ℕ) (live' : List ℕ) (cell' : ℕ → Tetrahedron)
+record IsRenewal (v : Vertices) (p : ℕ) (live : List ℕ) (cell : ℕ → Tetrahedron) (next : ℕ → ℕ → Option ℕ) (removed : ℕ → Bool)
+    (n : ℕ) (fan : ℕ → DirectedFacet) (outer : ℕ → Option ℕ) (fresh : ℕ → ℕ) (live' : List ℕ) (cell' : ℕ → Tetrahedron)
     (next' : ℕ → ℕ → Option ℕ) : Type 0 where
   linked : IsLinked v live cell next
   absent : (x : ℕ) → IsIn live x → ¬ IsVertexOf (cell x) p
@@ -81,7 +92,8 @@ record IsRenewal (v : Vertices) (p : ℕ) (live : List ℕ) (cell : ℕ → Tetr
   names : IsRenewed p live cell removed n fan fresh live' cell'
   links : IsRelinked live cell next removed n fan outer fresh next'
 
-module _ (v : Vertices) (p : ℕ) (live : List ℕ) (cell : ℕ → Tetrahedron) (next : ℕ → ℕ → Option ℕ) (removed : ℕ → Bool) (n : ℕ) (fan : ℕ → DirectedFacet) (outer : ℕ → Option ℕ) (fresh : ℕ → ℕ) (live' : List ℕ) (cell' : ℕ → Tetrahedron)
+module _ (v : Vertices) (p : ℕ) (live : List ℕ) (cell : ℕ → Tetrahedron) (next : ℕ → ℕ → Option ℕ) (removed : ℕ → Bool) (n : ℕ)
+    (fan : ℕ → DirectedFacet) (outer : ℕ → Option ℕ) (fresh : ℕ → ℕ) (live' : List ℕ) (cell' : ℕ → Tetrahedron)
     (next' : ℕ → ℕ → Option ℕ) (r : IsRenewal v p live cell next removed n fan outer fresh live' cell' next') where
   abbrev IsKept : ℕ → Type 0
   IsKept x = IsIn live x × (removed x ≡ false)
@@ -104,12 +116,14 @@ module _ (v : Vertices) (p : ℕ) (live : List ℕ) (cell : ℕ → Tetrahedron)
           let b : IsBackAt live cell (facet_of (cell x) k) z = r.linked.back x k z h.0 m o in
           let same : z ≡ y = some_same z y (sym (r.links.kept_some x k z h.0 h.1 m o g) ∙ e) in
           subst (λ (w : ℕ). IsBackAt live' cell' (facet_of (cell' x) k) w) same
-          (back_at live' cell' (facet_of (cell x) k) (facet_of (cell' x) k) (cell z) z b.side f (old_cell z (b.listed, g)) (r.names.kept z b.listed g) b.in_range b.turned)
+          (back_at live' cell' (facet_of (cell x) k) (facet_of (cell' x) k) (cell z) z b.side f (old_cell z (b.listed, g))
+          (r.names.kept z b.listed g) b.in_range b.turned)
       old z o true g =
           let w = r.links.kept_new x k z h.0 h.1 m o g in
           let same : fresh w.0 ≡ y = some_same (fresh w.0) y (sym w.2 ∙ e) in
           subst (λ (u : ℕ). IsBackAt live' cell' (facet_of (cell' x) k) u) same
-          (back_at live' cell' (facet_of (cell x) k) (facet_of (cell' x) k) (over (fan w.0) p) (fresh w.0) 3 f (new_cell w.0 w.1) (r.names.made w.0 w.1) (omega arith) w.3)
+          (back_at live' cell' (facet_of (cell x) k) (facet_of (cell' x) k) (over (fan w.0) p) (fresh w.0) 3 f
+          (new_cell w.0 w.1) (r.names.made w.0 w.1) (omega arith) w.3)
 
       by : (o : Option ℕ) → next x k ≡ o → IsBackAt live' cell' (facet_of (cell' x) k) y
       by None o = absurd (none_some y (sym (r.links.kept_none x k h.0 h.1 m o) ∙ e))
@@ -135,9 +149,13 @@ module _ (v : Vertices) (p : ℕ) (live : List ℕ) (cell : ℕ → Tetrahedron)
       by (inr z) =
           let same : z.0 ≡ y = some_same z.0 y (sym z.1 ∙ o) in
           let free : removed y ≡ false = subst (λ (w : ℕ). removed w ≡ false) same z.2 in
-          let b : IsBackAt live cell (facet_of (cell rim.at) rim.side) y = r.linked.back rim.at rim.side y rim.listed rim.in_range (rim.across ∙ o) in
-          let turned : IsTurned (fan i) (facet_of (cell y) b.side) = rotated_turned (fan i) (facet_of (cell rim.at) rim.side) (facet_of (cell y) b.side) (rotated_back (facet_of (cell rim.at) rim.side) (fan i) rim.rotated) b.turned in
-          back_at live' cell' (fan i) (facet_of (cell' (fresh i)) 3) (cell y) y b.side f (old_cell y (b.listed, free)) (r.names.kept y b.listed free) b.in_range turned
+          let b : IsBackAt live cell (facet_of (cell rim.at) rim.side) y =
+          r.linked.back rim.at rim.side y rim.listed rim.in_range (rim.across ∙ o) in
+          let turned : IsTurned (fan i) (facet_of (cell y) b.side) =
+          rotated_turned (fan i) (facet_of (cell rim.at) rim.side) (facet_of (cell y) b.side)
+          (rotated_back (facet_of (cell rim.at) rim.side) (fan i) rim.rotated) b.turned in
+          back_at live' cell' (fan i) (facet_of (cell' (fresh i)) 3) (cell y) y b.side f (old_cell y (b.listed, free))
+          (r.names.kept y b.listed free) b.in_range turned
 
   inner_back : (i k y : ℕ) → i < n → k < 3 → next' (fresh i) k ≡ Some y → IsBackAt live' cell' (facet_of (cell' (fresh i)) k) y
   inner_back i k y h m e =
@@ -145,7 +163,8 @@ module _ (v : Vertices) (p : ℕ) (live : List ℕ) (cell : ℕ → Tetrahedron)
       let same : fresh z.0 ≡ y = some_same (fresh z.0) y (sym z.4 ∙ e) in
       let below : z.1 < 3 = z.3 in
       subst (λ (w : ℕ). IsBackAt live' cell' (facet_of (cell' (fresh i)) k) w) same
-      (back_at live' cell' (facet_of (over (fan i) p) k) (facet_of (cell' (fresh i)) k) (over (fan z.0) p) (fresh z.0) z.1 (ap (λ (t : Tetrahedron). facet_of t k) (new_cell i h)) (new_cell z.0 z.2) (r.names.made z.0 z.2)
+      (back_at live' cell' (facet_of (over (fan i) p) k) (facet_of (cell' (fresh i)) k) (over (fan z.0) p) (fresh z.0) z.1
+      (ap (λ (t : Tetrahedron). facet_of t k) (new_cell i h)) (new_cell z.0 z.2) (r.names.made z.0 z.2)
       (omega (arith, below)) (edges_turned (fan i) (fan z.0) p k z.1 m z.3 z.5 z.6))
 
   -- sides 0 to 2, or the last
@@ -155,12 +174,15 @@ module _ (v : Vertices) (p : ℕ) (live : List ℕ) (cell : ℕ → Tetrahedron)
 
   new_back : (i k y : ℕ) → i < n → k < 4 → next' (fresh i) k ≡ Some y → IsBackAt live' cell' (facet_of (cell' (fresh i)) k) y
   new_back i k y h m =
-      inner_or_outer (λ (j : ℕ). next' (fresh i) j ≡ Some y → IsBackAt live' cell' (facet_of (cell' (fresh i)) j) y) k m (λ j l e. inner_back i j y h l e) (λ e. outer_back i y h e)
+      inner_or_outer (λ (j : ℕ). next' (fresh i) j ≡ Some y → IsBackAt live' cell' (facet_of (cell' (fresh i)) j) y) k m
+      (λ j l e. inner_back i j y h l e) (λ e. outer_back i y h e)
 
   every_back : (x k y : ℕ) → IsIn live' x → k < 4 → next' x k ≡ Some y → IsBackAt live' cell' (facet_of (cell' x) k) y
   every_back x k y i m =
       ⊎_elim (λ (h : IsKept x). λ e. kept_back x k y h m e)
-      (λ (h : (j : ℕ) × (j < n) × (fresh j ≡ x)). subst (λ (w : ℕ). next' w k ≡ Some y → IsBackAt live' cell' (facet_of (cell' w) k) y) h.2 (new_back h.0 k y h.1 m)) (r.names.only x i)
+      (λ (h : (j : ℕ) × (j < n) × (fresh j ≡ x)).
+      subst (λ (w : ℕ). next' w k ≡ Some y → IsBackAt live' cell' (facet_of (cell' w) k) y) h.2 (new_back h.0 k y h.1 m))
+      (r.names.only x i)
 
   -- ---- walls
   kept_wall : (x k : ℕ) → IsKept x → k < 4 → next' x k ≡ None → IsWall v (facet_of (cell' x) k)
@@ -181,27 +203,34 @@ module _ (v : Vertices) (p : ℕ) (live : List ℕ) (cell : ℕ → Tetrahedron)
       (λ e.
       let rim : IsRimFacet live cell next removed (fan i) (outer i) = r.rims.each i h in
       subst (λ (t : Tetrahedron). IsWall v (facet_of t 3)) (sym (new_cell i h))
-      (wall_rotated v (facet_of (cell rim.at) rim.side) (fan i) rim.rotated (r.linked.walls rim.at rim.side rim.listed rim.in_range (rim.across ∙ sym (r.links.across i h) ∙ e))))
+      (wall_rotated v (facet_of (cell rim.at) rim.side) (fan i) rim.rotated
+      (r.linked.walls rim.at rim.side rim.listed rim.in_range (rim.across ∙ sym (r.links.across i h) ∙ e))))
 
   every_wall : (x k : ℕ) → IsIn live' x → k < 4 → next' x k ≡ None → IsWall v (facet_of (cell' x) k)
   every_wall x k i m =
       ⊎_elim (λ (h : IsKept x). λ e. kept_wall x k h m e)
-      (λ (h : (j : ℕ) × (j < n) × (fresh j ≡ x)). subst (λ (w : ℕ). next' w k ≡ None → IsWall v (facet_of (cell' w) k)) h.2 (new_wall h.0 k h.1 m)) (r.names.only x i)
+      (λ (h : (j : ℕ) × (j < n) × (fresh j ≡ x)).
+      subst (λ (w : ℕ). next' w k ≡ None → IsWall v (facet_of (cell' w) k)) h.2 (new_wall h.0 k h.1 m)) (r.names.only x i)
 
   -- ---- no facet stands twice
   rim_apart : (i : ℕ) → i < n → (m : ℕ) → HasVertex (fan i) m → m ≢ p
   rim_apart i h m o e =
       let rim : IsRimFacet live cell next removed (fan i) (outer i) = r.rims.each i h in
-      r.absent rim.at rim.listed (subst (λ (u : ℕ). IsVertexOf (cell rim.at) u) e (on_cell (cell rim.at) rim.side m (rotated_vertex (facet_of (cell rim.at) rim.side) (fan i) m rim.rotated o)))
+      r.absent rim.at rim.listed
+      (subst (λ (u : ℕ). IsVertexOf (cell rim.at) u) e
+      (on_cell (cell rim.at) rim.side m (rotated_vertex (facet_of (cell rim.at) rim.side) (fan i) m rim.rotated o)))
 
   -- a kept cell and a new one have no facet in common
   mixed : (x i j k : ℕ) → IsKept x → i < n → j < 4 → k < 4 → IsRotated (facet_of (cell x) j) (facet_of (over (fan i) p) k) → ⊥
   mixed x i j k h hi hj hk =
       inner_or_outer (λ (m : ℕ). IsRotated (facet_of (cell x) j) (facet_of (over (fan i) p) m) → ⊥) k hk
-      (λ m l q. r.absent x h.0 (on_cell (cell x) j p (rotated_vertex (facet_of (cell x) j) (facet_of (over (fan i) p) m) p q (apex_on (fan i) p m l))))
+      (λ m l q. r.absent x h.0
+      (on_cell (cell x) j p (rotated_vertex (facet_of (cell x) j) (facet_of (over (fan i) p) m) p q (apex_on (fan i) p m l))))
       (λ q.
       let rim : IsRimFacet live cell next removed (fan i) (outer i) = r.rims.each i hi in
-      let s : IsRotated (facet_of (cell x) j) (facet_of (cell rim.at) rim.side) = rotated_after (facet_of (cell x) j) (fan i) (facet_of (cell rim.at) rim.side) q (rotated_back (facet_of (cell rim.at) rim.side) (fan i) rim.rotated) in
+      let s : IsRotated (facet_of (cell x) j) (facet_of (cell rim.at) rim.side) =
+      rotated_after (facet_of (cell x) j) (fan i) (facet_of (cell rim.at) rim.side) q
+      (rotated_back (facet_of (cell rim.at) rim.side) (fan i) rim.rotated) in
       let e : x ≡ rim.at = r.linked.apart x rim.at j rim.side h.0 rim.listed hj rim.in_range s in
       true≢false (sym rim.taken ∙ sym (ap removed e) ∙ h.1))
 
@@ -211,7 +240,8 @@ module _ (v : Vertices) (p : ℕ) (live : List ℕ) (cell : ℕ → Tetrahedron)
   news i m j k hi hm hj hk q =
       let a = rim_apart i hi in let b = rim_apart m hm in
       let e : HaveEdge (fan i) (fan m) =
-      side_edge (fan i) (fan m) p (a (fan i).a (inl refl)) (a (fan i).b (inr (inl refl))) (a (fan i).c (inr (inr refl))) (b (fan m).a (inl refl)) (b (fan m).b (inr (inl refl))) (b (fan m).c (inr (inr refl))) j k hj hk q in
+      side_edge (fan i) (fan m) p (a (fan i).a (inl refl)) (a (fan i).b (inr (inl refl))) (a (fan i).c (inr (inr refl)))
+      (b (fan m).a (inl refl)) (b (fan m).b (inr (inl refl))) (b (fan m).c (inr (inr refl))) j k hj hk q in
       ap fresh (r.edges.apart i e.i m e.j hi hm e.same_start e.same_end)
 
   every_apart :
@@ -221,7 +251,8 @@ module _ (v : Vertices) (p : ℕ) (live : List ℕ) (cell : ℕ → Tetrahedron)
     where
       said : (t u : Tetrahedron) → cell' x ≡ t → cell' y ≡ u → IsRotated (facet_of t j) (facet_of u k)
       said t u e f =
-          subst (λ (w : Tetrahedron). IsRotated (facet_of t j) (facet_of w k)) f (subst (λ (w : Tetrahedron). IsRotated (facet_of w j) (facet_of (cell' y) k)) e q)
+          subst (λ (w : Tetrahedron). IsRotated (facet_of t j) (facet_of w k)) f
+          (subst (λ (w : Tetrahedron). IsRotated (facet_of w j) (facet_of (cell' y) k)) e q)
 
       cell_of : (w i : ℕ) → i < n → fresh i ≡ w → cell' w ≡ over (fan i) p
       cell_of w i h e = ap cell' (sym e) ∙ new_cell i h
@@ -231,9 +262,12 @@ module _ (v : Vertices) (p : ℕ) (live : List ℕ) (cell : ℕ → Tetrahedron)
       by (inl g) (inr h) =
           absurd (mixed x h.0 j k g h.1 hj hk (said (cell x) (over (fan h.0) p) (old_cell x g) (cell_of y h.0 h.1 h.2)))
       by (inr g) (inl h) =
-          absurd (mixed y g.0 k j h g.1 hk hj (rotated_back (facet_of (over (fan g.0) p) j) (facet_of (cell y) k) (said (over (fan g.0) p) (cell y) (cell_of x g.0 g.1 g.2) (old_cell y h))))
+          absurd (mixed y g.0 k j h g.1 hk hj
+          (rotated_back (facet_of (over (fan g.0) p) j) (facet_of (cell y) k)
+          (said (over (fan g.0) p) (cell y) (cell_of x g.0 g.1 g.2) (old_cell y h))))
       by (inr g) (inr h) =
-          sym g.2 ∙ news g.0 h.0 j k g.1 h.1 hj hk (said (over (fan g.0) p) (over (fan h.0) p) (cell_of x g.0 g.1 g.2) (cell_of y h.0 h.1 h.2)) ∙ h.2
+          sym g.2 ∙ news g.0 h.0 j k g.1 h.1 hj hk
+          (said (over (fan g.0) p) (over (fan h.0) p) (cell_of x g.0 g.1 g.2) (cell_of y h.0 h.1 h.2)) ∙ h.2
 
   relinked : IsLinked v live' cell' next'
   relinked = record { back = every_back; walls = every_wall; apart = every_apart }
@@ -245,11 +279,15 @@ linked_with :
 linked_with v p live cell next l =
     record {
       back = l.back;
-      walls = λ x k i m e. (let w = l.walls x k i m e in record { first = w.first; second = w.second; third = w.third; agree = w.agree });
+      walls =
+          λ x k i m e.
+          (let w = l.walls x k i m e in record { first = w.first; second = w.second; third = w.third; agree = w.agree });
       apart = l.apart;
     }
 
 pub relink_law : RelinkLaw
 relink_law v p live cell next l absent removed n fan outer rims edges fresh live' cell' next' z =
-    let linked = relinked v p live cell next removed n fan outer fresh live' cell' next' (record { linked = l; absent = absent; rims = rims; edges = edges; names = z.names; links = z.links }) in
+    let linked =
+    relinked v p live cell next removed n fan outer fresh live' cell' next'
+    (record { linked = l; absent = absent; rims = rims; edges = edges; names = z.names; links = z.links }) in
     (linked, linked_with v p live' cell' next' linked)

@@ -28,7 +28,12 @@ absent v p n t c (inr (inr (inr e))) = not_in v p t.d n.out c.has_d (sym e)
 
 pub renew_law : RenewLaw
 renew_law v live cell next a p n removed c m fan outer rims x i t fresh live' cell' next' z =
-    record { boxed = boxed; linked = linked; cells = cells; listing = linked_listing (with_vertex v p) boxed g live' cell' next' linked cells (fresh 0) (z.names.made 0 given.some) }
+    record {
+      boxed = boxed;
+      linked = linked;
+      cells = cells;
+      listing = linked_listing (with_vertex v p) boxed g live' cell' next' linked cells (fresh 0) (z.names.made 0 given.some);
+    }
   where
     g : IsGeneric v
     g = tied_generic v a.boxed
@@ -40,11 +45,14 @@ renew_law v live cell next a p n removed c m fan outer rims x i t fresh live' ce
     given = rim_list_law v a.boxed p n live cell next a.linked a.cells removed c m fan outer rims x i t
 
     linked : IsLinked (with_vertex v p) live' cell' next'
-    linked = (relink_law v p live cell next a.linked (λ w h. absent v p n (cell w) (a.cells w h)) removed m fan outer rims given.edges fresh live' cell' next' z).1
+    linked =
+        (relink_law v p live cell next a.linked (λ w h. absent v p n (cell w) (a.cells w h)) removed m fan outer rims
+        given.edges fresh live' cell' next' z).1
 
     made : IsMade v p live cell live' cell'
     made w h =
-        ⊎_elim (λ (k : IsIn live w × (removed w ≡ false)). inl (w, k.0, ([], sym (z.names.kept_cell w k.0 k.1)), c.kept w k.0 k.1))
+        ⊎_elim
+        (λ (k : IsIn live w × (removed w ≡ false)). inl (w, k.0, ([], sym (z.names.kept_cell w k.0 k.1)), c.kept w k.0 k.1))
         (λ (k : (i : ℕ) × (i < m) × (fresh i ≡ w)).
         let f = fan k.0 in
         inr (f.a, f.b, f.c, given.facets.fan k.0 k.1, ([], sym (z.names.made_cell k.0 k.1) ∙ ap cell' k.2)))

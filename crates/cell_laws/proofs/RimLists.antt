@@ -1,6 +1,7 @@
 -- The facets at the rim of the cells in conflict are those of the fan, each once, and a cell's four facets are different.
 -- Stands on: Laws (the fan and the rim), Edges, Rotations and Sides.
-use Rattle.std.proofs.Common.{ℕ, zero, suc, ◌<◌, ◌≡◌, refl, sym, subst, ◌⊎◌, inl, inr, ⊎_elim, arith, Bool, true, false, Option, List, ℤ, pos, ◌<ℤ◌, ◌≤ℤ◌}
+use Rattle.std.proofs.Common.{ℕ, zero, suc, ◌<◌, ◌≡◌, refl, sym, subst, ◌⊎◌, inl, inr, ⊎_elim, arith, Bool, true, false, Option}
+use Rattle.std.proofs.Common.{List, ℤ, pos, ◌<ℤ◌, ◌≤ℤ◌}
 use Rattle.std.proofs.lemmas.Int.{ints}
 use Rattle.geo_sign.specs.Rational.{rational}
 use Rattle.geo_sign.specs.Tetrahedron.{Tetrahedron, tetrahedron, DirectedFacet, facet, facet_of, vertex_of, IsRotated}
@@ -15,7 +16,8 @@ use Rattle.cell_laws.specs.Lists.{IsIn, AreCells, IsFull}
 use Rattle.cell_laws.specs.Replacements.{IsOutside, IsAtRim, IsRimFacet, IsRimList}
 use Rattle.geo_sign.specs.Writings.{IsVertexOf, IsRewritten}
 use Rattle.geo_sign.proofs.CellRows.{distinct}
-use Rattle.geo_sign.proofs.Rewritings.{IsCellOf, orientation_at, rewritten_after, rewritten_back, same_cell, same_power, same_vertex}
+use Rattle.geo_sign.proofs.Rewritings.{IsCellOf, orientation_at, rewritten_after, rewritten_back, same_cell, same_power}
+use Rattle.geo_sign.proofs.Rewritings.{same_vertex}
 use Rattle.geo_sign.proofs.Rotations.{rotated_after, rotated_back, side_rotated}
 use Rattle.cell_laws.proofs.Edges.{fan_edges}
 use Rattle.cell_laws.proofs.Heights.{tied_generic}
@@ -62,7 +64,8 @@ one_side v t j k hj hk o r =
     let a = opposite v t j in
     let b = side_rotated v (facet_of t j) (facet_of t k) q r in
     ⊎_elim (λ (e : vertex_of t j ≡ vertex_of t k). one_vertex v t j k hj hk o e)
-    (λ (h : HasVertex (facet_of t k) (vertex_of t j)). let c = on_facet v (facet_of t k) (vertex_of t j) h in absurd (omega (arith, ints, a, b, c, o)))
+    (λ (h : HasVertex (facet_of t k) (vertex_of t j)). let c = on_facet v (facet_of t k) (vertex_of t j) h in
+    absurd (omega (arith, ints, a, b, c, o)))
     (opposite_or_on t k (vertex_of t j) (vertex_in t j))
 
 -- two cells with a facet in common are one
@@ -72,9 +75,14 @@ one_facet :
 one_facet v b t r ht hr j k hj hk q =
     let f = facet_of t j in
     let e = vertex_of r k in
-    let w : IsRewritten r (tetrahedron f.a f.b f.c e) = facet_of_same r (tetrahedron f.a f.b f.c e) (k, hk, rotated_back f (facet_of r k) q, refl) in
-    let d : vertex_of t j ≡ e = one_over v (tied_generic v b) f.a f.b f.c (vertex_of t j) e (same_cell v t (from_facet t j) (facet_same t j) ht) (same_cell v r (tetrahedron f.a f.b f.c e) w hr) in
-    rewritten_after t (tetrahedron f.a f.b f.c e) r (subst (λ (n : ℕ). IsRewritten t (tetrahedron f.a f.b f.c n)) d (facet_same t j)) (rewritten_back r (tetrahedron f.a f.b f.c e) w)
+    let w : IsRewritten r (tetrahedron f.a f.b f.c e) =
+    facet_of_same r (tetrahedron f.a f.b f.c e) (k, hk, rotated_back f (facet_of r k) q, refl) in
+    let d : vertex_of t j ≡ e =
+    one_over v (tied_generic v b) f.a f.b f.c (vertex_of t j) e (same_cell v t (from_facet t j) (facet_same t j) ht)
+    (same_cell v r (tetrahedron f.a f.b f.c e) w hr) in
+    rewritten_after t (tetrahedron f.a f.b f.c e) r
+    (subst (λ (n : ℕ). IsRewritten t (tetrahedron f.a f.b f.c n)) d (facet_same t j))
+    (rewritten_back r (tetrahedron f.a f.b f.c e) w)
 
 pub facet_law : FacetLaw
 facet_law v b t r ht hr = record { cell = one_facet v b t r ht hr; side = λ j k hj hk q. one_side v t j k hj hk ht.positive q }
@@ -95,8 +103,11 @@ rotated_vertex f g n (inr (inr e)) h = back (subst (λ (x : DirectedFacet). HasV
     back (inr (inr i)) = inr (inl i)
 
 -- ---- the facets at the rim are the fan's
-module _ (v : Vertices) (b : IsBoxed v) (p : ℕ) (new : IsNew v p) (live : List ℕ) (cell : ℕ → Tetrahedron) (next : ℕ → ℕ → Option ℕ) (l : IsLinked v live cell next) (cells : AreCells v live cell) (removed : ℕ → Bool) (c : AreConflicts v p live cell removed)
-    (n : ℕ) (fan : ℕ → DirectedFacet) (outer : ℕ → Option ℕ) (r : IsRimList live cell next removed n fan outer) (x : ℕ) (i : IsIn live x) (m : removed x ≡ true) where
+module _ (v : Vertices) (b : IsBoxed v) (p : ℕ) (new : IsNew v p) (live : List ℕ) (cell : ℕ → Tetrahedron)
+    (next : ℕ → ℕ → Option ℕ) (l : IsLinked v live cell next) (cells : AreCells v live cell) (removed : ℕ → Bool)
+    (c : AreConflicts v p live cell removed)
+    (n : ℕ) (fan : ℕ → DirectedFacet) (outer : ℕ → Option ℕ) (r : IsRimList live cell next removed n fan outer) (x : ℕ)
+    (i : IsIn live x) (m : removed x ≡ true) where
   rims : IsRimLaw v p live cell next
   rims = rim_law v b p live cell next l cells x i
 
@@ -127,8 +138,14 @@ module _ (v : Vertices) (b : IsBoxed v) (p : ℕ) (new : IsNew v p) (live : List
   every : (a b c : ℕ) → IsFan v p a b c → (i : ℕ) × (i < n) × IsRotated (fan i) (facet a b c)
   every a b c f =
       let z : IsFanAt v p live cell next a b c = rims.all a b c f in
-      let y = r.all z.at z.side z.listed (taken z.at z.listed z.conflict (removed z.at) refl) z.in_range (at_rim z.at z.side z.listed z.in_range z.rim) in
-      (y.0, y.1, rotated_after (fan y.0) (facet_of (cell z.at) z.side) (facet a b c) (rotated_back (facet_of (cell z.at) z.side) (fan y.0) y.2) z.rotated)
+      let y =
+      r.all z.at z.side z.listed (taken z.at z.listed z.conflict (removed z.at) refl) z.in_range
+      (at_rim z.at z.side z.listed z.in_range z.rim) in (
+        y.0,
+        y.1,
+        rotated_after (fan y.0) (facet_of (cell z.at) z.side) (facet a b c)
+            (rotated_back (facet_of (cell z.at) z.side) (fan y.0) y.2) z.rotated,
+      )
 
   facets : IsFanList v p n fan
   facets = record { fan = each; all = every; once = r.once }
@@ -146,12 +163,17 @@ module _ (v : Vertices) (b : IsBoxed v) (p : ℕ) (new : IsNew v p) (live : List
       (λ (z : (i j k : ℕ) × IsFan v p i j k × ((u ≡ i) ⊎ ((u ≡ j) ⊎ (u ≡ k)))).
       let y = every z.0 z.1 z.2 z.3 in
       let w : HasVertex (fan y.0) u = rotated_vertex (fan y.0) (facet z.0 z.1 z.2) u y.2 z.4 in
-      let q : ((i : ℕ) × (i < n) × HasVertex (fan i) u) ⊎ ((x : ℕ) × IsIn live x × (removed x ≡ false) × IsVertexOf (cell x) u) = inl (y.0, y.1, w) in q)
+      let q : ((i : ℕ) × (i < n) × HasVertex (fan i) u)
+      ⊎ ((x : ℕ) × IsIn live x × (removed x ≡ false) × IsVertexOf (cell x) u) = inl (y.0, y.1, w) in
+      q)
       (λ (z : (t : Tetrahedron) × IsCellOf v t × IsVertexOf t u × IsClearOf v p t).
       let y = full.all z.0.a z.0.b z.0.c z.0.d z.1 in
       let w : IsVertexOf (cell y.0) u = same_vertex u z.0 (cell y.0) (rewritten_back (cell y.0) z.0 y.2) z.2 in
       let clear : IsClearOf v p (cell y.0) = subst (λ (e : ℤ). pos 0 ≤ℤ e) (same_power v p (cell y.0) z.0 y.2) z.3 in
-      let q : ((i : ℕ) × (i < n) × HasVertex (fan i) u) ⊎ ((x : ℕ) × IsIn live x × (removed x ≡ false) × IsVertexOf (cell x) u) = inr (y.0, y.1, free y.0 y.1 clear (removed y.0) refl, w) in q)
+      let q : ((i : ℕ) × (i < n) × HasVertex (fan i) u)
+      ⊎ ((x : ℕ) × IsIn live x × (removed x ≡ false) × IsVertexOf (cell x) u) =
+      inr (y.0, y.1, free y.0 y.1 clear (removed y.0) refl, w) in
+      q)
       (vertex_law v b p new t.a t.b t.c t.d (cells x i) conflict u h)
     where
       free : (y : ℕ) → IsIn live y → IsClearOf v p (cell y) → (d : Bool) → removed y ≡ d → removed y ≡ false

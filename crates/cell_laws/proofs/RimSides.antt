@@ -1,6 +1,7 @@
 -- A list of the sides at the rim gives the facets at the rim, each once.
 -- Stands on: RimLists (a cell's four facets are different).
-use Rattle.std.proofs.Common.{ℕ, zero, suc, ◌<◌, ◌≤◌, ◌≡◌, ◌≢◌, refl, ap, sym, subst, ◌∙◌, inl, inr, ⊎_elim, arith, true, List, [], ◌∷◌, length, AllPairs, slice_index_or}
+use Rattle.std.proofs.Common.{ℕ, zero, suc, ◌<◌, ◌≤◌, ◌≡◌, ◌≢◌, refl, ap, sym, subst, ◌∙◌, inl, inr, ⊎_elim, arith, true, List}
+use Rattle.std.proofs.Common.{[], ◌∷◌, length, AllPairs, slice_index_or}
 use Rattle.std.proofs.lemmas.Bool.{cases_lt}
 use Rattle.geo_sign.specs.Tetrahedron.{facet_of, IsRotated}
 use Rattle.cell_laws.specs.LinkLaws.{RimOfLaw, side_of_list}
@@ -29,7 +30,8 @@ one_place :
     side_of_list xs i ≡ side_of_list xs j → i ≡ j
 one_place xs h i j hi hj e =
     ⊎_elim (λ (l : i < j). absurd (h i j (record { at = 0; side = 0 }) l hj e))
-    (λ (l : j ≤ i). ⊎_elim (λ (m : j < i). absurd (h j i (record { at = 0; side = 0 }) m hi (sym e))) (λ (m : i ≤ j). let r : i ≡ j = omega (arith, l, m) in r) (cases_lt j i)) (cases_lt i j)
+    (λ (l : j ≤ i). ⊎_elim (λ (m : j < i). absurd (h j i (record { at = 0; side = 0 }) m hi (sym e)))
+    (λ (m : i ≤ j). let r : i ≡ j = omega (arith, l, m) in r) (cases_lt j i)) (cases_lt i j)
 
 pub rim_of_law : RimOfLaw
 rim_of_law v live cell next l cells removed sides r = record { each = each; all = all; once = once }
@@ -43,7 +45,16 @@ rim_of_law v live cell next l cells removed sides r = record { each = each; all 
         (next (side_of_list sides i).at (side_of_list sides i).side)
     each i h =
         let s : Side = side_of_list sides i in
-        record { at = s.at; side = s.side; listed = r.listed s (at i h); taken = r.taken s (at i h); in_range = r.in_range s (at i h); rotated = inl refl; across = refl; outside = r.rim s (at i h) }
+        record {
+          at = s.at;
+          side = s.side;
+          listed = r.listed s (at i h);
+          taken = r.taken s (at i h);
+          in_range = r.in_range s (at i h);
+          rotated = inl refl;
+          across = refl;
+          outside = r.rim s (at i h);
+        }
 
     all :
         (x k : ℕ) → IsIn live x → removed x ≡ true → k < 4 → IsAtRim next removed x k → (i : ℕ) × (i < length sides) ×
@@ -61,7 +72,10 @@ rim_of_law v live cell next l cells removed sides r = record { each = each; all 
         let s : Side = side_of_list sides i in
         let t : Side = side_of_list sides j in
         let si = at i hi in let tj = at j hj in
-        let e : s.at ≡ t.at = l.apart s.at t.at s.side t.side (r.listed s si) (r.listed t tj) (r.in_range s si) (r.in_range t tj) q in
-        let q' : IsRotated (facet_of (cell t.at) s.side) (facet_of (cell t.at) t.side) = subst (λ (x : ℕ). IsRotated (facet_of (cell x) s.side) (facet_of (cell t.at) t.side)) e q in
-        let f : s.side ≡ t.side = one_side v (cell t.at) s.side t.side (r.in_range s si) (r.in_range t tj) (cells t.at (r.listed t tj)).positive q' in
+        let e : s.at ≡ t.at =
+        l.apart s.at t.at s.side t.side (r.listed s si) (r.listed t tj) (r.in_range s si) (r.in_range t tj) q in
+        let q' : IsRotated (facet_of (cell t.at) s.side) (facet_of (cell t.at) t.side) =
+        subst (λ (x : ℕ). IsRotated (facet_of (cell x) s.side) (facet_of (cell t.at) t.side)) e q in
+        let f : s.side ≡ t.side =
+        one_side v (cell t.at) s.side t.side (r.in_range s si) (r.in_range t tj) (cells t.at (r.listed t tj)).positive q' in
         one_place sides r.once i j hi hj (same_side s t e f)

@@ -1,6 +1,6 @@
--- The rows of cells, each four rising numbers. geo_sign says that a cell has one row, that `written` makes of the row the cell again,
--- and that two cells with one row are one. So names that stand for all cells have one row each, each row of a cell is that of one
--- name, and the rows of the list of all cells stand for all cells.
+-- The rows of cells, each four rising numbers. geo_sign says that a cell has one row, that `written` makes of the row the cell
+-- again, and that two cells with one row are one. So names that stand for all cells have one row each, each row of a cell is
+-- that of one name, and the rows of the list of all cells stand for all cells.
 --
 --   row_law              names that stand for all cells, and their rows
 --   list_law             the rows of the list of all cells
@@ -8,7 +8,8 @@
 --   listed, is_listed    the two ways to say that something is in a list
 --
 -- Stands on: the definitions and geo_sign.
-use Rattle.std.proofs.Common.{ℕ, zero, suc, ◌<◌, ◌≡◌, ◌≢◌, subst, inl, inr, ⊎_elim, arith, List, [], ◌∷◌, length, get_or, AllPairs, Contains}
+use Rattle.std.proofs.Common.{ℕ, zero, suc, ◌<◌, ◌≡◌, ◌≢◌, subst, inl, inr, ⊎_elim, arith, List, [], ◌∷◌, length, get_or}
+use Rattle.std.proofs.Common.{AllPairs, Contains}
 use Rattle.geo_sign.specs.Tetrahedron.{Tetrahedron, tetrahedron}
 use Rattle.geo_sign.specs.Vertices.{Vertices}
 use Rattle.geo_sign.specs.Cells.{IsBefore, IsCellList, IsRisingCell, written}
@@ -24,12 +25,17 @@ use Rattle.geo_sign.proofs.RowLaws.{cells_are_rows, one_row, rows_are_kept, rows
 pub row_law : RowLaw
 row_law v live cell list =
     record {
-      row = λ x i. (let k = list.full.cells x i in let r = rows_exist v (cell x) k.positive in (r.0, r.1, cells_are_rows.row v (cell x) r.0 k r.1.is));
+      row =
+          λ x i. (let k = list.full.cells x i in
+          let r = rows_exist v (cell x) k.positive in
+          (r.0, r.1, cells_are_rows.row v (cell x) r.0 k r.1.is));
       name = λ row h.
           (let w = written v row in
           let x = list.full.all w.a w.b w.c w.d (cells_are_rows.cell v row h) in
           (x.0, x.1, rows_are_kept w (cell x.0) row (rewritten_back (cell x.0) w x.2) (cells_are_rows.back v row h)));
-      one = λ row x y i j h k. list.once x y i j (rows_tell v (cell x) (cell y) row (list.full.cells x i).positive (list.full.cells y j).positive h k);
+      one =
+          λ row x y i j h k. list.once x y i j
+          (rows_tell v (cell x) (cell y) row (list.full.cells x i).positive (list.full.cells y j).positive h k);
     }
 
 -- ---- the list of all cells
@@ -52,8 +58,11 @@ found :
     (row : List ℕ) × IsIn rows row × IsRewritten (written v row) t
 found v rows h t k =
     let r = rows_exist v t k.positive in
-    let is : IsRowOf t r.0 = r.1.is in
-    (r.0, is_listed rows r.0 (h.all r.0 (cells_are_rows.row v t r.0 k is)), rewritten_back t (written v r.0) (rows_are_written v t r.0 k.positive is))
+    let is : IsRowOf t r.0 = r.1.is in (
+      r.0,
+      is_listed rows r.0 (h.all r.0 (cells_are_rows.row v t r.0 k is)),
+      rewritten_back t (written v r.0) (rows_are_written v t r.0 k.positive is),
+    )
 
 pub list_law : ListLaw
 list_law v rows h =
@@ -62,7 +71,9 @@ list_law v rows h =
         cells = λ row i. cells_are_rows.cell v row (rising row i);
         all = λ a b c d k. found v rows h (tetrahedron a b c d) k;
       };
-      once = λ row other i j w. one_row (written v other) other row (cells_are_rows.back v other (rising other j)) (rows_are_kept (written v row) (written v other) row w (cells_are_rows.back v row (rising row i)));
+      once =
+          λ row other i j w. one_row (written v other) other row (cells_are_rows.back v other (rising other j))
+          (rows_are_kept (written v row) (written v other) row w (cells_are_rows.back v row (rising row i)));
     }
   where
     rising : (row : List ℕ) → IsIn rows row → IsRisingCell v row

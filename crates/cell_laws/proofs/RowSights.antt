@@ -1,6 +1,6 @@
 -- Of the rows of the list of all cells exactly one is the cell of a scanner, and for each data point exactly one is towards the
--- scanner and one behind the sight. Some cell has the place in question, its row has it too, and two rows that pass the test are
--- one cell.
+-- scanner and one behind the sight. Some cell has the place in question, its row has it too, and two rows that pass the test
+-- are one cell.
 -- Stands on: RisingRows (rows stand for cells), SomeCell (a place lies in a cell), SightLaws and Sums.
 use Rattle.std.proofs.Common.{ℕ, ◌+◌, ◌≡◌, refl, ap, ◌∙◌, Bool, true, cond, List, [], ◌∷◌, count_by}
 use Rattle.std.proofs.lemmas.List.Sums.{sum_by-cons}
@@ -37,7 +37,9 @@ one_passes :
 one_passes v b rows h test q inside passes one =
     let z = place_law v b q inside in
     let w = list.full.all z.0.a z.0.b z.0.c z.0.d z.1 in
-    let has : test (written v w.0) ≡ true = passes (written v w.0) (list.full.cells w.0 w.1) (same_lying v q z.0 (written v w.0) (rewritten_back (written v w.0) z.0 w.2) z.2) in
+    let has : test (written v w.0) ≡ true =
+    passes (written v w.0) (list.full.cells w.0 w.1)
+    (same_lying v q z.0 (written v w.0) (rewritten_back (written v w.0) z.0 w.2) z.2) in
     counted (λ x. test (written v x)) rows
     ∙ only_one (λ x. 1) (λ x. test (written v x)) rows w.0 (once_pairs rows (rising_pairs rows h.rising)) w.1 has
     (λ x i t. list.once x w.0 i w.1 (one (written v x) (written v w.0) (list.full.cells x i) (list.full.cells w.0 w.1) t has))
@@ -53,8 +55,10 @@ row_sight_law v b rows h s k =
           one_passes v b rows h (is_cell_of v (displaced s)) (displaced s) (near_law s s k k).scanner_in_box x.lies x.one);
       towards = λ p has a.
           (let x : HasSightCells v p s = vertex_sight_law v b p has s k in
-          one_passes v b rows h (is_towards v p (displaced s)) (towards_place (v.at p) s) (near_law (v.at p) s (b.data_at p a has.0) k).towards_in_box x.towards x.one_towards);
+          one_passes v b rows h (is_towards v p (displaced s)) (towards_place (v.at p) s)
+          (near_law (v.at p) s (b.data_at p a has.0) k).towards_in_box x.towards x.one_towards);
       behind = λ p has a.
           (let x : HasSightCells v p s = vertex_sight_law v b p has s k in
-          one_passes v b rows h (is_behind v p (displaced s)) (behind_place (v.at p) s) (near_law (v.at p) s (b.data_at p a has.0) k).behind_in_box x.behind x.one_behind);
+          one_passes v b rows h (is_behind v p (displaced s)) (behind_place (v.at p) s)
+          (near_law (v.at p) s (b.data_at p a has.0) k).behind_in_box x.behind x.one_behind);
     }

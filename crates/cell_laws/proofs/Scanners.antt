@@ -1,9 +1,11 @@
--- A displaced scanner is a place in general position, and so is the one turned round; the places of walks are in the box, and the signs of
--- their sides are found from two signs. The side of a displaced scanner is a number to the base K = 2^64 of four digits, an orientation
--- and the three coordinates of the normal; all digits are small against the base, so it is zero only where all of them are, which is where
--- the three points are on one line. It is below the weight of the near places, so at these the point's own side decides first.
+-- A displaced scanner is a place in general position, and so is the one turned round; the places of walks are in the box, and
+-- the signs of their sides are found from two signs. The side of a displaced scanner is a number to the base K = 2^64 of four
+-- digits, an orientation and the three coordinates of the normal; all digits are small against the base, so it is zero only
+-- where all of them are, which is where the three points are on one line. It is below the weight of the near places, so at
+-- these the point's own side decides first.
 -- Stands on: geo_sign's digits and bounds, Near and Spread.
-use Rattle.std.proofs.Common.{ℕ, zero, suc, ◌*◌, ◌^◌, ◌<◌, ◌≤◌, ◌≡◌, refl, ap, ap₂, sym, ◌∙◌, arith, ℤ, pos, negsuc, neg_ℤ, ◌+ℤ◌, ◌-ℤ◌, ◌*ℤ◌, unsigned_abs, [], ◌∷◌}
+use Rattle.std.proofs.Common.{ℕ, zero, suc, ◌*◌, ◌^◌, ◌<◌, ◌≤◌, ◌≡◌, refl, ap, ap₂, sym, ◌∙◌, arith, ℤ, pos, negsuc, neg_ℤ}
+use Rattle.std.proofs.Common.{◌+ℤ◌, ◌-ℤ◌, ◌*ℤ◌, unsigned_abs, [], ◌∷◌}
 use Rattle.std.proofs.lemmas.Int.{ints}
 use Rattle.geo_sign.specs.Polynomial.{constant, negation, product, sum, variable}
 use Rattle.geo_sign.proofs.Ring.{ring}
@@ -32,14 +34,19 @@ pub side_reversed : (a b c : Point) (q : RationalPoint) → side a b c (reversed
 unfolding side
 side_reversed a b c q =
     ring (coordinates a (coordinates b (coordinates c (coordinates q.at (q.over ∷ [])))))
-    (side' (symbols 0) (symbols 3) (symbols 6) (record { at = record { x = negation (variable 9); y = negation (variable 10); z = negation (variable 11) }; over = negation (variable 12) }))
+    (side' (symbols 0) (symbols 3) (symbols 6)
+    (record {
+      at = record { x = negation (variable 9); y = negation (variable 10); z = negation (variable 11) };
+      over = negation (variable 12);
+    }))
     (negation (side' (symbols 0) (symbols 3) (symbols 6) (record { at = symbols 9; over = variable 12 }))) tt
 
 -- ---- bounds
 dot_within : (n v : Point) → IsWithin (2 ^ 49) n → IsWithin (2 ^ 24) v → unsigned_abs (dot n v) ≤ 3 * 2 ^ 73
 dot_within n v h k =
     abs_add (n.x *ℤ v.x +ℤ n.y *ℤ v.y) (n.z *ℤ v.z) (2 * 2 ^ 73) (2 ^ 73)
-    (abs_add (n.x *ℤ v.x) (n.y *ℤ v.y) (2 ^ 73) (2 ^ 73) (abs_mul n.x v.x (2 ^ 49) (2 ^ 24) h.x_within k.x_within) (abs_mul n.y v.y (2 ^ 49) (2 ^ 24) h.y_within k.y_within))
+    (abs_add (n.x *ℤ v.x) (n.y *ℤ v.y) (2 ^ 73) (2 ^ 73) (abs_mul n.x v.x (2 ^ 49) (2 ^ 24) h.x_within k.x_within)
+    (abs_mul n.y v.y (2 ^ 49) (2 ^ 24) h.y_within k.y_within))
     (abs_mul n.z v.z (2 ^ 49) (2 ^ 24) h.z_within k.z_within)
 
 pub scanner_bounded :
@@ -63,14 +70,19 @@ flat_side a b c q h k l =
     ap (λ (n : ℤ). n *ℤ x +ℤ (cross (step a b) (step a c)).y *ℤ y +ℤ (cross (step a b) (step a c)).z *ℤ z) h
     ∙ ap (λ (n : ℤ). pos 0 *ℤ x +ℤ n *ℤ y +ℤ (cross (step a b) (step a c)).z *ℤ z) k
     ∙ ap (λ (n : ℤ). pos 0 *ℤ x +ℤ pos 0 *ℤ y +ℤ n *ℤ z) l
-    ∙ ring (x ∷ y ∷ z ∷ []) (sum (sum (product (constant (pos 0)) (variable 0)) (product (constant (pos 0)) (variable 1))) (product (constant (pos 0)) (variable 2))) (constant (pos 0)) tt
+    ∙ ring (x ∷ y ∷ z ∷ [])
+    (sum (sum (product (constant (pos 0)) (variable 0)) (product (constant (pos 0)) (variable 1)))
+    (product (constant (pos 0)) (variable 2))) (constant (pos 0)) tt
 
 pub scanner_spread : (v : Vertices) → IsBoxed v → (s : Point) → IsSpread v (displaced s)
 scanner_spread v x s =
     record {
       at = λ a b c d ha hb hc n e.
-          (let l = spread_law (v.at a) (v.at b) (v.at c) s (vertex_within v x a ha) (vertex_within v x b hb) (vertex_within v x c hc) e in
-          n (flat_side (v.at a) (v.at b) (v.at c) (rational d) (ap (λ (q : Point). q.x) l) (ap (λ (q : Point). q.y) l) (ap (λ (q : Point). q.z) l)));
+          (let l =
+          spread_law (v.at a) (v.at b) (v.at c) s (vertex_within v x a ha) (vertex_within v x b hb)
+          (vertex_within v x c hc) e in
+          n (flat_side (v.at a) (v.at b) (v.at c) (rational d) (ap (λ (q : Point). q.x) l) (ap (λ (q : Point). q.y) l)
+          (ap (λ (q : Point). q.z) l)));
     }
 
 neg_none : (z : ℤ) → neg_ℤ z ≡ pos 0 → z ≡ pos 0
@@ -83,40 +95,65 @@ scanner_free v x s h =
       bounded = λ t c k.
           (let f : DirectedFacet = facet_of t k in
           let b = facet_below v t c k in
-          scanner_bounded (v.at f.a) (v.at f.b) (v.at f.c) s (vertex_within v x f.a b.a_below) (vertex_within v x f.b b.b_below) (vertex_within v x f.c b.c_below) h);
+          scanner_bounded (v.at f.a) (v.at f.b) (v.at f.c) s (vertex_within v x f.a b.a_below) (vertex_within v x f.b b.b_below)
+          (vertex_within v x f.c b.c_below) h);
     }
 
 pub reversed_free : (v : Vertices) (q : RationalPoint) (t : ℕ) → IsFree v q t → IsFree v (reversed q) t
 reversed_free v q t h =
     record {
-      apart = λ r c k e. (let f : DirectedFacet = facet_of r k in h.apart r c k (neg_none (side_of v f q) (sym (side_reversed (v.at f.a) (v.at f.b) (v.at f.c) q) ∙ e)));
-      bounded = λ r c k. (let f : DirectedFacet = facet_of r k in let e = side_reversed (v.at f.a) (v.at f.b) (v.at f.c) q in let b = h.bounded r c k in omega (arith, ints, e, b));
+      apart =
+          λ r c k e.
+          (let f : DirectedFacet = facet_of r k in
+          h.apart r c k (neg_none (side_of v f q) (sym (side_reversed (v.at f.a) (v.at f.b) (v.at f.c) q) ∙ e)));
+      bounded =
+          λ r c k. (let f : DirectedFacet = facet_of r k in
+          let e = side_reversed (v.at f.a) (v.at f.b) (v.at f.c) q in
+          let b = h.bounded r c k in
+          omega (arith, ints, e, b));
     }
 
 -- ---- these places are in the box
 pub scanner_in_box : (s : Point) → IsWithin DATA_LIMIT s → IsInBox (displaced s)
 scanner_in_box s h =
     let hx = h.x_within in let hy = h.y_within in let hz = h.z_within in
-    record { over_positive = omega (arith, ints); x_within = omega (arith, ints, hx); y_within = omega (arith, ints, hy); z_within = omega (arith, ints, hz) }
+    record {
+      over_positive = omega (arith, ints);
+      x_within = omega (arith, ints, hx);
+      y_within = omega (arith, ints, hy);
+      z_within = omega (arith, ints, hz);
+    }
 
 near_in_box : (p s : Point) → IsWithin DATA_LIMIT p → IsWithin DATA_LIMIT s → IsInBox (towards_place p s)
 near_in_box p s g h =
     let hx = h.x_within in let hy = h.y_within in let hz = h.z_within in
     let gx = g.x_within in let gy = g.y_within in let gz = g.z_within in
-    record { over_positive = omega (arith, ints); x_within = omega (arith, ints, hx, gx); y_within = omega (arith, ints, hy, gy); z_within = omega (arith, ints, hz, gz) }
+    record {
+      over_positive = omega (arith, ints);
+      x_within = omega (arith, ints, hx, gx);
+      y_within = omega (arith, ints, hy, gy);
+      z_within = omega (arith, ints, hz, gz);
+    }
 
 away_in_box : (p s : Point) → IsWithin DATA_LIMIT p → IsWithin DATA_LIMIT s → IsInBox (behind_place p s)
 away_in_box p s g h =
     let hx = h.x_within in let hy = h.y_within in let hz = h.z_within in
     let gx = g.x_within in let gy = g.y_within in let gz = g.z_within in
-    record { over_positive = omega (arith, ints); x_within = omega (arith, ints, hx, gx); y_within = omega (arith, ints, hy, gy); z_within = omega (arith, ints, hz, gz) }
+    record {
+      over_positive = omega (arith, ints);
+      x_within = omega (arith, ints, hx, gx);
+      y_within = omega (arith, ints, hy, gy);
+      z_within = omega (arith, ints, hz, gz);
+    }
 
 -- ---- the sign of such a place's side
 near_sign :
     (a b c p s : Point) → unsigned_abs (side a b c (displaced s)) < weight →
     sign_of (side a b c (towards_place p s)) ≡ first_sign (sign_of (orientation a b c p)) (sign_of (side a b c (displaced s)))
 near_sign a b c p s h =
-    ap sign_of (side_mix a b c p (displaced s) (pos weight) (pos 1) ∙ ap₂ (λ x y. pos weight *ℤ x +ℤ y) (point_side a b c p) (one_times (side a b c (displaced s))))
+    ap sign_of
+    (side_mix a b c p (displaced s) (pos weight) (pos 1)
+    ∙ ap₂ (λ x y. pos weight *ℤ x +ℤ y) (point_side a b c p) (one_times (side a b c (displaced s))))
     ∙ leading_digit weight (orientation a b c p) (side a b c (displaced s)) h
 
 sign_opposite : (z : ℤ) → sign_of (neg_ℤ z) ≡ opposite_sign (sign_of z)
@@ -129,7 +166,10 @@ away_sign :
     first_sign (sign_of (orientation a b c p)) (opposite_sign (sign_of (side a b c (displaced s))))
 away_sign a b c p s h =
     let z = side a b c (displaced s) in
-    ap sign_of (side_mix a b c p (reversed (displaced s)) (pos weight) (pos 1) ∙ ap₂ (λ x y. pos weight *ℤ x +ℤ y) (point_side a b c p) (one_times (side a b c (reversed (displaced s))) ∙ side_reversed a b c (displaced s)))
+    ap sign_of
+    (side_mix a b c p (reversed (displaced s)) (pos weight) (pos 1)
+    ∙ ap₂ (λ x y. pos weight *ℤ x +ℤ y) (point_side a b c p)
+    (one_times (side a b c (reversed (displaced s))) ∙ side_reversed a b c (displaced s)))
     ∙ leading_digit weight (orientation a b c p) (neg_ℤ z) (below z h)
     ∙ ap (λ t. first_sign (sign_of (orientation a b c p)) t) (sign_opposite z)
   where

@@ -1,6 +1,7 @@
 -- The laws of walks, of the cells of scanners and sights, and of a cell on a sight, as specs/WalkLaws states them.
 -- Stands on: Walk, Near, Scanners, SightSteps and SightTests.
-use Rattle.std.proofs.Common.{ℕ, zero, suc, ◌<◌, ◌≡◌, refl, sym, ◌∙◌, ◌⊎◌, inl, inr, ⊎_elim, arith, true, ℤ, pos, neg_ℤ, ◌≤ℤ◌, ◌<ℤ◌, Option, Some, None, List}
+use Rattle.std.proofs.Common.{ℕ, zero, suc, ◌<◌, ◌≡◌, refl, sym, ◌∙◌, ◌⊎◌, inl, inr, ⊎_elim, arith, true, ℤ, pos, neg_ℤ, ◌≤ℤ◌}
+use Rattle.std.proofs.Common.{◌<ℤ◌, Option, Some, None, List}
 use Rattle.std.proofs.lemmas.Int.{ints, by_lt_z}
 use Rattle.geo_sign.specs.Rational.{RationalPoint, displaced, rational}
 use Rattle.geo_sign.specs.Tetrahedron.{Tetrahedron, DirectedFacet, facet_of, turned}
@@ -46,7 +47,8 @@ met_behind v b live cell next l cells q h x k i m n = by (next x k) refl
     by None e =
         let f = facet_of (cell x) k in
         let t = from_facet (cell x) k in
-        let o = wall_outer v b t.a t.b t.c t.d (same_cell v (cell x) t (facet_same (cell x) k) (cells x i)) (l.walls x k i m e) in
+        let o =
+        wall_outer v b t.a t.b t.c t.d (same_cell v (cell x) t (facet_same (cell x) k) (cells x i)) (l.walls x k i m e) in
         let z = box_inside v b q h f.a f.b f.c o in
         absurd (omega (arith, ints, z, n))
     by (Some y) e = (y, e, l.back x k y i m e)
@@ -97,7 +99,9 @@ scanner_law v b s h =
     let f = scanner_free v b s (in_box s h) in
     record {
       lies = λ t c l. strict v (displaced s) f t c l;
-      one = λ t r c d i j. holds_one v g t r (displaced s) c d (weak v t (displaced s) (strictly_of v (displaced s) t i)) (strictly_of v (displaced s) r j);
+      one =
+          λ t r c d i j. holds_one v g t r (displaced s) c d (weak v t (displaced s) (strictly_of v (displaced s) t i))
+          (strictly_of v (displaced s) r j);
       some =
           (let z = place_law v b (displaced s) (scanner_in_box s h) in
           (z.0, z.1, strict v (displaced s) f z.0 z.1 z.2));
@@ -110,7 +114,9 @@ vertex_sight_law v b p hp s h =
       towards = λ t c l. towards_is v p S t (near_towards v x S weight f t p hp c l);
       one_towards = λ t r c d i j. one_towards v g S weight f t r p c d (towards_of v p S t c i) (towards_of v p S r d j);
       behind = behind;
-      one_behind = λ t r c d i j. one_towards v g R weight e t r p c d (towards_of v p R t c (sym (behind_is v p S t) ∙ i)) (towards_of v p R r d (sym (behind_is v p S r) ∙ j));
+      one_behind =
+          λ t r c d i j. one_towards v g R weight e t r p c d (towards_of v p R t c (sym (behind_is v p S t) ∙ i))
+          (towards_of v p R r d (sym (behind_is v p S r) ∙ j));
       some = λ a.
           (let n = near_law (v.at p) s (b.data_at p a hp.0) h in
           let y = place_law v b (towards_place (v.at p) s) n.towards_in_box in
@@ -141,7 +147,8 @@ vertex_sight_law v b p hp s h =
 
 -- ---- a cell on a sight
 -- who comes out of the turned facet leaves through the facet
-pub left_of : (v : Vertices) (p : ℕ) (s : RationalPoint) (f : DirectedFacet) → is_crossed v p s (turned f) ≡ true → IsLeft v p s f
+pub left_of : (v : Vertices) (p : ℕ) (s : RationalPoint) (f : DirectedFacet) → is_crossed v p s (turned f) ≡ true
+    → IsLeft v p s f
 left_of v p s f h =
     let c : IsCrossed v p s (turned f) = crossed_of v p s (turned f) h in
     let x = c.ahead in let y = c.behind in let i = c.ab in let j = c.bc in let k = c.ca in
@@ -149,18 +156,34 @@ left_of v p s f h =
     let ti = turned_side (v.at p) (v.at f.c) (v.at f.a) s in
     let tj = turned_side (v.at p) (v.at f.b) (v.at f.c) s in
     let tk = turned_side (v.at p) (v.at f.a) (v.at f.b) s in
-    record { ahead = omega (arith, ints, t, x); behind = omega (arith, ints, u, y); ab = omega (arith, ints, tk, k); bc = omega (arith, ints, tj, j); ca = omega (arith, ints, ti, i) }
+    record {
+      ahead = omega (arith, ints, t, x);
+      behind = omega (arith, ints, u, y);
+      ab = omega (arith, ints, tk, k);
+      bc = omega (arith, ints, tj, j);
+      ca = omega (arith, ints, ti, i);
+    }
 
-pub left_is : (v : Vertices) (p : ℕ) (s : RationalPoint) (f : DirectedFacet) → IsLeft v p s f → is_crossed v p s (turned f) ≡ true
+pub left_is : (v : Vertices) (p : ℕ) (s : RationalPoint) (f : DirectedFacet) → IsLeft v p s f
+    → is_crossed v p s (turned f) ≡ true
 left_is v p s f h = crossed_is v p s (turned f) (left_turned v p s f (turned f) (inl refl) h)
 
 pub sight_law : SightLaw
 sight_law v b p hp s h t c =
     record {
       exit_or_end = exit;
-      not_both = λ k l i. (let a = (left_of v p S (facet_of t k) l).ahead in let z = (strictly_of v S t i).at k in absurd (omega (arith, ints, a, z)));
-      one_exit = λ j k hj hk x y. one_exit (starts v p t) (ends v S t) j k hj hk (left_exit v p S t j hj c.positive (left_of v p S (facet_of t j) x)) (left_exit v p S t k hk c.positive (left_of v p S (facet_of t k) y));
-      one_entry = λ j k hj hk x y. one_entry (starts v p t) (ends v S t) j k hj hk (entry_of v p S t j hj c.positive (crossed_of v p S (facet_of t j) x)) (entry_of v p S t k hk c.positive (crossed_of v p S (facet_of t k) y));
+      not_both =
+          λ k l i. (let a = (left_of v p S (facet_of t k) l).ahead in
+          let z = (strictly_of v S t i).at k in
+          absurd (omega (arith, ints, a, z)));
+      one_exit =
+          λ j k hj hk x y. one_exit (starts v p t) (ends v S t) j k hj hk
+          (left_exit v p S t j hj c.positive (left_of v p S (facet_of t j) x))
+          (left_exit v p S t k hk c.positive (left_of v p S (facet_of t k) y));
+      one_entry =
+          λ j k hj hk x y. one_entry (starts v p t) (ends v S t) j k hj hk
+          (entry_of v p S t j hj c.positive (crossed_of v p S (facet_of t j) x))
+          (entry_of v p S t k hk c.positive (crossed_of v p S (facet_of t k) y));
     }
   where
     S : RationalPoint
@@ -170,13 +193,18 @@ sight_law v b p hp s h t c =
         (i j : ℤ) → pos 0 <ℤ i → pos 0 ≤ℤ j → IsPast (starts v p t) (ends v S t) i j →
         ((k : ℕ) × (k < 4) × (is_crossed v p S (turned (facet_of t k)) ≡ true)) ⊎ (is_cell_of v S t ≡ true)
     on i j hi hj past =
-        ⊎_elim (λ (z : (l : ℕ) × (l < 4) × IsExit (starts v p t) (ends v S t) l). inl (z.0, z.1, left_is v p S (facet_of t z.0) (exit_left v p S t z.0 z.1 c.positive z.2)))
+        ⊎_elim (λ (z : (l : ℕ) × (l < 4) × IsExit (starts v p t) (ends v S t) l).
+        inl (z.0, z.1, left_is v p S (facet_of t z.0) (exit_left v p S t z.0 z.1 c.positive z.2)))
         (λ (z : (k : ℕ) → k < 4 → pos 0 <ℤ ends v S t k). inr (strictly_is v S t (all_inside v t S z)))
-        (exit_or_end (starts v p t) (ends v S t) i j hi hj past (ends_apart v S t (scanner_spread v b s) c) (leads_apart v p S t (scanner_spread v b s) hp.0 c))
+        (exit_or_end (starts v p t) (ends v S t) i j hi hj past (ends_apart v S t (scanner_spread v b s) c)
+        (leads_apart v p S t (scanner_spread v b s) hp.0 c))
 
-    exit : IsOnSight v p S t → ((k : ℕ) × (k < 4) × (is_crossed v p S (turned (facet_of t k)) ≡ true)) ⊎ (is_cell_of v S t ≡ true)
+    exit : IsOnSight v p S t
+        → ((k : ℕ) × (k < 4) × (is_crossed v p S (turned (facet_of t k)) ≡ true)) ⊎ (is_cell_of v S t ≡ true)
     exit (inl e) =
-        on (pos 1) (pos 0) (let r : pos 0 <ℤ pos 1 = omega (arith, ints) in r) (let r : pos 0 ≤ℤ pos 0 = omega (arith, ints) in r) (towards_past v p S t c.positive (towards_of v p S t c e))
+        on (pos 1) (pos 0) (let r : pos 0 <ℤ pos 1 = omega (arith, ints) in r)
+        (let r : pos 0 ≤ℤ pos 0 = omega (arith, ints) in r) (towards_past v p S t c.positive (towards_of v p S t c e))
     exit (inr (k, m, e)) =
         let n = entry_of v p S t k m c.positive (crossed_of v p S (facet_of t k) e) in
-        on (ends v S t k) (neg_ℤ (starts v p t k)) n.end (at_least (neg_ℤ (starts v p t k)) (neg_above (starts v p t k) n.start)) (entry_past v p S t k n)
+        on (ends v S t k) (neg_ℤ (starts v p t k)) n.end
+        (at_least (neg_ℤ (starts v p t k)) (neg_above (starts v p t k) n.start)) (entry_past v p S t k n)

@@ -1,6 +1,7 @@
 -- The way of a sight over linked cells, as specs/WalkLaws states it.
 -- Stands on: SightLaws, SightSteps (the order) and Complete (each crossed facet is met).
-use Rattle.std.proofs.Common.{ℕ, zero, suc, ◌<◌, ◌≡◌, refl, ap, ap₂, sym, subst, ◌∙◌, ◌+◌, inl, inr, ⊎_elim, arith, Bool, true, false, true≢false, ◌&&◌, eqb, Option, Some, List, [], ◌∷◌}
+use Rattle.std.proofs.Common.{ℕ, zero, suc, ◌<◌, ◌≡◌, refl, ap, ap₂, sym, subst, ◌∙◌, ◌+◌, inl, inr, ⊎_elim, arith, Bool, true}
+use Rattle.std.proofs.Common.{false, true≢false, ◌&&◌, eqb, Option, Some, List, [], ◌∷◌}
 use Rattle.std.proofs.lemmas.Bool.{eqb-true}
 use Rattle.std.proofs.lemmas.Int.{ints}
 use Rattle.geo_sign.specs.Point.{Point, IsWithin}
@@ -50,7 +51,8 @@ of_passage cell (x ∷ xs) z (inl e) = (x, inl refl, e)
 of_passage cell (x ∷ xs) z (inr h) = let r = of_passage cell xs z h in (r.0, inr r.1, r.2)
 
 -- ---- what the laws of links and sights need, at once
-record AreGiven (v : Vertices) (live : List ℕ) (cell : ℕ → Tetrahedron) (next : ℕ → ℕ → Option ℕ) (p : ℕ) (s : Point) : Type 0 where
+record AreGiven (v : Vertices) (live : List ℕ) (cell : ℕ → Tetrahedron) (next : ℕ → ℕ → Option ℕ) (p : ℕ)
+    (s : Point) : Type 0 where
   boxed : IsBoxed v
   linked : IsLinked v live cell next
   cells : AreCells v live cell
@@ -67,7 +69,9 @@ step_crossed :
     (v : Vertices) (live : List ℕ) (cell : ℕ → Tetrahedron) (next : ℕ → ℕ → Option ℕ) (p : ℕ) (s : RationalPoint) (x : ℕ)
     (c : Side) → IsStep v live cell next p s x c → is_crossed v p s (entered cell c) ≡ true
 step_crossed v live cell next p s x c h =
-    crossed_is v p s (entered cell c) (left_turned v p s (facet_of (cell x) h.leaving) (entered cell c) h.turned (left_of v p s (facet_of (cell x) h.leaving) h.left))
+    crossed_is v p s (entered cell c)
+    (left_turned v p s (facet_of (cell x) h.leaving) (entered cell c) h.turned
+    (left_of v p s (facet_of (cell x) h.leaving) h.left))
 
 -- ---- there is a way to the end
 abbrev HasPath :
@@ -88,10 +92,20 @@ path_from v live cell next p s g (suc fuel) x i on f =
     let met = met_behind v g.boxed live cell next g.linked g.cells S box x z.0 i z.1 left.ahead in
     let back : IsBackAt live cell (facet_of (cell x) z.0) met.0 = met.2 in
     let c : Side = record { at = met.0; side = back.side } in
-    let step : IsStep v live cell next p S x c = record { leaving = z.0; leaving_below = z.1; left = z.2; across = met.1; listed = back.listed; side_below = back.in_range; turned = back.turned } in
+    let step : IsStep v live cell next p S x c = record {
+      leaving = z.0;
+      leaving_below = z.1;
+      left = z.2;
+      across = met.1;
+      listed = back.listed;
+      side_below = back.in_range;
+      turned = back.turned;
+    } in
     let walk : IsWalk v live cell next S = step_law v g.boxed live cell next g.linked g.cells S box in
     let falls = walk.falls x z.0 met.0 i z.1 left.ahead met.1 in
-    let rest = path_from v live cell next p s g fuel met.0 back.listed (inr (back.side, back.in_range, step_crossed v live cell next p S x c step)) (omega (arith, f, falls)) in
+    let rest =
+    path_from v live cell next p s g fuel met.0 back.listed
+    (inr (back.side, back.in_range, step_crossed v live cell next p S x c step)) (omega (arith, f, falls)) in
     let r : HasPath v live cell next p S x = (c ∷ rest.0, (step, rest.1)) in r)
     (λ (e : is_cell_of v S (cell x) ≡ true). let r : HasPath v live cell next p S x = ([], e) in r)
     ((passed v live cell next p s g x i).exit_or_end on)
@@ -105,18 +119,25 @@ one_path :
     AreGiven v live cell next p s → (x : ℕ) (cs ds : List Side) → IsIn live x →
     IsPath v live cell next p (displaced s) x cs → IsPath v live cell next p (displaced s) x ds → cs ≡ ds
 one_path v live cell next p s g x [] [] i h k = refl
-one_path v live cell next p s g x [] (d ∷ ds) i h k = absurd ((passed v live cell next p s g x i).not_both k.0.leaving k.0.left h)
-one_path v live cell next p s g x (c ∷ cs) [] i h k = absurd ((passed v live cell next p s g x i).not_both h.0.leaving h.0.left k)
+one_path v live cell next p s g x [] (d ∷ ds) i h k =
+    absurd ((passed v live cell next p s g x i).not_both k.0.leaving k.0.left h)
+one_path v live cell next p s g x (c ∷ cs) [] i h k =
+    absurd ((passed v live cell next p s g x i).not_both h.0.leaving h.0.left k)
 one_path v live cell next p s g x (c ∷ cs) (d ∷ ds) i h k =
     let S : RationalPoint = displaced s in
     let t : IsStep v live cell next p S x c = h.0 in
     let u : IsStep v live cell next p S x d = k.0 in
-    let e : t.leaving ≡ u.leaving = (passed v live cell next p s g x i).one_exit t.leaving u.leaving t.leaving_below u.leaving_below t.left u.left in
+    let e : t.leaving ≡ u.leaving =
+    (passed v live cell next p s g x i).one_exit t.leaving u.leaving t.leaving_below u.leaving_below t.left u.left in
     let a : c.at ≡ d.at = some_same c.at d.at (sym t.across ∙ ap (next x) e ∙ u.across) in
-    let cross : is_crossed v p S (facet_of (cell c.at) d.side) ≡ true = subst (λ (n : ℕ). is_crossed v p S (facet_of (cell n) d.side) ≡ true) (sym a) (step_crossed v live cell next p S x d u) in
-    let b : c.side ≡ d.side = (passed v live cell next p s g c.at t.listed).one_entry c.side d.side t.side_below u.side_below (step_crossed v live cell next p S x c t) cross in
+    let cross : is_crossed v p S (facet_of (cell c.at) d.side) ≡ true =
+    subst (λ (n : ℕ). is_crossed v p S (facet_of (cell n) d.side) ≡ true) (sym a) (step_crossed v live cell next p S x d u) in
+    let b : c.side ≡ d.side =
+    (passed v live cell next p s g c.at t.listed).one_entry c.side d.side t.side_below u.side_below
+    (step_crossed v live cell next p S x c t) cross in
     let same : c ≡ d = same_side c d a b in
-    let rest : cs ≡ ds = one_path v live cell next p s g c.at cs ds t.listed h.1 (subst (λ (n : ℕ). IsPath v live cell next p S n ds) (sym a) k.1) in
+    let rest : cs ≡ ds =
+    one_path v live cell next p s g c.at cs ds t.listed h.1 (subst (λ (n : ℕ). IsPath v live cell next p S n ds) (sym a) k.1) in
     ap (λ z. z ∷ cs) same ∙ ap (λ z. d ∷ z) rest
 
 -- ---- what stands in it
@@ -127,7 +148,8 @@ path_crossed :
 path_crossed v live cell next p s x [] h c i = absurd i
 path_crossed v live cell next p s x (d ∷ ds) h c (inl e) =
     let t : IsStep v live cell next p s x d = h.0 in
-    subst (λ (z : Side). IsIn live z.at × (z.side < 4) × (is_crossed v p s (entered cell z) ≡ true)) e (t.listed, t.side_below, step_crossed v live cell next p s x d t)
+    subst (λ (z : Side). IsIn live z.at × (z.side < 4) × (is_crossed v p s (entered cell z) ≡ true)) e
+    (t.listed, t.side_below, step_crossed v live cell next p s x d t)
 path_crossed v live cell next p s x (d ∷ ds) h c (inr i) = path_crossed v live cell next p s d.at ds h.1 c i
 
 way_of :
@@ -137,27 +159,39 @@ way_of :
 way_of v live cell next cells p s x [] h = λ k b. (strictly_of v s (cell x) h).at k
 way_of v live cell next cells p s x (c ∷ cs) h =
     let t : IsStep v live cell next p s x c = h.0 in (
-      record { is_cell = cells c.at t.listed; below = t.side_below; leaving = t.leaving; leaving_below = t.leaving_below; turned = t.turned; left = left_of v p s (facet_of (cell x) t.leaving) t.left },
+      record {
+        is_cell = cells c.at t.listed;
+        below = t.side_below;
+        leaving = t.leaving;
+        leaving_below = t.leaving_below;
+        turned = t.turned;
+        left = left_of v p s (facet_of (cell x) t.leaving) t.left;
+      },
       way_of v live cell next cells p s c.at cs h.1,
     )
 
 path_all :
-    (v : Vertices) (live : List ℕ) (cell : ℕ → Tetrahedron) (next : ℕ → ℕ → Option ℕ) (p : ℕ) (s : Point) →
-    AreGiven v live cell next p s → (x : ℕ) (cs : List Side) → IsIn live x → is_towards v p (displaced s) (cell x) ≡ true →
-    IsPath v live cell next p (displaced s) x cs → (c : Side) → IsIn live c.at → c.side < 4 → is_crossed v p (displaced s) (entered cell c) ≡ true → IsIn cs c
+    (v : Vertices) (live : List ℕ) (cell : ℕ → Tetrahedron) (next : ℕ → ℕ → Option ℕ) (p : ℕ) (s : Point)
+    → AreGiven v live cell next p s → (x : ℕ) (cs : List Side) → IsIn live x → is_towards v p (displaced s) (cell x) ≡ true
+    → IsPath v live cell next p (displaced s) x cs → (c : Side) → IsIn live c.at → c.side < 4
+    → is_crossed v p (displaced s) (entered cell c) ≡ true → IsIn cs c
 path_all v live cell next p s g x cs i tow h c j b cr =
     let S : RationalPoint = displaced s in
     let gen = tied_generic v g.boxed in
     let given : IsGiven (passages cell cs) (cell c.at) c.side =
-    all_given v gen p S _ (scanner_free v g.boxed s (in_box s g.within)) (cell x) (passages cell cs) (g.cells x i) (towards_of v p S (cell x) (g.cells x i) tow) (way_of v live cell next g.cells p S x cs h) (cell c.at) c.side (g.cells c.at j) b
+    all_given v gen p S _ (scanner_free v g.boxed s (in_box s g.within)) (cell x) (passages cell cs) (g.cells x i)
+    (towards_of v p S (cell x) (g.cells x i) tow) (way_of v live cell next g.cells p S x cs h) (cell c.at) c.side
+    (g.cells c.at j) b
     (crossed_of v p S (entered cell c) cr) in
     let z = of_passage cell cs given.0 given.1 in
     let d : Side = z.0 in
     let known = path_crossed v live cell next p S x cs h d z.1 in
-    let same : IsRewritten (cell d.at) (cell c.at) = subst (λ (y : Passage). IsRewritten y.cell (cell c.at)) (sym z.2) given.2 in
+    let same : IsRewritten (cell d.at) (cell c.at) =
+    subst (λ (y : Passage). IsRewritten y.cell (cell c.at)) (sym z.2) given.2 in
     let list : IsListing v live cell = linked_listing v g.boxed gen live cell next g.linked g.cells x i in
     let a : d.at ≡ c.at = list.once d.at c.at known.0 j same in
-    let cross : is_crossed v p S (facet_of (cell c.at) d.side) ≡ true = subst (λ (n : ℕ). is_crossed v p S (facet_of (cell n) d.side) ≡ true) a known.2 in
+    let cross : is_crossed v p S (facet_of (cell c.at) d.side) ≡ true =
+    subst (λ (n : ℕ). is_crossed v p S (facet_of (cell n) d.side) ≡ true) a known.2 in
     let e : d.side ≡ c.side = (passed v live cell next p s g c.at j).one_entry d.side c.side known.1 b cross cr in
     subst (λ (y : Side). IsIn cs y) (same_side d c a e) z.1
 
@@ -165,8 +199,11 @@ path_nearing :
     (v : Vertices) (live : List ℕ) (cell : ℕ → Tetrahedron) (next : ℕ → ℕ → Option ℕ) → AreCells v live cell →
     (p : ℕ) (s : RationalPoint) (x : ℕ) (cs : List Side) → IsPath v live cell next p s x cs → AreNearing v cell p s cs
 path_nearing v live cell next cells p s x [] h = tt
-path_nearing v live cell next cells p s x (c ∷ cs) h =
-    (λ d i. (first_before v p s (cell x) (passage cell c) (passages cell cs) (way_of v live cell next cells p s x (c ∷ cs) h) (passage cell d) (has_passage cell cs d i)).is, path_nearing v live cell next cells p s c.at cs h.1)
+path_nearing v live cell next cells p s x (c ∷ cs) h = (
+  λ d i. (first_before v p s (cell x) (passage cell c) (passages cell cs) (way_of v live cell next cells p s x (c ∷ cs) h)
+      (passage cell d) (has_passage cell cs d i)).is,
+  path_nearing v live cell next cells p s c.at cs h.1,
+)
 
 -- ---- each crossing once
 that_is : (c d : Side) → is_that c d ≡ true → d ≡ c
@@ -195,24 +232,31 @@ count_once v cell p s (d ∷ ds) c h i = by (is_that c d) refl (λ j. count_once
   where
     by : (b : Bool) → is_that c d ≡ b → (IsIn ds c → count (is_that c) ds ≡ 1) → one_if (is_that c d) + count (is_that c) ds ≡ 1
     by true e rest =
-        ap₂ (λ x y. x + y) (ap one_if e) (count_none ds c (λ j. not_nearer v p s (entered cell d) (subst (λ (z : Side). IsNearer v p s (entered cell d) (entered cell z)) (sym (that_is c d e)) (h.0 c j))))
+        ap₂ (λ x y. x + y) (ap one_if e)
+        (count_none ds c
+        (λ j. not_nearer v p s (entered cell d)
+        (subst (λ (z : Side). IsNearer v p s (entered cell d) (entered cell z)) (sym (that_is c d e)) (h.0 c j))))
     by false e rest =
         ap₂ (λ x y. x + y) (ap one_if e)
-        (rest (⊎_elim (λ (q : d ≡ c). absurd (true≢false (sym (that_itself c) ∙ ap (is_that c) (sym q) ∙ e))) (λ (j : IsIn ds c). j) i))
+        (rest (⊎_elim (λ (q : d ≡ c). absurd (true≢false (sym (that_itself c) ∙ ap (is_that c) (sym q) ∙ e)))
+        (λ (j : IsIn ds c). j) i))
 
 path_counted :
-    (v : Vertices) (live : List ℕ) (cell : ℕ → Tetrahedron) (next : ℕ → ℕ → Option ℕ) (p : ℕ) (s : Point) →
-    AreGiven v live cell next p s → (x : ℕ) (cs : List Side) → IsIn live x → is_towards v p (displaced s) (cell x) ≡ true →
-    IsPath v live cell next p (displaced s) x cs → (c : Side) → IsIn live c.at → c.side < 4 → count (is_that c) cs ≡ one_if (is_crossed v p (displaced s) (entered cell c))
+    (v : Vertices) (live : List ℕ) (cell : ℕ → Tetrahedron) (next : ℕ → ℕ → Option ℕ) (p : ℕ) (s : Point)
+    → AreGiven v live cell next p s → (x : ℕ) (cs : List Side) → IsIn live x → is_towards v p (displaced s) (cell x) ≡ true
+    → IsPath v live cell next p (displaced s) x cs → (c : Side) → IsIn live c.at → c.side < 4
+    → count (is_that c) cs ≡ one_if (is_crossed v p (displaced s) (entered cell c))
 path_counted v live cell next p s g x cs i tow h c j b = by (is_crossed v p (displaced s) (entered cell c)) refl
   where
     by :
         (d : Bool) → is_crossed v p (displaced s) (entered cell c) ≡ d →
         count (is_that c) cs ≡ one_if (is_crossed v p (displaced s) (entered cell c))
     by true e =
-        count_once v cell p (displaced s) cs c (path_nearing v live cell next g.cells p (displaced s) x cs h) (path_all v live cell next p s g x cs i tow h c j b e) ∙ sym (ap one_if e)
+        count_once v cell p (displaced s) cs c (path_nearing v live cell next g.cells p (displaced s) x cs h)
+        (path_all v live cell next p s g x cs i tow h c j b e) ∙ sym (ap one_if e)
     by false e =
-        count_none cs c (λ k. true≢false (sym (path_crossed v live cell next p (displaced s) x cs h c k).2 ∙ e)) ∙ sym (ap one_if e)
+        count_none cs c (λ k. true≢false (sym (path_crossed v live cell next p (displaced s) x cs h c k).2 ∙ e))
+        ∙ sym (ap one_if e)
 
 pub path_law : PathLaw
 path_law v b live cell next l cells p hp s w =

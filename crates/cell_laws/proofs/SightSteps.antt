@@ -1,7 +1,8 @@
--- The way of a sight through cells: from the cell at the vertex p that is towards s, to the cell that holds s. In a cell on the sight, moving
--- on to s, the sides of those facets that have s behind them come down to zero, and one gets there first (Firsts): the sight leaves through
--- that facet, and not through an edge of it, since no two are zero at once. The cell across has it as entry. Each such step goes to a cell
--- that is higher over s, so the way ends, in the cell of which no facet has s behind it; and crossings come in the order of the steps.
+-- The way of a sight through cells: from the cell at the vertex p that is towards s, to the cell that holds s. In a cell on the
+-- sight, moving on to s, the sides of those facets that have s behind them come down to zero, and one gets there first
+-- (Firsts): the sight leaves through that facet, and not through an edge of it, since no two are zero at once. The cell across
+-- has it as entry. Each such step goes to a cell that is higher over s, so the way ends, in the cell of which no facet has s
+-- behind it; and crossings come in the order of the steps.
 --
 --   Passage               a cell, and its facet through which the sight comes into it
 --   IsPassage v p s t c   the sight leaves t through the facet of c
@@ -9,7 +10,8 @@
 --   IsSooner v p s c d    c is nearer to p than d
 --
 -- Stands on: Crossings and Firsts.
-use Rattle.std.proofs.Common.{ℕ, zero, suc, ◌<◌, ◌≡◌, ◌≢◌, refl, ap, sym, subst, ◌∙◌, inl, inr, ⊎_elim, arith, Bool, true, false, eqb, ℤ, pos, neg_ℤ, ◌+ℤ◌, ◌-ℤ◌, ◌*ℤ◌, ◌≤ℤ◌, ◌<ℤ◌, List, [], ◌∷◌}
+use Rattle.std.proofs.Common.{ℕ, zero, suc, ◌<◌, ◌≡◌, ◌≢◌, refl, ap, sym, subst, ◌∙◌, inl, inr, ⊎_elim, arith, Bool, true}
+use Rattle.std.proofs.Common.{false, eqb, ℤ, pos, neg_ℤ, ◌+ℤ◌, ◌-ℤ◌, ◌*ℤ◌, ◌≤ℤ◌, ◌<ℤ◌, List, [], ◌∷◌}
 use Rattle.std.proofs.lemmas.Int.{ints}
 use Rattle.std.proofs.lemmas.Bool.{eqb-true, eqb-false}
 use Rattle.geo_sign.specs.Polynomial.{constant, difference, negation, product, sum, variable}
@@ -90,18 +92,22 @@ towards_past v p s cell o h =
       at = λ k.
           let e = one_and_none (starts v p cell k) (ends v s cell k) in
           ⊎_elim
-          (λ (i : p ≡ vertex_of cell k). let f : starts v p cell k ≡ orientation_at v cell = ap (λ (x : ℕ). inward v cell k (rational (v.at x))) i ∙ opposite v cell k in
+          (λ (i : p ≡ vertex_of cell k). let f : starts v p cell k ≡ orientation_at v cell =
+          ap (λ (x : ℕ). inward v cell k (rational (v.at x))) i ∙ opposite v cell k in
           inl (let r : pos 0 <ℤ (pos 1 *ℤ starts v p cell k +ℤ pos 0 *ℤ ends v s cell k) = omega (arith, ints, e, f, o) in r))
-          (λ (i : HasVertex (facet_of cell k) p). inr (e ∙ on_facet v (facet_of cell k) p i, h.faces k i)) (opposite_or_on cell k p h.has);
+          (λ (i : HasVertex (facet_of cell k) p). inr (e ∙ on_facet v (facet_of cell k) p i, h.faces k i))
+          (opposite_or_on cell k p h.has);
     }
 
 swapped : (a b x y : ℤ) → x *ℤ a +ℤ neg_ℤ b *ℤ y ≡ a *ℤ x -ℤ b *ℤ y
 swapped a b x y =
-    ring (a ∷ b ∷ x ∷ y ∷ []) (sum (product (variable 2) (variable 0)) (product (negation (variable 1)) (variable 3))) (difference (product (variable 0) (variable 2)) (product (variable 1) (variable 3))) tt
+    ring (a ∷ b ∷ x ∷ y ∷ []) (sum (product (variable 2) (variable 0)) (product (negation (variable 1)) (variable 3)))
+    (difference (product (variable 0) (variable 2)) (product (variable 1) (variable 3))) tt
 
 none_left : (a b : ℤ) → b *ℤ a +ℤ neg_ℤ a *ℤ b ≡ pos 0
 none_left a b =
-    ring (a ∷ b ∷ []) (sum (product (variable 1) (variable 0)) (product (negation (variable 0)) (variable 1))) (constant (pos 0)) tt
+    ring (a ∷ b ∷ []) (sum (product (variable 1) (variable 0)) (product (negation (variable 0)) (variable 1)))
+    (constant (pos 0)) tt
 
 -- where facet l is crossed the other sides are positive
 pub entry_others : (p s : ℕ → ℤ) (l k : ℕ) → IsEntry p s l → k < 4 → k ≢ l → pos 0 <ℤ (s l *ℤ p k +ℤ neg_ℤ (p l) *ℤ s k)
@@ -117,7 +123,8 @@ entry_past v p s cell l h =
     let P : ℕ → ℤ = starts v p cell in let S : ℕ → ℤ = ends v s cell in
     all_past v p s cell (S l) (neg_ℤ (P l))
     (λ k b. same_or_not k l
-    (λ i. inr (subst (λ (x : ℕ). (S l *ℤ P x +ℤ neg_ℤ (P l) *ℤ S x ≡ pos 0) × (pos 0 <ℤ S x)) (sym i) (entry_zero P S l, h.end)))
+    (λ i.
+    inr (subst (λ (x : ℕ). (S l *ℤ P x +ℤ neg_ℤ (P l) *ℤ S x ≡ pos 0) × (pos 0 <ℤ S x)) (sym i) (entry_zero P S l, h.end)))
     (λ n. inl (entry_others P S l k h b n)))
 
 -- each passage is through a facet that is crossed
@@ -143,18 +150,27 @@ opposite_leads p s l k = omega (arith, ints)
 
 pub one_exit : (p s : ℕ → ℤ) (l k : ℕ) → l < 4 → k < 4 → IsExit p s l → IsExit p s k → l ≡ k
 one_exit p s l k b c h i =
-    same_or_not l k (λ e. e) (λ n. let x = i.others l b n in let y = h.others k c (λ e. n (sym e)) in let z = opposite_leads p s l k in absurd (omega (arith, ints, x, y, z)))
+    same_or_not l k (λ e. e)
+    (λ n. let x = i.others l b n in
+    let y = h.others k c (λ e. n (sym e)) in
+    let z = opposite_leads p s l k in
+    absurd (omega (arith, ints, x, y, z)))
 
 pub one_entry : (p s : ℕ → ℤ) (l k : ℕ) → l < 4 → k < 4 → IsEntry p s l → IsEntry p s k → l ≡ k
 one_entry p s l k b c h i =
-    same_or_not l k (λ e. e) (λ n. let x = i.others l b n in let y = h.others k c (λ e. n (sym e)) in let z = opposite_leads p s l k in absurd (omega (arith, ints, x, y, z)))
+    same_or_not l k (λ e. e)
+    (λ n. let x = i.others l b n in
+    let y = h.others k c (λ e. n (sym e)) in
+    let z = opposite_leads p s l k in
+    absurd (omega (arith, ints, x, y, z)))
 
 -- ---- the order along the sight
 pub record IsSooner (v : Vertices) (p : ℕ) (s : RationalPoint) (c d : Passage) : Type 0 where
   pub is : (neg_ℤ (starts v p c.cell c.at) *ℤ ends v s d.cell d.at) <ℤ (neg_ℤ (starts v p d.cell d.at) *ℤ ends v s c.cell c.at)
 
 double_neg : (a b : ℤ) → neg_ℤ a *ℤ neg_ℤ b ≡ a *ℤ b
-double_neg a b = ring (a ∷ b ∷ []) (product (negation (variable 0)) (negation (variable 1))) (product (variable 0) (variable 1)) tt
+double_neg a b =
+    ring (a ∷ b ∷ []) (product (negation (variable 0)) (negation (variable 1))) (product (variable 0) (variable 1)) tt
 
 neg_twice : (a : ℤ) → neg_ℤ (neg_ℤ a) ≡ a
 neg_twice a = omega (arith, ints)
@@ -170,8 +186,10 @@ next_nearer v p s c d i b e h =
     let l = x.others c.at b n in
     let t = side_turned v (facet_of c.cell h.leaving) (facet_of d.cell d.at) (rational (v.at p)) h.turned in
     let u = side_turned v (facet_of c.cell h.leaving) (facet_of d.cell d.at) s h.turned in
-    let f : neg_ℤ (P c.at) *ℤ ends v s d.cell d.at ≡ P c.at *ℤ S h.leaving = ap (λ y. neg_ℤ (P c.at) *ℤ y) u ∙ double_neg (P c.at) (S h.leaving) in
-    let g : neg_ℤ (starts v p d.cell d.at) *ℤ S c.at ≡ P h.leaving *ℤ S c.at = ap (λ y. neg_ℤ y *ℤ S c.at) t ∙ ap (λ y. y *ℤ S c.at) (neg_twice (P h.leaving)) in
+    let f : neg_ℤ (P c.at) *ℤ ends v s d.cell d.at ≡ P c.at *ℤ S h.leaving =
+    ap (λ y. neg_ℤ (P c.at) *ℤ y) u ∙ double_neg (P c.at) (S h.leaving) in
+    let g : neg_ℤ (starts v p d.cell d.at) *ℤ S c.at ≡ P h.leaving *ℤ S c.at =
+    ap (λ y. neg_ℤ y *ℤ S c.at) t ∙ ap (λ y. y *ℤ S c.at) (neg_twice (P h.leaving)) in
     record { is = omega (arith, ints, f, g, l) }
 
 commuted : (a b : ℤ) → a *ℤ b ≡ b *ℤ a
@@ -203,7 +221,8 @@ before_all v p s c d (x ∷ xs) hc i b e n way f h =
     let r = next_nearer v p s d x i b e way.0 in
     let g = step_entry v p s d.cell x way.0 in
     let q = nearer_trans v p s c d x hc e.end g.end n r in
-    ⊎_elim (λ (y : x ≡ f). subst (λ (z : Passage). IsSooner v p s c z) y q) (λ (y : IsIn xs f). before_all v p s c x xs hc way.0.is_cell way.0.below g q way.1 f y) h
+    ⊎_elim (λ (y : x ≡ f). subst (λ (z : Passage). IsSooner v p s c z) y q)
+    (λ (y : IsIn xs f). before_all v p s c x xs hc way.0.is_cell way.0.below g q way.1 f y) h
 
 -- the passage that a way has first is nearer than all others
 pub first_before :
@@ -214,4 +233,5 @@ first_before v p s cell c (d ∷ ds) way f h =
     let e = step_entry v p s cell c way.0 in
     let g = step_entry v p s c.cell d way.1.0 in
     let n = next_nearer v p s c d way.0.is_cell way.0.below e way.1.0 in
-    ⊎_elim (λ (y : d ≡ f). subst (λ (z : Passage). IsSooner v p s c z) y n) (λ (y : IsIn ds f). before_all v p s c d ds e.end way.1.0.is_cell way.1.0.below g n way.1.1 f y) h
+    ⊎_elim (λ (y : d ≡ f). subst (λ (z : Passage). IsSooner v p s c z) y n)
+    (λ (y : IsIn ds f). before_all v p s c d ds e.end way.1.0.is_cell way.1.0.below g n way.1.1 f y) h

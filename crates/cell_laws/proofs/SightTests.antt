@@ -1,12 +1,14 @@
 -- The tests of sights in geo_tie, against what they say.
 -- Stands on: Sides, Near and Crossings (what they say).
-use Rattle.std.proofs.Common.{ℕ, zero, suc, ◌≡◌, refl, ap, ap₂, sym, ◌∙◌, ◌⊎◌, inl, inr, ⊎_elim, arith, Bool, true, false, true≢false, ◌&&◌, ◌||◌, eqb, int_lt, ℤ, pos, neg_ℤ, ◌<ℤ◌}
+use Rattle.std.proofs.Common.{ℕ, zero, suc, ◌≡◌, refl, ap, ap₂, sym, ◌∙◌, ◌⊎◌, inl, inr, ⊎_elim, arith, Bool, true, false}
+use Rattle.std.proofs.Common.{true≢false, ◌&&◌, ◌||◌, eqb, int_lt, ℤ, pos, neg_ℤ, ◌<ℤ◌}
 use Rattle.std.proofs.lemmas.Bool.{eqb-true}
 use Rattle.std.proofs.lemmas.Int.{ints}
 use Rattle.geo_sign.specs.Rational.{RationalPoint, rational, side}
 use Rattle.geo_sign.specs.Tetrahedron.{Tetrahedron, DirectedFacet, facet_of, vertex_of}
 use Rattle.geo_sign.specs.Vertices.{Vertices}
-use Rattle.geo_sign.specs.Sights.{side_of, is_positive, is_negative, is_crossed, has_vertex, all_facets_at, is_behind, is_towards, is_cell_of}
+use Rattle.geo_sign.specs.Sights.{side_of, is_positive, is_negative, is_crossed, has_vertex, all_facets_at, is_behind}
+use Rattle.geo_sign.specs.Sights.{is_towards, is_cell_of}
 use Rattle.geo_sign.specs.Writings.{IsVertexOf}
 use Rattle.geo_sign.specs.Places.{IsStrictlyIn}
 use Rattle.geo_sign.specs.NearPlaces.{reversed}
@@ -81,13 +83,17 @@ crossed_of v p s f h =
 pub crossed_is : (v : Vertices) (p : ℕ) (s : RationalPoint) (f : DirectedFacet) → IsCrossed v p s f → is_crossed v p s f ≡ true
 unfolding is_crossed
 crossed_is v p s f h =
-    five (is_positive (side_of v f s)) (is_negative (side_of v f (rational (v.at p)))) (is_positive (side (v.at p) (v.at f.a) (v.at f.b) s)) (is_positive (side (v.at p) (v.at f.b) (v.at f.c) s)) (is_positive (side (v.at p) (v.at f.c) (v.at f.a) s))
-    (above_is (side_of v f s) h.ahead) (below_is (side_of v f (rational (v.at p))) h.behind) (above_is (side (v.at p) (v.at f.a) (v.at f.b) s) h.ab) (above_is (side (v.at p) (v.at f.b) (v.at f.c) s) h.bc)
+    five (is_positive (side_of v f s)) (is_negative (side_of v f (rational (v.at p))))
+    (is_positive (side (v.at p) (v.at f.a) (v.at f.b) s)) (is_positive (side (v.at p) (v.at f.b) (v.at f.c) s))
+    (is_positive (side (v.at p) (v.at f.c) (v.at f.a) s))
+    (above_is (side_of v f s) h.ahead) (below_is (side_of v f (rational (v.at p))) h.behind)
+    (above_is (side (v.at p) (v.at f.a) (v.at f.b) s) h.ab) (above_is (side (v.at p) (v.at f.b) (v.at f.c) s) h.bc)
     (above_is (side (v.at p) (v.at f.c) (v.at f.a) s) h.ca)
   where
     five : (a b c d e : Bool) → a ≡ true → b ≡ true → c ≡ true → d ≡ true → e ≡ true → (a && b && c && d && e) ≡ true
     five a b c d e h i j k l =
-        ap₂ (λ x y. x && y && c && d && e) h i ∙ ap₂ (λ x y. true && true && x && y && e) j k ∙ ap (λ x. true && true && true && true && x) l
+        ap₂ (λ x y. x && y && c && d && e) h i ∙ ap₂ (λ x y. true && true && x && y && e) j k
+        ∙ ap (λ x. true && true && true && true && x) l
 
 -- ---- the four facets
 four : (a b c d : Bool) → (a && b && c && d) ≡ true → (a ≡ true) × (b ≡ true) × (c ≡ true) × (d ≡ true)
@@ -107,7 +113,9 @@ strictly_of v s t h = record { at = by }
     z :
         (is_positive (inward v t 0 s) ≡ true) × (is_positive (inward v t 1 s) ≡ true) × (is_positive (inward v t 2 s) ≡ true) ×
         (is_positive (inward v t 3 s) ≡ true)
-    z = four (is_positive (inward v t 0 s)) (is_positive (inward v t 1 s)) (is_positive (inward v t 2 s)) (is_positive (inward v t 3 s)) h
+    z =
+        four (is_positive (inward v t 0 s)) (is_positive (inward v t 1 s)) (is_positive (inward v t 2 s))
+        (is_positive (inward v t 3 s)) h
 
     by : (k : ℕ) → pos 0 <ℤ inward v t k s
     by zero = above_true (inward v t 0 s) z.0
@@ -118,7 +126,8 @@ strictly_of v s t h = record { at = by }
 pub strictly_is : (v : Vertices) (s : RationalPoint) (t : Tetrahedron) → IsStrictlyIn v t s → is_cell_of v s t ≡ true
 unfolding is_cell_of
 strictly_is v s t h =
-    four_is (is_positive (inward v t 0 s)) (is_positive (inward v t 1 s)) (is_positive (inward v t 2 s)) (is_positive (inward v t 3 s)) (above_is (inward v t 0 s) (h.at 0)) (above_is (inward v t 1 s) (h.at 1))
+    four_is (is_positive (inward v t 0 s)) (is_positive (inward v t 1 s)) (is_positive (inward v t 2 s))
+    (is_positive (inward v t 3 s)) (above_is (inward v t 0 s) (h.at 0)) (above_is (inward v t 1 s) (h.at 1))
     (above_is (inward v t 2 s) (h.at 2)) (above_is (inward v t 3 s) (h.at 3))
 
 -- ---- the facets at a vertex
@@ -127,7 +136,8 @@ not_both :
     (v : Vertices) (t : Tetrahedron) (p k : ℕ) → pos 0 <ℤ orientation_at v t → HasVertex (facet_of t k) p → vertex_of t k ≡ p →
     ⊥
 not_both v t p k o h e =
-    let a : inward v t k (rational (v.at p)) ≡ orientation_at v t = ap (λ (x : ℕ). inward v t k (rational (v.at x))) (sym e) ∙ opposite v t k in
+    let a : inward v t k (rational (v.at p)) ≡ orientation_at v t =
+    ap (λ (x : ℕ). inward v t k (rational (v.at x))) (sym e) ∙ opposite v t k in
     let b = on_facet v (facet_of t k) p h in
     absurd (omega (arith, ints, a, b, o))
 
@@ -138,7 +148,9 @@ towards_of v p s t c h = record { has = has (and_left (has_vertex t p) _ h); fac
   where
     has : has_vertex t p ≡ true → IsVertexOf t p
     has e =
-        ⊎_elim (λ x. inl (sym (eqb-true t.a p x))) (⊎_elim (λ x. inr (inl (sym (eqb-true t.b p x)))) (⊎_elim (λ x. inr (inr (inl (sym (eqb-true t.c p x))))) (λ x. inr (inr (inr (sym (eqb-true t.d p x)))))))
+        ⊎_elim (λ x. inl (sym (eqb-true t.a p x)))
+        (⊎_elim (λ x. inr (inl (sym (eqb-true t.b p x))))
+        (⊎_elim (λ x. inr (inr (inl (sym (eqb-true t.c p x))))) (λ x. inr (inr (inr (sym (eqb-true t.d p x)))))))
         (any_of (eqb t.a p) (eqb t.b p) (eqb t.c p) (eqb t.d p) e)
 
     test : ℕ → Bool
@@ -149,7 +161,8 @@ towards_of v p s t c h = record { has = has (and_left (has_vertex t p) _ h); fac
 
     face : (k : ℕ) → HasVertex (facet_of t k) p → test k ≡ true → pos 0 <ℤ inward v t k s
     face k i e =
-        ⊎_elim (λ x. absurd (not_both v t p k c.positive i (eqb-true (vertex_of t k) p x))) (λ x. above_true (inward v t k s) x) (either (eqb (vertex_of t k) p) (is_positive (inward v t k s)) e)
+        ⊎_elim (λ x. absurd (not_both v t p k c.positive i (eqb-true (vertex_of t k) p x))) (λ x. above_true (inward v t k s) x)
+        (either (eqb (vertex_of t k) p) (is_positive (inward v t k s)) e)
 
     by : (k : ℕ) → HasVertex (facet_of t k) p → pos 0 <ℤ inward v t k s
     by zero i = face 0 i z.0
@@ -165,15 +178,20 @@ towards_is v p s t h =
     has : IsVertexOf t p → has_vertex t p ≡ true
     has h =
         any_is (eqb t.a p) (eqb t.b p) (eqb t.c p) (eqb t.d p)
-        (⊎_elim (λ e. inl (is_number t.a p e)) (⊎_elim (λ e. inr (inl (is_number t.b p e))) (⊎_elim (λ e. inr (inr (inl (is_number t.c p e)))) (λ e. inr (inr (inr (is_number t.d p e)))))) h)
+        (⊎_elim (λ e. inl (is_number t.a p e))
+        (⊎_elim (λ e. inr (inl (is_number t.b p e)))
+        (⊎_elim (λ e. inr (inr (inl (is_number t.c p e)))) (λ e. inr (inr (inr (is_number t.d p e)))))) h)
 
     test : ℕ → Bool
     test k = eqb (vertex_of t k) p || is_positive (inward v t k s)
 
     face : (k : ℕ) → test k ≡ true
     face k =
-        ⊎_elim (λ (e : p ≡ vertex_of t k). or_left (eqb (vertex_of t k) p) (is_positive (inward v t k s)) (is_number (vertex_of t k) p e))
-        (λ (i : HasVertex (facet_of t k) p). or_right (eqb (vertex_of t k) p) (is_positive (inward v t k s)) (above_is (inward v t k s) (h.faces k i))) (opposite_or_on t k p h.has)
+        ⊎_elim (λ (e : p ≡ vertex_of t k).
+        or_left (eqb (vertex_of t k) p) (is_positive (inward v t k s)) (is_number (vertex_of t k) p e))
+        (λ (i : HasVertex (facet_of t k) p).
+        or_right (eqb (vertex_of t k) p) (is_positive (inward v t k s)) (above_is (inward v t k s) (h.faces k i)))
+        (opposite_or_on t k p h.has)
 
 -- ---- behind is towards the scanner turned round
 opposite_test : (z : ℤ) → int_lt z (pos 0) ≡ int_lt (pos 0) (neg_ℤ z)
@@ -187,5 +205,7 @@ unfolding is_behind is_towards
 behind_is v p s t =
     let f : DirectedFacet → Bool = λ f. is_negative (side_of v f s) in
     let g : DirectedFacet → Bool = λ f. is_positive (side_of v f (reversed s)) in
-    let e : f ≡ g = equal (λ (x : DirectedFacet). opposite_test (side_of v x s) ∙ ap (λ z. int_lt (pos 0) z) (sym (side_reversed (v.at x.a) (v.at x.b) (v.at x.c) s))) in
+    let e : f ≡ g =
+    equal (λ (x : DirectedFacet). opposite_test (side_of v x s)
+    ∙ ap (λ z. int_lt (pos 0) z) (sym (side_reversed (v.at x.a) (v.at x.b) (v.at x.c) s))) in
     ap (λ (test : DirectedFacet → Bool). has_vertex t p && all_facets_at p t test) e

@@ -1,8 +1,10 @@
--- There is a cell, whatever data points are in. With the corners alone there are the six cells of the box. The data points then come
--- in one after another by their numbers: a new one lies in a cell, that cell is in conflict with it, so the fan has a facet, and
--- over it there is a cell of the vertices with the new one. So each place of the box lies in a cell, without more ado.
+-- There is a cell, whatever data points are in. With the corners alone there are the six cells of the box. The data points then
+-- come in one after another by their numbers: a new one lies in a cell, that cell is in conflict with it, so the fan has a
+-- facet, and over it there is a cell of the vertices with the new one. So each place of the box lies in a cell, without more
+-- ado.
 -- Stands on: BoxLinks (the corners alone) and Laws (a place lies in a cell, where there is one; the fan).
-use Rattle.std.proofs.Common.{ℕ, zero, suc, ◌+◌, ◌-◌, ◌<◌, ◌≤◌, ◌≡◌, refl, sym, ap, subst, ◌∙◌, inl, ⊎_elim, arith, Bool, true, false, true≢false, ◌&&◌, ◌||◌, nat_lt, eqb}
+use Rattle.std.proofs.Common.{ℕ, zero, suc, ◌+◌, ◌-◌, ◌<◌, ◌≤◌, ◌≡◌, refl, sym, ap, subst, ◌∙◌, inl, ⊎_elim, arith, Bool, true}
+use Rattle.std.proofs.Common.{false, true≢false, ◌&&◌, ◌||◌, nat_lt, eqb}
 use Rattle.std.proofs.lemmas.Bool.{ltb-true, lt-ltb, eqb-true, eq-eqb, and_parts, and_from, or_cases}
 use Rattle.geo_sign.specs.Rational.{rational}
 use Rattle.geo_sign.specs.Tetrahedron.{Tetrahedron, tetrahedron}
@@ -52,7 +54,8 @@ module _ (v : Vertices) (b : IsBoxed v) where
   front_boxed : (k : ℕ) → 8 ≤ k → IsBoxed (front k v)
   front_boxed k l =
       record {
-        corner_in = λ j m. (let h = b.corner_in j m in (h.0, and_from (nat_lt j k) (v.is_in j) (lt-ltb j k (omega (arith, m, l))) h.1));
+        corner_in =
+            λ j m. (let h = b.corner_in j m in (h.0, and_from (nat_lt j k) (v.is_in j) (lt-ltb j k (omega (arith, m, l))) h.1));
         corner_at = b.corner_at;
         data_at = b.data_at;
         apart = b.apart;
@@ -71,7 +74,9 @@ module _ (v : Vertices) (b : IsBoxed v) where
   without : (k : ℕ) → v.is_in k ≡ false → (u : ℕ) → (nat_lt u k && v.is_in u) ≡ (nat_lt u (suc k) && v.is_in u)
   without k e u =
       same_bools (nat_lt u k && v.is_in u) (nat_lt u (suc k) && v.is_in u)
-      (λ h. (let p = and_parts (nat_lt u k) (v.is_in u) h in let l = ltb-true u k p.0 in and_from (nat_lt u (suc k)) (v.is_in u) (lt-ltb u (suc k) (omega (arith, l))) p.1))
+      (λ h. (let p = and_parts (nat_lt u k) (v.is_in u) h in
+      let l = ltb-true u k p.0 in
+      and_from (nat_lt u (suc k)) (v.is_in u) (lt-ltb u (suc k) (omega (arith, l))) p.1))
       (λ h.
       (let p = and_parts (nat_lt u (suc k)) (v.is_in u) h in
       let l = ltb-true u (suc k) p.0 in
@@ -83,8 +88,11 @@ module _ (v : Vertices) (b : IsBoxed v) where
       same_bools (eqb u k || (nat_lt u k && v.is_in u)) (nat_lt u (suc k) && v.is_in u)
       (λ h.
       ⊎_elim
-      (λ (i : eqb u k ≡ true). let q = eqb-true u k i in and_from (nat_lt u (suc k)) (v.is_in u) (lt-ltb u (suc k) (omega (arith, q))) (ap v.is_in q ∙ e))
-      (λ (i : (nat_lt u k && v.is_in u) ≡ true). let p = and_parts (nat_lt u k) (v.is_in u) i in let l = ltb-true u k p.0 in and_from (nat_lt u (suc k)) (v.is_in u) (lt-ltb u (suc k) (omega (arith, l))) p.1)
+      (λ (i : eqb u k ≡ true). let q = eqb-true u k i in
+      and_from (nat_lt u (suc k)) (v.is_in u) (lt-ltb u (suc k) (omega (arith, q))) (ap v.is_in q ∙ e))
+      (λ (i : (nat_lt u k && v.is_in u) ≡ true). let p = and_parts (nat_lt u k) (v.is_in u) i in
+      let l = ltb-true u k p.0 in
+      and_from (nat_lt u (suc k)) (v.is_in u) (lt-ltb u (suc k) (omega (arith, l))) p.1)
       (or_cases (eqb u k) (nat_lt u k && v.is_in u) h))
       (λ h. (let p = and_parts (nat_lt u (suc k)) (v.is_in u) h in by (eqb u k) refl (ltb-true u (suc k) p.0) p.1))
     where
@@ -117,15 +125,19 @@ module _ (v : Vertices) (b : IsBoxed v) where
           let f = found_law (front k v) x k n z.0 z.1 z.2 in
           let g = fan_law (front k v) x k n in
           let i = g.some z.0.a z.0.b z.0.c z.0.d z.1 f in
-          let r : IsCellOf (with_vertex (front k v) k) (tetrahedron i.0 i.1 i.2 k) = (g.cells i.0 i.1 i.2).0 i.3 in
-          (tetrahedron i.0 i.1 i.2 k, same_in v (λ u. eqb u k || (nat_lt u k && v.is_in u)) (λ u. nat_lt u (suc k) && v.is_in u) (λ u h. with_one k e u) (tetrahedron i.0 i.1 i.2 k) r)
+          let r : IsCellOf (with_vertex (front k v) k) (tetrahedron i.0 i.1 i.2 k) = (g.cells i.0 i.1 i.2).0 i.3 in (
+            tetrahedron i.0 i.1 i.2 k,
+            same_in v (λ u. eqb u k || (nat_lt u k && v.is_in u)) (λ u. nat_lt u (suc k) && v.is_in u) (λ u h. with_one k e u)
+                (tetrahedron i.0 i.1 i.2 k) r,
+          )
 
   corners_only : (u : ℕ) → Has (front 8 v) u → u < 8
   corners_only u h = ltb-true u 8 (and_parts (nat_lt u 8) (v.is_in u) h.1).0
 
   up_to : (n k : ℕ) → k ≡ 8 + n → k ≤ v.count → (t : Tetrahedron) × IsCellOf (front k v) t
   up_to zero k e l =
-      subst (λ j. (t : Tetrahedron) × IsCellOf (front j v) t) (sym e) (tetrahedron 0 1 2 4, (box_law (front 8 v) (front_boxed 8 (omega arith)) corners_only).cells 0 (inl refl))
+      subst (λ j. (t : Tetrahedron) × IsCellOf (front j v) t) (sym e)
+      (tetrahedron 0 1 2 4, (box_law (front 8 v) (front_boxed 8 (omega arith)) corners_only).cells 0 (inl refl))
   up_to (suc n) k e l =
       let h = up_to n (8 + n) refl (omega (arith, e, l)) in
       let i : suc (8 + n) ≡ k = omega (arith, e) in

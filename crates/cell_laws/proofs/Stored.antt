@@ -1,6 +1,8 @@
 -- The vertices of a store, its list of names, and the power by the tie rule.
 -- Stands on: Heights, Goal, Corners (computed lists) and RisingRows (what is in a list).
-use Rattle.std.proofs.Common.{ℕ, zero, suc, ◌+◌, ◌*◌, ◌<◌, ◌≤◌, ◌≡◌, ◌≢◌, refl, ap, sym, subst, ◌∙◌, ◌⊎◌, inl, inr, ⊎_elim, arith, Bool, true, false, eqb, ◌||◌, int_lt, pos, List, Option, length, get_or, set, All, AllPairs}
+use Rattle.std.proofs.Common.{ℕ, zero, suc, ◌+◌, ◌*◌, ◌<◌, ◌≤◌, ◌≡◌, ◌≢◌, refl, ap, sym, subst, ◌∙◌, ◌⊎◌, inl, inr, ⊎_elim}
+use Rattle.std.proofs.Common.{arith, Bool, true, false, eqb, ◌||◌, int_lt, pos, List, Option, length, get_or, set, All}
+use Rattle.std.proofs.Common.{AllPairs}
 use Rattle.std.proofs.lemmas.Bool.{cases_lt, eqb-true, eqb-false}
 use Rattle.std.proofs.lemmas.Int.{ints}
 use Rattle.std.proofs.lemmas.List.{get_or-set_same, get_or-set_other}
@@ -62,16 +64,19 @@ numbered k h = eqb-true (number (corner_point k)) k (all_below_at 8 (λ i. eqb (
 
 corner_outside : (k : ℕ) → IsWithin DATA_LIMIT (corner_point k) → ⊥
 corner_outside k w =
-    ⊎_elim (λ e. absurd (let h = w.x_within in omega (arith, ints, h, e))) (λ e. absurd (let h = w.x_within in omega (arith, ints, h, e))) (corner_edge k 1)
+    ⊎_elim (λ e. absurd (let h = w.x_within in omega (arith, ints, h, e)))
+    (λ e. absurd (let h = w.x_within in omega (arith, ints, h, e))) (corner_edge k 1)
 
 apart :
-    (points : List Point) → All (IsWithin DATA_LIMIT) points → AllPairs (λ p q. p ≢ q) points → (u w : ℕ) → u < 8 + length points →
-    w < 8 + length points → point_of points u ≡ point_of points w → u ≡ w
+    (points : List Point) → All (IsWithin DATA_LIMIT) points → AllPairs (λ p q. p ≢ q) points → (u w : ℕ)
+    → u < 8 + length points
+    → w < 8 + length points → point_of points u ≡ point_of points w → u ≡ w
 apart points all distinct u w hu hw e = by (cases_lt u 8) (cases_lt w 8)
   where
     mixed : (k i : ℕ) → k < 8 → 8 ≤ i → i < 8 + length points → point_of points k ≡ point_of points i → ⊥
     mixed k i h l m f =
-        corner_outside k (subst (λ (p : Point). IsWithin DATA_LIMIT p) (sym f ∙ at_corner points k h) (data_within points all i l m))
+        corner_outside k
+        (subst (λ (p : Point). IsWithin DATA_LIMIT p) (sym f ∙ at_corner points k h) (data_within points all i l m))
 
     later : (i j : ℕ) → i < j → j < length points → get_or points i origin ≡ get_or points j origin → ⊥
     later i j h l f = distinct i j origin h l f
@@ -86,7 +91,8 @@ apart points all distinct u w hu hw e = by (cases_lt u 8) (cases_lt w 8)
         let f : get_or points y.0 origin ≡ get_or points z.0 origin = sym y.2 ∙ e ∙ z.2 in
         ⊎_elim (λ (l : y.0 < z.0). absurd (later y.0 z.0 l (omega (arith, ez, hw)) f))
         (λ (l : z.0 ≤ y.0).
-        ⊎_elim (λ (m : z.0 < y.0). absurd (later z.0 y.0 m (omega (arith, ey, hu)) (sym f))) (λ (m : y.0 ≤ z.0). let r : u ≡ w = omega (arith, ey, ez, l, m) in r) (cases_lt z.0 y.0))
+        ⊎_elim (λ (m : z.0 < y.0). absurd (later z.0 y.0 m (omega (arith, ey, hu)) (sym f)))
+        (λ (m : y.0 ≤ z.0). let r : u ≡ w = omega (arith, ey, ez, l, m) in r) (cases_lt z.0 y.0))
         (cases_lt y.0 z.0)
 
 -- ---- flags
@@ -137,12 +143,28 @@ whole :
 whole points flags f live cell next h =
     let b = h.boxed in
     let l = h.linked in
-    let cells : AreCells (vertices_of points) live cell = λ x i. all_cells points flags f (cell x).a (cell x).b (cell x).c (cell x).d (h.cells x i) in
+    let cells : AreCells (vertices_of points) live cell =
+    λ x i. all_cells points flags f (cell x).a (cell x).b (cell x).c (cell x).d (h.cells x i) in
     record {
-      boxed = record { corner_in = λ k m. ((b.corner_in k m).0, refl); corner_at = b.corner_at; data_at = b.data_at; apart = b.apart; tied = λ u. refl };
-      linked = record { back = l.back; walls = λ x k i m e. (let w = l.walls x k i m e in record { first = w.first; second = w.second; third = w.third; agree = w.agree }); apart = l.apart };
+      boxed = record {
+        corner_in = λ k m. ((b.corner_in k m).0, refl);
+        corner_at = b.corner_at;
+        data_at = b.data_at;
+        apart = b.apart;
+        tied = λ u. refl;
+      };
+      linked = record {
+        back = l.back;
+        walls =
+            λ x k i m e.
+            (let w = l.walls x k i m e in record { first = w.first; second = w.second; third = w.third; agree = w.agree });
+        apart = l.apart;
+      };
       cells = cells;
-      listing = record { full = record { cells = cells; all = λ a b c d k. h.listing.full.all a b c d (cells_all points flags f a b c d k) }; once = h.listing.once };
+      listing = record {
+        full = record { cells = cells; all = λ a b c d k. h.listing.full.all a b c d (cells_all points flags f a b c d k) };
+        once = h.listing.once;
+      };
     }
 
 pub all_law : AllLaw
@@ -168,7 +190,8 @@ stored_law points flags =
           };
       one_more = λ p h.
           (let v = inserted_vertices points flags in
-          ap (λ (is : ℕ → Bool). let w : Vertices = record { at = v.at; high = v.high; count = v.count; is_in = is } in w) (equal (flag_set flags p h)));
+          ap (λ (is : ℕ → Bool). let w : Vertices = record { at = v.at; high = v.high; count = v.count; is_in = is } in w)
+          (equal (flag_set flags p h)));
       all = λ f a b c d. (all_cells points flags f a b c d, cells_all points flags f a b c d);
       whole = whole points flags;
     }

@@ -1,13 +1,14 @@
--- Sums over lists without repeats, counted in pairs. Where each element of one list that passes a test has exactly one partner in the
--- other that passes its own, and the other way round, and partners count the same, both sums are one: each is the sum over all
--- pairs of partners, in one order or the other.
+-- Sums over lists without repeats, counted in pairs. Where each element of one list that passes a test has exactly one partner
+-- in the other that passes its own, and the other way round, and partners count the same, both sums are one: each is the sum
+-- over all pairs of partners, in one order or the other.
 --
 --   IsOnce xs           nothing stands twice in xs
 --   total f xs          the sum of f over xs
 --   pick n b            n where b, else 0
 --   paired              the sums of partners
 --   named_once xs       the names of xs, each once
-use Rattle.std.proofs.Common.{ℕ, suc, ◌+◌, ◌<◌, ◌≡◌, ◌≢◌, refl, sym, ap, ap₂, subst, ◌∙◌, ◌⊎◌, inl, inr, arith, Bool, true, false, true≢false, ◌&&◌, cond, eqb, List, [], ◌∷◌, AllPairs, length, get_or}
+use Rattle.std.proofs.Common.{ℕ, suc, ◌+◌, ◌<◌, ◌≡◌, ◌≢◌, refl, sym, ap, ap₂, subst, ◌∙◌, ◌⊎◌, inl, inr, arith, Bool, true}
+use Rattle.std.proofs.Common.{false, true≢false, ◌&&◌, cond, eqb, List, [], ◌∷◌, AllPairs, length, get_or}
 use Rattle.std.proofs.lemmas.Bool.{eqb-true, eqb-false}
 use Rattle.cell_laws.specs.Lists.{IsIn}
 
@@ -41,7 +42,8 @@ listed_in : (x : ℕ) (xs : List ℕ) → is_listed x xs ≡ true → IsIn xs x
 listed_in x [] e = absurd (true≢false (sym e))
 listed_in x (y ∷ ys) e = by (eqb y x) refl e (λ f. listed_in x ys f)
   where
-    by : (b : Bool) → eqb y x ≡ b → cond b true (is_listed x ys) ≡ true → (is_listed x ys ≡ true → IsIn ys x) → (y ≡ x) ⊎ IsIn ys x
+    by : (b : Bool) → eqb y x ≡ b → cond b true (is_listed x ys) ≡ true → (is_listed x ys ≡ true → IsIn ys x)
+        → (y ≡ x) ⊎ IsIn ys x
     by true i f rest = inl (eqb-true y x i)
     by false i f rest = inr (rest f)
 
@@ -111,7 +113,8 @@ sum_sum :
     {X Y : Type 0} (m : X → Y → ℕ) (xs : List X) (ys : List Y) →
     total (λ x. total (m x) ys) xs ≡ total (λ y. total (λ x. m x y) xs) ys
 sum_sum m [] ys = sym (sum_zero ys)
-sum_sum m (x ∷ xs) ys = ap (λ (n : ℕ). total (m x) ys + n) (sum_sum m xs ys) ∙ sym (sum_plus (m x) (λ y. total (λ z. m z y) xs) ys)
+sum_sum m (x ∷ xs) ys =
+    ap (λ (n : ℕ). total (m x) ys + n) (sum_sum m xs ys) ∙ sym (sum_plus (m x) (λ y. total (λ z. m z y) xs) ys)
 
 -- none passes
 no_one :
@@ -120,7 +123,8 @@ no_one :
 no_one h test [] none = refl
 no_one {X} h test (y ∷ ys) none = by (test y) refl (no_one h test ys (λ z i. none z (inr i)))
   where
-    by : (b : Bool) → test y ≡ b → total (λ z. pick (h z) (test z)) ys ≡ 0 → pick (h y) b + total (λ z. pick (h z) (test z)) ys ≡ 0
+    by : (b : Bool) → test y ≡ b → total (λ z. pick (h z) (test z)) ys ≡ 0
+        → pick (h y) b + total (λ z. pick (h z) (test z)) ys ≡ 0
     by true e r = absurd (none y (inl refl) e)
     by false e r = omega (arith, r)
 
@@ -172,25 +176,31 @@ pub paired :
     ArePaired r xs ys p q g h
     → total (λ x. pick (g x) (p x)) xs ≡ total (λ y. pick (h y) (q y)) ys
 paired {X} r xs ys p q g h ox oy k =
-    sum_same (λ x. pick (g x) (p x)) (λ x. total (λ y. pick (h y) (p x && (q y && r x y))) ys) xs (λ x i. sym (row x i (p x) refl))
+    sum_same (λ x. pick (g x) (p x)) (λ x. total (λ y. pick (h y) (p x && (q y && r x y))) ys) xs
+    (λ x i. sym (row x i (p x) refl))
     ∙ sum_sum (λ x y. pick (h y) (p x && (q y && r x y))) xs ys
-    ∙ sum_same (λ y. total (λ x. pick (h y) (p x && (q y && r x y))) xs) (λ y. pick (h y) (q y)) ys (λ y i. column y i (q y) refl)
+    ∙ sum_same (λ y. total (λ x. pick (h y) (p x && (q y && r x y))) xs) (λ y. pick (h y) (q y)) ys
+    (λ y i. column y i (q y) refl)
   where
     row : (x : X) → IsIn xs x → (b : Bool) → p x ≡ b → total (λ y. pick (h y) (p x && (q y && r x y))) ys ≡ pick (g x) (p x)
     row x i true e =
         let z = k.partner x i e in
-        only_one h (λ y. p x && (q y && r x y)) ys z.0 oy z.1 (and_true (p x) (q z.0 && r x z.0) e (and_true (q z.0) (r x z.0) z.2 z.3))
+        only_one h (λ y. p x && (q y && r x y)) ys z.0 oy z.1
+        (and_true (p x) (q z.0 && r x z.0) e (and_true (q z.0) (r x z.0) z.2 z.3))
         (λ y j t. k.one x y z.0 i j z.1 (and_right (q y) (r x y) (and_right (p x) (q y && r x y) t)) z.3)
         ∙ sym (k.same x z.0 z.3) ∙ sym (ap (λ b. pick (g x) b) e)
     row x i false e =
-        no_one h (λ y. p x && (q y && r x y)) ys (λ y j t. true≢false (sym (and_left (p x) (q y && r x y) t) ∙ e)) ∙ sym (ap (λ b. pick (g x) b) e)
+        no_one h (λ y. p x && (q y && r x y)) ys (λ y j t. true≢false (sym (and_left (p x) (q y && r x y) t) ∙ e))
+        ∙ sym (ap (λ b. pick (g x) b) e)
 
     column : (y : X) → IsIn ys y → (b : Bool) → q y ≡ b → total (λ x. pick (h y) (p x && (q y && r x y))) xs ≡ pick (h y) (q y)
     column y i true e =
         let z = k.partner_of y i e in
-        only_one (λ x. h y) (λ x. p x && (q y && r x y)) xs z.0 ox z.1 (and_true (p z.0) (q y && r z.0 y) z.2 (and_true (q y) (r z.0 y) e z.3))
+        only_one (λ x. h y) (λ x. p x && (q y && r x y)) xs z.0 ox z.1
+        (and_true (p z.0) (q y && r z.0 y) z.2 (and_true (q y) (r z.0 y) e z.3))
         (λ x j t. k.one_of x z.0 y j z.1 i (and_right (q y) (r x y) (and_right (p x) (q y && r x y) t)) z.3)
         ∙ sym (ap (λ b. pick (h y) b) e)
     column y i false e =
-        no_one (λ x. h y) (λ x. p x && (q y && r x y)) xs (λ x j t. true≢false (sym (and_left (q y) (r x y) (and_right (p x) (q y && r x y) t)) ∙ e))
+        no_one (λ x. h y) (λ x. p x && (q y && r x y)) xs
+        (λ x j t. true≢false (sym (and_left (q y) (r x y) (and_right (p x) (q y && r x y) t)) ∙ e))
         ∙ sym (ap (λ b. pick (h y) b) e)

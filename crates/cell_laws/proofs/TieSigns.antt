@@ -1,7 +1,9 @@
--- The power of a fifth vertex is settled: the base decides its sign by the plain power and, where that is zero, by the term with
--- the greatest number, and neither knows the exponent. So at any two exponents both powers are below zero, or both above it.
+-- The power of a fifth vertex is settled: the base decides its sign by the plain power and, where that is zero, by the term
+-- with the greatest number, and neither knows the exponent. So at any two exponents both powers are below zero, or both above
+-- it.
 -- Stands on: geo_sign's law of ties, Heights (the power by numbered points) and Box (vertices are points of the box).
-use Rattle.std.proofs.Common.{ℕ, ◌≡◌, ◌≢◌, refl, sym, ◌∙◌, inl, inr, arith, Bool, true, false, IsTrue, IsFalse, ◌↔◌, ℤ, pos, ◌<ℤ◌}
+use Rattle.std.proofs.Common.{ℕ, ◌≡◌, ◌≢◌, refl, sym, ◌∙◌, inl, inr, arith, Bool, true, false, IsTrue, IsFalse, ◌↔◌, ℤ, pos}
+use Rattle.std.proofs.Common.{◌<ℤ◌}
 use Rattle.std.proofs.lemmas.Int.{ints}
 use Rattle.geo_sign.specs.Conflict.{AreApart, AreBelow}
 use Rattle.geo_sign.specs.Power.{plain_power}
@@ -33,12 +35,17 @@ tie_law v x t u h = record {
       same_signs bit (power_among n v t u) (power_of v t.a t.b t.c t.d u)
       (all n (record { a_below = i; b_below = j; c_below = k; d_below = l; p_below = m }))
       (let e = power_tied v x.tied t.a t.b t.c t.d u in
-      let a = own.0.0 in let b = own.0.1 in let c = own.1.0 in let d = own.1.1 in
-      ((λ y. (let z = a y in omega (arith, ints, e, z)), λ y. b (omega (arith, ints, e, y))), (λ y. (let z = c y in omega (arith, ints, e, z)), λ y. d (omega (arith, ints, e, y)))));
+      let a = own.0.0 in let b = own.0.1 in let c = own.1.0 in let d = own.1.1 in (
+        (λ y. (let z = a y in omega (arith, ints, e, z)), λ y. b (omega (arith, ints, e, y))),
+        (λ y. (let z = c y in omega (arith, ints, e, z)), λ y. d (omega (arith, ints, e, y))),
+      ));
 }
   where
     bit : Bool
-    bit = is_below_zero (first_sign (sign_of (plain_power (v.at t.a) (v.at t.b) (v.at t.c) (v.at t.d) (v.at u))) (deciding_term (tied v t.a) (tied v t.b) (tied v t.c) (tied v t.d) (tied v u)).sign)
+    bit =
+        is_below_zero
+        (first_sign (sign_of (plain_power (v.at t.a) (v.at t.b) (v.at t.c) (v.at t.d) (v.at u)))
+        (deciding_term (tied v t.a) (tied v t.b) (tied v t.c) (tied v t.d) (tied v u)).sign)
 
     apart : AreApart (tied v t.a) (tied v t.b) (tied v t.c) (tied v t.d) (tied v u)
     apart =
@@ -61,9 +68,16 @@ tie_law v x t u h = record {
         (IsTrue bit ↔ (power_among n v t u <ℤ pos 0)) × (IsFalse bit ↔ (pos 0 <ℤ power_among n v t u))
     all n below =
         decided (tied v t.a) (tied v t.b) (tied v t.c) (tied v t.d) (tied v u) bit apart
-        (five_kept (v.at t.a) (v.at t.b) (v.at t.c) (v.at t.d) (v.at u)
-        (vertex_within v x t.a h.a_below, vertex_within v x t.b h.b_below, vertex_within v x t.c h.c_below, vertex_within v x t.d h.d_below, vertex_within v x u h.below))
+        (five_kept (v.at t.a) (v.at t.b) (v.at t.c) (v.at t.d) (v.at u) (
+          vertex_within v x t.a h.a_below,
+          vertex_within v x t.b h.b_below,
+          vertex_within v x t.c h.c_below,
+          vertex_within v x t.d h.d_below,
+          vertex_within v x u h.below,
+        ))
         h.positive refl n below
 
     own : (IsTrue bit ↔ (power_among v.count v t u <ℤ pos 0)) × (IsFalse bit ↔ (pos 0 <ℤ power_among v.count v t u))
-    own = all v.count (record { a_below = h.a_below; b_below = h.b_below; c_below = h.c_below; d_below = h.d_below; p_below = h.below })
+    own =
+        all v.count
+        (record { a_below = h.a_below; b_below = h.b_below; c_below = h.c_below; d_below = h.d_below; p_below = h.below })

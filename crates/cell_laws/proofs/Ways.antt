@@ -1,5 +1,5 @@
--- The ways to write a cell: they do not change its lifted plane, and two cells of the same vertices are one, written anew. What else
--- they keep geo_sign says.
+-- The ways to write a cell: they do not change its lifted plane, and two cells of the same vertices are one, written anew. What
+-- else they keep geo_sign says.
 -- Stands on: Identities.
 use Rattle.std.proofs.Common.{ℕ, zero, suc, ◌≤ℤ◌, ◌≡◌, ap, sym, ◌∙◌, inl, inr, arith, ℤ, pos, ◌<ℤ◌, [], ◌∷◌}
 use Rattle.std.proofs.lemmas.Int.{ints}
@@ -31,7 +31,9 @@ spin_lift a b c d ha hb hc hd q =
     let C : Symbols = symbols 6 in
     let D : Symbols = symbols 9 in
     let Q : RationalSymbols = record { at = symbols 12; over = variable 15 } in
-    ring (coordinates a (coordinates b (coordinates c (coordinates d (coordinates q.at (q.over ∷ ha ∷ hb ∷ hc ∷ hd ∷ [])))))) (lift' B C A D (variable 17) (variable 18) (variable 16) (variable 19) Q) (lift' A B C D (variable 16) (variable 17) (variable 18) (variable 19) Q) tt
+    ring (coordinates a (coordinates b (coordinates c (coordinates d (coordinates q.at (q.over ∷ ha ∷ hb ∷ hc ∷ hd ∷ []))))))
+    (lift' B C A D (variable 17) (variable 18) (variable 16) (variable 19) Q)
+    (lift' A B C D (variable 16) (variable 17) (variable 18) (variable 19) Q) tt
 
 swap_lift : (a b c d : Point) (ha hb hc hd : ℤ) (q : RationalPoint) → lift b a d c hb ha hd hc q ≡ lift a b c d ha hb hc hd q
 unfolding lift side
@@ -41,11 +43,14 @@ swap_lift a b c d ha hb hc hd q =
     let C : Symbols = symbols 6 in
     let D : Symbols = symbols 9 in
     let Q : RationalSymbols = record { at = symbols 12; over = variable 15 } in
-    ring (coordinates a (coordinates b (coordinates c (coordinates d (coordinates q.at (q.over ∷ ha ∷ hb ∷ hc ∷ hd ∷ [])))))) (lift' B A D C (variable 17) (variable 16) (variable 19) (variable 18) Q) (lift' A B C D (variable 16) (variable 17) (variable 18) (variable 19) Q) tt
+    ring (coordinates a (coordinates b (coordinates c (coordinates d (coordinates q.at (q.over ∷ ha ∷ hb ∷ hc ∷ hd ∷ []))))))
+    (lift' B A D C (variable 17) (variable 16) (variable 19) (variable 18) Q)
+    (lift' A B C D (variable 16) (variable 17) (variable 18) (variable 19) Q) tt
 
 pub same_lift : (v : Vertices) (p : RationalPoint) (q r : Tetrahedron) → IsRewritten q r → lift_of v r p ≡ lift_of v q p
 same_lift v p =
-    carry_value (λ t. lift_of v t p) (λ t. spin_lift (v.at t.a) (v.at t.b) (v.at t.c) (v.at t.d) (v.high t.a) (v.high t.b) (v.high t.c) (v.high t.d) p)
+    carry_value (λ t. lift_of v t p)
+    (λ t. spin_lift (v.at t.a) (v.at t.b) (v.at t.c) (v.at t.d) (v.high t.a) (v.high t.b) (v.high t.c) (v.high t.d) p)
     (λ t. swap_lift (v.at t.a) (v.at t.b) (v.at t.c) (v.at t.d) (v.high t.a) (v.high t.b) (v.high t.c) (v.high t.d) p)
 
 -- ---- the sides of a place, one by one
@@ -74,7 +79,8 @@ strictly v r q h i j k = record { at = at }
 -- ---- two cells of the same vertices
 pub tetrahedron_same : (q r : Tetrahedron) → q.a ≡ r.a → q.b ≡ r.b → q.c ≡ r.c → q.d ≡ r.d → q ≡ r
 tetrahedron_same q r e f g h =
-    ap (λ x. tetrahedron x q.b q.c q.d) e ∙ ap (λ x. tetrahedron r.a x q.c q.d) f ∙ ap (λ x. tetrahedron r.a r.b x q.d) g ∙ ap (λ x. tetrahedron r.a r.b r.c x) h
+    ap (λ x. tetrahedron x q.b q.c q.d) e ∙ ap (λ x. tetrahedron r.a x q.c q.d) f ∙ ap (λ x. tetrahedron r.a r.b x q.d) g
+    ∙ ap (λ x. tetrahedron r.a r.b r.c x) h
 
 -- two vertices alike, and the other two among the rest
 rest :
@@ -90,7 +96,8 @@ rest v q r hq hr n ea eb (inr (inr (inr e))) (inl f) = absurd (n.d_a (f ∙ ea))
 rest v q r hq hr n ea eb (inr (inr (inr e))) (inr (inl f)) = absurd (n.d_b (f ∙ eb))
 rest v q r hq hr n ea eb (inr (inr (inr e))) (inr (inr (inl f))) =
     let l = exchanged_orientation (v.at r.a) (v.at r.b) (v.at r.c) (v.at r.d) in
-    let m : orientation_at v q ≡ orientation_of v r.a r.b r.d r.c = ap (orientation_at v) (tetrahedron_same q (tetrahedron r.a r.b r.d r.c) ea eb (sym f) (sym e)) in
+    let m : orientation_at v q ≡ orientation_of v r.a r.b r.d r.c =
+    ap (orientation_at v) (tetrahedron_same q (tetrahedron r.a r.b r.d r.c) ea eb (sym f) (sym e)) in
     absurd (omega (arith, ints, l, m, hq, hr))
 rest v q r hq hr n ea eb (inr (inr (inr e))) (inr (inr (inr f))) = absurd (n.d_c (f ∙ sym e))
 

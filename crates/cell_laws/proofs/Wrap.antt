@@ -1,9 +1,10 @@
--- The next cell over a facet, as in gift wrapping. Of the vertices before the turned facet a c b take the one e at which the ratio of its
--- power at the cell a b c d to its side of a c b is least. By the three terms no vertex has a negative power at a c b e: its power there
--- is a positive multiple of the difference of two such ratios. So a facet of a cell is an outer one or has a cell across it; and it has
--- at most one, since each of two apexes would have a power of zero or less at the other.
+-- The next cell over a facet, as in gift wrapping. Of the vertices before the turned facet a c b take the one e at which the
+-- ratio of its power at the cell a b c d to its side of a c b is least. By the three terms no vertex has a negative power at a
+-- c b e: its power there is a positive multiple of the difference of two such ratios. So a facet of a cell is an outer one or
+-- has a cell across it; and it has at most one, since each of two apexes would have a power of zero or less at the other.
 -- Stands on: Best, Writing and the three terms of Identities.
-use Rattle.std.proofs.Common.{ℕ, zero, suc, ◌≡◌, ◌≢◌, ◌<◌, ◌≤◌, refl, ap, ap₂, sym, ◌∙◌, ◌⊎◌, inl, inr, ⊎_elim, arith, Bool, true, false, ◌&&◌, true≢false, ℤ, pos, neg_ℤ, ◌-ℤ◌, ◌*ℤ◌, ◌≤ℤ◌, ◌<ℤ◌, int_lt, List, [], ◌∷◌}
+use Rattle.std.proofs.Common.{ℕ, zero, suc, ◌≡◌, ◌≢◌, ◌<◌, ◌≤◌, refl, ap, ap₂, sym, ◌∙◌, ◌⊎◌, inl, inr, ⊎_elim, arith, Bool}
+use Rattle.std.proofs.Common.{true, false, ◌&&◌, true≢false, ℤ, pos, neg_ℤ, ◌-ℤ◌, ◌*ℤ◌, ◌≤ℤ◌, ◌<ℤ◌, int_lt, List, [], ◌∷◌}
 use Rattle.std.proofs.lemmas.Int.{ints, by_lt_z}
 use Rattle.std.proofs.lemmas.Bool.{cases_lt}
 use lib.IntN.{*ℤ_comm}
@@ -54,7 +55,8 @@ and_false true b h e = h
 and_false false b h e = absurd (true≢false (sym e))
 
 pub quotient : (a b : ℤ) → pos 0 <ℤ a → pos 0 ≤ℤ (a *ℤ b) → pos 0 ≤ℤ b
-quotient a b h k = by_lt_z b (pos 0) (λ l. let m : (a *ℤ b) <ℤ pos 0 = mul_below a b h l in absurd (omega (arith, ints))) (λ l. l)
+quotient a b h k =
+    by_lt_z b (pos 0) (λ l. let m : (a *ℤ b) <ℤ pos 0 = mul_below a b h l in absurd (omega (arith, ints))) (λ l. l)
 
 -- what makes a rational whose least one gives a cell over a b c
 pub record Weight (v : Vertices) (a b c : ℕ) : Type 0 where
@@ -62,7 +64,8 @@ pub record Weight (v : Vertices) (a b c : ℕ) : Type 0 where
   pub weight : ℕ → ℤ
   pub base_positive : pos 0 <ℤ base
   pub not_negative : (u : ℕ) → Has v u → pos 0 ≤ℤ weight u
-  pub is : (d u : ℕ) → base *ℤ power_of v a b c d u ≡ orientation_of v a b c d *ℤ weight u -ℤ weight d *ℤ orientation_of v a b c u
+  pub is : (d u : ℕ)
+      → base *ℤ power_of v a b c d u ≡ orientation_of v a b c d *ℤ weight u -ℤ weight d *ℤ orientation_of v a b c u
 
 abbrev is_before : Vertices → (a b c u : ℕ) → Bool
 is_before v a b c u = v.is_in u && int_lt (pos 0) (orientation_of v a b c u)
@@ -72,7 +75,8 @@ pub wrap :
     (v : Vertices) (a b c : ℕ) → Has v a → Has v b → Has v c → Weight v a b c →
     ((u : ℕ) → Has v u → orientation_of v a b c u ≤ℤ pos 0) ⊎ ((d : ℕ) × IsCell v a b c d)
 wrap v a b c ha hb hc w =
-    pick (best (is_before v a b c) w.weight (orientation_of v a b c) (below v.count) (λ u i g. above_true (orientation_of v a b c u) (and_right (v.is_in u) _ g)))
+    pick (best (is_before v a b c) w.weight (orientation_of v a b c) (below v.count)
+    (λ u i g. above_true (orientation_of v a b c u) (and_right (v.is_in u) _ g)))
   where
     clear :
         (d : ℕ) → Has v d → IsBest (is_before v a b c) w.weight (orientation_of v a b c) (below v.count) d →
@@ -82,7 +86,8 @@ wrap v a b c ha hb hc w =
         (by_lt_z (pos 0) (orientation_of v a b c u)
         (λ l.
         let e = w.is d u in
-        let m : (w.weight d *ℤ orientation_of v a b c u) ≤ℤ (w.weight u *ℤ orientation_of v a b c d) = k.least u (below_has v.count u h.0) (ap₂ (λ x y. x && y) h.1 (above_is (orientation_of v a b c u) l)) in
+        let m : (w.weight d *ℤ orientation_of v a b c u) ≤ℤ (w.weight u *ℤ orientation_of v a b c d) =
+        k.least u (below_has v.count u h.0) (ap₂ (λ x y. x && y) h.1 (above_is (orientation_of v a b c u) l)) in
         let f = *ℤ_comm (w.weight u) (orientation_of v a b c d) in
         omega (arith, ints, e, m, f))
         (λ l.
@@ -95,33 +100,44 @@ wrap v a b c ha hb hc w =
     pick :
         Found (is_before v a b c) w.weight (orientation_of v a b c) (below v.count) →
         ((u : ℕ) → Has v u → orientation_of v a b c u ≤ℤ pos 0) ⊎ ((d : ℕ) × IsCell v a b c d)
-    pick (inl n) = inl (λ u h. above_false (orientation_of v a b c u) (and_false (v.is_in u) _ (n u (below_has v.count u h.0)) h.1))
+    pick (inl n) =
+        inl (λ u h. above_false (orientation_of v a b c u) (and_false (v.is_in u) _ (n u (below_has v.count u h.0)) h.1))
     pick (inr z) =
         let k : IsBest (is_before v a b c) w.weight (orientation_of v a b c) (below v.count) z.0 = z.1 in
         let h : Has v z.0 = (below_gives v.count z.0 k.listed, and_left (v.is_in z.0) _ k.passes) in
-        let p : pos 0 <ℤ orientation_of v a b c z.0 = above_true (orientation_of v a b c z.0) (and_right (v.is_in z.0) _ k.passes) in
+        let p : pos 0 <ℤ orientation_of v a b c z.0 =
+        above_true (orientation_of v a b c z.0) (and_right (v.is_in z.0) _ k.passes) in
         inr (z.0, record { has_a = ha; has_b = hb; has_c = hc; has_d = h; positive = p; clear = clear z.0 h k p })
 
 -- a facet of a cell is an outer one, or has a cell across it
 pub across : (v : Vertices) (a b c d : ℕ) → IsCell v a b c d → IsOuter v a b c ⊎ ((e : ℕ) × IsCell v a c b e)
 across v a b c d k =
-    ⊎_elim (λ n. inl (λ u h. let m : orientation_of v a c b u ≤ℤ pos 0 = n u h in let e = turned_orientation (v.at a) (v.at b) (v.at c) (v.at u) in omega (arith, ints, m, e))) (λ z. inr z)
+    ⊎_elim (λ n. inl
+    (λ u h. let m : orientation_of v a c b u ≤ℤ pos 0 = n u h in
+    let e = turned_orientation (v.at a) (v.at b) (v.at c) (v.at u) in
+    omega (arith, ints, m, e))) (λ z. inr z)
     (wrap v a c b k.has_a k.has_c k.has_b (record {
       base = orientation_of v a b c d;
       weight = power_of v a b c d;
       base_positive = k.positive;
       not_negative = k.clear;
       is = λ e u.
-          let t = three_terms (v.at a) (v.at b) (v.at c) (v.at d) (v.at e) (v.at u) (v.high a) (v.high b) (v.high c) (v.high d) (v.high e) (v.high u) in
+          let t =
+          three_terms (v.at a) (v.at b) (v.at c) (v.at d) (v.at e) (v.at u) (v.high a) (v.high b) (v.high c) (v.high d)
+          (v.high e) (v.high u) in
           let g = turned_orientation (v.at a) (v.at b) (v.at c) (v.at u) in
-          let f : power_of v a b c d e *ℤ orientation_of v a c b u ≡ neg_ℤ (power_of v a b c d e *ℤ orientation_of v a b c u) = ap (λ y. power_of v a b c d e *ℤ y) g ∙ neg_right (power_of v a b c d e) (orientation_of v a b c u) in
+          let f : power_of v a b c d e *ℤ orientation_of v a c b u ≡ neg_ℤ (power_of v a b c d e *ℤ orientation_of v a b c u) =
+          ap (λ y. power_of v a b c d e *ℤ y) g ∙ neg_right (power_of v a b c d e) (orientation_of v a b c u) in
           omega (arith, ints, t, f);
     }))
 
 -- a vertex before a facet is none of the facet's
 pub before_not : (v : Vertices) (a b c u : ℕ) → orientation_of v a b c u ≢ pos 0 → (u ≢ a) × (u ≢ b) × (u ≢ c)
-before_not v a b c u h =
-    (λ e. h (ap (orientation_of v a b c) e ∙ flat_a (v.at a) (v.at b) (v.at c)), λ e. h (ap (orientation_of v a b c) e ∙ flat_b (v.at a) (v.at b) (v.at c)), λ e. h (ap (orientation_of v a b c) e ∙ flat_c (v.at a) (v.at b) (v.at c)))
+before_not v a b c u h = (
+  λ e. h (ap (orientation_of v a b c) e ∙ flat_a (v.at a) (v.at b) (v.at c)),
+  λ e. h (ap (orientation_of v a b c) e ∙ flat_b (v.at a) (v.at b) (v.at c)),
+  λ e. h (ap (orientation_of v a b c) e ∙ flat_c (v.at a) (v.at b) (v.at c)),
+)
 
 pub above_not_zero : (z : ℤ) → pos 0 <ℤ z → z ≢ pos 0
 above_not_zero z h e = absurd (omega (arith, ints))
@@ -141,9 +157,11 @@ outside_above v g a b c d u k h o n =
 -- a facet has one cell at most
 pub one_over : (v : Vertices) → IsGeneric v → (a b c d e : ℕ) → IsCell v a b c d → IsCell v a b c e → d ≡ e
 one_over v g a b c d e k l =
-    let t = exchanged_power (v.at a) (v.at b) (v.at c) (v.at d) (v.at e) (v.high a) (v.high b) (v.high c) (v.high d) (v.high e) in
+    let t =
+    exchanged_power (v.at a) (v.at b) (v.at c) (v.at d) (v.at e) (v.high a) (v.high b) (v.high c) (v.high d) (v.high e) in
     let m = k.clear e l.has_d in
     let n = l.clear d k.has_d in
     let z : power_of v a b c d e ≡ pos 0 = omega (arith, ints, t, m, n) in
     let q = before_not v a b c e (above_not_zero (orientation_of v a b c e) l.positive) in
-    sym (⊎_elim (λ x. absurd (q.0 x)) (⊎_elim (λ x. absurd (q.1 x)) (⊎_elim (λ x. absurd (q.2 x)) (λ x. x))) (g a b c d e k.has_a.0 k.has_b.0 k.has_c.0 k.has_d.0 l.has_d.0 k.positive z))
+    sym (⊎_elim (λ x. absurd (q.0 x)) (⊎_elim (λ x. absurd (q.1 x)) (⊎_elim (λ x. absurd (q.2 x)) (λ x. x)))
+    (g a b c d e k.has_a.0 k.has_b.0 k.has_c.0 k.has_d.0 l.has_d.0 k.positive z))

@@ -96,7 +96,9 @@ JoinedLaw =
 
 -- the six cells of the box
 abbrev pub six : List Tetrahedron
-six = tetrahedron 0 1 2 4 ∷ tetrahedron 1 2 4 3 ∷ tetrahedron 1 3 4 5 ∷ tetrahedron 2 3 6 4 ∷ tetrahedron 3 4 5 6 ∷ tetrahedron 3 5 7 6 ∷ []
+six =
+    tetrahedron 0 1 2 4 ∷ tetrahedron 1 2 4 3 ∷ tetrahedron 1 3 4 5 ∷ tetrahedron 2 3 6 4 ∷ tetrahedron 3 4 5 6
+    ∷ tetrahedron 3 5 7 6 ∷ []
 
 -- for every number of vertices, of which the corners alone are in
 abbrev pub CornerLaw : Type 0

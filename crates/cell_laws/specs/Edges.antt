@@ -18,7 +18,8 @@ pub record AreEdges (n : ℕ) (f : ℕ → DirectedFacet) : Type 0 where
   pub next :
       (i e : ℕ) → i < n →
       (j : ℕ) × (k : ℕ) × (j < n) × (k < 3) × (edge_start (f j) k ≡ edge_end (f i) e) × (edge_end (f j) k ≡ edge_start (f i) e)
-  pub apart : (i e j k : ℕ) → i < n → j < n → edge_start (f i) e ≡ edge_start (f j) k → edge_end (f i) e ≡ edge_end (f j) k → i ≡ j
+  pub apart : (i e j k : ℕ) → i < n → j < n → edge_start (f i) e ≡ edge_start (f j) k → edge_end (f i) e ≡ edge_end (f j) k
+      → i ≡ j
 
 pub record HaveEdge (f g : DirectedFacet) : Type 0 where
   pub i : ℕ

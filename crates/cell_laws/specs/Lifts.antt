@@ -18,4 +18,5 @@ lift_of v t q = lift (v.at t.a) (v.at t.b) (v.at t.c) (v.at t.d) (v.high t.a) (v
 
 -- the two heights are compared without dividing by the orientations, which are positive
 abbrev pub is_higher : Vertices → RationalPoint → Tetrahedron → Tetrahedron → Bool
-is_higher v q r t = int_lt (orientation_of v t.a t.b t.c t.d *ℤ lift_of v r q) (orientation_of v r.a r.b r.c r.d *ℤ lift_of v t q)
+is_higher v q r t =
+    int_lt (orientation_of v t.a t.b t.c t.d *ℤ lift_of v r q) (orientation_of v r.a r.b r.c r.d *ℤ lift_of v t q)

@@ -13,7 +13,8 @@
 --   RimListLaw    the facets at the rim of the cells in conflict have all that putting in new cells over them asks for
 --   RelinkLaw     what a replacement leaves is linked; this is about links alone and needs nothing of the vertices
 --   RenewLaw      a replacement of all cells in conflict leaves all cells with one vertex more, each once
-use Rattle.std.specs.Prelude.{ℕ, zero, suc, ◌<◌, ◌≡◌, ◌⊎◌, ◌↔◌, pos, ◌<ℤ◌, Bool, true, false, Option, Some, None, List, [], ◌∷◌, length, slice_index_or}
+use Rattle.std.specs.Prelude.{ℕ, zero, suc, ◌<◌, ◌≡◌, ◌⊎◌, ◌↔◌, pos, ◌<ℤ◌, Bool, true, false, Option, Some, None, List, [], ◌∷◌}
+use Rattle.std.specs.Prelude.{length, slice_index_or}
 use Rattle.geo_sign.specs.Rational.{rational}
 use Rattle.geo_sign.specs.Tetrahedron.{Tetrahedron, tetrahedron, DirectedFacet, facet_of, IsTurned}
 use Rattle.geo_sign.specs.Vertices.{Vertices, Has, IsWall, orientation_of}
@@ -104,7 +105,8 @@ RimOfLaw =
     IsRimList live cell next removed (length sides) (λ i. facet_of (cell (side_of_list sides i).at) (side_of_list sides i).side)
     (λ i. next (side_of_list sides i).at (side_of_list sides i).side)
 
--- the facets over which new cells are put in: they are the fan's, their edges meet, p is before each, no vertex is lost, and there is one
+-- the facets over which new cells are put in: they are the fan's, their edges meet, p is before each, no vertex is lost, and
+-- there is one
 pub record AreRims (v : Vertices) (p : ℕ) (live : List ℕ) (cell : ℕ → Tetrahedron) (removed : ℕ → Bool) (n : ℕ)
     (fan : ℕ → DirectedFacet) : Type 0 where
   pub facets : IsFanList v p n fan

@@ -22,7 +22,8 @@ pub record IsBackAt {X : Type 0} (live : List X) (cell : X → Tetrahedron) (f :
   pub in_range : side < 4
   pub turned : IsTurned f (facet_of (cell y) side)
 
-pub record IsLinked {X : Type 0} (v : Vertices) (live : List X) (cell : X → Tetrahedron) (next : X → ℕ → Option X) : Type 0 where
+pub record IsLinked {X : Type 0} (v : Vertices) (live : List X) (cell : X → Tetrahedron)
+    (next : X → ℕ → Option X) : Type 0 where
   pub back : (x : X) (k : ℕ) (y : X) → IsIn live x → k < 4 → next x k ≡ Some y → IsBackAt live cell (facet_of (cell x) k) y
   pub walls : (x : X) (k : ℕ) → IsIn live x → k < 4 → next x k ≡ None → IsWall v (facet_of (cell x) k)
   pub apart :

@@ -42,4 +42,5 @@ IsPath v live cell next p s x (c ∷ cs) = IsStep v live cell next p s x c × Is
 
 abbrev pub AreNearing : (v : Vertices) (cell : ℕ → Tetrahedron) (p : ℕ) (s : RationalPoint) → List Side → Type 0
 AreNearing v cell p s [] = Unit {0}
-AreNearing v cell p s (c ∷ cs) = ((d : Side) → IsIn cs d → IsNearer v p s (entered cell c) (entered cell d)) × AreNearing v cell p s cs
+AreNearing v cell p s (c ∷ cs) =
+    ((d : Side) → IsIn cs d → IsNearer v p s (entered cell c) (entered cell d)) × AreNearing v cell p s cs

@@ -1,6 +1,7 @@
--- Taking some linked cells out and putting new ones in: over each facet at the rim of those taken out, the cell with the apex p.
--- The facets are fan 0 to fan (n - 1), each written from any of its vertices on, and outer i is what is across fan i. The names of
--- the new cells, fresh 0 to fresh (n - 1), may be ones that were taken out, as a store that uses its slots again gives them.
+-- Taking some linked cells out and putting new ones in: over each facet at the rim of those taken out, the cell with the apex
+-- p.
+-- The facets are fan 0 to fan (n - 1), each written from any of its vertices on, and outer i is what is across fan i. The names
+-- of the new cells, fresh 0 to fresh (n - 1), may be ones that were taken out, as a store that uses its slots again gives them.
 --
 --   IsAtRim next removed x k                                 across facet k of x nothing is taken out
 --   IsRimList live cell next removed n fan outer             the facets at the rim, each once
@@ -56,12 +57,13 @@ pub record IsRenewed (p : ℕ) (live : List ℕ) (cell : ℕ → Tetrahedron) (r
   pub kept_cell : (x : ℕ) → IsIn live x → removed x ≡ false → cell' x ≡ cell x
   pub made_cell : (i : ℕ) → i < n → cell' (fresh i) ≡ over (fan i) p
 
--- and how they are linked: a kept cell to what it was linked to, or to the new cell over that facet; a new cell over its facet to what
--- was across, and at each other side to the new cell whose facet has the edge reversed
+-- and how they are linked: a kept cell to what it was linked to, or to the new cell over that facet; a new cell over its facet
+-- to what was across, and at each other side to the new cell whose facet has the edge reversed
 pub record IsRelinked (live : List ℕ) (cell : ℕ → Tetrahedron) (next : ℕ → ℕ → Option ℕ) (removed : ℕ → Bool) (n : ℕ)
     (fan : ℕ → DirectedFacet) (outer : ℕ → Option ℕ) (fresh : ℕ → ℕ) (next' : ℕ → ℕ → Option ℕ) : Type 0 where
   pub kept_none : (x k : ℕ) → IsIn live x → removed x ≡ false → k < 4 → next x k ≡ None → next' x k ≡ None
-  pub kept_some : (x k y : ℕ) → IsIn live x → removed x ≡ false → k < 4 → next x k ≡ Some y → removed y ≡ false → next' x k ≡ Some y
+  pub kept_some : (x k y : ℕ) → IsIn live x → removed x ≡ false → k < 4 → next x k ≡ Some y → removed y ≡ false
+      → next' x k ≡ Some y
   pub kept_new :
       (x k y : ℕ) → IsIn live x → removed x ≡ false → k < 4 → next x k ≡ Some y → removed y ≡ true →
       (i : ℕ) × (i < n) × (next' x k ≡ Some (fresh i)) × IsTurned (facet_of (cell x) k) (fan i)
@@ -70,7 +72,8 @@ pub record IsRelinked (live : List ℕ) (cell : ℕ → Tetrahedron) (next : ℕ
       (i e : ℕ) → i < n → e < 3 → (j : ℕ) × (k : ℕ) × (j < n) × (k < 3) × (next' (fresh i) e ≡ Some (fresh j)) ×
       (edge_start (fan i) e ≡ edge_end (fan j) k) × (edge_end (fan i) e ≡ edge_start (fan j) k)
 
-pub record IsReplacement (p : ℕ) (live : List ℕ) (cell : ℕ → Tetrahedron) (next : ℕ → ℕ → Option ℕ) (removed : ℕ → Bool) (n : ℕ) (fan : ℕ → DirectedFacet) (outer : ℕ → Option ℕ) (fresh : ℕ → ℕ) (live' : List ℕ) (cell' : ℕ → Tetrahedron)
+pub record IsReplacement (p : ℕ) (live : List ℕ) (cell : ℕ → Tetrahedron) (next : ℕ → ℕ → Option ℕ) (removed : ℕ → Bool) (n : ℕ)
+    (fan : ℕ → DirectedFacet) (outer : ℕ → Option ℕ) (fresh : ℕ → ℕ) (live' : List ℕ) (cell' : ℕ → Tetrahedron)
     (next' : ℕ → ℕ → Option ℕ) : Type 0 where
   pub names : IsRenewed p live cell removed n fan fresh live' cell'
   pub links : IsRelinked live cell next removed n fan outer fresh next'

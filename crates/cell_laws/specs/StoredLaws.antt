@@ -1,12 +1,15 @@
 -- Laws for stores: the vertices of a store, lists of names, and cells as rows of numbers.
 --
 --   AllLaw                           the corners and distinct data points, all in, are vertices of the box
---   StoredLaw                        they are vertices of the box; a flag set is a vertex more; with all flags set they are all vertices
+--   StoredLaw                        they are vertices of the box; a flag set is a vertex more; with all flags set they are all
+--                                    vertices
 --   TiedLaw                          the power of vertices is that of numbered points by the tie rule
 --   ListedLaw                        what is in a list of names is contained in it
---   AreRows                          each name has one row of rising numbers, that of a cell, and each row of a cell is that of one name
+--   AreRows                          each name has one row of rising numbers, that of a cell, and each row of a cell is that of
+--                                    one name
 --   RowLaw                           names that stand for all cells are so
-use Rattle.std.specs.Prelude.{ℕ, ◌<◌, ◌≡◌, ◌≢◌, ◌↔◌, ◌+◌, Bool, true, false, Option, List, length, get_or, set, All, AllPairs, Contains}
+use Rattle.std.specs.Prelude.{ℕ, ◌<◌, ◌≡◌, ◌≢◌, ◌↔◌, ◌+◌, Bool, true, false, Option, List, length, get_or, set, All, AllPairs}
+use Rattle.std.specs.Prelude.{Contains}
 use Rattle.geo_sign.specs.Boxes.{inserted_vertices, IsBoxed, IsTied, with_vertex}
 use Rattle.geo_sign.specs.Point.{Point, IsWithin}
 use Rattle.geo_sign.specs.declared.point.TheConstants.{DATA_LIMIT}
@@ -20,7 +23,8 @@ use Rattle.geo_sign.specs.RowLaws.{IsOneRow, IsRowOf}
 
 -- the box's corners and distinct data points, all in
 abbrev pub AllLaw : Type 0
-AllLaw = (points : List Point) → All (IsWithin DATA_LIMIT) points → AllPairs (λ p q. p ≢ q) points → IsBoxed (vertices_of points)
+AllLaw =
+    (points : List Point) → All (IsWithin DATA_LIMIT) points → AllPairs (λ p q. p ≢ q) points → IsBoxed (vertices_of points)
 
 pub record AreStored (points : List Point) (flags : List Bool) : Type 0 where
   pub boxed :

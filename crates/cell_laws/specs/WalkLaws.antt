@@ -1,5 +1,5 @@
--- Laws of walks through the cells, of places near a vertex, and of sights. A sight goes from a vertex p to the displaced place of a
--- scanner at s.
+-- Laws of walks through the cells, of places near a vertex, and of sights. A sight goes from a vertex p to the displaced place
+-- of a scanner at s.
 --
 --   StepLaw       a walk over linked cells to a place of the box goes on, and ends
 --   NearLaw       the places of walks are in the box, and how the sign of a side of theirs is found
@@ -52,7 +52,8 @@ pub record AreNear (p s : Point) : Type 0 where
       (a b c : Point) → IsWithin BOX_LIMIT a → IsWithin BOX_LIMIT b → IsWithin BOX_LIMIT c →
       sign_of (side a b c (towards_place p s)) ≡ first_sign (sign_of (orientation a b c p)) (sign_of (side a b c (displaced s)))
   pub behind_sign :
-      (a b c : Point) → IsWithin BOX_LIMIT a → IsWithin BOX_LIMIT b → IsWithin BOX_LIMIT c → sign_of (side a b c (behind_place p s)) ≡
+      (a b c : Point) → IsWithin BOX_LIMIT a → IsWithin BOX_LIMIT b → IsWithin BOX_LIMIT c
+      → sign_of (side a b c (behind_place p s)) ≡
       first_sign (sign_of (orientation a b c p)) (opposite_sign (sign_of (side a b c (displaced s))))
 
 abbrev pub NearLaw : Type 0

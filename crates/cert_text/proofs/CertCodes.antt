@@ -10,23 +10,32 @@ use Rattle.cert_text.specs.declared.certificate.SinkRow.{SinkRow}
 use Rattle.cert_text.specs.Rows.{IsCellRow, IsFlowRow, IsSinkRow}
 use Rattle.cert_text.specs.Stamps.{StampView}
 use Rattle.cert_text.specs.Certificates.{Counts, Claim, FitCounts, IsWellFormed}
-use Rattle.cert_text.specs.Texts.{version_text, points_word, scanners_word, sights_word, vote_word, smooth_word, cost_word, inside_word, flow_word, sink_word, end_line, cell_fields, cell_line, flow_line, sink_line, counts_text, cert_text}
+use Rattle.cert_text.specs.Texts.{version_text, points_word, scanners_word, sights_word, vote_word, smooth_word, cost_word}
+use Rattle.cert_text.specs.Texts.{inside_word, flow_word, sink_word, end_line, cell_fields, cell_line, flow_line, sink_line}
+use Rattle.cert_text.specs.Texts.{counts_text, cert_text}
 use Rattle.cert_text.proofs.StampCodes.{version_code}
 
 -- ---- cells
 abbrev pub four : (a b c d : ℕ) → List ℕ
 four a b c d = a ∷ b ∷ c ∷ d ∷ []
 
-four_parts : (a b c d end : ℕ) (r : List ℕ) → cell_fields (four a b c d) end ++ r ≡ ended a 32 ++ (ended b 32 ++ (ended c 32 ++ (ended d end ++ r)))
+four_parts : (a b c d end : ℕ) (r : List ℕ)
+    → cell_fields (four a b c d) end ++ r ≡ ended a 32 ++ (ended b 32 ++ (ended c 32 ++ (ended d end ++ r)))
 four_parts a b c d end r = simp append_assoc
 
-four_code : (a b c d x y z w end : ℕ) (r s : List ℕ) → end < 48 → IsCellRow (four a b c d) → IsCellRow (four x y z w) → cell_fields (four a b c d) end ++ r ≡ cell_fields (four x y z w) end ++ s → (four a b c d ≡ four x y z w) × (r ≡ s)
+four_code : (a b c d x y z w end : ℕ) (r s : List ℕ) → end < 48 → IsCellRow (four a b c d) → IsCellRow (four x y z w)
+    → cell_fields (four a b c d) end ++ r ≡ cell_fields (four x y z w) end ++ s → (four a b c d ≡ four x y z w) × (r ≡ s)
 four_code a b c d x y z w end r s low k l e =
-    let p = ended_code a x 32 _ _ (omega arith) (omega (arith, k.0, k.1, k.2, k.3)) (omega (arith, l.0, l.1, l.2, l.3)) (sym (four_parts a b c d end r) ∙ e ∙ four_parts x y z w end s) in
+    let p =
+    ended_code a x 32 _ _ (omega arith) (omega (arith, k.0, k.1, k.2, k.3)) (omega (arith, l.0, l.1, l.2, l.3))
+    (sym (four_parts a b c d end r) ∙ e ∙ four_parts x y z w end s) in
     let q = ended_code b y 32 _ _ (omega arith) (omega (arith, k.1, k.2, k.3)) (omega (arith, l.1, l.2, l.3)) p.1 in
     let t = ended_code c z 32 _ _ (omega arith) (omega (arith, k.2, k.3)) (omega (arith, l.2, l.3)) q.1 in
-    let u = ended_code d w end r s low (omega (arith, k.3)) (omega (arith, l.3)) t.1 in
-    (ap (λ (n : ℕ). four n b c d) p.0 ∙ (ap (λ (n : ℕ). four x n c d) q.0 ∙ (ap (λ (n : ℕ). four x y n d) t.0 ∙ ap (λ (n : ℕ). four x y z n) u.0)), u.1)
+    let u = ended_code d w end r s low (omega (arith, k.3)) (omega (arith, l.3)) t.1 in (
+      ap (λ (n : ℕ). four n b c d) p.0
+          ∙ (ap (λ (n : ℕ). four x n c d) q.0 ∙ (ap (λ (n : ℕ). four x y n d) t.0 ∙ ap (λ (n : ℕ). four x y z n) u.0)),
+      u.1,
+    )
 
 pub record Four (f : List ℕ) : Type 0 where
   pub a : ℕ
@@ -48,7 +57,9 @@ pub cell_code : (end : ℕ) → end < 48 → IsCode IsCellRow (λ c. cell_fields
 cell_code end low f g r s k l e =
     let p = four_of f k in
     let q = four_of g l in
-    let m = four_code p.a p.b p.c p.d q.a q.b q.c q.d end r s low p.cell q.cell (ap (λ (t : List ℕ). cell_fields t end ++ r) (sym p.is) ∙ e ∙ ap (λ (t : List ℕ). cell_fields t end ++ s) q.is) in
+    let m =
+    four_code p.a p.b p.c p.d q.a q.b q.c q.d end r s low p.cell q.cell
+    (ap (λ (t : List ℕ). cell_fields t end ++ r) (sym p.is) ∙ e ∙ ap (λ (t : List ℕ). cell_fields t end ++ s) q.is) in
     (p.is ∙ m.0 ∙ sym q.is, m.1)
 
 -- ---- rows
@@ -61,34 +72,52 @@ sink_row c n = record { cell = c; amount = n }
 pub flow_code : IsCode IsFlowRow flow_line
 unfolding flow_row
 flow_code v w r s a b e =
-    let f = facet_code 32 (omega arith) v.facet w.facet _ _ a.facet b.facet (sym (append_assoc (facet_fields v.facet 32) (ended v.amount 10) r) ∙ e ∙ append_assoc (facet_fields w.facet 32) (ended w.amount 10) s) in
+    let f =
+    facet_code 32 (omega arith) v.facet w.facet _ _ a.facet b.facet
+    (sym (append_assoc (facet_fields v.facet 32) (ended v.amount 10) r) ∙ e
+    ∙ append_assoc (facet_fields w.facet 32) (ended w.amount 10) s) in
     let n = ended_code v.amount w.amount 10 r s (omega arith) a.fits b.fits f.1 in
     (ap (λ (x : List ℕ). flow_row x v.amount) f.0 ∙ ap (flow_row w.facet) n.0, n.1)
 
 pub sink_code : IsCode IsSinkRow sink_line
 unfolding sink_row
 sink_code v w r s a b e =
-    let f = cell_code 32 (omega arith) v.cell w.cell _ _ a.cell b.cell (sym (append_assoc (cell_fields v.cell 32) (ended v.amount 10) r) ∙ e ∙ append_assoc (cell_fields w.cell 32) (ended w.amount 10) s) in
+    let f =
+    cell_code 32 (omega arith) v.cell w.cell _ _ a.cell b.cell
+    (sym (append_assoc (cell_fields v.cell 32) (ended v.amount 10) r) ∙ e
+    ∙ append_assoc (cell_fields w.cell 32) (ended w.amount 10) s) in
     let n = ended_code v.amount w.amount 10 r s (omega arith) a.fits b.fits f.1 in
     (ap (λ (x : List ℕ). sink_row x v.amount) f.0 ∙ ap (sink_row w.cell) n.0, n.1)
 
 -- ---- the whole text
-pub list_code : {A : Type 0} (P : A → Type 0) (line : A → List ℕ) (word : List ℕ) → IsCode P line → (xs ys : List A) (r s : List ℕ) → length xs < 2 ^ 64 → length ys < 2 ^ 64 → All P xs → All P ys
-    → (counted word (length xs) ++ flat_map line xs) ++ r ≡ (counted word (length ys) ++ flat_map line ys) ++ s → (xs ≡ ys) × (r ≡ s)
+pub list_code : {A : Type 0} (P : A → Type 0) (line : A → List ℕ) (word : List ℕ) → IsCode P line
+    → (xs ys : List A) (r s : List ℕ) → length xs < 2 ^ 64 → length ys < 2 ^ 64 → All P xs → All P ys
+    → (counted word (length xs) ++ flat_map line xs) ++ r ≡ (counted word (length ys) ++ flat_map line ys) ++ s
+    → (xs ≡ ys) × (r ≡ s)
 list_code P line word code xs ys r s a b h k e =
-    let n = counted_code word (length xs) (length ys) _ _ a b (sym (append_assoc (counted word (length xs)) (flat_map line xs) r) ∙ e ∙ append_assoc (counted word (length ys)) (flat_map line ys) s) in
+    let n =
+    counted_code word (length xs) (length ys) _ _ a b
+    (sym (append_assoc (counted word (length xs)) (flat_map line xs) r) ∙ e
+    ∙ append_assoc (counted word (length ys)) (flat_map line ys) s) in
     code_list P line code xs ys r s n.0 h k n.1
 
 counts : (a b c d e f : ℕ) → Counts
 counts a b c d e f = record { points = a; scanners = b; sights = c; vote = d; smooth = e; cost = f }
 
-pub counts_parts : (c : Counts) (r : List ℕ) → counts_text c ++ r ≡ counted points_word c.points ++ (counted scanners_word c.scanners ++ (counted sights_word c.sights ++ (counted vote_word c.vote ++ (counted smooth_word c.smooth ++ (counted cost_word c.cost ++ r)))))
+pub counts_parts : (c : Counts) (r : List ℕ)
+    → counts_text c ++ r
+    ≡ counted points_word c.points
+    ++ (counted scanners_word c.scanners
+    ++ (counted sights_word c.sights
+    ++ (counted vote_word c.vote ++ (counted smooth_word c.smooth ++ (counted cost_word c.cost ++ r)))))
 counts_parts c r = simp append_assoc
 
 pub counts_code : IsCode FitCounts counts_text
 unfolding counts
 counts_code v w r s a b e =
-    let m = counted_code points_word v.points w.points _ _ (omega (arith, a.points)) (omega (arith, b.points)) (sym (counts_parts v r) ∙ e ∙ counts_parts w s) in
+    let m =
+    counted_code points_word v.points w.points _ _ (omega (arith, a.points)) (omega (arith, b.points))
+    (sym (counts_parts v r) ∙ e ∙ counts_parts w s) in
     let n = counted_code scanners_word v.scanners w.scanners _ _ (omega (arith, a.scanners)) (omega (arith, b.scanners)) m.1 in
     let o = counted_code sights_word v.sights w.sights _ _ (omega (arith, a.sights)) (omega (arith, b.sights)) n.1 in
     let p = counted_code vote_word v.vote w.vote _ _ (omega (arith, a.vote)) (omega (arith, b.vote)) o.1 in
@@ -98,32 +127,46 @@ counts_code v w r s a b e =
           ∙ (ap (λ (x : ℕ). counts w.points x v.sights v.vote v.smooth v.cost) n.0
           ∙ (ap (λ (x : ℕ). counts w.points w.scanners x v.vote v.smooth v.cost) o.0
           ∙ (ap (λ (x : ℕ). counts w.points w.scanners w.sights x v.smooth v.cost) p.0
-          ∙ (ap (λ (x : ℕ). counts w.points w.scanners w.sights w.vote x v.cost) q.0 ∙ ap (λ (x : ℕ). counts w.points w.scanners w.sights w.vote w.smooth x) u.0)))),
+          ∙ (ap (λ (x : ℕ). counts w.points w.scanners w.sights w.vote x v.cost) q.0
+          ∙ ap (λ (x : ℕ). counts w.points w.scanners w.sights w.vote w.smooth x) u.0)))),
       u.1,
     )
 
 claim : Option StampView → Counts → List (List ℕ) → List FlowRow → List SinkRow → Claim
 claim v h i f s = record { stamp = v; counts = h; inside = i; flow = f; sink = s }
 
-pub cert_parts : (c : Claim) (r : List ℕ) → cert_text c ++ r ≡ version_text c.stamp ++ (counts_text c.counts ++ ((counted inside_word (length c.inside) ++ flat_map cell_line c.inside) ++ ((counted flow_word (length c.flow) ++ flat_map flow_line c.flow) ++ ((counted sink_word (length c.sink) ++ flat_map sink_line c.sink) ++ (end_line ++ r)))))
+pub cert_parts : (c : Claim) (r : List ℕ)
+    → cert_text c ++ r ≡ version_text c.stamp
+    ++ (counts_text c.counts
+    ++ ((counted inside_word (length c.inside) ++ flat_map cell_line c.inside)
+    ++ ((counted flow_word (length c.flow) ++ flat_map flow_line c.flow)
+    ++ ((counted sink_word (length c.sink) ++ flat_map sink_line c.sink) ++ (end_line ++ r)))))
 cert_parts c r =
     append_assoc (version_text c.stamp) _ r
     ∙ ap (λ (t : List ℕ). version_text c.stamp ++ t) (append_assoc (counts_text c.counts) _ r
-    ∙ ap (λ (t : List ℕ). counts_text c.counts ++ t) (append_assoc (counted inside_word (length c.inside) ++ flat_map cell_line c.inside) _ r
-    ∙ ap (λ (t : List ℕ). (counted inside_word (length c.inside) ++ flat_map cell_line c.inside) ++ t) (append_assoc (counted flow_word (length c.flow) ++ flat_map flow_line c.flow) _ r
-    ∙ ap (λ (t : List ℕ). (counted flow_word (length c.flow) ++ flat_map flow_line c.flow) ++ t) (append_assoc (counted sink_word (length c.sink) ++ flat_map sink_line c.sink) end_line r))))
+    ∙ ap (λ (t : List ℕ). counts_text c.counts ++ t)
+    (append_assoc (counted inside_word (length c.inside) ++ flat_map cell_line c.inside) _ r
+    ∙ ap (λ (t : List ℕ). (counted inside_word (length c.inside) ++ flat_map cell_line c.inside) ++ t)
+    (append_assoc (counted flow_word (length c.flow) ++ flat_map flow_line c.flow) _ r
+    ∙ ap (λ (t : List ℕ). (counted flow_word (length c.flow) ++ flat_map flow_line c.flow) ++ t)
+    (append_assoc (counted sink_word (length c.sink) ++ flat_map sink_line c.sink) end_line r))))
 
 pub cert_code : IsCode IsWellFormed cert_text
 unfolding claim
 cert_code v w r s a b e =
     let n = version_code v.stamp w.stamp _ _ a.stamp b.stamp (sym (cert_parts v r) ∙ e ∙ cert_parts w s) in
     let h = counts_code v.counts w.counts _ _ a.counts b.counts n.1 in
-    let i = list_code IsCellRow cell_line inside_word (cell_code 10 (omega arith)) v.inside w.inside _ _ a.inside.few b.inside.few a.inside.each b.inside.each h.1 in
-    let f = list_code IsFlowRow flow_line flow_word flow_code v.flow w.flow _ _ a.flow.few b.flow.few a.flow.each b.flow.each i.1 in
-    let k = list_code IsSinkRow sink_line sink_word sink_code v.sink w.sink _ _ a.sink.few b.sink.few a.sink.each b.sink.each f.1 in (
+    let i =
+    list_code IsCellRow cell_line inside_word (cell_code 10 (omega arith)) v.inside w.inside _ _ a.inside.few b.inside.few
+    a.inside.each b.inside.each h.1 in
+    let f =
+    list_code IsFlowRow flow_line flow_word flow_code v.flow w.flow _ _ a.flow.few b.flow.few a.flow.each b.flow.each i.1 in
+    let k =
+    list_code IsSinkRow sink_line sink_word sink_code v.sink w.sink _ _ a.sink.few b.sink.few a.sink.each b.sink.each f.1 in (
       ap (λ (x : Option StampView). claim x v.counts v.inside v.flow v.sink) n.0
           ∙ (ap (λ (x : Counts). claim w.stamp x v.inside v.flow v.sink) h.0
           ∙ (ap (λ (x : List (List ℕ)). claim w.stamp w.counts x v.flow v.sink) i.0
-          ∙ (ap (λ (x : List FlowRow). claim w.stamp w.counts w.inside x v.sink) f.0 ∙ ap (λ (x : List SinkRow). claim w.stamp w.counts w.inside w.flow x) k.0))),
+          ∙ (ap (λ (x : List FlowRow). claim w.stamp w.counts w.inside x v.sink) f.0
+          ∙ ap (λ (x : List SinkRow). claim w.stamp w.counts w.inside w.flow x) k.0))),
       behind_same end_line r s k.1,
     )

@@ -1,5 +1,7 @@
--- The first line and the stamp are refused in one way, and good ones are not refused; tokens that are no digest, lines that are no place.
-use Rattle.std.proofs.Common.{ℕ, ◌≡◌, ◌-◌, refl, ap, sym, subst, ◌∙◌, arith, ℤ, to_z, of_z, w64, Option, Some, None, IfNone, Ok, List, ◌∷◌, ◌++◌, length, get_or, length-append}
+-- The first line and the stamp are refused in one way, and good ones are not refused; tokens that are no digest, lines that are
+-- no place.
+use Rattle.std.proofs.Common.{ℕ, ◌≡◌, ◌-◌, refl, ap, sym, subst, ◌∙◌, arith, ℤ, to_z, of_z, w64, Option, Some, None, IfNone, Ok}
+use Rattle.std.proofs.Common.{List, ◌∷◌, ◌++◌, length, get_or, length-append}
 use Rattle.std.proofs.lemmas.List.{get_or-append_right}
 use Rattle.geo_sign.specs.Point.{Point, point, IsWithin}
 use Rattle.hex.specs.Hex.{encode_lower, decode_sized}
@@ -15,19 +17,26 @@ use Rattle.mesh_ply.specs.Texts.{IsCoordinate, point_line}
 use Rattle.mesh_ply.proofs.MeshForms.{point_is, own_place}
 use Rattle.mesh_ply.proofs.MeshCodes.{point_code}
 use Rattle.cert_text.specs.Stamps.{StampView, IsDigest, IsFixed, IsStamp, IsVersion}
-use Rattle.cert_text.specs.Texts.{stamped_title, scan_word, unit_word, scanner_word, none_line, scan_line, place_line, fixed_line, stamp_text, version_text}
+use Rattle.cert_text.specs.Texts.{stamped_title, scan_word, unit_word, scanner_word, none_line, scan_line, place_line}
+use Rattle.cert_text.specs.Texts.{fixed_line, stamp_text, version_text}
 use Rattle.cert_text.specs.Refusals.{RefusedLine, AtLine, RefusedStamp, RefusedVersion}
 use Rattle.cert_text.proofs.StampCodes.{scan_code, scan_parts, stamp_parts, stamped_parts, digits_lack, data_in_box}
 use Rattle.geo_sign.specs.declared.point.TheConstants.{BOX_LIMIT, DATA_LIMIT}
 
 -- ---- a line of a form
-line_once : {A : Type 0} (P : A → Type 0) (line_of : A → List ℕ) → IsCode P line_of → (n : ℕ) (text : List ℕ) (r s : LineRefusal) (K L : A → List ℕ → Type 0)
-    → AtLine P line_of n text r K → AtLine P line_of n text s L → ((a : A) (rest : List ℕ) → P a → K a rest → L a rest → r ≡ s) → r ≡ s
+line_once : {A : Type 0} (P : A → Type 0) (line_of : A → List ℕ) → IsCode P line_of
+    → (n : ℕ) (text : List ℕ) (r s : LineRefusal) (K L : A → List ℕ → Type 0)
+    → AtLine P line_of n text r K → AtLine P line_of n text s L → ((a : A) (rest : List ℕ) → P a → K a rest → L a rest → r ≡ s)
+    → r ≡ s
 line_once P line_of code n text r s K L =
-    part_once P line_of code text (RefusedLine P line_of n text r) (RefusedLine P line_of n text s) (r ≡ s) K L (λ h k. cut_or_bad_same n text r s h.1 k.1) (λ h. h.0) (λ k. k.0)
+    part_once P line_of code text (RefusedLine P line_of n text r) (RefusedLine P line_of n text s) (r ≡ s) K L
+    (λ h k. cut_or_bad_same n text r s h.1 k.1) (λ h. h.0) (λ k. k.0)
 
-line_passed : {A : Type 0} (P : A → Type 0) (line_of : A → List ℕ) → IsCode P line_of → (n : ℕ) (text rest : List ℕ) (a : A) (r : LineRefusal) (Next : A → List ℕ → Type 0) → AtLine P line_of n text r Next → P a → text ≡ line_of a ++ rest → (Next a rest → ⊥) → ⊥
-line_passed P line_of code n text rest a r Next = part_passed P line_of code text rest a (RefusedLine P line_of n text r) Next (λ h. h.0)
+line_passed : {A : Type 0} (P : A → Type 0) (line_of : A → List ℕ) → IsCode P line_of
+    → (n : ℕ) (text rest : List ℕ) (a : A) (r : LineRefusal) (Next : A → List ℕ → Type 0) → AtLine P line_of n text r Next → P a
+    → text ≡ line_of a ++ rest → (Next a rest → ⊥) → ⊥
+line_passed P line_of code n text rest a r Next =
+    part_passed P line_of code text rest a (RefusedLine P line_of n text r) Next (λ h. h.0)
 
 -- ---- the stamp
 abbrev AtFixed : List ℕ → LineRefusal → Type 0
@@ -40,12 +49,16 @@ fixed_same : (t : List ℕ) (r s : LineRefusal) → AtFixed t r → AtFixed t s 
 fixed_same t r s h k = cut_or_bad_same 4 t r s h.1 k.1
 
 unit_same : (t : List ℕ) (r s : LineRefusal) → AtUnit t r → AtUnit t s → r ≡ s
-unit_same t r s h k = number_once unit_word 1 UNIT_LIMIT 3 t r s (λ _ b. AtFixed b r) (λ _ b. AtFixed b s) (omega arith) h k (λ _ b _. fixed_same b r s)
+unit_same t r s h k =
+    number_once unit_word 1 UNIT_LIMIT 3 t r s (λ _ b. AtFixed b r) (λ _ b. AtFixed b s) (omega arith) h k
+    (λ _ b _. fixed_same b r s)
 
 stamp_same : (t : List ℕ) (r s : LineRefusal) → RefusedStamp t r → RefusedStamp t s → r ≡ s
-stamp_same t r s h k = line_once IsDigest scan_line scan_code 2 t r s (λ _ a. AtUnit a r) (λ _ a. AtUnit a s) h k (λ _ a _. unit_same a r s)
+stamp_same t r s h k =
+    line_once IsDigest scan_line scan_code 2 t r s (λ _ a. AtUnit a r) (λ _ a. AtUnit a s) h k (λ _ a _. unit_same a r s)
 
-stamp_passed : (text rest : List ℕ) (v : StampView) (r : LineRefusal) → IsStamp v → RefusedStamp text r → text ≡ stamp_text v ++ rest → ⊥
+stamp_passed : (text rest : List ℕ) (v : StampView) (r : LineRefusal) → IsStamp v → RefusedStamp text r
+    → text ≡ stamp_text v ++ rest → ⊥
 stamp_passed text rest v r w h e =
     line_passed IsDigest scan_line scan_code 2 text _ v.digest r (λ _ a. AtUnit a r) h w.digest (e ∙ stamp_parts v rest) (λ h2.
     number_passed unit_word 1 UNIT_LIMIT 3 v.unit _ _ r (λ _ b. AtFixed b r) (omega arith) h2 w.unit refl (λ h3.
@@ -53,44 +66,62 @@ stamp_passed text rest v r w h e =
 
 -- ---- the first line and the stamp
 pub version_same : (text : List ℕ) (r s : LineRefusal) → RefusedVersion text r → RefusedVersion text s → r ≡ s
-version_same text r s h k = word_once stamped_title 1 text r s (λ a. RefusedStamp a r) (λ a. RefusedStamp a s) h.1 k.1 (λ a. stamp_same a r s)
+version_same text r s h k =
+    word_once stamped_title 1 text r s (λ a. RefusedStamp a r) (λ a. RefusedStamp a s) h.1 k.1 (λ a. stamp_same a r s)
 
 pub version_passed : (text : List ℕ) (r : LineRefusal) → RefusedVersion text r → BeginsWithNone IsVersion version_text text
 version_passed text r h None rest w e = h.0 rest e
-version_passed text r h (Some v) rest w e = word_passed stamped_title 1 text _ r (λ a. RefusedStamp a r) h.1 (e ∙ stamped_parts v rest) (λ k. stamp_passed _ rest v r w k refl)
+version_passed text r h (Some v) rest w e =
+    word_passed stamped_title 1 text _ r (λ a. RefusedStamp a r) h.1 (e ∙ stamped_parts v rest)
+    (λ k. stamp_passed _ rest v r w k refl)
 
 -- ---- lines that are not of their form
 -- a token that is no digest's digits
-pub no_digest : (text behind token rest : List ℕ) → text ≡ scan_word ++ behind → behind ≡ token ++ (10 ∷ rest) → Lacks 10 token → ((digest : List ℕ) → IsDigest digest → ¬ (token ≡ encode_lower digest)) → BeginsWithNone IsDigest scan_line text
+pub no_digest : (text behind token rest : List ℕ) → text ≡ scan_word ++ behind → behind ≡ token ++ (10 ∷ rest) → Lacks 10 token
+    → ((digest : List ℕ) → IsDigest digest → ¬ (token ≡ encode_lower digest)) → BeginsWithNone IsDigest scan_line text
 no_digest text behind token rest is cut lacks none = λ digest more h e.
-    let same = one_split 10 token (encode_lower digest) rest more lacks (digits_lack digest h.1) (behind_same scan_word _ _ (ap (λ (t : List ℕ). scan_word ++ t) (sym cut) ∙ (sym is ∙ (e ∙ scan_parts digest more)))) in
+    let same =
+    one_split 10 token (encode_lower digest) rest more lacks (digits_lack digest h.1)
+    (behind_same scan_word _ _ (ap (λ (t : List ℕ). scan_word ++ t) (sym cut) ∙ (sym is ∙ (e ∙ scan_parts digest more)))) in
     none digest h same.0
 
 -- a line without an end
-pub no_digest_line : (text behind : List ℕ) → text ≡ scan_word ++ behind → Lacks 10 behind → BeginsWithNone IsDigest scan_line text
-no_digest_line text behind is lacks = λ digest more h e. absurd (lacks_not (encode_lower digest) more behind lacks (behind_same scan_word _ _ (sym is ∙ (e ∙ scan_parts digest more))))
+pub no_digest_line : (text behind : List ℕ) → text ≡ scan_word ++ behind → Lacks 10 behind
+    → BeginsWithNone IsDigest scan_line text
+no_digest_line text behind is lacks =
+    λ digest more h e. absurd
+    (lacks_not (encode_lower digest) more behind lacks (behind_same scan_word _ _ (sym is ∙ (e ∙ scan_parts digest more))))
   where
     lacks_not : (front more behind : List ℕ) → Lacks 10 behind → behind ≡ front ++ (10 ∷ more) → ⊥
     lacks_not front more behind lacks e =
         let none : length front - length front ≡ 0 = omega arith in
         lacks (length front) (omega (arith, ap (λ (t : List ℕ). length t) e, length-append front (10 ∷ more)))
-        (ap (λ (t : List ℕ). get_or t (length front) 0) e ∙ (get_or-append_right front (10 ∷ more) (length front) (length front) 0 refl (omega arith) ∙ ap (λ (i : ℕ). get_or (10 ∷ more) i 0) none))
+        (ap (λ (t : List ℕ). get_or t (length front) 0) e
+        ∙ (get_or-append_right front (10 ∷ more) (length front) (length front) 0 refl (omega arith)
+        ∙ ap (λ (i : ℕ). get_or (10 ∷ more) i 0) none))
 
 -- neither the word nor a data point
-pub no_place : (text : List ℕ) → ((rest : List ℕ) → ¬ (text ≡ none_line ++ rest)) → BeginsWithNone (IsWithin DATA_LIMIT) point_line text → BeginsWithNone IsFixed place_line text
+pub no_place : (text : List ℕ) → ((rest : List ℕ) → ¬ (text ≡ none_line ++ rest))
+    → BeginsWithNone (IsWithin DATA_LIMIT) point_line text → BeginsWithNone IsFixed place_line text
 no_place text word none None rest h e = word rest e
 no_place text word none (Some p) rest h e = none p rest (h p refl) e
 
 -- a point of the box that is no data point
-pub not_data : (text rest : List ℕ) (p : Point) → IsWithin BOX_LIMIT p → text ≡ point_line p ++ rest → ¬ IsWithin DATA_LIMIT p → BeginsWithNone (IsWithin DATA_LIMIT) point_line text
-not_data text rest p box is out = λ q more h e. out (subst (λ (a : Point). IsWithin DATA_LIMIT a) (point_code q p more rest (data_in_box q h) box (sym e ∙ is)).0 h)
+pub not_data : (text rest : List ℕ) (p : Point) → IsWithin BOX_LIMIT p → text ≡ point_line p ++ rest → ¬ IsWithin DATA_LIMIT p
+    → BeginsWithNone (IsWithin DATA_LIMIT) point_line text
+not_data text rest p box is out =
+    λ q more h e.
+    out (subst (λ (a : Point). IsWithin DATA_LIMIT a) (point_code q p more rest (data_in_box q h) box (sym e ∙ is)).0 h)
 
 -- three coordinates of the box, as the code has their bits, that are no data point
-pub no_data : (t0 t1 t2 t3 : List ℕ) (x y z : ℤ) → IsCoordinate x → IsCoordinate y → IsCoordinate z → t0 ≡ signed_ended x 32 ++ t1 → t1 ≡ signed_ended y 32 ++ t2 → t2 ≡ signed_ended z 10 ++ t3
-    → ¬ IsWithin DATA_LIMIT (point (to_z w64 (of_z w64 x)) (to_z w64 (of_z w64 y)) (to_z w64 (of_z w64 z))) → BeginsWithNone (IsWithin DATA_LIMIT) point_line t0
+pub no_data : (t0 t1 t2 t3 : List ℕ) (x y z : ℤ) → IsCoordinate x → IsCoordinate y → IsCoordinate z
+    → t0 ≡ signed_ended x 32 ++ t1 → t1 ≡ signed_ended y 32 ++ t2 → t2 ≡ signed_ended z 10 ++ t3
+    → ¬ IsWithin DATA_LIMIT (point (to_z w64 (of_z w64 x)) (to_z w64 (of_z w64 y)) (to_z w64 (of_z w64 z)))
+    → BeginsWithNone (IsWithin DATA_LIMIT) point_line t0
 no_data t0 t1 t2 t3 x y z a b c e0 e1 e2 out =
     let own = own_place (point (to_z w64 (of_z w64 x)) (to_z w64 (of_z w64 y)) (to_z w64 (of_z w64 z))) x y z a b c refl in
-    not_data t0 t3 (point x y z) (record { x_within = a; y_within = b; z_within = c }) (point_is (point x y z) x y z t0 t1 t2 t3 refl e0 e1 e2)
+    not_data t0 t3 (point x y z) (record { x_within = a; y_within = b; z_within = c })
+    (point_is (point x y z) x y z t0 t1 t2 t3 refl e0 e1 e2)
     (λ h. out (subst (λ (p : Point). IsWithin DATA_LIMIT p) (sym own) h))
 
 -- what a digest's digits decode to
@@ -98,6 +129,7 @@ pub decoded : (token digest : List ℕ) → IsDigest digest → token ≡ encode
 decoded token digest h e = ap (λ (t : List ℕ). decode_sized t 32) e ∙ decode_sized-encode_lower digest 32 h.0 h.1
 
 -- behind the word stands no place
-pub none_fixed : {A : Type 0} (o : Option A) (text behind : List ℕ) → text ≡ scanner_word ++ behind → IfNone o (BeginsWithNone IsFixed place_line behind) → IfNone o (BeginsWithNone IsFixed fixed_line text)
+pub none_fixed : {A : Type 0} (o : Option A) (text behind : List ℕ) → text ≡ scanner_word ++ behind
+    → IfNone o (BeginsWithNone IsFixed place_line behind) → IfNone o (BeginsWithNone IsFixed fixed_line text)
 none_fixed (Some x) text behind is none = tt
 none_fixed None text behind is none = none_behind IsFixed scanner_word place_line text behind is none

@@ -40,7 +40,14 @@ abbrev pub claim_of : Certificate → Claim
 claim_of c =
     record {
       stamp = option_map stamp_view c.stamp;
-      counts = record { points = c.points; scanners = c.scanners; sights = c.sights; vote = c.vote; smooth = c.smooth; cost = c.cost };
+      counts = record {
+        points = c.points;
+        scanners = c.scanners;
+        sights = c.sights;
+        vote = c.vote;
+        smooth = c.smooth;
+        cost = c.cost;
+      };
       inside = c.inside.items;
       flow = c.flow.items;
       sink = c.sink.items;

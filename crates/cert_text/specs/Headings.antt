@@ -3,4 +3,5 @@ use Rattle.cert_text.specs.declared.read.Heading.{Heading}
 use Rattle.cert_text.specs.Certificates.{Counts}
 
 abbrev pub counts_of : Heading → Counts
-counts_of h = record { points = h.points; scanners = h.scanners; sights = h.sights; vote = h.vote; smooth = h.smooth; cost = h.cost }
+counts_of h =
+    record { points = h.points; scanners = h.scanners; sights = h.sights; vote = h.vote; smooth = h.smooth; cost = h.cost }

@@ -23,7 +23,9 @@ use Rattle.num_text.specs.declared.decimal.TheConstants.{UNIT_LIMIT}
 use Rattle.cert_text.specs.Stamps.{StampView, IsDigest, IsFixed, IsVersion}
 use Rattle.cert_text.specs.Rows.{IsCellRow, IsFlowRow, IsSinkRow, cell_order, flow_order, sink_order}
 use Rattle.cert_text.specs.Certificates.{FitCounts}
-use Rattle.cert_text.specs.Texts.{title, stamped_title, unit_word, scan_line, fixed_line, version_text, points_word, scanners_word, sights_word, vote_word, smooth_word, cost_word, inside_word, flow_word, sink_word, end_line, cell_line, flow_line, sink_line, counts_text}
+use Rattle.cert_text.specs.Texts.{title, stamped_title, unit_word, scan_line, fixed_line, version_text, points_word}
+use Rattle.cert_text.specs.Texts.{scanners_word, sights_word, vote_word, smooth_word, cost_word, inside_word, flow_word}
+use Rattle.cert_text.specs.Texts.{sink_word, end_line, cell_line, flow_line, sink_line, counts_text}
 
 -- the refusal of a line as one of a certificate
 abbrev pub cert_refusal : LineRefusal → CertRefusal
@@ -91,7 +93,8 @@ AtCounts n text r = AtPart FitCounts counts_text text (RefusedCounts n text r) (
 
 -- the whole text: the version and its stamp, the lines of numbers, the three lists, the last line
 abbrev pub AtCertificate : List ℕ → LineRefusal → Type 0
-AtCertificate text r = AtPart IsVersion version_text text (RefusedVersion text r) (λ stamp rest. AtCounts (counts_line stamp) rest r)
+AtCertificate text r =
+    AtPart IsVersion version_text text (RefusedVersion text r) (λ stamp rest. AtCounts (counts_line stamp) rest r)
 
 -- the text is refused so: the first line, in order, that is cut, not of its form, out of order, or behind the end
 abbrev pub IsRefused : List ℕ → CertRefusal → Type 0

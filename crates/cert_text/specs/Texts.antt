@@ -111,7 +111,10 @@ version_text (Some s) = stamped_title ++ stamp_text s
 -- the lines of the counts, the weights and the cost
 abbrev pub counts_text : Counts → List ℕ
 counts_text c =
-    counted points_word c.points ++ (counted scanners_word c.scanners ++ (counted sights_word c.sights ++ (counted vote_word c.vote ++ (counted smooth_word c.smooth ++ counted cost_word c.cost))))
+    counted points_word c.points
+    ++ (counted scanners_word c.scanners
+    ++ (counted sights_word c.sights
+    ++ (counted vote_word c.vote ++ (counted smooth_word c.smooth ++ counted cost_word c.cost))))
 
 -- the lines before the lists, those of the three lists, each with its length before it, and the last line
 abbrev pub cert_text : Claim → List ℕ

@@ -14,4 +14,5 @@ pub record IsOrder (n : ℕ) (order : List ℕ) : Type 0 where
 -- by rising key, and those with one key by rising number
 pub record IsByKey (key : ℕ → ℕ) (n : ℕ) (order : List ℕ) : Type 0 where
   pub keys : (j k : ℕ) → j < k → k < n → key (slice_index order j) ≤ key (slice_index order k)
-  pub ties : (j k : ℕ) → j < k → k < n → key (slice_index order j) ≡ key (slice_index order k) → slice_index order j < slice_index order k
+  pub ties : (j k : ℕ) → j < k → k < n → key (slice_index order j) ≡ key (slice_index order k)
+      → slice_index order j < slice_index order k

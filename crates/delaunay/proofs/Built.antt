@@ -1,8 +1,10 @@
 -- Which vertices are inserted, where points are inserted in an order, and that in the end the vertices are all of the points.
 --
--- After n steps exactly the first n of the order are in: the order has each number once, so no step meets one that is in. In the end
--- all are, and then the vertices of the store differ from those of the points in how it is said which are in, which no cell tells.
-use Rattle.std.proofs.Common.{ℕ, ◌≡◌, ◌<◌, ◌≤◌, ◌+◌, ◌-◌, Bool, true, false, List, ◌++◌, length, refl, ap, ◌∙◌, ⊎_elim, subst, arith, get_or, set, slice_index, slice_index_or}
+-- After n steps exactly the first n of the order are in: the order has each number once, so no step meets one that is in. In
+-- the end all are, and then the vertices of the store differ from those of the points in how it is said which are in, which no
+-- cell tells.
+use Rattle.std.proofs.Common.{ℕ, ◌≡◌, ◌<◌, ◌≤◌, ◌+◌, ◌-◌, Bool, true, false, List, ◌++◌, length, refl, ap, ◌∙◌, ⊎_elim, subst}
+use Rattle.std.proofs.Common.{arith, get_or, set, slice_index, slice_index_or}
 use Rattle.std.specs.Prelude.{nat_lt}
 use Rattle.std.proofs.lemmas.Bool.{cases_lt, le-ltb}
 use Rattle.std.proofs.lemmas.List.{get_or-set_same, get_or-set_other, length-append}
@@ -21,11 +23,16 @@ pub record AreInserted (inserted : List Bool) (order : List ℕ) (n : ℕ) : Typ
   pub done : (k : ℕ) → k < n → slice_index_or inserted (8 + slice_index order k) false ≡ true
   pub left : (k : ℕ) → n ≤ k → k < length order → slice_index_or inserted (8 + slice_index order k) false ≡ false
 
-pub none_inserted : (inserted : List Bool) (order : List ℕ) → ((u : ℕ) → slice_index_or inserted u false ≡ nat_lt u 8) → AreInserted inserted order 0
-none_inserted inserted order h = record { done = λ k l. absurd (omega arith); left = λ k l m. h (8 + slice_index order k) ∙ le-ltb (8 + slice_index order k) 8 (omega arith) }
+pub none_inserted : (inserted : List Bool) (order : List ℕ) → ((u : ℕ) → slice_index_or inserted u false ≡ nat_lt u 8)
+    → AreInserted inserted order 0
+none_inserted inserted order h = record {
+  done = λ k l. absurd (omega arith);
+  left = λ k l m. h (8 + slice_index order k) ∙ le-ltb (8 + slice_index order k) 8 (omega arith);
+}
 
-pub more_inserted : (count : ℕ) (inserted : List Bool) (order : List ℕ) (n : ℕ) → IsOrder count order → n < length order → 8 + slice_index order n < length inserted → AreInserted inserted order n →
-    AreInserted (set inserted (8 + slice_index order n) true) order (n + 1)
+pub more_inserted : (count : ℕ) (inserted : List Bool) (order : List ℕ) (n : ℕ) → IsOrder count order → n < length order
+    → 8 + slice_index order n < length inserted → AreInserted inserted order n
+    → AreInserted (set inserted (8 + slice_index order n) true) order (n + 1)
 more_inserted count inserted order n is l below h =
     let c = is.count in
     let p = 8 + slice_index order n in
@@ -33,20 +40,28 @@ more_inserted count inserted order n is l below h =
       done = λ k m.
           ⊎_elim
           (λ (a : k < n).
-          get_or-set_other inserted p (8 + slice_index order k) true false (λ e. absurd (let q : k ≡ n = is.once k n (omega arith) (omega arith) (omega arith) in omega arith)) ∙ h.done k a)
+          get_or-set_other inserted p (8 + slice_index order k) true false
+          (λ e. absurd (let q : k ≡ n = is.once k n (omega arith) (omega arith) (omega arith) in omega arith)) ∙ h.done k a)
           (λ (a : n ≤ k).
           let q : k ≡ n = omega arith in
-          ap (λ (z : ℕ). slice_index_or (set inserted p true) (8 + slice_index order z) false) q ∙ get_or-set_same inserted p true false below) (cases_lt k n);
-      left = λ k m o. get_or-set_other inserted p (8 + slice_index order k) true false (λ e. absurd (let q : k ≡ n = is.once k n (omega arith) (omega arith) (omega arith) in omega arith)) ∙ h.left k (omega arith) o;
+          ap (λ (z : ℕ). slice_index_or (set inserted p true) (8 + slice_index order z) false) q
+          ∙ get_or-set_same inserted p true false below) (cases_lt k n);
+      left =
+          λ k m o. get_or-set_other inserted p (8 + slice_index order k) true false
+          (λ e. absurd (let q : k ≡ n = is.once k n (omega arith) (omega arith) (omega arith) in omega arith))
+          ∙ h.left k (omega arith) o;
     }
 
-pub all_inserted : (s : Store) (count : ℕ) (order : List ℕ) (n : ℕ) → IsStore s → length s.points ≡ 8 + count → IsOrder count order → length order ≤ n → AreInserted s.inserted order n → (u : ℕ) → u < length s.points → slice_index_or s.inserted u false ≡ true
+pub all_inserted : (s : Store) (count : ℕ) (order : List ℕ) (n : ℕ) → IsStore s → length s.points ≡ 8 + count
+    → IsOrder count order → length order ≤ n → AreInserted s.inserted order n → (u : ℕ) → u < length s.points
+    → slice_index_or s.inserted u false ≡ true
 all_inserted s count order n store points is l h u u_in =
     ⊎_elim (λ (a : u < 8). (store.vertices.boxed.corner_in u a).1)
     (λ (a : 8 ≤ u).
     let z = is.all (u - 8) (omega arith) in
     let e : 8 + slice_index order z.0 ≡ u = (let q : slice_index order z.0 ≡ u - 8 = z.2 in omega arith) in
-    subst (λ (w : ℕ). slice_index_or s.inserted w false ≡ true) e (h.done z.0 (let c = is.count in let m : z.0 < count = z.1 in omega arith))) (cases_lt u 8)
+    subst (λ (w : ℕ). slice_index_or s.inserted w false ≡ true) e
+    (h.done z.0 (let c = is.count in let m : z.0 < count = z.1 in omega arith))) (cases_lt u 8)
 
 -- ---- the cells of the points
 
@@ -54,12 +69,28 @@ pub count_of : (points : List Point) → length (corners ++ points) ≡ 8 + leng
 count_of points = omega (arith, length-append corners points)
 
 abbrev counted : ℕ → List Point → List Bool → Vertices
-counted n points inserted = record { at = λ u. get_or (corners ++ points) u origin; high = λ u. height n u (get_or (corners ++ points) u origin); count = n; is_in = λ u. slice_index_or inserted u false }
+counted n points inserted = record {
+  at = λ u. get_or (corners ++ points) u origin;
+  high = λ u. height n u (get_or (corners ++ points) u origin);
+  count = n;
+  is_in = λ u. slice_index_or inserted u false;
+}
 
-to_points : (points : List Point) (inserted : List Bool) → ((u : ℕ) → u < 8 + length points → slice_index_or inserted u false ≡ true) → (a b c d : ℕ) → IsCell (counted (8 + length points) points inserted) a b c d → IsCell (geo.vertices_of points) a b c d
-to_points points inserted h a b c d k = record { has_a = (k.has_a.0, refl); has_b = (k.has_b.0, refl); has_c = (k.has_c.0, refl); has_d = (k.has_d.0, refl); positive = k.positive; clear = λ u l. k.clear u (l.0, h u l.0) }
+to_points : (points : List Point) (inserted : List Bool)
+    → ((u : ℕ) → u < 8 + length points → slice_index_or inserted u false ≡ true) → (a b c d : ℕ)
+    → IsCell (counted (8 + length points) points inserted) a b c d → IsCell (geo.vertices_of points) a b c d
+to_points points inserted h a b c d k = record {
+  has_a = (k.has_a.0, refl);
+  has_b = (k.has_b.0, refl);
+  has_c = (k.has_c.0, refl);
+  has_d = (k.has_d.0, refl);
+  positive = k.positive;
+  clear = λ u l. k.clear u (l.0, h u l.0);
+}
 
-of_points : (points : List Point) (inserted : List Bool) → ((u : ℕ) → u < 8 + length points → slice_index_or inserted u false ≡ true) → (a b c d : ℕ) → IsCell (geo.vertices_of points) a b c d → IsCell (counted (8 + length points) points inserted) a b c d
+of_points : (points : List Point) (inserted : List Bool)
+    → ((u : ℕ) → u < 8 + length points → slice_index_or inserted u false ≡ true) → (a b c d : ℕ)
+    → IsCell (geo.vertices_of points) a b c d → IsCell (counted (8 + length points) points inserted) a b c d
 of_points points inserted h a b c d k =
     record {
       has_a = (k.has_a.0, h a k.has_a.0);
@@ -70,11 +101,15 @@ of_points points inserted h a b c d k =
       clear = λ u l. k.clear u (l.0, refl);
     }
 
-pub of_all : (s : Store) (points : List Point) → s.points ≡ corners ++ points → ((u : ℕ) → u < length s.points → slice_index_or s.inserted u false ≡ true) → IsDelaunay (vertices_of s) (links_of s.slots) → IsDelaunay (geo.vertices_of points) (links_of s.slots)
+pub of_all : (s : Store) (points : List Point) → s.points ≡ corners ++ points
+    → ((u : ℕ) → u < length s.points → slice_index_or s.inserted u false ≡ true) → IsDelaunay (vertices_of s) (links_of s.slots)
+    → IsDelaunay (geo.vertices_of points) (links_of s.slots)
 of_all s points e h delaunay =
-    let h' : (u : ℕ) → u < 8 + length points → slice_index_or s.inserted u false ≡ true = λ u l. h u (let n = ap length e ∙ count_of points in omega arith) in
+    let h' : (u : ℕ) → u < 8 + length points → slice_index_or s.inserted u false ≡ true =
+    λ u l. h u (let n = ap length e ∙ count_of points in omega arith) in
     let d : IsDelaunay (counted (8 + length points) points s.inserted) (links_of s.slots) =
-    subst (λ (n : ℕ). IsDelaunay (counted n points s.inserted) (links_of s.slots)) (count_of points) (subst (λ (z : List Point). IsDelaunay (vertices_at z s.inserted) (links_of s.slots)) e delaunay) in
+    subst (λ (n : ℕ). IsDelaunay (counted n points s.inserted) (links_of s.slots)) (count_of points)
+    (subst (λ (z : List Point). IsDelaunay (vertices_at z s.inserted) (links_of s.slots)) e delaunay) in
     record {
       cells = λ id live. (let t = (links_of s.slots).at id in to_points points s.inserted h' t.a t.b t.c t.d (d.cells id live));
       all = λ a b c d' k. d.all a b c d' (of_points points s.inserted h' a b c d' k);

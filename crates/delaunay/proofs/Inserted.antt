@@ -1,9 +1,11 @@
 -- What a replacement of the cavity leaves: Delaunay cells with one vertex more.
 --
--- The vertices afterwards are those of before with p (`vertices`), by one equation between the two tests of which are in. A live cell is
--- an old one that is not of the cavity, so p is not in conflict with it, and by the law of cells that stay it is still one; or it is
--- over a facet of the fan, and by the law of fans it is one. Links of the new cells are no matter here: the store keeps them.
-use Rattle.std.proofs.Common.{ℕ, ◌≡◌, ◌≢◌, ◌<◌, ◌≤◌, Bool, true, false, eqb, ◌||◌, List, length, refl, sym, ap, ◌∙◌, inr, ⊎_elim, subst, arith, get_or, set, slice_index_or, pos, true≢false, Contains}
+-- The vertices afterwards are those of before with p (`vertices`), by one equation between the two tests of which are in. A
+-- live cell is an old one that is not of the cavity, so p is not in conflict with it, and by the law of cells that stay it is
+-- still one; or it is over a facet of the fan, and by the law of fans it is one. Links of the new cells are no matter here: the
+-- store keeps them.
+use Rattle.std.proofs.Common.{ℕ, ◌≡◌, ◌≢◌, ◌<◌, ◌≤◌, Bool, true, false, eqb, ◌||◌, List, length, refl, sym, ap, ◌∙◌, inr}
+use Rattle.std.proofs.Common.{⊎_elim, subst, arith, get_or, set, slice_index_or, pos, true≢false, Contains}
 use Rattle.std.proofs.lemmas.Bool.{eqb-true, eqb-false}
 use Rattle.std.proofs.lemmas.Int.{by_lt_z}
 use Rattle.std.proofs.lemmas.List.{get_or-set_same, get_or-set_other}
@@ -26,22 +28,31 @@ use Rattle.delaunay.proofs.Whole.{AreLiveCells}
 
 -- ---- room is made
 
-renewed : (s t : Store) → t.points ≡ s.points → t.inserted ≡ s.inserted → t.slots ≡ s.slots → t.kept ≡ s.kept → record s { spare = t.spare } ≡ t
+renewed : (s t : Store) → t.points ≡ s.points → t.inserted ≡ s.inserted → t.slots ≡ s.slots → t.kept ≡ s.kept → record s {
+  spare = t.spare;
+} ≡ t
 renewed s t e f g h = λ i. record { points = sym e i; inserted = sym f i; slots = sym g i; kept = sym h i; spare = t.spare }
 
-pub can_replace : (s t : Store) (p : ℕ) (cells : List ℕ) (fan : List Facet) → t.points ≡ s.points → t.inserted ≡ s.inserted → t.slots ≡ s.slots → t.kept ≡ s.kept → length fan ≤ t.spare → IsCavity s p cells fan → CanReplace t cells fan p
-can_replace s t p cells fan e f g h l c = subst (λ (u : Store). CanReplace u cells fan p) (renewed s t e f g h) (c.can_replace t.spare l)
+pub can_replace : (s t : Store) (p : ℕ) (cells : List ℕ) (fan : List Facet) → t.points ≡ s.points → t.inserted ≡ s.inserted
+    → t.slots ≡ s.slots → t.kept ≡ s.kept → length fan ≤ t.spare → IsCavity s p cells fan → CanReplace t cells fan p
+can_replace s t p cells fan e f g h l c =
+    subst (λ (u : Store). CanReplace u cells fan p) (renewed s t e f g h) (c.can_replace t.spare l)
 
-pub replaced : (s t u : Store) (p : ℕ) (cells : List ℕ) (fan : List Facet) → t.points ≡ s.points → t.inserted ≡ s.inserted → t.slots ≡ s.slots → t.kept ≡ s.kept → IsReplaced t u cells fan p → IsReplaced (record s { spare = t.spare }) u cells fan p
+pub replaced : (s t u : Store) (p : ℕ) (cells : List ℕ) (fan : List Facet) → t.points ≡ s.points → t.inserted ≡ s.inserted
+    → t.slots ≡ s.slots → t.kept ≡ s.kept → IsReplaced t u cells fan p → IsReplaced (record s { spare = t.spare }) u cells fan p
 replaced s t u p cells fan e f g h r = subst (λ (z : Store). IsReplaced z u cells fan p) (sym (renewed s t e f g h)) r
 
 -- the point of a vertex that is not inserted is a data point
-pub is_data : (s : Store) (p : ℕ) (q : Point) → q ≡ get_or s.points p origin → IsStore s → p < length s.points → slice_index_or s.inserted p false ≡ false → IsWithin DATA_LIMIT q
-is_data s p q e store below out = subst (λ (z : Point). IsWithin DATA_LIMIT z) (sym e) (store.vertices.boxed.data_at p (new_vertex s p store below out).above below)
+pub is_data : (s : Store) (p : ℕ) (q : Point) → q ≡ get_or s.points p origin → IsStore s → p < length s.points
+    → slice_index_or s.inserted p false ≡ false → IsWithin DATA_LIMIT q
+is_data s p q e store below out =
+    subst (λ (z : Point). IsWithin DATA_LIMIT z) (sym e)
+    (store.vertices.boxed.data_at p (new_vertex s p store below out).above below)
 
 -- ---- one vertex more
 
-flag_set : (flags : List Bool) (p : ℕ) → p < length flags → (i : ℕ) → get_or (set flags p true) i false ≡ (eqb i p || get_or flags i false)
+flag_set : (flags : List Bool) (p : ℕ) → p < length flags → (i : ℕ)
+    → get_or (set flags p true) i false ≡ (eqb i p || get_or flags i false)
 flag_set flags p h i = pick (eqb i p) refl
   where
     pick : (b : Bool) → eqb i p ≡ b → get_or (set flags p true) i false ≡ (b || get_or flags i false)
@@ -51,14 +62,18 @@ flag_set flags p h i = pick (eqb i p) refl
 equal : {f g : ℕ → Bool} → ((i : ℕ) → f i ≡ g i) → f ≡ g
 equal h = λ k. λ i. h i k
 
-one_more : (points : List Point) (flags : List Bool) (p : ℕ) → p < length flags → vertices_at points (set flags p true) ≡ with_vertex (vertices_at points flags) p
+one_more : (points : List Point) (flags : List Bool) (p : ℕ) → p < length flags
+    → vertices_at points (set flags p true) ≡ with_vertex (vertices_at points flags) p
 one_more points flags p h =
     let v = vertices_at points flags in
-    ap (λ (is : ℕ → Bool). let w : Vertices = record { at = v.at; high = v.high; count = v.count; is_in = is } in w) (equal (flag_set flags p h))
+    ap (λ (is : ℕ → Bool). let w : Vertices = record { at = v.at; high = v.high; count = v.count; is_in = is } in w)
+    (equal (flag_set flags p h))
 
 -- ---- each cell is one
 
-module _ (s t : Store) (room p : ℕ) (cells : List ℕ) (fan : List Facet) (store_is : IsStore s) (delaunay : IsDelaunay (vertices_of s) (links_of s.slots)) (below : p < length s.points) (out : slice_index_or s.inserted p false ≡ false) (c : IsCavity s p cells fan)
+module _ (s t : Store) (room p : ℕ) (cells : List ℕ) (fan : List Facet) (store_is : IsStore s)
+    (delaunay : IsDelaunay (vertices_of s) (links_of s.slots)) (below : p < length s.points)
+    (out : slice_index_or s.inserted p false ≡ false) (c : IsCavity s p cells fan)
     (r : IsReplaced (record s { spare = room }) t cells fan p) where
   abbrev at : ℕ → Tetrahedron
   at = (links_of s.slots).at
@@ -67,31 +82,43 @@ module _ (s t : Store) (room p : ℕ) (cells : List ℕ) (fan : List Facet) (sto
   at' = (links_of t.slots).at
 
   other : (id k : ℕ) → IsLive (links_of s.slots) id → k < 4 → vertex_of (at id) k ≢ p
-  other id k live l e = true≢false (sym (store_is.linked.has id k live l).1 ∙ (ap (λ (u : ℕ). slice_index_or s.inserted u false) e ∙ out))
+  other id k live l e =
+      true≢false (sym (store_is.linked.has id k live l).1 ∙ (ap (λ (u : ℕ). slice_index_or s.inserted u false) e ∙ out))
 
   clear : (id : ℕ) → IsLive (links_of s.slots) id → ¬ Contains cells id → IsClearOf (vertices_of s) p (at id)
-  clear id live h = by_lt_z (power_of (vertices_of s) (at id).a (at id).b (at id).c (at id).d p) (pos 0) (λ l. absurd (h (c.all id live l))) (λ l. l)
+  clear id live h =
+      by_lt_z (power_of (vertices_of s) (at id).a (at id).b (at id).c (at id).d p) (pos 0)
+      (λ l. absurd (h (c.all id live l))) (λ l. l)
 
-  stays : (id : ℕ) → IsLive (links_of s.slots) id → ¬ Contains cells id → IsCell (with_vertex (vertices_of s) p) (at id).a (at id).b (at id).c (at id).d
+  stays : (id : ℕ) → IsLive (links_of s.slots) id → ¬ Contains cells id
+      → IsCell (with_vertex (vertices_of s) p) (at id).a (at id).b (at id).c (at id).d
   stays id live h =
-      (stay_law (vertices_of s) p (at id).a (at id).b (at id).c (at id).d below (other id 0 live (omega arith)) (other id 1 live (omega arith)) (other id 2 live (omega arith)) (other id 3 live (omega arith))).1
+      (stay_law (vertices_of s) p (at id).a (at id).b (at id).c (at id).d below (other id 0 live (omega arith))
+      (other id 1 live (omega arith)) (other id 2 live (omega arith)) (other id 3 live (omega arith))).1
       (delaunay.cells id live, clear id live h)
 
-  comes : (i : ℕ) → i < length fan → IsCell (with_vertex (vertices_of s) p) (fan_facet fan i).a (fan_facet fan i).b (fan_facet fan i).c p
-  comes i l = ((fan_law (vertices_of s) (boxed s store_is) p (new_vertex s p store_is below out)).cells (fan_facet fan i).a (fan_facet fan i).b (fan_facet fan i).c).0 (c.rim i l)
+  comes : (i : ℕ) → i < length fan
+      → IsCell (with_vertex (vertices_of s) p) (fan_facet fan i).a (fan_facet fan i).b (fan_facet fan i).c p
+  comes i l =
+      ((fan_law (vertices_of s) (boxed s store_is) p (new_vertex s p store_is below out)).cells (fan_facet fan i).a
+      (fan_facet fan i).b (fan_facet fan i).c).0 (c.rim i l)
 
   abbrev Cell : Vertices → Tetrahedron → Type 0
   Cell v q = IsCell v q.a q.b q.c q.d
 
   cell_with : (id : ℕ) → IsLive (links_of t.slots) id → Cell (with_vertex (vertices_of s) p) (at' id)
   cell_with id live =
-      ⊎_elim (λ (z : IsLive (links_of s.slots) id × (¬ Contains cells id)). subst (λ (q : Tetrahedron). Cell (with_vertex (vertices_of s) p) q) (sym (r.stays id z.0 z.1).1) (stays id z.0 z.1))
-      (λ (z : IsOver (links_of t.slots) fan p id). subst (λ (q : Tetrahedron). Cell (with_vertex (vertices_of s) p) q) (sym z.is) (comes z.facet z.facet_in)) (r.only id live)
+      ⊎_elim (λ (z : IsLive (links_of s.slots) id × (¬ Contains cells id)).
+      subst (λ (q : Tetrahedron). Cell (with_vertex (vertices_of s) p) q) (sym (r.stays id z.0 z.1).1) (stays id z.0 z.1))
+      (λ (z : IsOver (links_of t.slots) fan p id).
+      subst (λ (q : Tetrahedron). Cell (with_vertex (vertices_of s) p) q) (sym z.is) (comes z.facet z.facet_in))
+      (r.only id live)
 
   vertices : vertices_of t ≡ with_vertex (vertices_of s) p
   vertices =
       let l : p < length s.inserted = (let e = store_is.flags in omega arith) in
-      ap (λ (z : List Point). vertices_at z t.inserted) r.points ∙ (ap (λ (z : List Bool). vertices_at s.points z) r.inserted ∙ one_more s.points s.inserted p l)
+      ap (λ (z : List Point). vertices_at z t.inserted) r.points
+      ∙ (ap (λ (z : List Bool). vertices_at s.points z) r.inserted ∙ one_more s.points s.inserted p l)
 
   pub live_cells : AreLiveCells t
   live_cells id live = subst (λ (v : Vertices). Cell v (at' id)) (sym vertices) (cell_with id live)

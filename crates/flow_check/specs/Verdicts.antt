@@ -19,7 +19,8 @@ use Rattle.flow_net.specs.declared.Flow.{Flow}
 use Rattle.flow_net.specs.Nets.{arc_at, flag_at}
 use Rattle.flow_net.specs.Flows.{amount_in, amount_out, value_of, cost_of, IsValidFlow, IsAdmissible, IsLeastInside}
 use Rattle.flow_check.specs.declared.verdict.Verdict.{Verdict}
-use Rattle.flow_check.specs.declared.verdict.Verdict.TheVariants.{Yes, FixedInside, OverCapacity, OverSink, Unbalanced, NotEqual, NotLeast}
+use Rattle.flow_check.specs.declared.verdict.Verdict.TheVariants.{Yes, FixedInside, OverCapacity, OverSink, Unbalanced}
+use Rattle.flow_check.specs.declared.verdict.Verdict.TheVariants.{NotEqual, NotLeast}
 use Rattle.flow_check.specs.Firsts.{IsFirst, NoneBelow}
 
 -- node v is fixed and inside

@@ -2,7 +2,8 @@ use Rattle.std.proofs.Common.{ℕ, ◌≡◌, ◌<◌, ◌≤◌, ◌+◌, Bool,
 use Rattle.std.proofs.lemmas.Bool.{false≢true, both_ways, false_from_ne_true}
 use Rattle.flow_net.specs.Sums.{sum_below}
 use Rattle.flow_net.specs.Nets.{arc_at, flag_at}
-use Rattle.flow_net.specs.Flows.{IsValidFlow, IsAdmissible, IsLargest, IsLeastCost, value_of, cost_of, node_value, node_cost, arc_cost, amount_in, amount_out}
+use Rattle.flow_net.specs.Flows.{IsValidFlow, IsAdmissible, IsLargest, IsLeastCost, value_of, cost_of, node_value, node_cost}
+use Rattle.flow_net.specs.Flows.{arc_cost, amount_in, amount_out}
 use Rattle.flow_net.specs.declared.Net.{Net}
 use Rattle.flow_net.specs.declared.Labels.{Labels}
 use Rattle.flow_net.specs.declared.Flow.{Flow}
@@ -47,7 +48,8 @@ at_node : (net : Net) (flow : Flow) (labels : Labels) →
     cond (flag_at labels.inside v) (amount_in net.arcs flow.on_arc v) 0
     ≡ cond (flag_at labels.inside v) (amount_out net.arcs flow.on_arc v) 0 + inside_sinks labels.inside flow.on_sink v
 at_node net flow labels valid admissible v l =
-    balance_if (flag_at labels.inside v) (amount_in net.arcs flow.on_arc v) (amount_out net.arcs flow.on_arc v) (get_or flow.on_sink v 0)
+    balance_if (flag_at labels.inside v) (amount_in net.arcs flow.on_arc v) (amount_out net.arcs flow.on_arc v)
+    (get_or flow.on_sink v 0)
     (λ is_in. valid.balanced v l
     (false_from_ne_true (flag_at net.fixed v) (λ is_fixed. both_ways _ (admissible.none_fixed v l is_fixed) is_in)))
 
@@ -61,13 +63,19 @@ inside_balance net flow labels valid admissible =
     let n : ℕ = length net.fixed in
     let m : ℕ = length net.arcs in
     let arcs : List Arc = net.arcs in
-    let ends_in = sum_below-ends n m (λ j. (arc_at arcs j).to) (λ j. get_or flow.on_arc j 0) (flag_at labels.inside) (λ j l. (net.valid.valid_arcs j l).to_in) in
-    let ends_out = sum_below-ends n m (λ j. (arc_at arcs j).from) (λ j. get_or flow.on_arc j 0) (flag_at labels.inside) (λ j l. (net.valid.valid_arcs j l).from_in) in
+    let ends_in =
+    sum_below-ends n m (λ j. (arc_at arcs j).to) (λ j. get_or flow.on_arc j 0) (flag_at labels.inside)
+    (λ j l. (net.valid.valid_arcs j l).to_in) in
+    let ends_out =
+    sum_below-ends n m (λ j. (arc_at arcs j).from) (λ j. get_or flow.on_arc j 0) (flag_at labels.inside)
+    (λ j l. (net.valid.valid_arcs j l).from_in) in
     let at_nodes = sum_below-cong n
     (λ v. cond (flag_at labels.inside v) (amount_in arcs flow.on_arc v) 0)
     (λ v. cond (flag_at labels.inside v) (amount_out arcs flow.on_arc v) 0 + inside_sinks labels.inside flow.on_sink v)
     (λ v l. at_node net flow labels valid admissible v l) in
-    let both = sum_below-add n (λ v. cond (flag_at labels.inside v) (amount_out arcs flow.on_arc v) 0) (inside_sinks labels.inside flow.on_sink) in
+    let both =
+    sum_below-add n (λ v. cond (flag_at labels.inside v) (amount_out arcs flow.on_arc v) 0)
+    (inside_sinks labels.inside flow.on_sink) in
     omega (arith, ends_in, ends_out, at_nodes, both)
 
 -- arc by arc, what comes in is what goes out and what the cut lets through
@@ -188,7 +196,8 @@ tight_from_cost net flow labels valid admissible meets =
     omega (arith, nodes, nodes_add, along, along_add, balance) in
     let arc_sums : sum_below m right_arc ≤ sum_below m (to_inside arcs flow.on_arc labels.inside) =
     omega (arith, nodes, nodes_add, along, along_add, balance) in
-    let at_arc = sum_below-tight m (to_inside arcs flow.on_arc labels.inside) right_arc (arc_le net flow labels valid) arc_sums in
+    let at_arc =
+    sum_below-tight m (to_inside arcs flow.on_arc labels.inside) right_arc (arc_le net flow labels valid) arc_sums in
     let at_node = sum_below-tight n (node_value net.fixed net.sink flow.on_sink) right_node
     (node_le net flow labels valid admissible) node_sums in
     record {

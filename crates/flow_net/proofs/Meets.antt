@@ -1,4 +1,5 @@
-use Rattle.std.proofs.Common.{ℕ, zero, suc, ◌≡◌, ◌<◌, ◌≤◌, ◌+◌, ◌*◌, Bool, true, false, cond, not, ◌&&◌, List, [], ◌∷◌, length, get_or, refl, ap, sym, ◌∙◌, inl, inr, arith}
+use Rattle.std.proofs.Common.{ℕ, zero, suc, ◌≡◌, ◌<◌, ◌≤◌, ◌+◌, ◌*◌, Bool, true, false, cond, not, ◌&&◌, List, [], ◌∷◌, length}
+use Rattle.std.proofs.Common.{get_or, refl, ap, sym, ◌∙◌, inl, inr, arith}
 use Rattle.std.proofs.Math.Nat.{mul-le-mul_left}
 use Rattle.std.proofs.lemmas.Bool.{false≢true, cases_lt}
 use Rattle.flow_net.specs.Sums.{sum_below}
@@ -130,7 +131,9 @@ admissible_meet net a b p q =
     let count : length a.inside ≡ length b.inside = p.count ∙ sym q.count in
     record {
       count = length-both a.inside b.inside count ∙ p.count;
-      none_fixed = λ v l h. flag_at-both a.inside b.inside v count ∙ and_false (flag_at a.inside v) (flag_at b.inside v) (p.none_fixed v l h);
+      none_fixed =
+          λ v l h. flag_at-both a.inside b.inside v count
+          ∙ and_false (flag_at a.inside v) (flag_at b.inside v) (p.none_fixed v l h);
     }
 
 admissible_join : (net : Net) (a b : Labels) → IsAdmissible net a → IsAdmissible net b → IsAdmissible net (join_of a b)
@@ -187,7 +190,8 @@ fit_rest b fs x xs fit = record {
   none_fixed = λ v l h. fit.none_fixed (suc v) (omega arith) h;
 }
 
-fit_more : (b : Bool) (fs : List Bool) (x : Bool) (xs : List Bool) → (b ≡ true → x ≡ false) → IsFit fs xs → IsFit (b ∷ fs) (x ∷ xs)
+fit_more : (b : Bool) (fs : List Bool) (x : Bool) (xs : List Bool) → (b ≡ true → x ≡ false) → IsFit fs xs
+    → IsFit (b ∷ fs) (x ∷ xs)
 fit_more b fs x xs first fit = record { count = omega (arith, fit.count); none_fixed = none } where
   none : (v : ℕ) → v < length (b ∷ fs) → flag_at (b ∷ fs) v ≡ true → flag_at (x ∷ xs) v ≡ false
   none zero l h = first h
@@ -203,8 +207,10 @@ least_fixed fs f r [] fit = absurd (omega (arith, fit.count))
 least_fixed fs f r (true ∷ xs) fit = absurd (false≢true (sym (fit.none_fixed 0 (omega arith) refl)))
 least_fixed fs f r (false ∷ xs) fit = r.least xs (fit_rest true fs false xs fit)
 
-least_free : (fs : List Bool) (f : List Bool → ℕ) (out : HasLeast fs (λ xs. f (false ∷ xs))) (inner : HasLeast fs (λ xs. f (true ∷ xs)))
-    (k : ℕ) → k ≤ f (false ∷ out.best) → k ≤ f (true ∷ inner.best) → (other : List Bool) → IsFit (false ∷ fs) other → k ≤ f other
+least_free : (fs : List Bool) (f : List Bool → ℕ) (out : HasLeast fs (λ xs. f (false ∷ xs)))
+    (inner : HasLeast fs (λ xs. f (true ∷ xs)))
+    (k : ℕ) → k ≤ f (false ∷ out.best) → k ≤ f (true ∷ inner.best) → (other : List Bool) → IsFit (false ∷ fs) other
+    → k ≤ f other
 least_free fs f out inner k p q [] fit = absurd (omega (arith, fit.count))
 least_free fs f out inner k p q (true ∷ xs) fit = omega (arith, q, inner.least xs (fit_rest false fs true xs fit))
 least_free fs f out inner k p q (false ∷ xs) fit = omega (arith, p, out.least xs (fit_rest false fs false xs fit))
@@ -289,7 +295,9 @@ ranked_least net best fits least =
     let admissible : IsAdmissible net labels = record { count = fits.count; none_fixed = fits.none_fixed } in
     let is_least : IsLeastCost net labels = record {
       admissible = admissible;
-      least = λ other p. cost_from_rank n (cost_of net labels) (cost_of net other) (inside_count n best) (inside_count n other.inside)
+      least =
+          λ other p.
+          cost_from_rank n (cost_of net labels) (cost_of net other) (inside_count n best) (inside_count n other.inside)
           (count_le n other.inside) (least other.inside (record { count = p.count; none_fixed = p.none_fixed }));
     } in
     record {
@@ -303,7 +311,8 @@ ranked_least net best fits least =
           let low = is_least.least (meet_of labels other) fit_meet in
           let high = other_least.least (join_of labels other) fit_join in
           let cost_is : cost_of net (meet_of labels other) ≡ cost_of net labels = omega (arith, sum, low, high) in
-          let ranks : rank_of net best ≤ rank_of net meet = least meet (record { count = fit_meet.count; none_fixed = fit_meet.none_fixed }) in
+          let ranks : rank_of net best ≤ rank_of net meet =
+          least meet (record { count = fit_meet.count; none_fixed = fit_meet.none_fixed }) in
           let fewer : (v : ℕ) → v < n → one_if (flag_at meet v) ≤ one_if (flag_at best v) =
           λ v l. rw (flag_at-both best other.inside v count) (one_or_fewer (flag_at best v) (flag_at other.inside v)) in
           let no_fewer : inside_count n best ≤ inside_count n meet =

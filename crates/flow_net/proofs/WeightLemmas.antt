@@ -1,5 +1,6 @@
 -- Sums of weights: as sums over all sights, by one sight more, and how large they get.
-use Rattle.std.proofs.Common.{ℕ, ◌+◌, ◌*◌, ◌<◌, ◌≤◌, ◌≡◌, refl, sym, ap, ◌∙◌, arith, Bool, true, false, cond, List, [], ◌∷◌, length, take, get_or, filter, All}
+use Rattle.std.proofs.Common.{ℕ, ◌+◌, ◌*◌, ◌<◌, ◌≤◌, ◌≡◌, refl, sym, ap, ◌∙◌, arith, Bool, true, false, cond, List, [], ◌∷◌}
+use Rattle.std.proofs.Common.{length, take, get_or, filter, All}
 use Rattle.std.specs.List.{sum_by}
 use Rattle.std.proofs.lemmas.List.Sums.{sum_by-cons, sum_by_more, sum_by-le, sum_by-take-le}
 use Rattle.flow_net.specs.declared.votes.Sight.{Sight}
@@ -10,10 +11,13 @@ use Rattle.flow_net.specs.Weights.{IsWeighed, IsSightList, weight_where}
 abbrev pub added_where : (Sight → Bool) → Sight → ℕ
 added_where test sight = cond (test sight) sight.weight 0
 
-pub weight_where-cons : (test : Sight → Bool) (sight : Sight) (sights : List Sight) → weight_where test (sight ∷ sights) ≡ added_where test sight + weight_where test sights
+pub weight_where-cons : (test : Sight → Bool) (sight : Sight) (sights : List Sight)
+    → weight_where test (sight ∷ sights) ≡ added_where test sight + weight_where test sights
 weight_where-cons test sight sights = by (test sight)
   where
-    by : (passes : Bool) → sum_by (λ (x : Sight). x.weight) (cond passes (sight ∷ filter test sights) (filter test sights)) ≡ cond passes sight.weight 0 + weight_where test sights
+    by : (passes : Bool)
+        → sum_by (λ (x : Sight). x.weight) (cond passes (sight ∷ filter test sights) (filter test sights))
+        ≡ cond passes sight.weight 0 + weight_where test sights
     by true = sum_by-cons (λ (x : Sight). x.weight) sight (filter test sights)
     by false = omega arith
 
@@ -21,12 +25,17 @@ weight_where-cons test sight sights = by (test sight)
 pub weight_is_sum : (test : Sight → Bool) (sights : List Sight) → weight_where test sights ≡ sum_by (added_where test) sights
 weight_is_sum test [] = refl
 weight_is_sum test (sight ∷ sights) =
-    weight_where-cons test sight sights ∙ (ap (λ (n : ℕ). added_where test sight + n) (weight_is_sum test sights) ∙ sym (sum_by-cons (added_where test) sight sights))
+    weight_where-cons test sight sights
+    ∙ (ap (λ (n : ℕ). added_where test sight + n) (weight_is_sum test sights)
+    ∙ sym (sum_by-cons (added_where test) sight sights))
 
 -- one sight more
-pub weight_where_more : (test : Sight → Bool) (sights : List Sight) (i : ℕ) (d : Sight) → i < length sights → weight_where test (take (i + 1) sights) ≡ weight_where test (take i sights) + added_where test (get_or sights i d)
+pub weight_where_more : (test : Sight → Bool) (sights : List Sight) (i : ℕ) (d : Sight) → i < length sights
+    → weight_where test (take (i + 1) sights) ≡ weight_where test (take i sights) + added_where test (get_or sights i d)
 weight_where_more test sights i d l =
-    weight_is_sum test (take (i + 1) sights) ∙ (sum_by_more (added_where test) sights i d l ∙ ap (λ (n : ℕ). n + added_where test (get_or sights i d)) (sym (weight_is_sum test (take i sights))))
+    weight_is_sum test (take (i + 1) sights)
+    ∙ (sum_by_more (added_where test) sights i d l
+    ∙ ap (λ (n : ℕ). n + added_where test (get_or sights i d)) (sym (weight_is_sum test (take i sights))))
 
 added_where_small : (test : Sight → Bool) (sight : Sight) → IsWeighed sight → added_where test sight ≤ SIGHT_WEIGHT_LIMIT
 added_where_small test sight h = by (test sight)
@@ -36,16 +45,26 @@ added_where_small test sight h = by (test sight)
     by false = omega arith
 
 -- at most 255 a sight
-pub weight_where-le : (test : Sight → Bool) (sights : List Sight) → All IsWeighed sights → weight_where test sights ≤ length sights * 255
+pub weight_where-le : (test : Sight → Bool) (sights : List Sight) → All IsWeighed sights
+    → weight_where test sights ≤ length sights * 255
 weight_where-le test sights h =
-    let n = sum_by-le (added_where test) SIGHT_WEIGHT_LIMIT sights (λ k d l. added_where_small test (get_or sights k d) (h k d l)) in
+    let n =
+    sum_by-le (added_where test) SIGHT_WEIGHT_LIMIT sights (λ k d l. added_where_small test (get_or sights k d) (h k d l)) in
     omega (arith, n, weight_is_sum test sights)
 
 -- which is below 2 ^ 31
-pub weight_where_small : (test : Sight → Bool) (sights : List Sight) → IsSightList sights → weight_where test sights ≤ 2139095040
+pub weight_where_small : (test : Sight → Bool) (sights : List Sight) → IsSightList sights
+    → weight_where test sights ≤ 2139095040
 weight_where_small test sights h = let n = weight_where-le test sights h.weighed in omega (arith, n, h.few)
 
 -- nor do the first of them weigh more
-pub weight_so_far : (test : Sight → Bool) (sights : List Sight) (i : ℕ) → IsSightList sights → weight_where test (take i sights) ≤ 2139095040
+pub weight_so_far : (test : Sight → Bool) (sights : List Sight) (i : ℕ) → IsSightList sights
+    → weight_where test (take i sights) ≤ 2139095040
 weight_so_far test sights i h =
-    omega (arith, weight_is_sum test (take i sights), sum_by-take-le (added_where test) sights i, weight_is_sum test sights, weight_where_small test sights h)
+    omega (
+      arith,
+      weight_is_sum test (take i sights),
+      sum_by-take-le (added_where test) sights i,
+      weight_is_sum test sights,
+      weight_where_small test sights h,
+    )

@@ -13,7 +13,8 @@
 use Rattle.std.specs.Prelude.{ℕ, ◌≡◌, ◌<◌, ◌≤◌, ◌+◌, ◌⊎◌, ⊤, Bool, true, false, List, [], ◌∷◌, ◌++◌, length, Some, None}
 use Rattle.flow_net.specs.declared.Arc.{Arc}
 use Rattle.flow_net.specs.declared.builder.NetRefusal.{NetRefusal}
-use Rattle.flow_net.specs.declared.builder.NetRefusal.TheVariants.{NoNode, SameNode, EntersFixed, LeavesFree, OverLimit, NoMemory}
+use Rattle.flow_net.specs.declared.builder.NetRefusal.TheVariants.{NoNode, SameNode, EntersFixed, LeavesFree, OverLimit}
+use Rattle.flow_net.specs.declared.builder.NetRefusal.TheVariants.{NoMemory}
 use Rattle.flow_net.specs.declared.TheConstants.{AMOUNT_LIMIT}
 use Rattle.flow_net.specs.Nets.{flag_at}
 

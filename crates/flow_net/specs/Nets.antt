@@ -7,7 +7,8 @@
 --   IsValidArc     an arc fits its network
 --   AreValidArcs   each arc does
 --   IsValidNet     the parts make a valid network
-use Rattle.std.specs.Prelude.{ℕ, ◌≡◌, ◌≢◌, ◌<◌, ◌≤◌, ◌^◌, Bool, true, false, List, length, slice_index, slice_index_or, Some, None, EachIndex}
+use Rattle.std.specs.Prelude.{ℕ, ◌≡◌, ◌≢◌, ◌<◌, ◌≤◌, ◌^◌, Bool, true, false, List, length, slice_index, slice_index_or, Some}
+use Rattle.std.specs.Prelude.{None, EachIndex}
 use Rattle.std.specs.Option.{ForSome, ForNone}
 use Rattle.flow_net.specs.declared.Arc.{Arc}
 

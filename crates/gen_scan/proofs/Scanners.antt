@@ -3,7 +3,8 @@ use Rattle.std.proofs.Common.{◌≡◌, ℕ, zero, suc, ◌+◌, ◌<◌, [], �
 use Rattle.gen_scan.specs.Generated.{on_face, scanners}
 
 -- the next scanner
-pub one_more_scanner : (face : ℕ) → face < 6 → take (face + 1) scanners ≡ take face scanners ++ on_face face (pos 5000) (pos 0) (pos 0) ∷ []
+pub one_more_scanner : (face : ℕ) → face < 6
+    → take (face + 1) scanners ≡ take face scanners ++ on_face face (pos 5000) (pos 0) (pos 0) ∷ []
 one_more_scanner zero lt = refl
 one_more_scanner (suc zero) lt = refl
 one_more_scanner (suc (suc zero)) lt = refl

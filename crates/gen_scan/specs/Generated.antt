@@ -35,7 +35,8 @@ generator seed = started 64 multiplier_64 seed (increment_of 64 1)
 
 -- the row of this number: a point on the face whose turn it is, at two words, seen from before that face
 abbrev pub row_of : (number first second : ℕ) → VertexRow
-row_of number first second = record { point = on_face (number % 6) (pos 1000) (spread first) (spread second); weight = 1; seen_by = number % 6 ∷ [] }
+row_of number first second =
+    record { point = on_face (number % 6) (pos 1000) (spread first) (spread second); weight = 1; seen_by = number % 6 ∷ [] }
 
 -- a row for each two words, from this number on
 abbrev pub rows_of_words : ℕ → List ℕ → List VertexRow
@@ -52,4 +53,5 @@ scanners = before 0 ∷ before 1 ∷ before 2 ∷ before 3 ∷ before 4 ∷ befo
 
 -- the scan of so many rows, for which the generator gives two words each, in order
 abbrev pub generated : (count seed : ℕ) → ScanRows
-generated count seed = record { vertices = rows_of_words 0 (first_words pcg32 (count * 2) (generator seed)); scanners = scanners }
+generated count seed =
+    record { vertices = rows_of_words 0 (first_words pcg32 (count * 2) (generator seed)); scanners = scanners }

@@ -1,5 +1,6 @@
 -- The test that a facet is one of the four of a tetrahedron says just that.
-use Rattle.std.proofs.Common.{ℕ, zero, suc, ◌<◌, ◌≡◌, refl, ap, ap₂, sym, ◌∙◌, ⊎_elim, arith, Bool, true, false, ◌&&◌, ◌||◌, eqb}
+use Rattle.std.proofs.Common.{ℕ, zero, suc, ◌<◌, ◌≡◌, refl, ap, ap₂, sym, ◌∙◌, ⊎_elim, arith, Bool, true, false, ◌&&◌, ◌||◌}
+use Rattle.std.proofs.Common.{eqb}
 use Rattle.std.proofs.lemmas.Bool.{and_parts, or_cases, eq-eqb, eqb-true}
 use Rattle.geo_sign.specs.Tetrahedron.{Tetrahedron, DirectedFacet, facet, facet_of, is_same_facet, is_among}
 use Rattle.geo_sign.specs.FacetLaws.{AmongMeans}
@@ -32,7 +33,9 @@ own_facet t k = at k
 
 -- what is among them is one of them
 pub found : (t : Tetrahedron) (f : DirectedFacet) → is_among t f ≡ true → (k : ℕ) × (k < 4) × (facet_of t k ≡ f)
-found t f h = ⊎_elim (λ p. ⊎_elim (λ q. ⊎_elim (at 0 (omega arith)) (at 1 (omega arith)) (or_cases (is 0) (is 1) q)) (at 2 (omega arith)) (or_cases (is 0 || is 1) (is 2) p)) (at 3 (omega arith)) (or_cases (is 0 || is 1 || is 2) (is 3) h)
+found t f h =
+    ⊎_elim (λ p. ⊎_elim (λ q. ⊎_elim (at 0 (omega arith)) (at 1 (omega arith)) (or_cases (is 0) (is 1) q)) (at 2 (omega arith))
+    (or_cases (is 0 || is 1) (is 2) p)) (at 3 (omega arith)) (or_cases (is 0 || is 1 || is 2) (is 3) h)
   where
     is : (k : ℕ) → Bool
     is k = is_same_facet (facet_of t k) f

@@ -2,7 +2,8 @@
 --
 --   kept w z       z as the code stores it in a number of width w
 --   Held m t z     t is the number z, whose absolute value is at most m
-use Rattle.std.proofs.Common.{ℕ, ◌+◌, ◌*◌, ◌≤◌, ◌<◌, ◌^◌, ◌≡◌, ℤ, ◌+ℤ◌, ◌-ℤ◌, ◌*ℤ◌, unsigned_abs, arith, FitsSigned, to_z, of_z, mul-le-mul, lt_of_le_of_lt, subst, ap, ap₂, sym, refl, ◌∙◌, T, ltb, ltb→lt}
+use Rattle.std.proofs.Common.{ℕ, ◌+◌, ◌*◌, ◌≤◌, ◌<◌, ◌^◌, ◌≡◌, ℤ, ◌+ℤ◌, ◌-ℤ◌, ◌*ℤ◌, unsigned_abs, arith, FitsSigned, to_z, of_z}
+use Rattle.std.proofs.Common.{mul-le-mul, lt_of_le_of_lt, subst, ap, ap₂, sym, refl, ◌∙◌, T, ltb, ltb→lt}
 use Rattle.std.proofs.lemmas.Int.{ints, unsigned_abs-mul, fits_signed_from_abs, to_z-of_z}
 use mir.Syntax.{Width}
 use mir.Val.{hbits}
@@ -49,8 +50,9 @@ pub within_held : {m : ℕ} {t z : ℤ} → Held m t z → unsigned_abs t ≤ m
 within_held {m} {t} {z} h = subst (λ (y : ℤ). unsigned_abs y ≤ m) (sym h.is) h.within
 
 -- a b as the code computes it
-pub held_product : (w : Width) (a b : ℤ) {m n : ℕ} → unsigned_abs a ≤ m → unsigned_abs b ≤ n → T (ltb m (2 ^ hbits w)) → T (ltb n (2 ^ hbits w)) →
-    Held (m * n) (kept w a *ℤ kept w b) (a *ℤ b)
+pub held_product : (w : Width) (a b : ℤ) {m n : ℕ} → unsigned_abs a ≤ m → unsigned_abs b ≤ n → T (ltb m (2 ^ hbits w))
+    → T (ltb n (2 ^ hbits w))
+    → Held (m * n) (kept w a *ℤ kept w b) (a *ℤ b)
 held_product w a b {m} {n} h k i j = held_mul (held_kept w (held m a h) i) (held_kept w (held n b k) j)
 
 pub same_place : (a b c d e f : ℤ) → a ≡ d → b ≡ e → c ≡ f → point a b c ≡ point d e f
@@ -60,10 +62,13 @@ pub within_of : (m : ℕ) (p q : Point) → p ≡ q → IsWithin m q → IsWithi
 within_of m p q e h = subst (λ (r : Point). IsWithin m r) (sym e) h
 
 -- a minor of two vectors between points
-pub minor_within : (a b c d : ℤ) → unsigned_abs a ≤ 2 ^ 24 → unsigned_abs b ≤ 2 ^ 24 → unsigned_abs c ≤ 2 ^ 24 → unsigned_abs d ≤ 2 ^ 24 → unsigned_abs (a *ℤ d -ℤ b *ℤ c) ≤ 2 ^ 49
-minor_within a b c d h i j k = abs_sub (a *ℤ d) (b *ℤ c) (2 ^ 48) (2 ^ 48) (abs_mul a d (2 ^ 24) (2 ^ 24) h k) (abs_mul b c (2 ^ 24) (2 ^ 24) i j)
+pub minor_within : (a b c d : ℤ) → unsigned_abs a ≤ 2 ^ 24 → unsigned_abs b ≤ 2 ^ 24 → unsigned_abs c ≤ 2 ^ 24
+    → unsigned_abs d ≤ 2 ^ 24 → unsigned_abs (a *ℤ d -ℤ b *ℤ c) ≤ 2 ^ 49
+minor_within a b c d h i j k =
+    abs_sub (a *ℤ d) (b *ℤ c) (2 ^ 48) (2 ^ 48) (abs_mul a d (2 ^ 24) (2 ^ 24) h k) (abs_mul b c (2 ^ 24) (2 ^ 24) i j)
 
-pub minor_held : (u v : Point) (m : ℤ) → m ≡ (cross u v).z → IsWithin (2 ^ 24) u → IsWithin (2 ^ 24) v → Held (2 ^ 49) m ((cross u v).z)
+pub minor_held : (u v : Point) (m : ℤ) → m ≡ (cross u v).z → IsWithin (2 ^ 24) u → IsWithin (2 ^ 24) v
+    → Held (2 ^ 49) m ((cross u v).z)
 minor_held u v m e h k = record { is = e; within = minor_within u.x u.y v.x v.y h.x_within h.y_within k.x_within k.y_within }
 
 -- a vector product of vectors between points, and its scalar product with one
@@ -78,7 +83,8 @@ cross_within u v h k =
 dot_within : (u v : Point) → IsWithin (2 ^ 49) u → IsWithin (2 ^ 24) v → unsigned_abs (dot u v) ≤ 3 * 2 ^ 73
 dot_within u v h k =
     abs_add (u.x *ℤ v.x +ℤ u.y *ℤ v.y) (u.z *ℤ v.z) (2 ^ 74) (2 ^ 73)
-    (abs_add (u.x *ℤ v.x) (u.y *ℤ v.y) (2 ^ 73) (2 ^ 73) (abs_mul u.x v.x (2 ^ 49) (2 ^ 24) h.x_within k.x_within) (abs_mul u.y v.y (2 ^ 49) (2 ^ 24) h.y_within k.y_within))
+    (abs_add (u.x *ℤ v.x) (u.y *ℤ v.y) (2 ^ 73) (2 ^ 73) (abs_mul u.x v.x (2 ^ 49) (2 ^ 24) h.x_within k.x_within)
+    (abs_mul u.y v.y (2 ^ 49) (2 ^ 24) h.y_within k.y_within))
     (abs_mul u.z v.z (2 ^ 49) (2 ^ 24) h.z_within k.z_within)
 
 step_within : (a b : Point) → IsWithin BOX_LIMIT a → IsWithin BOX_LIMIT b → IsWithin (2 ^ 24) (step a b)
@@ -90,7 +96,11 @@ step_within a b h k =
     }
 
 -- the orientation of points of the box
-pub orientation_bound : (a b c d : Point) → IsWithin BOX_LIMIT a → IsWithin BOX_LIMIT b → IsWithin BOX_LIMIT c → IsWithin BOX_LIMIT d → unsigned_abs (orientation a b c d) < 2 ^ 75
+pub orientation_bound : (a b c d : Point) → IsWithin BOX_LIMIT a → IsWithin BOX_LIMIT b → IsWithin BOX_LIMIT c
+    → IsWithin BOX_LIMIT d → unsigned_abs (orientation a b c d) < 2 ^ 75
 unfolding orientation
 orientation_bound a b c d h i j k =
-    lt_of_le_of_lt (dot_within (cross (step a b) (step a c)) (step a d) (cross_within (step a b) (step a c) (step_within a b h i) (step_within a c h j)) (step_within a d h k)) (ltb→lt (3 * 2 ^ 73) (2 ^ 75) tt)
+    lt_of_le_of_lt
+    (dot_within (cross (step a b) (step a c)) (step a d)
+    (cross_within (step a b) (step a c) (step_within a b h i) (step_within a c h j)) (step_within a d h k))
+    (ltb→lt (3 * 2 ^ 73) (2 ^ 75) tt)

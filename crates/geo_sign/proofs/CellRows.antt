@@ -1,9 +1,10 @@
 -- A positively written tetrahedron has a row: its four numbers, rising.
 --
--- Its vertices are distinct, since an orientation with two equal points is zero. Bring the least number first, then the least of
--- the others second; both are steps. Then the last two rise or fall, and that is the row, straight or with its last two
+-- Its vertices are distinct, since an orientation with two equal points is zero. Bring the least number first, then the least
+-- of the others second; both are steps. Then the last two rise or fall, and that is the row, straight or with its last two
 -- exchanged.
-use Rattle.std.proofs.Common.{ℕ, ◌<◌, ◌≤◌, ◌≡◌, ◌≢◌, ◌<ℤ◌, refl, ap, sym, subst, ◌∙◌, ◌⊎◌, inl, inr, ⊎_elim, arith, true, false, ℤ, pos, List, [], ◌∷◌}
+use Rattle.std.proofs.Common.{ℕ, ◌<◌, ◌≤◌, ◌≡◌, ◌≢◌, ◌<ℤ◌, refl, ap, sym, subst, ◌∙◌, ◌⊎◌, inl, inr, ⊎_elim, arith, true, false}
+use Rattle.std.proofs.Common.{ℤ, pos, List, [], ◌∷◌}
 use Rattle.std.proofs.lemmas.Bool.{cases_lt}
 use Rattle.std.proofs.lemmas.Int.{ints}
 use Rattle.geo_sign.specs.Tetrahedron.{Tetrahedron}
@@ -28,12 +29,24 @@ pub record AreDistinct (t : Tetrahedron) : Type 0 where
 pub distinct : (v : Vertices) (t : Tetrahedron) → IsPositive v t → AreDistinct t
 distinct v t h =
     record {
-      b_a = λ e. no_zero (orientation_at v t) h (ap (λ x. orientation_of v t.a x t.c t.d) e ∙ flat_first (v.at t.a) (v.at t.c) (v.at t.d));
-      c_a = λ e. no_zero (orientation_at v t) h (ap (λ x. orientation_of v t.a t.b x t.d) e ∙ flat_second (v.at t.a) (v.at t.b) (v.at t.d));
-      c_b = λ e. no_zero (orientation_at v t) h (ap (λ x. orientation_of v t.a t.b x t.d) e ∙ flat_third (v.at t.a) (v.at t.b) (v.at t.d));
-      d_a = λ e. no_zero (orientation_at v t) h (ap (λ x. orientation_of v t.a t.b t.c x) e ∙ flat_a (v.at t.a) (v.at t.b) (v.at t.c));
-      d_b = λ e. no_zero (orientation_at v t) h (ap (λ x. orientation_of v t.a t.b t.c x) e ∙ flat_b (v.at t.a) (v.at t.b) (v.at t.c));
-      d_c = λ e. no_zero (orientation_at v t) h (ap (λ x. orientation_of v t.a t.b t.c x) e ∙ flat_c (v.at t.a) (v.at t.b) (v.at t.c));
+      b_a =
+          λ e. no_zero (orientation_at v t) h
+          (ap (λ x. orientation_of v t.a x t.c t.d) e ∙ flat_first (v.at t.a) (v.at t.c) (v.at t.d));
+      c_a =
+          λ e. no_zero (orientation_at v t) h
+          (ap (λ x. orientation_of v t.a t.b x t.d) e ∙ flat_second (v.at t.a) (v.at t.b) (v.at t.d));
+      c_b =
+          λ e. no_zero (orientation_at v t) h
+          (ap (λ x. orientation_of v t.a t.b x t.d) e ∙ flat_third (v.at t.a) (v.at t.b) (v.at t.d));
+      d_a =
+          λ e. no_zero (orientation_at v t) h
+          (ap (λ x. orientation_of v t.a t.b t.c x) e ∙ flat_a (v.at t.a) (v.at t.b) (v.at t.c));
+      d_b =
+          λ e. no_zero (orientation_at v t) h
+          (ap (λ x. orientation_of v t.a t.b t.c x) e ∙ flat_b (v.at t.a) (v.at t.b) (v.at t.c));
+      d_c =
+          λ e. no_zero (orientation_at v t) h
+          (ap (λ x. orientation_of v t.a t.b t.c x) e ∙ flat_c (v.at t.a) (v.at t.b) (v.at t.c));
     }
 
 pub same_positive : (v : Vertices) (t r : Tetrahedron) → IsRewritten t r → IsPositive v t → IsPositive v r
@@ -66,8 +79,13 @@ record IsLesser (x y m : ℕ) : Type 0 where
 
 lesser : (x y : ℕ) → (m : ℕ) × IsLesser x y m
 lesser x y =
-    ⊎_elim (λ (l : x < y). let r : (m : ℕ) × IsLesser x y m = (x, record { is = inl refl; first_above = omega arith; second_above = omega (arith, l) }) in r)
-    (λ (l : y ≤ x). let r : (m : ℕ) × IsLesser x y m = (y, record { is = inr refl; first_above = l; second_above = omega arith }) in r) (cases_lt x y)
+    ⊎_elim (λ (l : x < y).
+    let r : (m : ℕ) × IsLesser x y m =
+    (x, record { is = inl refl; first_above = omega arith; second_above = omega (arith, l) }) in
+    r)
+    (λ (l : y ≤ x).
+    let r : (m : ℕ) × IsLesser x y m = (y, record { is = inr refl; first_above = l; second_above = omega arith }) in
+    r) (cases_lt x y)
 
 least : (t : Tetrahedron) → (u : ℕ) × IsVertexOf t u × ((w : ℕ) → IsVertexOf t w → u ≤ w)
 least t = (z.0, of z.1.is, above)
@@ -121,7 +139,15 @@ record IsBegun (t r : Tetrahedron) : Type 0 where
   d_above : r.b < r.d
 
 begun : (v : Vertices) (t : Tetrahedron) → IsPositive v t → (r : Tetrahedron) × IsBegun t r
-begun v t k = (y.0, record { same = same; a_below = a_below; c_above = rest_above y.0.c (inr (inr (inl refl))) n.c_a n.c_b; d_above = rest_above y.0.d (inr (inr (inr refl))) n.d_a n.d_b })
+begun v t k = (
+  y.0,
+  record {
+    same = same;
+    a_below = a_below;
+    c_above = rest_above y.0.c (inr (inr (inl refl))) n.c_a n.c_b;
+    d_above = rest_above y.0.d (inr (inr (inr refl))) n.d_a n.d_b;
+  },
+)
   where
     u : (u : ℕ) × IsVertexOf t u × ((w : ℕ) → IsVertexOf t w → u ≤ w)
     u = least t
@@ -156,7 +182,9 @@ begun v t k = (y.0, record { same = same; a_below = a_below; c_above = rest_abov
 
     rest_above : (z : ℕ) → IsVertexOf y.0 z → z ≢ y.0.a → z ≢ y.0.b → y.0.b < z
     rest_above z o a b =
-        let l : w.0 ≤ z = ⊎_elim (λ (e : z ≡ x.0.a). absurd (a (e ∙ sym y.2))) (λ (h : IsRest x.0 z). w.2 z h) (same_vertex z y.0 x.0 (rewritten_back x.0 y.0 y.1) o) in
+        let l : w.0 ≤ z =
+        ⊎_elim (λ (e : z ≡ x.0.a). absurd (a (e ∙ sym y.2))) (λ (h : IsRest x.0 z). w.2 z h)
+        (same_vertex z y.0 x.0 (rewritten_back x.0 y.0 y.1) o) in
         let e : y.0.b ≡ w.0 = y.3 in
         omega (arith, l, e, b)
 
@@ -169,6 +197,11 @@ row_there v t k =
     let n : AreDistinct r = distinct v r (same_positive v t r b.same k) in
     let d : r.d ≢ r.c = n.d_c in
     ⊎_elim
-    (λ (l : r.c < r.d). let x : (row : List ℕ) × IsRowOf t row = (r.a ∷ r.b ∷ r.c ∷ r.d ∷ [], (b.a_below, b.c_above, l, inl b.same)) in x)
-    (λ (l : r.d ≤ r.c). let x : (row : List ℕ) × IsRowOf t row = (r.a ∷ r.b ∷ r.d ∷ r.c ∷ [], (b.a_below, b.d_above, omega (arith, l, d), inr b.same)) in x)
+    (λ (l : r.c < r.d).
+    let x : (row : List ℕ) × IsRowOf t row = (r.a ∷ r.b ∷ r.c ∷ r.d ∷ [], (b.a_below, b.c_above, l, inl b.same)) in
+    x)
+    (λ (l : r.d ≤ r.c).
+    let x : (row : List ℕ) × IsRowOf t row =
+    (r.a ∷ r.b ∷ r.d ∷ r.c ∷ [], (b.a_below, b.d_above, omega (arith, l, d), inr b.same)) in
+    x)
     (cases_lt r.c r.d)

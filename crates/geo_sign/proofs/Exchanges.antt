@@ -27,11 +27,13 @@ swap_orientation a b c d = ring (four a b c d) (orientation' (symbols 3) (symbol
 
 pub turned_orientation : (a b c d : Point) → orientation a c b d ≡ neg_ℤ (orientation a b c d)
 unfolding orientation
-turned_orientation a b c d = ring (four a b c d) (orientation' (symbols 0) (symbols 6) (symbols 3) (symbols 9)) (negation plain) tt
+turned_orientation a b c d =
+    ring (four a b c d) (orientation' (symbols 0) (symbols 6) (symbols 3) (symbols 9)) (negation plain) tt
 
 pub exchanged_orientation : (a b c d : Point) → orientation a b d c ≡ neg_ℤ (orientation a b c d)
 unfolding orientation
-exchanged_orientation a b c d = ring (four a b c d) (orientation' (symbols 0) (symbols 3) (symbols 9) (symbols 6)) (negation plain) tt
+exchanged_orientation a b c d =
+    ring (four a b c d) (orientation' (symbols 0) (symbols 3) (symbols 9) (symbols 6)) (negation plain) tt
 
 -- two of the four points are one
 abbrev three : Point → Point → Point → List ℤ
@@ -63,35 +65,44 @@ flat_c a b c = ring (three a b c) (orientation' (symbols 0) (symbols 3) (symbols
 
 -- ---- power
 abbrev five : (a b c d p : Point) (ha hb hc hd hp : ℤ) → List ℤ
-five a b c d p ha hb hc hd hp = coordinates a (coordinates b (coordinates c (coordinates d (coordinates p (ha ∷ hb ∷ hc ∷ hd ∷ hp ∷ [])))))
+five a b c d p ha hb hc hd hp =
+    coordinates a (coordinates b (coordinates c (coordinates d (coordinates p (ha ∷ hb ∷ hc ∷ hd ∷ hp ∷ [])))))
 
 abbrev plain_lifted : Polynomial
-plain_lifted = power' (symbols 0) (symbols 3) (symbols 6) (symbols 9) (symbols 12) (variable 15) (variable 16) (variable 17) (variable 18) (variable 19)
+plain_lifted =
+    power' (symbols 0) (symbols 3) (symbols 6) (symbols 9) (symbols 12) (variable 15) (variable 16) (variable 17) (variable 18)
+    (variable 19)
 
 pub spin_power : (a b c d p : Point) (ha hb hc hd hp : ℤ) → power b c a d p hb hc ha hd hp ≡ power a b c d p ha hb hc hd hp
 unfolding orientation power
 spin_power a b c d p ha hb hc hd hp =
     ring (five a b c d p ha hb hc hd hp)
-    (power' (symbols 3) (symbols 6) (symbols 0) (symbols 9) (symbols 12) (variable 16) (variable 17) (variable 15) (variable 18) (variable 19)) plain_lifted tt
+    (power' (symbols 3) (symbols 6) (symbols 0) (symbols 9) (symbols 12) (variable 16) (variable 17) (variable 15) (variable 18)
+    (variable 19)) plain_lifted tt
 
 pub swap_power : (a b c d p : Point) (ha hb hc hd hp : ℤ) → power b a d c p hb ha hd hc hp ≡ power a b c d p ha hb hc hd hp
 unfolding orientation power
 swap_power a b c d p ha hb hc hd hp =
     ring (five a b c d p ha hb hc hd hp)
-    (power' (symbols 3) (symbols 0) (symbols 9) (symbols 6) (symbols 12) (variable 16) (variable 15) (variable 18) (variable 17) (variable 19)) plain_lifted tt
+    (power' (symbols 3) (symbols 0) (symbols 9) (symbols 6) (symbols 12) (variable 16) (variable 15) (variable 18) (variable 17)
+    (variable 19)) plain_lifted tt
 
 -- the fifth vertex exchanged with the fourth
-pub exchanged_power : (a b c d p : Point) (ha hb hc hd hp : ℤ) → power a b c p d ha hb hc hp hd ≡ neg_ℤ (power a b c d p ha hb hc hd hp)
+pub exchanged_power : (a b c d p : Point) (ha hb hc hd hp : ℤ)
+    → power a b c p d ha hb hc hp hd ≡ neg_ℤ (power a b c d p ha hb hc hd hp)
 unfolding orientation power
 exchanged_power a b c d p ha hb hc hd hp =
     ring (five a b c d p ha hb hc hd hp)
-    (power' (symbols 0) (symbols 3) (symbols 6) (symbols 12) (symbols 9) (variable 15) (variable 16) (variable 17) (variable 19) (variable 18)) (negation plain_lifted) tt
+    (power' (symbols 0) (symbols 3) (symbols 6) (symbols 12) (symbols 9) (variable 15) (variable 16) (variable 17) (variable 19)
+    (variable 18)) (negation plain_lifted) tt
 
-pub turned_power : (a b c d p : Point) (ha hb hc hd hp : ℤ) → power a c b d p ha hc hb hd hp ≡ neg_ℤ (power a b c d p ha hb hc hd hp)
+pub turned_power : (a b c d p : Point) (ha hb hc hd hp : ℤ)
+    → power a c b d p ha hc hb hd hp ≡ neg_ℤ (power a b c d p ha hb hc hd hp)
 unfolding orientation power
 turned_power a b c d p ha hb hc hd hp =
     ring (five a b c d p ha hb hc hd hp)
-    (power' (symbols 0) (symbols 6) (symbols 3) (symbols 9) (symbols 12) (variable 15) (variable 17) (variable 16) (variable 18) (variable 19)) (negation plain_lifted) tt
+    (power' (symbols 0) (symbols 6) (symbols 3) (symbols 9) (symbols 12) (variable 15) (variable 17) (variable 16) (variable 18)
+    (variable 19)) (negation plain_lifted) tt
 
 -- ---- side
 abbrev three_and_place : Point → Point → Point → RationalPoint → List ℤ
@@ -103,8 +114,12 @@ place = record { at = symbols 9; over = variable 12 }
 
 pub round_side : (a b c : Point) (q : RationalPoint) → side b c a q ≡ side a b c q
 unfolding side
-round_side a b c q = ring (three_and_place a b c q) (side' (symbols 3) (symbols 6) (symbols 0) place) (side' (symbols 0) (symbols 3) (symbols 6) place) tt
+round_side a b c q =
+    ring (three_and_place a b c q) (side' (symbols 3) (symbols 6) (symbols 0) place)
+    (side' (symbols 0) (symbols 3) (symbols 6) place) tt
 
 pub turned_side : (a b c : Point) (q : RationalPoint) → side a c b q ≡ neg_ℤ (side a b c q)
 unfolding side
-turned_side a b c q = ring (three_and_place a b c q) (side' (symbols 0) (symbols 6) (symbols 3) place) (negation (side' (symbols 0) (symbols 3) (symbols 6) place)) tt
+turned_side a b c q =
+    ring (three_and_place a b c q) (side' (symbols 0) (symbols 6) (symbols 3) place)
+    (negation (side' (symbols 0) (symbols 3) (symbols 6) place)) tt

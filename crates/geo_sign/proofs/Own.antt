@@ -35,7 +35,9 @@ power_of_fourth a b c d ha hb hc hd = ring (four a b c d ha hb hc hd) (own' (sym
 pub exchanged : (a b c d : Point) → orientation a b d c ≡ neg_ℤ (orientation a b c d)
 unfolding orientation
 exchanged a b c d =
-    ring (coordinates a (coordinates b (coordinates c (coordinates d [])))) (orientation' (symbols 0) (symbols 3) (symbols 9) (symbols 6)) (negation (orientation' (symbols 0) (symbols 3) (symbols 6) (symbols 9))) tt
+    ring (coordinates a (coordinates b (coordinates c (coordinates d []))))
+    (orientation' (symbols 0) (symbols 3) (symbols 9) (symbols 6))
+    (negation (orientation' (symbols 0) (symbols 3) (symbols 6) (symbols 9))) tt
 
 -- ---- a cell's own vertices have power zero
 not_negative : (z : ℤ) → z ≡ pos 0 → pos 0 ≤ℤ z
@@ -43,19 +45,23 @@ not_negative z e = omega (arith, ints)
 
 pub own_first : (v : Vertices) (a b c d u : ℕ) → u ≡ a → pos 0 ≤ℤ power_of v a b c d u
 own_first v a b c d u e =
-    subst (λ (k : ℕ). pos 0 ≤ℤ power_of v a b c d k) (sym e) (not_negative _ (power_of_first (v.at a) (v.at b) (v.at c) (v.at d) (v.high a) (v.high b) (v.high c) (v.high d)))
+    subst (λ (k : ℕ). pos 0 ≤ℤ power_of v a b c d k) (sym e)
+    (not_negative _ (power_of_first (v.at a) (v.at b) (v.at c) (v.at d) (v.high a) (v.high b) (v.high c) (v.high d)))
 
 pub own_second : (v : Vertices) (a b c d u : ℕ) → u ≡ b → pos 0 ≤ℤ power_of v a b c d u
 own_second v a b c d u e =
-    subst (λ (k : ℕ). pos 0 ≤ℤ power_of v a b c d k) (sym e) (not_negative _ (power_of_second (v.at a) (v.at b) (v.at c) (v.at d) (v.high a) (v.high b) (v.high c) (v.high d)))
+    subst (λ (k : ℕ). pos 0 ≤ℤ power_of v a b c d k) (sym e)
+    (not_negative _ (power_of_second (v.at a) (v.at b) (v.at c) (v.at d) (v.high a) (v.high b) (v.high c) (v.high d)))
 
 pub own_third : (v : Vertices) (a b c d u : ℕ) → u ≡ c → pos 0 ≤ℤ power_of v a b c d u
 own_third v a b c d u e =
-    subst (λ (k : ℕ). pos 0 ≤ℤ power_of v a b c d k) (sym e) (not_negative _ (power_of_third (v.at a) (v.at b) (v.at c) (v.at d) (v.high a) (v.high b) (v.high c) (v.high d)))
+    subst (λ (k : ℕ). pos 0 ≤ℤ power_of v a b c d k) (sym e)
+    (not_negative _ (power_of_third (v.at a) (v.at b) (v.at c) (v.at d) (v.high a) (v.high b) (v.high c) (v.high d)))
 
 pub own_fourth : (v : Vertices) (a b c d u : ℕ) → u ≡ d → pos 0 ≤ℤ power_of v a b c d u
 own_fourth v a b c d u e =
-    subst (λ (k : ℕ). pos 0 ≤ℤ power_of v a b c d k) (sym e) (not_negative _ (power_of_fourth (v.at a) (v.at b) (v.at c) (v.at d) (v.high a) (v.high b) (v.high c) (v.high d)))
+    subst (λ (k : ℕ). pos 0 ≤ℤ power_of v a b c d k) (sym e)
+    (not_negative _ (power_of_fourth (v.at a) (v.at b) (v.at c) (v.at d) (v.high a) (v.high b) (v.high c) (v.high d)))
 
 -- ---- the last two vertices exchanged
 pub last_exchanged : (v : Vertices) (a b c d : ℕ) → orientation_of v a b d c ≡ neg_ℤ (orientation_of v a b c d)

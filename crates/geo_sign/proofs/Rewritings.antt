@@ -2,12 +2,14 @@
 --
 -- A step moves the four facets and rotates some of them. So what is said of all four facets is said of them in another order,
 -- and a side is that of a rotated facet. No premise on the vertices is needed.
-use Rattle.std.proofs.Common.{ℕ, zero, suc, ◌≡◌, ◌<◌, ◌<ℤ◌, ◌≤ℤ◌, refl, ap, ap₂, sym, subst, ◌∙◌, inl, inr, ⊎_elim, arith, Bool, true, false, ◌&&◌, ◌||◌, ◌==◌, ℤ, pos, List, [], ◌∷◌, ◌++◌}
+use Rattle.std.proofs.Common.{ℕ, zero, suc, ◌≡◌, ◌<◌, ◌<ℤ◌, ◌≤ℤ◌, refl, ap, ap₂, sym, subst, ◌∙◌, inl, inr, ⊎_elim, arith, Bool}
+use Rattle.std.proofs.Common.{true, false, ◌&&◌, ◌||◌, ◌==◌, ℤ, pos, List, [], ◌∷◌, ◌++◌}
 use Rattle.geo_sign.specs.Rational.{RationalPoint}
 use Rattle.geo_sign.specs.Tetrahedron.{Tetrahedron, DirectedFacet, facet, facet_of, vertex_of, IsRotated}
 use Rattle.geo_sign.specs.Vertices.{Vertices, orientation_of, power_of}
 use Rattle.geo_sign.specs.Cells.{IsCell}
-use Rattle.geo_sign.specs.Sights.{side_of, is_positive, is_negative, has_vertex, all_facets, all_facets_at, is_behind, is_towards, is_cell_of}
+use Rattle.geo_sign.specs.Sights.{side_of, is_positive, is_negative, has_vertex, all_facets, all_facets_at, is_behind}
+use Rattle.geo_sign.specs.Sights.{is_towards, is_cell_of}
 use Rattle.geo_sign.specs.Places.{IsLyingIn, IsStrictlyIn}
 use Rattle.geo_sign.specs.Writings.{IsRewritten, IsVertexOf, moved, spin, swap}
 use Rattle.geo_sign.specs.FacetLaws.{FacetsAreRotated}
@@ -16,16 +18,19 @@ use Rattle.geo_sign.proofs.Exchanges.{spin_orientation, swap_orientation, spin_p
 use Rattle.geo_sign.proofs.Rotations.{rotated_after, side_rotated}
 
 -- ---- what both steps keep
-pub carry : (P : Tetrahedron → Type 0) → ((t : Tetrahedron) → P t → P (spin t)) → ((t : Tetrahedron) → P t → P (swap t)) → (steps : List Bool) (t : Tetrahedron) → P t → P (moved steps t)
+pub carry : (P : Tetrahedron → Type 0) → ((t : Tetrahedron) → P t → P (spin t)) → ((t : Tetrahedron) → P t → P (swap t))
+    → (steps : List Bool) (t : Tetrahedron) → P t → P (moved steps t)
 carry P f g [] t h = h
 carry P f g (true ∷ steps) t h = f (moved steps t) (carry P f g steps t h)
 carry P f g (false ∷ steps) t h = g (moved steps t) (carry P f g steps t h)
 
-pub carry_rewritten : (P : Tetrahedron → Type 0) → ((t : Tetrahedron) → P t → P (spin t)) → ((t : Tetrahedron) → P t → P (swap t)) → (t r : Tetrahedron) → IsRewritten t r → P t → P r
+pub carry_rewritten : (P : Tetrahedron → Type 0) → ((t : Tetrahedron) → P t → P (spin t))
+    → ((t : Tetrahedron) → P t → P (swap t)) → (t r : Tetrahedron) → IsRewritten t r → P t → P r
 carry_rewritten P f g t r e h = subst P e.1 (carry P f g e.0 t h)
 
 -- a value that no step changes
-pub carry_value : {A : Type 0} (value : Tetrahedron → A) → ((t : Tetrahedron) → value (spin t) ≡ value t) → ((t : Tetrahedron) → value (swap t) ≡ value t) → (t r : Tetrahedron) → IsRewritten t r → value r ≡ value t
+pub carry_value : {A : Type 0} (value : Tetrahedron → A) → ((t : Tetrahedron) → value (spin t) ≡ value t)
+    → ((t : Tetrahedron) → value (swap t) ≡ value t) → (t r : Tetrahedron) → IsRewritten t r → value r ≡ value t
 carry_value value f g t r e = carry_rewritten (λ x. value x ≡ value t) (λ x h. f x ∙ h) (λ x h. g x ∙ h) t r e refl
 
 -- ---- an equivalence
@@ -60,13 +65,18 @@ IsCellOf v t = IsCell v t.a t.b t.c t.d
 
 pub same_orientation : (v : Vertices) (t r : Tetrahedron) → IsRewritten t r → orientation_at v r ≡ orientation_at v t
 same_orientation v =
-    carry_value (orientation_at v) (λ t. spin_orientation (v.at t.a) (v.at t.b) (v.at t.c) (v.at t.d)) (λ t. swap_orientation (v.at t.a) (v.at t.b) (v.at t.c) (v.at t.d))
+    carry_value (orientation_at v) (λ t. spin_orientation (v.at t.a) (v.at t.b) (v.at t.c) (v.at t.d))
+    (λ t. swap_orientation (v.at t.a) (v.at t.b) (v.at t.c) (v.at t.d))
 
 pub spun_power : (v : Vertices) (p : ℕ) (t : Tetrahedron) → power_at v (spin t) p ≡ power_at v t p
-spun_power v p t = spin_power (v.at t.a) (v.at t.b) (v.at t.c) (v.at t.d) (v.at p) (v.high t.a) (v.high t.b) (v.high t.c) (v.high t.d) (v.high p)
+spun_power v p t =
+    spin_power (v.at t.a) (v.at t.b) (v.at t.c) (v.at t.d) (v.at p) (v.high t.a) (v.high t.b) (v.high t.c)
+    (v.high t.d) (v.high p)
 
 pub swapped_power : (v : Vertices) (p : ℕ) (t : Tetrahedron) → power_at v (swap t) p ≡ power_at v t p
-swapped_power v p t = swap_power (v.at t.a) (v.at t.b) (v.at t.c) (v.at t.d) (v.at p) (v.high t.a) (v.high t.b) (v.high t.c) (v.high t.d) (v.high p)
+swapped_power v p t =
+    swap_power (v.at t.a) (v.at t.b) (v.at t.c) (v.at t.d) (v.at p) (v.high t.a) (v.high t.b) (v.high t.c)
+    (v.high t.d) (v.high p)
 
 pub same_power : (v : Vertices) (p : ℕ) (t r : Tetrahedron) → IsRewritten t r → power_at v r p ≡ power_at v t p
 same_power v p = carry_value (λ t. power_at v t p) (spun_power v p) (swapped_power v p)
@@ -132,16 +142,27 @@ facets_itself t (suc (suc zero)) = (2, omega arith, inl refl)
 facets_itself t (suc (suc (suc k))) = (3, omega arith, inl refl)
 
 pub same_facets : FacetsAreRotated
-same_facets t r e = carry_rewritten (HasFacetsOf t) (λ x. facets_after t x (spin x) (spin_facets x)) (λ x. facets_after t x (swap x) (swap_facets x)) t r e (facets_itself t)
+same_facets t r e =
+    carry_rewritten (HasFacetsOf t) (λ x. facets_after t x (spin x) (spin_facets x))
+    (λ x. facets_after t x (swap x) (swap_facets x)) t r e (facets_itself t)
 
 -- ---- places
 pub same_lying : (v : Vertices) (q : RationalPoint) (t r : Tetrahedron) → IsRewritten t r → IsLyingIn v t q → IsLyingIn v r q
 same_lying v q t r e h =
-    record { at = λ k. (let f = same_facets t r e k in subst (λ z. pos 0 ≤ℤ z) (sym (side_rotated v (facet_of t f.0) (facet_of r k) q f.2)) (h.at f.0)) }
+    record {
+      at =
+          λ k. (let f = same_facets t r e k in
+          subst (λ z. pos 0 ≤ℤ z) (sym (side_rotated v (facet_of t f.0) (facet_of r k) q f.2)) (h.at f.0));
+    }
 
-pub same_strictly : (v : Vertices) (q : RationalPoint) (t r : Tetrahedron) → IsRewritten t r → IsStrictlyIn v t q → IsStrictlyIn v r q
+pub same_strictly : (v : Vertices) (q : RationalPoint) (t r : Tetrahedron) → IsRewritten t r → IsStrictlyIn v t q
+    → IsStrictlyIn v r q
 same_strictly v q t r e h =
-    record { at = λ k. (let f = same_facets t r e k in subst (λ z. pos 0 <ℤ z) (sym (side_rotated v (facet_of t f.0) (facet_of r k) q f.2)) (h.at f.0)) }
+    record {
+      at =
+          λ k. (let f = same_facets t r e k in
+          subst (λ z. pos 0 <ℤ z) (sym (side_rotated v (facet_of t f.0) (facet_of r k) q f.2)) (h.at f.0));
+    }
 
 -- ---- tests of the four facets
 and_spun : (a b c d : Bool) → (b && c && a && d) ≡ (a && b && c && d)
@@ -179,13 +200,16 @@ or_swapped false false false true = refl
 or_swapped false false false false = refl
 
 pub same_has_vertex : (p : ℕ) (t r : Tetrahedron) → IsRewritten t r → has_vertex r p ≡ has_vertex t p
-same_has_vertex p = carry_value (λ t. has_vertex t p) (λ t. or_spun (t.a == p) (t.b == p) (t.c == p) (t.d == p)) (λ t. or_swapped (t.a == p) (t.b == p) (t.c == p) (t.d == p))
+same_has_vertex p =
+    carry_value (λ t. has_vertex t p) (λ t. or_spun (t.a == p) (t.b == p) (t.c == p) (t.d == p))
+    (λ t. or_swapped (t.a == p) (t.b == p) (t.c == p) (t.d == p))
 
 -- a test that says the same of a rotated facet
 abbrev pub IsBlind : (DirectedFacet → Bool) → Type 0
 IsBlind test = (f g : DirectedFacet) → IsRotated f g → test g ≡ test f
 
-pub same_all_facets : (test : DirectedFacet → Bool) → IsBlind test → (t r : Tetrahedron) → IsRewritten t r → all_facets r test ≡ all_facets t test
+pub same_all_facets : (test : DirectedFacet → Bool) → IsBlind test → (t r : Tetrahedron) → IsRewritten t r
+    → all_facets r test ≡ all_facets t test
 same_all_facets test same = carry_value (λ t. all_facets t test) spun swapped
   where
     side : (t : Tetrahedron) (k : ℕ) → Bool
@@ -193,20 +217,23 @@ same_all_facets test same = carry_value (λ t. all_facets t test) spun swapped
 
     spun : (t : Tetrahedron) → all_facets (spin t) test ≡ all_facets t test
     spun t =
-        ap₂ (λ x y. x && y && side t 0 && test (facet t.b t.c t.a)) (same (facet_of t 1) (facet t.c t.d t.a) (inr (inl refl))) (same (facet_of t 2) (facet t.b t.a t.d) (inr (inr refl)))
+        ap₂ (λ x y. x && y && side t 0 && test (facet t.b t.c t.a)) (same (facet_of t 1) (facet t.c t.d t.a) (inr (inl refl)))
+        (same (facet_of t 2) (facet t.b t.a t.d) (inr (inr refl)))
         ∙ ap (λ x. side t 1 && side t 2 && side t 0 && x) (same (facet_of t 3) (facet t.b t.c t.a) (inr (inl refl)))
         ∙ and_spun (side t 0) (side t 1) (side t 2) (side t 3)
 
     swapped : (t : Tetrahedron) → all_facets (swap t) test ≡ all_facets t test
     swapped t =
-        ap₂ (λ x y. side t 1 && side t 0 && x && y) (same (facet_of t 3) (facet t.b t.c t.a) (inr (inl refl))) (same (facet_of t 2) (facet t.b t.a t.d) (inr (inr refl)))
+        ap₂ (λ x y. side t 1 && side t 0 && x && y) (same (facet_of t 3) (facet t.b t.c t.a) (inr (inl refl)))
+        (same (facet_of t 2) (facet t.b t.a t.d) (inr (inr refl)))
         ∙ and_swapped (side t 0) (side t 1) (side t 2) (side t 3)
 
 -- the test of a facet, passed where the vertex opposite is p
 abbrev passes : ℕ → (DirectedFacet → Bool) → ℕ → DirectedFacet → Bool
 passes p test u f = (u == p) || test f
 
-pub same_all_facets_at : (p : ℕ) (test : DirectedFacet → Bool) → IsBlind test → (t r : Tetrahedron) → IsRewritten t r → all_facets_at p r test ≡ all_facets_at p t test
+pub same_all_facets_at : (p : ℕ) (test : DirectedFacet → Bool) → IsBlind test → (t r : Tetrahedron) → IsRewritten t r
+    → all_facets_at p r test ≡ all_facets_at p t test
 same_all_facets_at p test same = carry_value (λ t. all_facets_at p t test) spun swapped
   where
     side : (t : Tetrahedron) (k : ℕ) → Bool
@@ -217,13 +244,16 @@ same_all_facets_at p test same = carry_value (λ t. all_facets_at p t test) spun
 
     spun : (t : Tetrahedron) → all_facets_at p (spin t) test ≡ all_facets_at p t test
     spun t =
-        ap₂ (λ x y. x && y && side t 0 && passes p test t.d (facet t.b t.c t.a)) (blind t.b (facet_of t 1) (facet t.c t.d t.a) (inr (inl refl))) (blind t.c (facet_of t 2) (facet t.b t.a t.d) (inr (inr refl)))
+        ap₂ (λ x y. x && y && side t 0 && passes p test t.d (facet t.b t.c t.a))
+        (blind t.b (facet_of t 1) (facet t.c t.d t.a) (inr (inl refl)))
+        (blind t.c (facet_of t 2) (facet t.b t.a t.d) (inr (inr refl)))
         ∙ ap (λ x. side t 1 && side t 2 && side t 0 && x) (blind t.d (facet_of t 3) (facet t.b t.c t.a) (inr (inl refl)))
         ∙ and_spun (side t 0) (side t 1) (side t 2) (side t 3)
 
     swapped : (t : Tetrahedron) → all_facets_at p (swap t) test ≡ all_facets_at p t test
     swapped t =
-        ap₂ (λ x y. side t 1 && side t 0 && x && y) (blind t.d (facet_of t 3) (facet t.b t.c t.a) (inr (inl refl))) (blind t.c (facet_of t 2) (facet t.b t.a t.d) (inr (inr refl)))
+        ap₂ (λ x y. side t 1 && side t 0 && x && y) (blind t.d (facet_of t 3) (facet t.b t.c t.a) (inr (inl refl)))
+        (blind t.c (facet_of t 2) (facet t.b t.a t.d) (inr (inr refl)))
         ∙ and_swapped (side t 0) (side t 1) (side t 2) (side t 3)
 
 -- ---- the tests of sights
@@ -233,15 +263,22 @@ blind_ahead v s f g h = ap (λ z. is_positive z) (side_rotated v f g s h)
 blind_back : (v : Vertices) (s : RationalPoint) → IsBlind (λ f. is_negative (side_of v f s))
 blind_back v s f g h = ap (λ z. is_negative z) (side_rotated v f g s h)
 
-pub same_behind : (v : Vertices) (p : ℕ) (s : RationalPoint) (t r : Tetrahedron) → IsRewritten t r → is_behind v p s r ≡ is_behind v p s t
+pub same_behind : (v : Vertices) (p : ℕ) (s : RationalPoint) (t r : Tetrahedron) → IsRewritten t r
+    → is_behind v p s r ≡ is_behind v p s t
 unfolding is_behind
-same_behind v p s t r e = ap₂ (λ x y. x && y) (same_has_vertex p t r e) (same_all_facets_at p (λ f. is_negative (side_of v f s)) (blind_back v s) t r e)
+same_behind v p s t r e =
+    ap₂ (λ x y. x && y) (same_has_vertex p t r e)
+    (same_all_facets_at p (λ f. is_negative (side_of v f s)) (blind_back v s) t r e)
 
-pub same_towards : (v : Vertices) (p : ℕ) (s : RationalPoint) (t r : Tetrahedron) → IsRewritten t r → is_towards v p s r ≡ is_towards v p s t
+pub same_towards : (v : Vertices) (p : ℕ) (s : RationalPoint) (t r : Tetrahedron) → IsRewritten t r
+    → is_towards v p s r ≡ is_towards v p s t
 unfolding is_towards
-same_towards v p s t r e = ap₂ (λ x y. x && y) (same_has_vertex p t r e) (same_all_facets_at p (λ f. is_positive (side_of v f s)) (blind_ahead v s) t r e)
+same_towards v p s t r e =
+    ap₂ (λ x y. x && y) (same_has_vertex p t r e)
+    (same_all_facets_at p (λ f. is_positive (side_of v f s)) (blind_ahead v s) t r e)
 
-pub same_cell_of : (v : Vertices) (s : RationalPoint) (t r : Tetrahedron) → IsRewritten t r → is_cell_of v s r ≡ is_cell_of v s t
+pub same_cell_of : (v : Vertices) (s : RationalPoint) (t r : Tetrahedron) → IsRewritten t r
+    → is_cell_of v s r ≡ is_cell_of v s t
 unfolding is_cell_of
 same_cell_of v s t r e = same_all_facets (λ f. is_positive (side_of v f s)) (blind_ahead v s) t r e
 

@@ -1,17 +1,25 @@
 -- That a polynomial multiplied out keeps its value, and the identities that follow by computation.
-use Rattle.std.proofs.Common.{ℕ, zero, suc, ◌≡◌, refl, sym, ap, ◌∙◌, subst, ℤ, pos, negsuc, ◌+ℤ◌, ◌-ℤ◌, ◌*ℤ◌, neg_ℤ, arith, List, [], ◌∷◌, Bool, true, false, ◌&&◌, T, eqb, ltb, eqb→eq}
+use Rattle.std.proofs.Common.{ℕ, zero, suc, ◌≡◌, refl, sym, ap, ◌∙◌, subst, ℤ, pos, negsuc, ◌+ℤ◌, ◌-ℤ◌, ◌*ℤ◌, neg_ℤ, arith}
+use Rattle.std.proofs.Common.{List, [], ◌∷◌, Bool, true, false, ◌&&◌, T, eqb, ltb, eqb→eq}
 use Rattle.std.proofs.lemmas.Int.{ints}
 use lib.IntN.{*ℤ-one, zero-*ℤ, *ℤ-zero, *ℤ_comm, +ℤ_idl, +ℤ_idr, +ℤ_assoc}
-use Rattle.geo_sign.specs.Polynomial.{Polynomial, variable, constant, sum, difference, product, negation, normal, number_at, value}
-use Rattle.geo_sign.specs.NormalForm.{Form, leaf, branch, form_value, monomial, insert_variable, single, add_term, is_zero, expand_form, expand, is_null, is_same_form}
+use Rattle.geo_sign.specs.Polynomial.{Polynomial, variable, constant, sum, difference, product, negation, normal, number_at}
+use Rattle.geo_sign.specs.Polynomial.{value}
+use Rattle.geo_sign.specs.NormalForm.{Form, leaf, branch, form_value, monomial, insert_variable, single, add_term, is_zero}
+use Rattle.geo_sign.specs.NormalForm.{expand_form, expand, is_null, is_same_form}
 use Rattle.geo_sign.specs.PolynomialLaws.{IdentityLaw}
 use Rattle.geo_sign.proofs.RingLaws.{+ℤ-*ℤ, *ℤ-+ℤ, neg-*ℤ, *ℤ_assoc, *ℤ_left}
 
 monomial-insert_variable : (x : List ℤ) (i : ℕ) (m : List ℕ) → monomial x (insert_variable i m) ≡ number_at x i *ℤ monomial x m
 monomial-insert_variable x i [] = refl
 monomial-insert_variable x i (j ∷ m) =
-    elim (ltb j i) as (λ b. monomial x (elim b [ true ↦ j ∷ insert_variable i m | false ↦ i ∷ j ∷ m ]) ≡ number_at x i *ℤ (number_at x j *ℤ monomial x m))
-    [ true ↦ ap (λ y. number_at x j *ℤ y) (monomial-insert_variable x i m) ∙ *ℤ_left (number_at x j) (number_at x i) (monomial x m) | false ↦ refl ]
+    elim (ltb j i) as
+    (λ b. monomial x (elim b [ true ↦ j ∷ insert_variable i m | false ↦ i ∷ j ∷ m ])
+    ≡ number_at x i *ℤ (number_at x j *ℤ monomial x m)) [
+      | true ↦
+          ap (λ y. number_at x j *ℤ y) (monomial-insert_variable x i m) ∙ *ℤ_left (number_at x j) (number_at x i) (monomial x m)
+      | false ↦ refl
+    ]
 
 times_one : (k : ℤ) → k *ℤ pos 1 ≡ k
 unfolding lib.IntN.one
@@ -19,12 +27,15 @@ times_one k = *ℤ-one k
 
 value-single : (x : List ℤ) (k : ℤ) (m : List ℕ) → form_value x (single k m) ≡ k *ℤ monomial x m
 value-single x k [] = sym (times_one k)
-value-single x k (i ∷ m) = +ℤ_idr (number_at x i *ℤ form_value x (single k m)) ∙ ap (λ y. number_at x i *ℤ y) (value-single x k m) ∙ *ℤ_left (number_at x i) k (monomial x m)
+value-single x k (i ∷ m) =
+    +ℤ_idr (number_at x i *ℤ form_value x (single k m)) ∙ ap (λ y. number_at x i *ℤ y) (value-single x k m)
+    ∙ *ℤ_left (number_at x i) k (monomial x m)
 
 -- i * s + n with k * m added to s
 add_in : (k i m s n t : ℤ) → t ≡ k *ℤ m +ℤ s → i *ℤ t +ℤ n ≡ k *ℤ (i *ℤ m) +ℤ (i *ℤ s +ℤ n)
 add_in k i m s n t e =
-    ap (λ y. i *ℤ y +ℤ n) e ∙ ap (λ y. y +ℤ n) (*ℤ-+ℤ i (k *ℤ m) s ∙ ap (λ y. y +ℤ i *ℤ s) (*ℤ_left i k m)) ∙ +ℤ_assoc (k *ℤ (i *ℤ m)) (i *ℤ s) n
+    ap (λ y. i *ℤ y +ℤ n) e ∙ ap (λ y. y +ℤ n) (*ℤ-+ℤ i (k *ℤ m) s ∙ ap (λ y. y +ℤ i *ℤ s) (*ℤ_left i k m))
+    ∙ +ℤ_assoc (k *ℤ (i *ℤ m)) (i *ℤ s) n
 
 -- i * s + n with k * m added to n
 add_past : (k m s n t : ℤ) → t ≡ k *ℤ m +ℤ n → s +ℤ t ≡ k *ℤ m +ℤ (s +ℤ n)
@@ -35,18 +46,46 @@ add_past k m s n t e =
 add_front : (k i m s n : ℤ) → s ≡ k *ℤ m → i *ℤ s +ℤ n ≡ k *ℤ (i *ℤ m) +ℤ n
 add_front k i m s n e = ap (λ y. i *ℤ y +ℤ n) e ∙ ap (λ y. y +ℤ n) (*ℤ_left i k m)
 
-value-add_term : (x : List ℤ) (k : ℤ) (m : List ℕ) (t : Form) → form_value x (add_term k m t) ≡ k *ℤ monomial x m +ℤ form_value x t
+value-add_term : (x : List ℤ) (k : ℤ) (m : List ℕ) (t : Form)
+    → form_value x (add_term k m t) ≡ k *ℤ monomial x m +ℤ form_value x t
 value-add_term x k [] (leaf c) = ap (λ y. y +ℤ c) (sym (times_one k))
-value-add_term x k [] (branch i s n) = add_past k (pos 1) (number_at x i *ℤ form_value x s) (form_value x n) (form_value x (add_term k [] n)) (value-add_term x k [] n)
-value-add_term x k (j ∷ m) (leaf c) = add_front k (number_at x j) (monomial x m) (form_value x (single k m)) c (value-single x k m)
+value-add_term x k [] (branch i s n) =
+    add_past k (pos 1) (number_at x i *ℤ form_value x s) (form_value x n) (form_value x (add_term k [] n))
+    (value-add_term x k [] n)
+value-add_term x k (j ∷ m) (leaf c) =
+    add_front k (number_at x j) (monomial x m) (form_value x (single k m)) c (value-single x k m)
 value-add_term x k (j ∷ m) (branch i s n) =
-    let step : (b d : Bool) → (T b → j ≡ i) → form_value x (elim b [ true ↦ branch i (add_term k m s) n | false ↦ elim d [ true ↦ branch j (single k m) (branch i s n) | false ↦ branch i s (add_term k (j ∷ m) n) ] ]) ≡ k *ℤ (number_at x j *ℤ monomial x m) +ℤ (number_at x i *ℤ form_value x s +ℤ form_value x n)
-    = λ b d. elim b as (λ b. (T b → j ≡ i) → form_value x (elim b [ true ↦ branch i (add_term k m s) n | false ↦ elim d [ true ↦ branch j (single k m) (branch i s n) | false ↦ branch i s (add_term k (j ∷ m) n) ] ]) ≡ k *ℤ (number_at x j *ℤ monomial x m) +ℤ (number_at x i *ℤ form_value x s +ℤ form_value x n)) [
-      | true ↦ λ h. subst (λ v. number_at x i *ℤ form_value x (add_term k m s) +ℤ form_value x n ≡ k *ℤ (number_at x v *ℤ monomial x m) +ℤ (number_at x i *ℤ form_value x s +ℤ form_value x n)) (sym (h tt)) (add_in k (number_at x i) (monomial x m) (form_value x s) (form_value x n) (form_value x (add_term k m s)) (value-add_term x k m s))
-      | false ↦ λ h. elim d as (λ d. form_value x (elim d [ true ↦ branch j (single k m) (branch i s n) | false ↦ branch i s (add_term k (j ∷ m) n) ]) ≡ k *ℤ (number_at x j *ℤ monomial x m) +ℤ (number_at x i *ℤ form_value x s +ℤ form_value x n)) [
-        | true ↦ add_front k (number_at x j) (monomial x m) (form_value x (single k m)) (number_at x i *ℤ form_value x s +ℤ form_value x n) (value-single x k m)
-        | false ↦ add_past k (number_at x j *ℤ monomial x m) (number_at x i *ℤ form_value x s) (form_value x n) (form_value x (add_term k (j ∷ m) n)) (value-add_term x k (j ∷ m) n)
-      ]
+    let step : (b d : Bool) → (T b → j ≡ i)
+    → form_value x
+    (elim b [
+      | true ↦ branch i (add_term k m s) n
+      | false ↦ elim d [ true ↦ branch j (single k m) (branch i s n) | false ↦ branch i s (add_term k (j ∷ m) n) ]
+    ]) ≡ k *ℤ (number_at x j *ℤ monomial x m) +ℤ (number_at x i *ℤ form_value x s +ℤ form_value x n)
+    =
+    λ b d. elim b as
+    (λ b. (T b → j ≡ i) → form_value x
+    (elim b [
+      | true ↦ branch i (add_term k m s) n
+      | false ↦ elim d [ true ↦ branch j (single k m) (branch i s n) | false ↦ branch i s (add_term k (j ∷ m) n) ]
+    ]) ≡ k *ℤ (number_at x j *ℤ monomial x m) +ℤ (number_at x i *ℤ form_value x s +ℤ form_value x n)) [
+      | true ↦
+          λ h. subst
+          (λ v. number_at x i *ℤ form_value x (add_term k m s) +ℤ form_value x n
+          ≡ k *ℤ (number_at x v *ℤ monomial x m) +ℤ (number_at x i *ℤ form_value x s +ℤ form_value x n)) (sym (h tt))
+          (add_in k (number_at x i) (monomial x m) (form_value x s) (form_value x n) (form_value x (add_term k m s))
+          (value-add_term x k m s))
+      | false ↦
+          λ h. elim d as
+          (λ d. form_value x
+          (elim d [ true ↦ branch j (single k m) (branch i s n) | false ↦ branch i s (add_term k (j ∷ m) n) ])
+          ≡ k *ℤ (number_at x j *ℤ monomial x m) +ℤ (number_at x i *ℤ form_value x s +ℤ form_value x n)) [
+            | true ↦
+                add_front k (number_at x j) (monomial x m) (form_value x (single k m))
+                (number_at x i *ℤ form_value x s +ℤ form_value x n) (value-single x k m)
+            | false ↦
+                add_past k (number_at x j *ℤ monomial x m) (number_at x i *ℤ form_value x s) (form_value x n)
+                (form_value x (add_term k (j ∷ m) n)) (value-add_term x k (j ∷ m) n)
+          ]
     ]
     in step (eqb j i) (ltb j i) (eqb→eq j i)
 
@@ -61,19 +100,23 @@ number_step : (c d m v t : ℤ) → (c *ℤ d) *ℤ (m *ℤ v) +ℤ t ≡ c *ℤ
 number_step c d m v t = ap (λ y. y +ℤ t) (*ℤ_assoc c d (m *ℤ v) ∙ ap (λ y. c *ℤ y) (*ℤ_left d m v))
 
 sum_right : (c m e f v : ℤ) → c *ℤ (m *ℤ ((e +ℤ f) *ℤ v)) ≡ c *ℤ (m *ℤ (e *ℤ v)) +ℤ c *ℤ (m *ℤ (f *ℤ v))
-sum_right c m e f v = ap (λ y. c *ℤ y) (ap (λ y. m *ℤ y) (+ℤ-*ℤ e f v) ∙ *ℤ-+ℤ m (e *ℤ v) (f *ℤ v)) ∙ *ℤ-+ℤ c (m *ℤ (e *ℤ v)) (m *ℤ (f *ℤ v))
+sum_right c m e f v =
+    ap (λ y. c *ℤ y) (ap (λ y. m *ℤ y) (+ℤ-*ℤ e f v) ∙ *ℤ-+ℤ m (e *ℤ v) (f *ℤ v)) ∙ *ℤ-+ℤ c (m *ℤ (e *ℤ v)) (m *ℤ (f *ℤ v))
 
 sum_step : (c m e f v t : ℤ) → c *ℤ (m *ℤ (e *ℤ v)) +ℤ (c *ℤ (m *ℤ (f *ℤ v)) +ℤ t) ≡ c *ℤ (m *ℤ ((e +ℤ f) *ℤ v)) +ℤ t
-sum_step c m e f v t = sym (+ℤ_assoc (c *ℤ (m *ℤ (e *ℤ v))) (c *ℤ (m *ℤ (f *ℤ v))) t) ∙ ap (λ y. y +ℤ t) (sym (sum_right c m e f v))
+sum_step c m e f v t =
+    sym (+ℤ_assoc (c *ℤ (m *ℤ (e *ℤ v))) (c *ℤ (m *ℤ (f *ℤ v))) t) ∙ ap (λ y. y +ℤ t) (sym (sum_right c m e f v))
 
 neg_front : (c m f v : ℤ) → neg_ℤ c *ℤ (m *ℤ (f *ℤ v)) ≡ c *ℤ (m *ℤ (neg_ℤ f *ℤ v))
 neg_front c m f v =
-    neg-*ℤ c (m *ℤ (f *ℤ v)) ∙ sym (ap (λ y. c *ℤ y) (ap (λ y. m *ℤ y) (neg-*ℤ f v) ∙ times_neg m (f *ℤ v)) ∙ times_neg c (m *ℤ (f *ℤ v)))
+    neg-*ℤ c (m *ℤ (f *ℤ v))
+    ∙ sym (ap (λ y. c *ℤ y) (ap (λ y. m *ℤ y) (neg-*ℤ f v) ∙ times_neg m (f *ℤ v)) ∙ times_neg c (m *ℤ (f *ℤ v)))
   where
     times_neg : (a b : ℤ) → a *ℤ neg_ℤ b ≡ neg_ℤ (a *ℤ b)
     times_neg a b = *ℤ_comm a (neg_ℤ b) ∙ neg-*ℤ b a ∙ ap neg_ℤ (*ℤ_comm b a)
 
-difference_step : (c m e f v t : ℤ) → c *ℤ (m *ℤ (e *ℤ v)) +ℤ (neg_ℤ c *ℤ (m *ℤ (f *ℤ v)) +ℤ t) ≡ c *ℤ (m *ℤ ((e -ℤ f) *ℤ v)) +ℤ t
+difference_step : (c m e f v t : ℤ)
+    → c *ℤ (m *ℤ (e *ℤ v)) +ℤ (neg_ℤ c *ℤ (m *ℤ (f *ℤ v)) +ℤ t) ≡ c *ℤ (m *ℤ ((e -ℤ f) *ℤ v)) +ℤ t
 difference_step c m e f v t = ap (λ y. c *ℤ (m *ℤ (e *ℤ v)) +ℤ (y +ℤ t)) (neg_front c m f v) ∙ sum_step c m e (neg_ℤ f) v t
 
 zero_is : (c : ℤ) → T (is_zero c) → c ≡ pos 0
@@ -85,11 +128,18 @@ zero_step : (c m v t : ℤ) → t ≡ c *ℤ (m *ℤ (pos 0 *ℤ v)) +ℤ t
 zero_step c m v t =
     sym (ap (λ y. y +ℤ t) (ap (λ y. c *ℤ (m *ℤ y)) (zero-*ℤ v) ∙ ap (λ y. c *ℤ y) (*ℤ-zero m) ∙ *ℤ-zero c) ∙ +ℤ_idl t)
 
-adds-expand_form : (x : List ℤ) (r : Form) (v : ℤ) (k : ℤ → List ℕ → Form → Form) → Adds x v k → Adds x (form_value x r *ℤ v) (expand_form r k)
+adds-expand_form : (x : List ℤ) (r : Form) (v : ℤ) (k : ℤ → List ℕ → Form → Form) → Adds x v k
+    → Adds x (form_value x r *ℤ v) (expand_form r k)
 adds-expand_form x (leaf d) v k h c m t =
-    let step : (b : Bool) → is_zero d ≡ b → form_value x (elim b [ true ↦ t | false ↦ k (c *ℤ d) m t ]) ≡ c *ℤ (monomial x m *ℤ (d *ℤ v)) +ℤ form_value x t
-    = λ b. elim b as (λ b. is_zero d ≡ b → form_value x (elim b [ true ↦ t | false ↦ k (c *ℤ d) m t ]) ≡ c *ℤ (monomial x m *ℤ (d *ℤ v)) +ℤ form_value x t) [
-      | true ↦ λ e. zero_step c (monomial x m) v (form_value x t) ∙ ap (λ y. c *ℤ (monomial x m *ℤ (y *ℤ v)) +ℤ form_value x t) (sym (zero_is d (subst (λ (b : Bool). T b) (sym e) tt)))
+    let step : (b : Bool) → is_zero d ≡ b
+    → form_value x (elim b [ true ↦ t | false ↦ k (c *ℤ d) m t ]) ≡ c *ℤ (monomial x m *ℤ (d *ℤ v)) +ℤ form_value x t
+    =
+    λ b. elim b as
+    (λ b. is_zero d ≡ b
+    → form_value x (elim b [ true ↦ t | false ↦ k (c *ℤ d) m t ]) ≡ c *ℤ (monomial x m *ℤ (d *ℤ v)) +ℤ form_value x t) [
+      | true ↦
+          λ e. zero_step c (monomial x m) v (form_value x t)
+          ∙ ap (λ y. c *ℤ (monomial x m *ℤ (y *ℤ v)) +ℤ form_value x t) (sym (zero_is d (subst (λ (b : Bool). T b) (sym e) tt)))
       | false ↦ λ e. h (c *ℤ d) m t ∙ number_step c d (monomial x m) v (form_value x t)
     ] in
     step (is_zero d) refl
@@ -101,28 +151,41 @@ adds-expand_form x (branch i s n) v k h c m t =
     ∙ sum_step c (monomial x m) (number_at x i *ℤ form_value x s) (form_value x n) v (form_value x t)
   where
     regroup : (c a m s v : ℤ) → c *ℤ ((a *ℤ m) *ℤ (s *ℤ v)) ≡ c *ℤ (m *ℤ ((a *ℤ s) *ℤ v))
-    regroup c a m s v = ap (λ y. c *ℤ y) (*ℤ_assoc a m (s *ℤ v) ∙ *ℤ_left a m (s *ℤ v) ∙ ap (λ y. m *ℤ y) (sym (*ℤ_assoc a s v)))
+    regroup c a m s v =
+        ap (λ y. c *ℤ y) (*ℤ_assoc a m (s *ℤ v) ∙ *ℤ_left a m (s *ℤ v) ∙ ap (λ y. m *ℤ y) (sym (*ℤ_assoc a s v)))
 
 adds-add_term : (x : List ℤ) → Adds x (pos 1) add_term
 adds-add_term x c m t = value-add_term x c m t ∙ ap (λ y. c *ℤ y +ℤ form_value x t) (sym (times_one (monomial x m)))
 
 -- 1 * (1 * (d * 1)) + 0
 plain : (d : ℤ) → pos 1 *ℤ (pos 1 *ℤ (d *ℤ pos 1)) +ℤ pos 0 ≡ d
-plain d = +ℤ_idr (pos 1 *ℤ (pos 1 *ℤ (d *ℤ pos 1))) ∙ *ℤ_comm (pos 1) (pos 1 *ℤ (d *ℤ pos 1)) ∙ times_one (pos 1 *ℤ (d *ℤ pos 1)) ∙ *ℤ_comm (pos 1) (d *ℤ pos 1) ∙ times_one (d *ℤ pos 1) ∙ times_one d
+plain d =
+    +ℤ_idr (pos 1 *ℤ (pos 1 *ℤ (d *ℤ pos 1))) ∙ *ℤ_comm (pos 1) (pos 1 *ℤ (d *ℤ pos 1)) ∙ times_one (pos 1 *ℤ (d *ℤ pos 1))
+    ∙ *ℤ_comm (pos 1) (d *ℤ pos 1) ∙ times_one (d *ℤ pos 1) ∙ times_one d
 
-adds-expand : (x : List ℤ) (e : Polynomial) (v : ℤ) (k : ℤ → List ℕ → Form → Form) → Adds x v k → Adds x (value x e *ℤ v) (expand e k)
-adds-expand x (variable i) v k h c m t = h c (insert_variable i m) t ∙ ap (λ y. c *ℤ (y *ℤ v) +ℤ form_value x t) (monomial-insert_variable x i m) ∙ var_step c (number_at x i) (monomial x m) v (form_value x t)
+adds-expand : (x : List ℤ) (e : Polynomial) (v : ℤ) (k : ℤ → List ℕ → Form → Form) → Adds x v k
+    → Adds x (value x e *ℤ v) (expand e k)
+adds-expand x (variable i) v k h c m t =
+    h c (insert_variable i m) t ∙ ap (λ y. c *ℤ (y *ℤ v) +ℤ form_value x t) (monomial-insert_variable x i m)
+    ∙ var_step c (number_at x i) (monomial x m) v (form_value x t)
 adds-expand x (constant d) v k h c m t = h (c *ℤ d) m t ∙ number_step c d (monomial x m) v (form_value x t)
 adds-expand x (sum e f) v k h c m t =
-    adds-expand x e v k h c m (expand f k c m t) ∙ ap (λ y. c *ℤ (monomial x m *ℤ (value x e *ℤ v)) +ℤ y) (adds-expand x f v k h c m t) ∙ sum_step c (monomial x m) (value x e) (value x f) v (form_value x t)
+    adds-expand x e v k h c m (expand f k c m t)
+    ∙ ap (λ y. c *ℤ (monomial x m *ℤ (value x e *ℤ v)) +ℤ y) (adds-expand x f v k h c m t)
+    ∙ sum_step c (monomial x m) (value x e) (value x f) v (form_value x t)
 adds-expand x (difference e f) v k h c m t =
-    adds-expand x e v k h c m (expand f k (neg_ℤ c) m t) ∙ ap (λ y. c *ℤ (monomial x m *ℤ (value x e *ℤ v)) +ℤ y) (adds-expand x f v k h (neg_ℤ c) m t) ∙ difference_step c (monomial x m) (value x e) (value x f) v (form_value x t)
+    adds-expand x e v k h c m (expand f k (neg_ℤ c) m t)
+    ∙ ap (λ y. c *ℤ (monomial x m *ℤ (value x e *ℤ v)) +ℤ y) (adds-expand x f v k h (neg_ℤ c) m t)
+    ∙ difference_step c (monomial x m) (value x e) (value x f) v (form_value x t)
 adds-expand x (product e f) v k h c m t =
-    adds-expand x e (value x f *ℤ v) (expand f k) (adds-expand x f v k h) c m t ∙ ap (λ y. c *ℤ (monomial x m *ℤ y) +ℤ form_value x t) (sym (*ℤ_assoc (value x e) (value x f) v))
-adds-expand x (negation e) v k h c m t = adds-expand x e v k h (neg_ℤ c) m t ∙ ap (λ y. y +ℤ form_value x t) (neg_front c (monomial x m) (value x e) v)
+    adds-expand x e (value x f *ℤ v) (expand f k) (adds-expand x f v k h) c m t
+    ∙ ap (λ y. c *ℤ (monomial x m *ℤ y) +ℤ form_value x t) (sym (*ℤ_assoc (value x e) (value x f) v))
+adds-expand x (negation e) v k h c m t =
+    adds-expand x e v k h (neg_ℤ c) m t ∙ ap (λ y. y +ℤ form_value x t) (neg_front c (monomial x m) (value x e) v)
 adds-expand x (normal e) v k h c m t =
     adds-expand_form x (expand e add_term (pos 1) [] (leaf (pos 0))) v k h c m t
-    ∙ ap (λ y. c *ℤ (monomial x m *ℤ (y *ℤ v)) +ℤ form_value x t) (adds-expand x e (pos 1) add_term (adds-add_term x) (pos 1) [] (leaf (pos 0)) ∙ plain (value x e))
+    ∙ ap (λ y. c *ℤ (monomial x m *ℤ (y *ℤ v)) +ℤ form_value x t)
+    (adds-expand x e (pos 1) add_term (adds-add_term x) (pos 1) [] (leaf (pos 0)) ∙ plain (value x e))
 
 both : (a b : Bool) → T (a && b) → T a × T b
 both true b h = (tt, h)
@@ -132,13 +195,17 @@ null_is_zero : (x : List ℤ) (t : Form) → T (is_null t) → form_value x t �
 null_is_zero x (leaf c) h = zero_is c h
 null_is_zero x (branch i s n) h =
     let p : T (is_null s) × T (is_null n) = both (is_null s) (is_null n) h in
-    ap (λ y. number_at x i *ℤ y +ℤ form_value x n) (null_is_zero x s p.0) ∙ ap (λ y. number_at x i *ℤ pos 0 +ℤ y) (null_is_zero x n p.1) ∙ ap (λ y. y +ℤ pos 0) (*ℤ-zero (number_at x i))
+    ap (λ y. number_at x i *ℤ y +ℤ form_value x n) (null_is_zero x s p.0)
+    ∙ ap (λ y. number_at x i *ℤ pos 0 +ℤ y) (null_is_zero x n p.1) ∙ ap (λ y. y +ℤ pos 0) (*ℤ-zero (number_at x i))
 
 -- the two sides are one number, whatever the variables stand for, where they multiply out to one sum
 pub ring : (x : List ℤ) (e f : Polynomial) → T (is_same_form e f) → value x e ≡ value x f
 ring x e f h =
-    let zero_sum : form_value x (expand (difference e f) add_term (pos 1) [] (leaf (pos 0))) ≡ pos 0 = null_is_zero x (expand (difference e f) add_term (pos 1) [] (leaf (pos 0))) h in
-    let whole : form_value x (expand (difference e f) add_term (pos 1) [] (leaf (pos 0))) ≡ pos 1 *ℤ (pos 1 *ℤ ((value x e -ℤ value x f) *ℤ pos 1)) +ℤ pos 0 = adds-expand x (difference e f) (pos 1) add_term (adds-add_term x) (pos 1) [] (leaf (pos 0)) in
+    let zero_sum : form_value x (expand (difference e f) add_term (pos 1) [] (leaf (pos 0))) ≡ pos 0 =
+    null_is_zero x (expand (difference e f) add_term (pos 1) [] (leaf (pos 0))) h in
+    let whole : form_value x (expand (difference e f) add_term (pos 1) [] (leaf (pos 0)))
+    ≡ pos 1 *ℤ (pos 1 *ℤ ((value x e -ℤ value x f) *ℤ pos 1)) +ℤ pos 0 =
+    adds-expand x (difference e f) (pos 1) add_term (adds-add_term x) (pos 1) [] (leaf (pos 0)) in
     let none : (a b : ℤ) → a -ℤ b ≡ pos 0 → a ≡ b = λ a b e. omega (arith, ints) in
     none (value x e) (value x f) (sym (plain (value x e -ℤ value x f)) ∙ sym whole ∙ zero_sum)
 

@@ -17,16 +17,24 @@ sub_swap : (a b c : ℤ) → (a +ℤ b) -ℤ c ≡ (a -ℤ c) +ℤ b
 sub_swap a b c = omega (arith, ints)
 
 zero_start : (b c : ℤ) → (pos 0 +ℤ b) *ℤ c ≡ pos 0 *ℤ c +ℤ b *ℤ c
-zero_start b c = ap (λ x. x *ℤ c) (let e : pos 0 +ℤ b ≡ b = omega (arith, ints) in e) ∙ sym (ap (λ x. x +ℤ b *ℤ c) (zero-*ℤ c) ∙ (let e : (m : ℤ) → pos 0 +ℤ m ≡ m = λ m. omega (arith, ints) in e (b *ℤ c)))
+zero_start b c =
+    ap (λ x. x *ℤ c) (let e : pos 0 +ℤ b ≡ b = omega (arith, ints) in e)
+    ∙ sym (ap (λ x. x +ℤ b *ℤ c) (zero-*ℤ c) ∙ (let e : (m : ℤ) → pos 0 +ℤ m ≡ m = λ m. omega (arith, ints) in e (b *ℤ c)))
 
 up_step : (x b c : ℤ) → (x +ℤ b) *ℤ c ≡ x *ℤ c +ℤ b *ℤ c → ((x +ℤ pos 1) +ℤ b) *ℤ c ≡ (x +ℤ pos 1) *ℤ c +ℤ b *ℤ c
-up_step x b c ih = ap (λ y. y *ℤ c) (add_swap x (pos 1) b) ∙ up_one (x +ℤ b) c ∙ ap (λ y. y +ℤ c) ih ∙ add_swap (x *ℤ c) (b *ℤ c) c ∙ ap (λ y. y +ℤ b *ℤ c) (sym (up_one x c))
+up_step x b c ih =
+    ap (λ y. y *ℤ c) (add_swap x (pos 1) b) ∙ up_one (x +ℤ b) c ∙ ap (λ y. y +ℤ c) ih ∙ add_swap (x *ℤ c) (b *ℤ c) c
+    ∙ ap (λ y. y +ℤ b *ℤ c) (sym (up_one x c))
 
 down_step : (x b c : ℤ) → (x +ℤ b) *ℤ c ≡ x *ℤ c +ℤ b *ℤ c → ((x +ℤ negsuc 0) +ℤ b) *ℤ c ≡ (x +ℤ negsuc 0) *ℤ c +ℤ b *ℤ c
-down_step x b c ih = ap (λ y. y *ℤ c) (add_swap x (negsuc 0) b) ∙ down_one (x +ℤ b) c ∙ ap (λ y. y -ℤ c) ih ∙ sub_swap (x *ℤ c) (b *ℤ c) c ∙ ap (λ y. y +ℤ b *ℤ c) (sym (down_one x c))
+down_step x b c ih =
+    ap (λ y. y *ℤ c) (add_swap x (negsuc 0) b) ∙ down_one (x +ℤ b) c ∙ ap (λ y. y -ℤ c) ih ∙ sub_swap (x *ℤ c) (b *ℤ c) c
+    ∙ ap (λ y. y +ℤ b *ℤ c) (sym (down_one x c))
 
 pub +ℤ-*ℤ : (a b c : ℤ) → (a +ℤ b) *ℤ c ≡ a *ℤ c +ℤ b *ℤ c
-+ℤ-*ℤ a b c = ℤ_ind (λ x. (x +ℤ b) *ℤ c ≡ x *ℤ c +ℤ b *ℤ c) (zero_start b c) (λ n. up_step (pos n) b c) (λ n. down_step (neg_ℤ (pos n)) b c) a
++ℤ-*ℤ a b c =
+    ℤ_ind (λ x. (x +ℤ b) *ℤ c ≡ x *ℤ c +ℤ b *ℤ c) (zero_start b c) (λ n. up_step (pos n) b c)
+    (λ n. down_step (neg_ℤ (pos n)) b c) a
 
 pub *ℤ-+ℤ : (a b c : ℤ) → a *ℤ (b +ℤ c) ≡ a *ℤ b +ℤ a *ℤ c
 *ℤ-+ℤ a b c = *ℤ_comm a (b +ℤ c) ∙ +ℤ-*ℤ b c a ∙ ap (λ y. y +ℤ c *ℤ a) (*ℤ_comm b a) ∙ ap (λ y. a *ℤ b +ℤ y) (*ℤ_comm c a)

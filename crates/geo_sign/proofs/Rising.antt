@@ -1,5 +1,6 @@
 -- Rising lists of rows: the order of rows is strict, and what a rising list contains determines it.
-use Rattle.std.proofs.Common.{ℕ, zero, suc, ◌<◌, ◌≡◌, ◌⊎◌, inl, inr, ⊎_elim, refl, ap, sym, subst, ◌∙◌, arith, List, [], ◌∷◌, length, get_or, Contains}
+use Rattle.std.proofs.Common.{ℕ, zero, suc, ◌<◌, ◌≡◌, ◌⊎◌, inl, inr, ⊎_elim, refl, ap, sym, subst, ◌∙◌, arith, List, [], ◌∷◌}
+use Rattle.std.proofs.Common.{length, get_or, Contains}
 use Rattle.std.specs.Prelude.{AllPairs}
 use Rattle.geo_sign.specs.Cells.{IsBefore}
 use Rattle.geo_sign.specs.RisingLaws.{RisingLaw, CellListLaw}
@@ -39,21 +40,27 @@ pub contains_tail : (y : List ℕ) (ys : List (List ℕ)) (t : List ℕ) → Con
 contains_tail y ys t h = (suc h.0, (let l : h.0 < length ys = h.1 in omega arith), h.2)
 
 pub head_before : (y : List ℕ) (ys : List (List ℕ)) (t : List ℕ) → AllPairs IsBefore (y ∷ ys) → Contains ys t → IsBefore y t
-head_before y ys t r h = subst (λ (z : List ℕ). IsBefore y z) h.2 (r 0 (suc h.0) t (omega arith) (let l : h.0 < length ys = h.1 in omega arith))
+head_before y ys t r h =
+    subst (λ (z : List ℕ). IsBefore y z) h.2 (r 0 (suc h.0) t (omega arith) (let l : h.0 < length ys = h.1 in omega arith))
 
 pub tail_rises : (y : List ℕ) (ys : List (List ℕ)) → AllPairs IsBefore (y ∷ ys) → AllPairs IsBefore ys
 tail_rises y ys r = λ i j d l m. r (suc i) (suc j) d (omega arith) (omega arith)
 
-heads_equal : (x y : List ℕ) (xs ys : List (List ℕ)) → AllPairs IsBefore (x ∷ xs) → AllPairs IsBefore (y ∷ ys) → Contains (y ∷ ys) x → Contains (x ∷ xs) y → x ≡ y
+heads_equal : (x y : List ℕ) (xs ys : List (List ℕ)) → AllPairs IsBefore (x ∷ xs) → AllPairs IsBefore (y ∷ ys)
+    → Contains (y ∷ ys) x → Contains (x ∷ xs) y → x ≡ y
 heads_equal x y xs ys r s h k =
     ⊎_elim (λ e. sym e)
-    (λ l. ⊎_elim (λ e. e) (λ m. absurd (not_before_self x (before_trans x y x (head_before x xs y r m) (head_before y ys x s l)))) (contains_cases x xs y k))
+    (λ l. ⊎_elim (λ e. e)
+    (λ m. absurd (not_before_self x (before_trans x y x (head_before x xs y r m) (head_before y ys x s l))))
+    (contains_cases x xs y k))
     (contains_cases y ys x h)
 
 -- what a rising list has after its head is in the other list after its head
-tails_agree : (x y : List ℕ) (xs ys : List (List ℕ)) → x ≡ y → AllPairs IsBefore (x ∷ xs) → (t : List ℕ) → (Contains (x ∷ xs) t → Contains (y ∷ ys) t) → Contains xs t → Contains ys t
+tails_agree : (x y : List ℕ) (xs ys : List (List ℕ)) → x ≡ y → AllPairs IsBefore (x ∷ xs) → (t : List ℕ)
+    → (Contains (x ∷ xs) t → Contains (y ∷ ys) t) → Contains xs t → Contains ys t
 tails_agree x y xs ys e r t f h =
-    ⊎_elim (λ g. absurd (not_before_self x (subst (λ (z : List ℕ). IsBefore x z) (sym (e ∙ g)) (head_before x xs t r h)))) (λ l. l) (contains_cases y ys t (f (contains_tail x xs t h)))
+    ⊎_elim (λ g. absurd (not_before_self x (subst (λ (z : List ℕ). IsBefore x z) (sym (e ∙ g)) (head_before x xs t r h))))
+    (λ l. l) (contains_cases y ys t (f (contains_tail x xs t h)))
 
 pub rising_law : RisingLaw
 rising_law [] [] r s h = refl
@@ -62,7 +69,8 @@ rising_law (x ∷ xs) [] r s h = absurd (contains_none x ((h x).0 (contains_head
 rising_law (x ∷ xs) (y ∷ ys) r s h =
     let e : x ≡ y = heads_equal x y xs ys r s ((h x).0 (contains_head x xs)) ((h y).1 (contains_head y ys)) in
     let rest : xs ≡ ys =
-    rising_law xs ys (tail_rises x xs r) (tail_rises y ys s) (λ t. (tails_agree x y xs ys e r t (h t).0, tails_agree y x ys xs (sym e) s t (h t).1)) in
+    rising_law xs ys (tail_rises x xs r) (tail_rises y ys s)
+    (λ t. (tails_agree x y xs ys e r t (h t).0, tails_agree y x ys xs (sym e) s t (h t).1)) in
     ap (λ z. z ∷ xs) e ∙ ap (λ zs. y ∷ zs) rest
 
 pub cell_list_law : CellListLaw

@@ -77,7 +77,9 @@ rotations =
 pub side_rotated : SidesAreRotated
 side_rotated v f g q (inl e) = ap (λ (x : DirectedFacet). side_of v x q) e
 side_rotated v f g q (inr (inl e)) = ap (λ (x : DirectedFacet). side_of v x q) e ∙ round_side (v.at f.a) (v.at f.b) (v.at f.c) q
-side_rotated v f g q (inr (inr e)) = ap (λ (x : DirectedFacet). side_of v x q) e ∙ round_side (v.at f.b) (v.at f.c) (v.at f.a) q ∙ round_side (v.at f.a) (v.at f.b) (v.at f.c) q
+side_rotated v f g q (inr (inr e)) =
+    ap (λ (x : DirectedFacet). side_of v x q) e ∙ round_side (v.at f.b) (v.at f.c) (v.at f.a) q
+    ∙ round_side (v.at f.a) (v.at f.b) (v.at f.c) q
 
 pub side_turned : SidesAreTurned
 side_turned v f g q h = side_rotated v (turned f) g q (turned_of f g h) ∙ turned_side (v.at f.a) (v.at f.b) (v.at f.c) q
@@ -103,10 +105,12 @@ round_crossed v p s f =
     let ab = is_positive (side (v.at p) (v.at f.a) (v.at f.b) s) in
     let bc = is_positive (side (v.at p) (v.at f.b) (v.at f.c) s) in
     let ca = is_positive (side (v.at p) (v.at f.c) (v.at f.a) s) in
-    ap₂ (λ (x y : ℤ). is_positive x && is_negative y && bc && ca && ab) (round_side (v.at f.a) (v.at f.b) (v.at f.c) s) (round_side (v.at f.a) (v.at f.b) (v.at f.c) (rational (v.at p)))
+    ap₂ (λ (x y : ℤ). is_positive x && is_negative y && bc && ca && ab) (round_side (v.at f.a) (v.at f.b) (v.at f.c) s)
+    (round_side (v.at f.a) (v.at f.b) (v.at f.c) (rational (v.at p)))
     ∙ moved_round (is_positive (side_of v f s)) (is_negative (side_of v f (rational (v.at p)))) ab bc ca
 
 pub crossed_rotated : CrossingsAreRotated
 crossed_rotated v p s f g (inl e) = ap (λ (x : DirectedFacet). is_crossed v p s x) e
 crossed_rotated v p s f g (inr (inl e)) = ap (λ (x : DirectedFacet). is_crossed v p s x) e ∙ round_crossed v p s f
-crossed_rotated v p s f g (inr (inr e)) = ap (λ (x : DirectedFacet). is_crossed v p s x) e ∙ round_crossed v p s (round f) ∙ round_crossed v p s f
+crossed_rotated v p s f g (inr (inr e)) =
+    ap (λ (x : DirectedFacet). is_crossed v p s x) e ∙ round_crossed v p s (round f) ∙ round_crossed v p s f

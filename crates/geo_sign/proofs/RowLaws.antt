@@ -4,13 +4,15 @@
 -- Of the row and the row with its last two exchanged only one is positive, and that is what `written` takes; so t is written
 -- anew as `written` makes it. Each facet of a rising row has its smallest number first, and no other rotation of it has; so a
 -- rotation of a facet of `written` that has its smallest number first is that facet, as it stands.
-use Rattle.std.proofs.Common.{ℕ, zero, suc, ◌<◌, ◌≤◌, ◌≡◌, ◌<ℤ◌, refl, ap, ap₂, sym, subst, ◌∙◌, ◌⊎◌, inl, inr, ⊎_elim, arith, Bool, true, false, int_lt, ℤ, pos, neg_ℤ, List, [], ◌∷◌, if◌then◌else◌}
+use Rattle.std.proofs.Common.{ℕ, zero, suc, ◌<◌, ◌≤◌, ◌≡◌, ◌<ℤ◌, refl, ap, ap₂, sym, subst, ◌∙◌, ◌⊎◌, inl, inr, ⊎_elim, arith}
+use Rattle.std.proofs.Common.{Bool, true, false, int_lt, ℤ, pos, neg_ℤ, List, [], ◌∷◌, if◌then◌else◌}
 use Rattle.std.proofs.lemmas.Int.{ints}
 use Rattle.geo_sign.specs.Tetrahedron.{Tetrahedron, tetrahedron, DirectedFacet, facet_of, IsRotated, is_among}
 use Rattle.geo_sign.specs.Vertices.{Vertices, orientation_of}
 use Rattle.geo_sign.specs.Cells.{IsCell, IsRisingCell, written}
 use Rattle.geo_sign.specs.Writings.{IsRewritten, IsVertexOf}
-use Rattle.geo_sign.specs.RowLaws.{IsRowOf, IsFirstLeast, RowsExist, RowsAreWritten, RowsAreKept, RowsTell, CellsAreRows, WrittenFacets, FacetsAreAmong}
+use Rattle.geo_sign.specs.RowLaws.{IsRowOf, IsFirstLeast, RowsExist, RowsAreWritten, RowsAreKept, RowsTell, CellsAreRows}
+use Rattle.geo_sign.specs.RowLaws.{WrittenFacets, FacetsAreAmong}
 use Rattle.geo_sign.proofs.Exchanges.{exchanged_orientation}
 use Rattle.geo_sign.proofs.Rotations.{rotated_after}
 use Rattle.geo_sign.proofs.Rewritings.{IsCellOf, same_cell, same_facets, same_vertex, rewritten_after, rewritten_back}
@@ -18,7 +20,8 @@ use Rattle.geo_sign.proofs.Among.{own_facet}
 use Rattle.geo_sign.proofs.CellRows.{same_positive, row_there}
 
 -- ---- a row has four numbers
-pub by_row : (t : Tetrahedron) (P : List ℕ → Type 0) → ((a b c d : ℕ) → IsRowOf t (a ∷ b ∷ c ∷ d ∷ []) → P (a ∷ b ∷ c ∷ d ∷ [])) → (row : List ℕ) → IsRowOf t row → P row
+pub by_row : (t : Tetrahedron) (P : List ℕ → Type 0) → ((a b c d : ℕ) → IsRowOf t (a ∷ b ∷ c ∷ d ∷ []) → P (a ∷ b ∷ c ∷ d ∷ []))
+    → (row : List ℕ) → IsRowOf t row → P row
 by_row t P f [] h = absurd h
 by_row t P f (a ∷ []) h = absurd h
 by_row t P f (a ∷ b ∷ []) h = absurd h
@@ -26,7 +29,9 @@ by_row t P f (a ∷ b ∷ c ∷ []) h = absurd h
 by_row t P f (a ∷ b ∷ c ∷ d ∷ []) h = f a b c d h
 by_row t P f (a ∷ b ∷ c ∷ d ∷ e ∷ row) h = absurd h
 
-pub by_rising : (v : Vertices) (P : List ℕ → Type 0) → ((a b c d : ℕ) → IsRisingCell v (a ∷ b ∷ c ∷ d ∷ []) → P (a ∷ b ∷ c ∷ d ∷ [])) → (row : List ℕ) → IsRisingCell v row → P row
+pub by_rising : (v : Vertices) (P : List ℕ → Type 0)
+    → ((a b c d : ℕ) → IsRisingCell v (a ∷ b ∷ c ∷ d ∷ []) → P (a ∷ b ∷ c ∷ d ∷ [])) → (row : List ℕ) → IsRisingCell v row
+    → P row
 by_rising v P f [] h = absurd h
 by_rising v P f (a ∷ []) h = absurd h
 by_rising v P f (a ∷ b ∷ []) h = absurd h
@@ -73,7 +78,8 @@ fourth_least a b c d u r (inr (inr (inr e))) l = omega (arith, e)
 same_numbers : (a b c d i j k l : ℕ) → i ≡ a → j ≡ b → k ≡ c → l ≡ d → i ∷ j ∷ k ∷ l ∷ [] ≡ a ∷ b ∷ c ∷ d ∷ []
 same_numbers a b c d i j k l e f g h = ap₂ (λ x y. x ∷ y ∷ k ∷ l ∷ []) e f ∙ ap₂ (λ x y. a ∷ b ∷ x ∷ y ∷ []) g h
 
-rising_equal : (a b c d i j k l : ℕ) → AreRising a b c d → AreRising i j k l → ((u : ℕ) → IsOneOf a b c d u → IsOneOf i j k l u) → ((u : ℕ) → IsOneOf i j k l u → IsOneOf a b c d u) → i ∷ j ∷ k ∷ l ∷ [] ≡ a ∷ b ∷ c ∷ d ∷ []
+rising_equal : (a b c d i j k l : ℕ) → AreRising a b c d → AreRising i j k l → ((u : ℕ) → IsOneOf a b c d u → IsOneOf i j k l u)
+    → ((u : ℕ) → IsOneOf i j k l u → IsOneOf a b c d u) → i ∷ j ∷ k ∷ l ∷ [] ≡ a ∷ b ∷ c ∷ d ∷ []
 rising_equal a b c d i j k l r s f g = same_numbers a b c d i j k l first second third fourth
   where
     first : i ≡ a
@@ -134,7 +140,8 @@ one_row t row other h = by_row t (λ row. IsRowOf t other → other ≡ row) out
         inner : (i j k l : ℕ) → IsRowOf t (i ∷ j ∷ k ∷ l ∷ []) → i ∷ j ∷ k ∷ l ∷ [] ≡ a ∷ b ∷ c ∷ d ∷ []
         inner i j k l y =
             rising_equal a b c d i j k l (record { ab = x.0; bc = x.1; cd = x.2 }) (record { ab = y.0; bc = y.1; cd = y.2 })
-            (λ u o. row_member t i j k l y u (member_row t a b c d x u o)) (λ u o. row_member t a b c d x u (member_row t i j k l y u o))
+            (λ u o. row_member t i j k l y u (member_row t a b c d x u o))
+            (λ u o. row_member t a b c d x u (member_row t i j k l y u o))
 
 pub rows_exist : RowsExist
 rows_exist v t h = let z = row_there v t h in (z.0, record { is = z.1; one = λ other k. one_row t z.0 other z.1 k })
@@ -146,21 +153,27 @@ above_is z h = grind (arith, ints)
 not_above : (y z : ℤ) → y ≡ neg_ℤ z → pos 0 <ℤ y → int_lt (pos 0) z ≡ false
 not_above y z e h = grind (arith, ints)
 
-pub written_straight : (v : Vertices) (a b c d : ℕ) → pos 0 <ℤ orientation_of v a b c d → written v (a ∷ b ∷ c ∷ d ∷ []) ≡ tetrahedron a b c d
+pub written_straight : (v : Vertices) (a b c d : ℕ) → pos 0 <ℤ orientation_of v a b c d
+    → written v (a ∷ b ∷ c ∷ d ∷ []) ≡ tetrahedron a b c d
 unfolding written
-written_straight v a b c d h = ap (λ x. if x then tetrahedron a b c d else tetrahedron a b d c) (above_is (orientation_of v a b c d) h)
+written_straight v a b c d h =
+    ap (λ x. if x then tetrahedron a b c d else tetrahedron a b d c) (above_is (orientation_of v a b c d) h)
 
-pub written_exchanged : (v : Vertices) (a b c d : ℕ) → pos 0 <ℤ orientation_of v a b d c → written v (a ∷ b ∷ c ∷ d ∷ []) ≡ tetrahedron a b d c
+pub written_exchanged : (v : Vertices) (a b c d : ℕ) → pos 0 <ℤ orientation_of v a b d c
+    → written v (a ∷ b ∷ c ∷ d ∷ []) ≡ tetrahedron a b d c
 unfolding written
 written_exchanged v a b c d h =
     ap (λ x. if x then tetrahedron a b c d else tetrahedron a b d c)
-    (not_above (orientation_of v a b d c) (orientation_of v a b c d) (exchanged_orientation (v.at a) (v.at b) (v.at c) (v.at d)) h)
+    (not_above (orientation_of v a b d c) (orientation_of v a b c d)
+    (exchanged_orientation (v.at a) (v.at b) (v.at c) (v.at d)) h)
 
-pub written_either : (v : Vertices) (a b c d : ℕ) → (written v (a ∷ b ∷ c ∷ d ∷ []) ≡ tetrahedron a b c d) ⊎ (written v (a ∷ b ∷ c ∷ d ∷ []) ≡ tetrahedron a b d c)
+pub written_either : (v : Vertices) (a b c d : ℕ)
+    → (written v (a ∷ b ∷ c ∷ d ∷ []) ≡ tetrahedron a b c d) ⊎ (written v (a ∷ b ∷ c ∷ d ∷ []) ≡ tetrahedron a b d c)
 unfolding written
 written_either v a b c d = pick (int_lt (pos 0) (orientation_of v a b c d))
   where
-    pick : (x : Bool) → ((if x then tetrahedron a b c d else tetrahedron a b d c) ≡ tetrahedron a b c d) ⊎ ((if x then tetrahedron a b c d else tetrahedron a b d c) ≡ tetrahedron a b d c)
+    pick : (x : Bool) → ((if x then tetrahedron a b c d else tetrahedron a b d c) ≡ tetrahedron a b c d)
+        ⊎ ((if x then tetrahedron a b c d else tetrahedron a b d c) ≡ tetrahedron a b d c)
     pick true = inl refl
     pick false = inr refl
 
@@ -170,26 +183,40 @@ rows_are_written v t row k = by_row t (λ row. IsRewritten t (written v row)) at
     at : (a b c d : ℕ) → IsRowOf t (a ∷ b ∷ c ∷ d ∷ []) → IsRewritten t (written v (a ∷ b ∷ c ∷ d ∷ []))
     at a b c d h =
         ⊎_elim
-        (λ (e : IsRewritten t (tetrahedron a b c d)). subst (IsRewritten t) (sym (written_straight v a b c d (same_positive v t (tetrahedron a b c d) e k))) e)
-        (λ (e : IsRewritten t (tetrahedron a b d c)). subst (IsRewritten t) (sym (written_exchanged v a b c d (same_positive v t (tetrahedron a b d c) e k))) e) h.3
+        (λ (e : IsRewritten t (tetrahedron a b c d)).
+        subst (IsRewritten t) (sym (written_straight v a b c d (same_positive v t (tetrahedron a b c d) e k))) e)
+        (λ (e : IsRewritten t (tetrahedron a b d c)).
+        subst (IsRewritten t) (sym (written_exchanged v a b c d (same_positive v t (tetrahedron a b d c) e k))) e) h.3
 
 pub rows_are_kept : RowsAreKept
 rows_are_kept t r row e = by_row t (IsRowOf r) at row
   where
     at : (a b c d : ℕ) → IsRowOf t (a ∷ b ∷ c ∷ d ∷ []) → IsRowOf r (a ∷ b ∷ c ∷ d ∷ [])
     at a b c d h =
-        let back = rewritten_back t r e in
-        (h.0, h.1, h.2, ⊎_elim (λ x. inl (rewritten_after r t (tetrahedron a b c d) back x)) (λ x. inr (rewritten_after r t (tetrahedron a b d c) back x)) h.3)
+        let back = rewritten_back t r e in (
+          h.0,
+          h.1,
+          h.2,
+          ⊎_elim (λ x. inl (rewritten_after r t (tetrahedron a b c d) back x))
+              (λ x. inr (rewritten_after r t (tetrahedron a b d c) back x)) h.3,
+        )
 
 pub rows_tell : RowsTell
-rows_tell v t r row h k x y = rewritten_after t (written v row) r (rows_are_written v t row h x) (rewritten_back r (written v row) (rows_are_written v r row k y))
+rows_tell v t r row h k x y =
+    rewritten_after t (written v row) r (rows_are_written v t row h x)
+    (rewritten_back r (written v row) (rows_are_written v r row k y))
 
 -- ---- cells
 cell_row : (v : Vertices) (t : Tetrahedron) (row : List ℕ) → IsCellOf v t → IsRowOf t row → IsRisingCell v row
 cell_row v t row k = by_row t (IsRisingCell v) at row
   where
     at : (a b c d : ℕ) → IsRowOf t (a ∷ b ∷ c ∷ d ∷ []) → IsRisingCell v (a ∷ b ∷ c ∷ d ∷ [])
-    at a b c d h = (h.0, h.1, h.2, ⊎_elim (λ e. inl (same_cell v t (tetrahedron a b c d) e k)) (λ e. inr (same_cell v t (tetrahedron a b d c) e k)) h.3)
+    at a b c d h = (
+      h.0,
+      h.1,
+      h.2,
+      ⊎_elim (λ e. inl (same_cell v t (tetrahedron a b c d) e k)) (λ e. inr (same_cell v t (tetrahedron a b d c) e k)) h.3,
+    )
 
 row_cell : (v : Vertices) (row : List ℕ) → IsRisingCell v row → IsCellOf v (written v row)
 row_cell v row = by_rising v (λ row. IsCellOf v (written v row)) at row
@@ -223,10 +250,15 @@ written_facets v t row h k = by_row t (λ row. IsFirstLeast (facet_of (written v
     at : (a b c d : ℕ) → IsRowOf t (a ∷ b ∷ c ∷ d ∷ []) → IsFirstLeast (facet_of (written v (a ∷ b ∷ c ∷ d ∷ [])) k)
     at a b c d h =
         let ab : a < b = h.0 in let bc : b < c = h.1 in let cd : c < d = h.2 in
-        let ac : a < c = omega (arith, ab, bc) in let bd : b < d = omega (arith, bc, cd) in let ad : a < d = omega (arith, ab, bd) in
+        let ac : a < c = omega (arith, ab, bc) in
+        let bd : b < d = omega (arith, bc, cd) in
+        let ad : a < d = omega (arith, ab, bd) in
         ⊎_elim
-        (λ (e : written v (a ∷ b ∷ c ∷ d ∷ []) ≡ tetrahedron a b c d). subst (λ (x : Tetrahedron). IsFirstLeast (facet_of x k)) (sym e) (least_first a b c d ab ac ad bc bd k))
-        (λ (e : written v (a ∷ b ∷ c ∷ d ∷ []) ≡ tetrahedron a b d c). subst (λ (x : Tetrahedron). IsFirstLeast (facet_of x k)) (sym e) (least_first a b d c ab ad ac bd bc k)) (written_either v a b c d)
+        (λ (e : written v (a ∷ b ∷ c ∷ d ∷ []) ≡ tetrahedron a b c d).
+        subst (λ (x : Tetrahedron). IsFirstLeast (facet_of x k)) (sym e) (least_first a b c d ab ac ad bc bd k))
+        (λ (e : written v (a ∷ b ∷ c ∷ d ∷ []) ≡ tetrahedron a b d c).
+        subst (λ (x : Tetrahedron). IsFirstLeast (facet_of x k)) (sym e) (least_first a b d c ab ad ac bd bc k))
+        (written_either v a b c d)
 
 -- of the rotations of a facet one has its smallest number first
 pub one_least : (f g : DirectedFacet) → IsRotated f g → IsFirstLeast f → IsFirstLeast g → g ≡ f
@@ -242,5 +274,6 @@ pub facets_are_among : FacetsAreAmong
 facets_are_among v t row p h k g r l =
     let w : Tetrahedron = written v row in
     let j = same_facets w t (rewritten_back t w (rows_are_written v t row p h)) k in
-    let e : g ≡ facet_of w j.0 = one_least (facet_of w j.0) g (rotated_after (facet_of w j.0) (facet_of t k) g j.2 r) (written_facets v t row h j.0) l in
+    let e : g ≡ facet_of w j.0 =
+    one_least (facet_of w j.0) g (rotated_after (facet_of w j.0) (facet_of t k) g j.2 r) (written_facets v t row h j.0) l in
     ap (is_among w) e ∙ own_facet w j.0

@@ -1,6 +1,7 @@
 -- How a sum of powers of a base is led by its highest one. P and Q are two powers of the base B.
 --     Size B w P u     u is about P: short of it by at most w P / B, and at most w P
-use Rattle.std.proofs.Common.{ℕ, ◌+◌, ◌-◌, ◌*◌, ◌<◌, ◌≤◌, ◌^◌, ◌≡◌, ap, ◌∙◌, arith, mul-add, add-mul, mul-le-mul_left, mul-le-mul_right, mul_left_comm}
+use Rattle.std.proofs.Common.{ℕ, ◌+◌, ◌-◌, ◌*◌, ◌<◌, ◌≤◌, ◌^◌, ◌≡◌, ap, ◌∙◌, arith, mul-add, add-mul, mul-le-mul_left}
+use Rattle.std.proofs.Common.{mul-le-mul_right, mul_left_comm}
 use Rattle.std.proofs.Math.Nat.{le_of_mul-le-mul_left, pow-le-pow_right, pow-succ'}
 
 pub record Size (B w P u : ℕ) : Type 0 where
@@ -24,7 +25,8 @@ size_plus B w x P Q u t h k q =
     let r : x * Q ≤ x * P = mul-le-mul_left x q in
     record { low = omega arith; high = omega arith }
 
-pub size_minus : (B w x P Q u t : ℕ) → 0 < B → w + x ≤ B → Size B w P u → t ≤ x * Q → B * Q ≤ P → (d : ℕ) × (u ≡ d + t) × Size B (w + x) P d
+pub size_minus : (B w x P Q u t : ℕ) → 0 < B → w + x ≤ B → Size B w P u → t ≤ x * Q → B * Q ≤ P
+    → (d : ℕ) × (u ≡ d + t) × Size B (w + x) P d
 size_minus B w x P Q u t b s h k q =
     let e : (w + x) * P ≡ w * P + x * P = add-mul w x P in
     let l : B * P ≤ B * u + w * P = h.low in

@@ -1,5 +1,5 @@
--- The words of specs/ as polynomials, for identities that are proved by multiplying out. Each word with a prime mirrors the word
--- without it, in exactly its shape, so that the value of the one computes to the other.
+-- The words of specs/ as polynomials, for identities that are proved by multiplying out. Each word with a prime mirrors the
+-- word without it, in exactly its shape, so that the value of the one computes to the other.
 --
 --   Symbols, symbols i      a place whose coordinates are polynomials: the variables i, i + 1, i + 2
 --   RationalSymbols            such a place over a polynomial
@@ -45,8 +45,15 @@ orientation' a b c d = normal (dot' (cross' (step' a b) (step' a c)) (step' a d)
 
 abbrev pub power' : (a b c d p : Symbols) (ha hb hc hd hp : Polynomial) → Polynomial
 power' a b c d p ha hb hc hd hp =
-    difference (product (orientation' a b c d) hp) (sum (sum (sum (product ha (orientation' p b c d)) (product hb (orientation' a p c d))) (product hc (orientation' a b p d))) (product hd (orientation' a b c p)))
+    difference (product (orientation' a b c d) hp)
+    (sum (sum (sum (product ha (orientation' p b c d)) (product hb (orientation' a p c d))) (product hc (orientation' a b p d)))
+    (product hd (orientation' a b c p)))
 
 abbrev pub side' : (a b c : Symbols) → RationalSymbols → Polynomial
 side' a b c q =
-    normal (dot' (cross' (step' a b) (step' a c)) (record { x = difference q.at.x (product q.over a.x); y = difference q.at.y (product q.over a.y); z = difference q.at.z (product q.over a.z) }))
+    normal (dot' (cross' (step' a b) (step' a c))
+    (record {
+      x = difference q.at.x (product q.over a.x);
+      y = difference q.at.y (product q.over a.y);
+      z = difference q.at.z (product q.over a.z);
+    }))

@@ -1,5 +1,5 @@
--- What is said of vertices that are in depends on these alone: vertices that agree (Boxes) have the same cells, and each test of
--- vertices that are in says the same.
+-- What is said of vertices that are in depends on these alone: vertices that agree (Boxes) have the same cells, and each test
+-- of vertices that are in says the same.
 --
 --   IsFacetIn v f            the facet's vertices are in
 --   IsTetrahedronIn v t      the tetrahedron's are
@@ -39,8 +39,10 @@ pub record AgreeLaw : Type 0 where
 
 -- numbers of four and five vertices
 pub record SignsAgreeOn (v w : Vertices) : Type 0 where
-  pub orientation_is : (t : Tetrahedron) → IsTetrahedronIn v t → orientation_of v t.a t.b t.c t.d ≡ orientation_of w t.a t.b t.c t.d
-  pub power_is : (t : Tetrahedron) (p : ℕ) → IsTetrahedronIn v t → Has v p → power_of v t.a t.b t.c t.d p ≡ power_of w t.a t.b t.c t.d p
+  pub orientation_is : (t : Tetrahedron) → IsTetrahedronIn v t
+      → orientation_of v t.a t.b t.c t.d ≡ orientation_of w t.a t.b t.c t.d
+  pub power_is : (t : Tetrahedron) (p : ℕ) → IsTetrahedronIn v t → Has v p
+      → power_of v t.a t.b t.c t.d p ≡ power_of w t.a t.b t.c t.d p
 
 abbrev pub SignsAgree : Type 0
 SignsAgree = (v w : Vertices) → Agree v w → SignsAgreeOn v w
@@ -50,7 +52,8 @@ pub record CellsAgreeOn (v w : Vertices) : Type 0 where
   pub cell : (a b c d : ℕ) → IsCell v a b c d ↔ IsCell w a b c d
   pub rising_cell : (row : List ℕ) → IsRisingCell v row ↔ IsRisingCell w row
   pub cell_list : (rows : List (List ℕ)) → IsCellList v rows ↔ IsCellList w rows
-  pub written_is : (a b c d : ℕ) → IsTetrahedronIn v (tetrahedron a b c d) → written v (a ∷ b ∷ c ∷ d ∷ []) ≡ written w (a ∷ b ∷ c ∷ d ∷ [])
+  pub written_is : (a b c d : ℕ) → IsTetrahedronIn v (tetrahedron a b c d)
+      → written v (a ∷ b ∷ c ∷ d ∷ []) ≡ written w (a ∷ b ∷ c ∷ d ∷ [])
 
 abbrev pub CellsAgree : Type 0
 CellsAgree = (v w : Vertices) → Agree v w → CellsAgreeOn v w
@@ -58,7 +61,8 @@ CellsAgree = (v w : Vertices) → Agree v w → CellsAgreeOn v w
 -- sides of places, and tests
 pub record SightsAgreeOn (v w : Vertices) : Type 0 where
   pub side_is : (f : DirectedFacet) (q : RationalPoint) → IsFacetIn v f → side_of v f q ≡ side_of w f q
-  pub crossed_is : (p : ℕ) (s : RationalPoint) (f : DirectedFacet) → Has v p → IsFacetIn v f → is_crossed v p s f ≡ is_crossed w p s f
+  pub crossed_is : (p : ℕ) (s : RationalPoint) (f : DirectedFacet) → Has v p → IsFacetIn v f
+      → is_crossed v p s f ≡ is_crossed w p s f
   pub behind_is : (p : ℕ) (s : RationalPoint) (t : Tetrahedron) → IsTetrahedronIn v t → is_behind v p s t ≡ is_behind w p s t
   pub towards_is : (p : ℕ) (s : RationalPoint) (t : Tetrahedron) → IsTetrahedronIn v t → is_towards v p s t ≡ is_towards w p s t
   pub cell_of_is : (s : RationalPoint) (t : Tetrahedron) → IsTetrahedronIn v t → is_cell_of v s t ≡ is_cell_of w s t
@@ -70,4 +74,6 @@ SightsAgree = (v w : Vertices) → Agree v w → SightsAgreeOn v w
 
 -- the flags of all are set
 abbrev pub AllInAgree : Type 0
-AllInAgree = (points : List Point) (flags : List Bool) → ((u : ℕ) → u < 8 + length points → get_or flags u false ≡ true) → Agree (inserted_vertices points flags) (vertices_of points)
+AllInAgree =
+    (points : List Point) (flags : List Bool) → ((u : ℕ) → u < 8 + length points → get_or flags u false ≡ true)
+    → Agree (inserted_vertices points flags) (vertices_of points)

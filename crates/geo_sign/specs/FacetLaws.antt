@@ -23,7 +23,8 @@ SidesAreTurned = (v : Vertices) (f g : DirectedFacet) (q : RationalPoint) → Is
 
 -- crossed together
 abbrev pub CrossingsAreRotated : Type 0
-CrossingsAreRotated = (v : Vertices) (p : ℕ) (s : RationalPoint) (f g : DirectedFacet) → IsRotated f g → is_crossed v p s g ≡ is_crossed v p s f
+CrossingsAreRotated =
+    (v : Vertices) (p : ℕ) (s : RationalPoint) (f g : DirectedFacet) → IsRotated f g → is_crossed v p s g ≡ is_crossed v p s f
 
 -- two turns are a rotation, and a turn and a rotation are a turn
 pub record IsRotatedLaw : Type 0 where

@@ -1,5 +1,5 @@
--- Places as near to a vertex as is wanted, on the way to a scanner or away from it. Each is an ordinary place of the box, so that
--- a walk to it is a walk to a place.
+-- Places as near to a vertex as is wanted, on the way to a scanner or away from it. Each is an ordinary place of the box, so
+-- that a walk to it is a walk to a place.
 --
 --   mix i p j s             i times p and j times s
 --   near t p s              the place between p and s at which p weighs t times as much

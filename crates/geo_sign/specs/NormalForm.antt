@@ -11,7 +11,8 @@
 --   expand e k              e multiplied out: each of its products, times what k is given, is handed on to k
 --   is_null f               no product is left in f
 --   is_same_form e f             e - f multiplied out has no product left
-use Rattle.std.specs.Prelude.{ℕ, zero, suc, ℤ, pos, negsuc, neg_ℤ, ◌+ℤ◌, ◌*ℤ◌, List, [], ◌∷◌, Bool, true, false, ◌&&◌, ◌==◌, nat_lt}
+use Rattle.std.specs.Prelude.{ℕ, zero, suc, ℤ, pos, negsuc, neg_ℤ, ◌+ℤ◌, ◌*ℤ◌, List, [], ◌∷◌, Bool, true, false, ◌&&◌, ◌==◌}
+use Rattle.std.specs.Prelude.{nat_lt}
 use Rattle.geo_sign.specs.Polynomial.{Polynomial, variable, constant, sum, difference, product, negation, normal, number_at}
 
 -- a polynomial multiplied out
@@ -45,7 +46,10 @@ add_term k [] (leaf c) = leaf (k +ℤ c)
 add_term k [] (branch i s n) = branch i s (add_term k [] n)
 add_term k (j ∷ m) (leaf c) = branch j (single k m) (leaf c)
 add_term k (j ∷ m) (branch i s n) =
-    elim (j == i) [ true ↦ branch i (add_term k m s) n | false ↦ elim (nat_lt j i) [ true ↦ branch j (single k m) (branch i s n) | false ↦ branch i s (add_term k (j ∷ m) n) ] ]
+    elim (j == i) [
+      | true ↦ branch i (add_term k m s) n
+      | false ↦ elim (nat_lt j i) [ true ↦ branch j (single k m) (branch i s n) | false ↦ branch i s (add_term k (j ∷ m) n) ]
+    ]
 
 -- whether a number is zero
 abbrev pub is_zero : ℤ → Bool

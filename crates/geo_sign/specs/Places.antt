@@ -28,4 +28,5 @@ pub record IsStrictlyIn (v : Vertices) (t : Tetrahedron) (q : RationalPoint) : T
 
 -- the parts of the way are compared without dividing; p is behind both facets and s before both
 abbrev pub IsNearer : Vertices → (p : ℕ) → RationalPoint → (f g : DirectedFacet) → Type 0
-IsNearer v p s f g = (neg_ℤ (side_of v f (rational (v.at p))) *ℤ side_of v g s) <ℤ (neg_ℤ (side_of v g (rational (v.at p))) *ℤ side_of v f s)
+IsNearer v p s f g =
+    (neg_ℤ (side_of v f (rational (v.at p))) *ℤ side_of v g s) <ℤ (neg_ℤ (side_of v g (rational (v.at p))) *ℤ side_of v f s)

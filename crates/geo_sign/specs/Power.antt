@@ -10,7 +10,8 @@ use Rattle.geo_sign.specs.Orientation.{orientation}
 -- How far p, lifted by the height hp, is above the plane through a, b, c, d, lifted by theirs, times their orientation.
 unfoldable pub power : (a b c d p : Point) (ha hb hc hd hp : ℤ) → ℤ
 power a b c d p ha hb hc hd hp =
-    orientation a b c d *ℤ hp -ℤ (ha *ℤ orientation p b c d +ℤ hb *ℤ orientation a p c d +ℤ hc *ℤ orientation a b p d +ℤ hd *ℤ orientation a b c p)
+    orientation a b c d *ℤ hp
+    -ℤ (ha *ℤ orientation p b c d +ℤ hb *ℤ orientation a p c d +ℤ hc *ℤ orientation a b p d +ℤ hd *ℤ orientation a b c p)
 
 -- For four places written positively: negative where p is inside the sphere through them, zero where it is on it.
 abbrev pub plain_power : (a b c d p : Point) → ℤ

@@ -28,4 +28,5 @@ displaced s =
 -- Positive where a, b, c turn counterclockwise as seen from q, zero where q is in their plane: six times the volume of the
 -- tetrahedron over the facet with apex q, times the number that q is over.
 unfoldable pub side : Point → Point → Point → RationalPoint → ℤ
-side a b c q = dot (cross (step a b) (step a c)) (point (q.at.x -ℤ q.over *ℤ a.x) (q.at.y -ℤ q.over *ℤ a.y) (q.at.z -ℤ q.over *ℤ a.z))
+side a b c q =
+    dot (cross (step a b) (step a c)) (point (q.at.x -ℤ q.over *ℤ a.x) (q.at.y -ℤ q.over *ℤ a.y) (q.at.z -ℤ q.over *ℤ a.z))

@@ -8,7 +8,9 @@ use Rattle.geo_sign.specs.Cells.{IsBefore, IsCellList}
 
 -- two rising lists with the same members are equal
 abbrev pub RisingLaw : Type 0
-RisingLaw = (xs ys : List (List ℕ)) → AllPairs IsBefore xs → AllPairs IsBefore ys → ((row : List ℕ) → Contains xs row ↔ Contains ys row) → xs ≡ ys
+RisingLaw =
+    (xs ys : List (List ℕ)) → AllPairs IsBefore xs → AllPairs IsBefore ys → ((row : List ℕ) → Contains xs row ↔ Contains ys row)
+    → xs ≡ ys
 
 -- two lists of all cells of the same vertices are equal
 abbrev pub CellListLaw : Type 0

@@ -1,4 +1,5 @@
--- The row of a tetrahedron: its four numbers, rising. Each positively written tetrahedron has one, and is what `written` makes of it.
+-- The row of a tetrahedron: its four numbers, rising. Each positively written tetrahedron has one, and is what `written` makes
+-- of it.
 --
 --   IsRowOf t row        the row's numbers rise, and are those of t, in an even order or with the last two exchanged
 --   IsOneRow t row       a row of t, and no other list is one
@@ -19,7 +20,8 @@ use Rattle.geo_sign.specs.Writings.{IsRewritten}
 
 -- t is written anew in the order of the row, or with the row's last two numbers exchanged
 abbrev pub IsRowOf : Tetrahedron → List ℕ → Type 0
-IsRowOf t (a ∷ b ∷ c ∷ d ∷ []) = (a < b) × (b < c) × (c < d) × (IsRewritten t (tetrahedron a b c d) ⊎ IsRewritten t (tetrahedron a b d c))
+IsRowOf t (a ∷ b ∷ c ∷ d ∷ []) =
+    (a < b) × (b < c) × (c < d) × (IsRewritten t (tetrahedron a b c d) ⊎ IsRewritten t (tetrahedron a b d c))
 IsRowOf t _ = ⊥
 
 -- a row, and the only one
@@ -41,7 +43,8 @@ RowsExist = (v : Vertices) (t : Tetrahedron) → IsPositive v t → (row : List 
 
 -- it is the tetrahedron that is written of its row
 abbrev pub RowsAreWritten : Type 0
-RowsAreWritten = (v : Vertices) (t : Tetrahedron) (row : List ℕ) → IsPositive v t → IsRowOf t row → IsRewritten t (written v row)
+RowsAreWritten =
+    (v : Vertices) (t : Tetrahedron) (row : List ℕ) → IsPositive v t → IsRowOf t row → IsRewritten t (written v row)
 
 -- the row does not depend on the writing
 abbrev pub RowsAreKept : Type 0
@@ -49,20 +52,25 @@ RowsAreKept = (t r : Tetrahedron) (row : List ℕ) → IsRewritten t r → IsRow
 
 -- the row determines it
 abbrev pub RowsTell : Type 0
-RowsTell = (v : Vertices) (t r : Tetrahedron) (row : List ℕ) → IsPositive v t → IsPositive v r → IsRowOf t row → IsRowOf r row → IsRewritten t r
+RowsTell =
+    (v : Vertices) (t r : Tetrahedron) (row : List ℕ) → IsPositive v t → IsPositive v r → IsRowOf t row → IsRowOf r row
+    → IsRewritten t r
 
 -- cells in any writing and rising cells, from each to the other
 pub record CellsAreRows : Type 0 where
   pub row : (v : Vertices) (t : Tetrahedron) (row : List ℕ) → IsCell v t.a t.b t.c t.d → IsRowOf t row → IsRisingCell v row
-  pub cell : (v : Vertices) (row : List ℕ) → IsRisingCell v row → IsCell v (written v row).a (written v row).b (written v row).c (written v row).d
+  pub cell : (v : Vertices) (row : List ℕ) → IsRisingCell v row
+      → IsCell v (written v row).a (written v row).b (written v row).c (written v row).d
   pub back : (v : Vertices) (row : List ℕ) → IsRisingCell v row → IsRowOf (written v row) row
 
 -- of a row of any tetrahedron, whatever the vertices are
 abbrev pub WrittenFacets : Type 0
-WrittenFacets = (v : Vertices) (t : Tetrahedron) (row : List ℕ) → IsRowOf t row → (k : ℕ) → IsFirstLeast (facet_of (written v row) k)
+WrittenFacets =
+    (v : Vertices) (t : Tetrahedron) (row : List ℕ) → IsRowOf t row → (k : ℕ) → IsFirstLeast (facet_of (written v row) k)
 
 -- a facet of t in any rotation that has its smallest number first
 abbrev pub FacetsAreAmong : Type 0
 FacetsAreAmong =
-    (v : Vertices) (t : Tetrahedron) (row : List ℕ) → IsPositive v t → IsRowOf t row → (k : ℕ) (g : DirectedFacet) → IsRotated (facet_of t k) g → IsFirstLeast g →
-    is_among (written v row) g ≡ true
+    (v : Vertices) (t : Tetrahedron) (row : List ℕ) → IsPositive v t → IsRowOf t row → (k : ℕ) (g : DirectedFacet)
+    → IsRotated (facet_of t k) g → IsFirstLeast g
+    → is_among (written v row) g ≡ true

@@ -35,7 +35,8 @@ all_facets t test = test (facet_of t 0) && test (facet_of t 1) && test (facet_of
 
 abbrev pub all_facets_at : ℕ → Tetrahedron → (DirectedFacet → Bool) → Bool
 all_facets_at p t test =
-    ((t.a == p) || test (facet_of t 0)) && ((t.b == p) || test (facet_of t 1)) && ((t.c == p) || test (facet_of t 2)) && ((t.d == p) || test (facet_of t 3))
+    ((t.a == p) || test (facet_of t 0)) && ((t.b == p) || test (facet_of t 1)) && ((t.c == p) || test (facet_of t 2))
+    && ((t.d == p) || test (facet_of t 3))
 
 abbrev pub has_vertex : Tetrahedron → ℕ → Bool
 has_vertex t p = (t.a == p) || (t.b == p) || (t.c == p) || (t.d == p)

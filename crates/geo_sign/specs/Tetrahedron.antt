@@ -68,4 +68,6 @@ is_same_facet f g = f.a == g.a && f.b == g.b && f.c == g.c
 
 -- one of the four directed facets is this one
 abbrev pub is_among : Tetrahedron → DirectedFacet → Bool
-is_among t f = is_same_facet (facet_of t 0) f || is_same_facet (facet_of t 1) f || is_same_facet (facet_of t 2) f || is_same_facet (facet_of t 3) f
+is_among t f =
+    is_same_facet (facet_of t 0) f || is_same_facet (facet_of t 1) f || is_same_facet (facet_of t 2) f
+    || is_same_facet (facet_of t 3) f

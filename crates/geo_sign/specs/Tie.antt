@@ -13,4 +13,5 @@ height n i p = square p *ℤ pos ((2 ^ 80) ^ n) +ℤ pos ((2 ^ 80) ^ i)
 
 -- the power of p at the cell a b c d, each a number and its place; p is in conflict with the cell where it is negative
 abbrev pub tied_power : ℕ → (a b c d p : ℕ × Point) → ℤ
-tied_power n a b c d p = power a.1 b.1 c.1 d.1 p.1 (height n a.0 a.1) (height n b.0 b.1) (height n c.0 c.1) (height n d.0 d.1) (height n p.0 p.1)
+tied_power n a b c d p =
+    power a.1 b.1 c.1 d.1 p.1 (height n a.0 a.1) (height n b.0 b.1) (height n c.0 c.1) (height n d.0 d.1) (height n p.0 p.1)

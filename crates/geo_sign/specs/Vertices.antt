@@ -47,7 +47,8 @@ IsWall v f = AreOnWall v.at f
 -- the corners of the box in order of their numbers
 abbrev pub corners : List Point
 corners =
-    corner_point 0 ∷ corner_point 1 ∷ corner_point 2 ∷ corner_point 3 ∷ corner_point 4 ∷ corner_point 5 ∷ corner_point 6 ∷ corner_point 7 ∷ []
+    corner_point 0 ∷ corner_point 1 ∷ corner_point 2 ∷ corner_point 3 ∷ corner_point 4 ∷ corner_point 5 ∷ corner_point 6
+    ∷ corner_point 7 ∷ []
 
 -- where vertex u is: the corners have the numbers 0 to 7, and the points follow
 abbrev pub point_of : List Point → ℕ → Point

@@ -1,5 +1,6 @@
 -- Rising lists of rows, and the rows between two keys.
-use Rattle.std.proofs.Common.{ℕ, zero, suc, ◌+◌, ◌<◌, ◌≤◌, ◌≡◌, ◌↔◌, ◌⊎◌, inl, inr, ⊎_elim, refl, ap, sym, subst, ◌∙◌, arith, List, [], ◌∷◌, ◌++◌, length, get_or, Contains, Bool, true, false, ltb}
+use Rattle.std.proofs.Common.{ℕ, zero, suc, ◌+◌, ◌<◌, ◌≤◌, ◌≡◌, ◌↔◌, ◌⊎◌, inl, inr, ⊎_elim, refl, ap, sym, subst, ◌∙◌, arith}
+use Rattle.std.proofs.Common.{List, [], ◌∷◌, ◌++◌, length, get_or, Contains, Bool, true, false, ltb}
 use Rattle.std.proofs.lemmas.Bool.{ltb-true, ltb-false}
 use Rattle.std.specs.Prelude.{AllPairs}
 use Rattle.std.proofs.lemmas.List.Elements.{Contains-append_left, Contains-append_right, Contains-append_cases}
@@ -11,7 +12,9 @@ use Rattle.geo_sign.proofs.Rising.{not_before_none, before_trans, contains_none,
 use Rattle.geo_tie.specs.Rising.{IsCellListBefore}
 
 -- ---- a row that is a cell has four numbers
-of_cell : (v : Vertices) (P : List ℕ → Type 0) → ((p q r s : ℕ) → p < q → q < r → r < s → FormCell v p q r s → P (p ∷ q ∷ r ∷ s ∷ [])) → (row : List ℕ) → IsRisingCell v row → P row
+of_cell : (v : Vertices) (P : List ℕ → Type 0)
+    → ((p q r s : ℕ) → p < q → q < r → r < s → FormCell v p q r s → P (p ∷ q ∷ r ∷ s ∷ [])) → (row : List ℕ)
+    → IsRisingCell v row → P row
 of_cell v P f [] h = absurd h
 of_cell v P f (p ∷ []) h = absurd h
 of_cell v P f (p ∷ q ∷ []) h = absurd h
@@ -27,7 +30,8 @@ abbrev pub Same : (v : Vertices) (key other : List ℕ) → Type 0
 Same v key other = (row : List ℕ) → IsRisingCell v row → IsBefore row key ↔ IsBefore row other
 
 -- behind a number that both begin with
-under : (p a : ℕ) (row key other : List ℕ) → (p ≡ a → IsBefore row key ↔ IsBefore row other) → IsBefore (p ∷ row) (a ∷ key) ↔ IsBefore (p ∷ row) (a ∷ other)
+under : (p a : ℕ) (row key other : List ℕ) → (p ≡ a → IsBefore row key ↔ IsBefore row other) → IsBefore (p ∷ row) (a ∷ key)
+    ↔ IsBefore (p ∷ row) (a ∷ other)
 under p a row key other f =
     (λ h. ⊎_elim (λ l. inl l) (λ l. inr (l.0, (f l.0).0 l.1)) h, λ h. ⊎_elim (λ l. inl l) (λ l. inr (l.0, (f l.0).1 l.1)) h)
 
@@ -49,7 +53,8 @@ left p q a n row l = (
     pick m false e = inr ((let k : a ≤ p = ltb-false p a e in omega arith), inl l)
 
 pub enter_one : (v : Vertices) (a : ℕ) → Same v (a ∷ []) (a ∷ (a + 1) ∷ [])
-enter_one v a = of_cell v (λ row. IsBefore row (a ∷ []) ↔ IsBefore row (a ∷ (a + 1) ∷ [])) (λ p q r s h k l c. entered p q a (r ∷ s ∷ []) h)
+enter_one v a =
+    of_cell v (λ row. IsBefore row (a ∷ []) ↔ IsBefore row (a ∷ (a + 1) ∷ [])) (λ p q r s h k l c. entered p q a (r ∷ s ∷ []) h)
 
 pub enter_two : (v : Vertices) (a b : ℕ) → Same v (a ∷ b ∷ []) (a ∷ b ∷ (b + 1) ∷ [])
 enter_two v a b =
@@ -59,7 +64,8 @@ enter_two v a b =
 pub enter_three : (v : Vertices) (a b c : ℕ) → Same v (a ∷ b ∷ c ∷ []) (a ∷ b ∷ c ∷ (c + 1) ∷ [])
 enter_three v a b c =
     of_cell v (λ row. IsBefore row (a ∷ b ∷ c ∷ []) ↔ IsBefore row (a ∷ b ∷ c ∷ (c + 1) ∷ []))
-    (λ p q r s h k l _. under p a (q ∷ r ∷ s ∷ []) (b ∷ c ∷ []) (b ∷ c ∷ (c + 1) ∷ []) (λ _. under q b (r ∷ s ∷ []) (c ∷ []) (c ∷ (c + 1) ∷ []) (λ _. entered r s c [] l)))
+    (λ p q r s h k l _. under p a (q ∷ r ∷ s ∷ []) (b ∷ c ∷ []) (b ∷ c ∷ (c + 1) ∷ [])
+    (λ _. under q b (r ∷ s ∷ []) (c ∷ []) (c ∷ (c + 1) ∷ []) (λ _. entered r s c [] l)))
 
 pub leave_one : (v : Vertices) (a : ℕ) → Same v (a ∷ v.count ∷ []) ((a + 1) ∷ [])
 leave_one v a =
@@ -69,7 +75,8 @@ leave_one v a =
 pub leave_two : (v : Vertices) (a b : ℕ) → Same v (a ∷ b ∷ v.count ∷ []) (a ∷ (b + 1) ∷ [])
 leave_two v a b =
     of_cell v (λ row. IsBefore row (a ∷ b ∷ v.count ∷ []) ↔ IsBefore row (a ∷ (b + 1) ∷ []))
-    (λ p q r s h k l c. under p a (q ∷ r ∷ s ∷ []) (b ∷ v.count ∷ []) ((b + 1) ∷ []) (λ _. left q r b v.count (s ∷ []) (let m = last_below v p q r s c in omega arith)))
+    (λ p q r s h k l c. under p a (q ∷ r ∷ s ∷ []) (b ∷ v.count ∷ []) ((b + 1) ∷ [])
+    (λ _. left q r b v.count (s ∷ []) (let m = last_below v p q r s c in omega arith)))
 
 pub leave_three : (v : Vertices) (a b c : ℕ) → Same v (a ∷ b ∷ c ∷ v.count ∷ []) (a ∷ b ∷ (c + 1) ∷ [])
 leave_three v a b c =
@@ -78,7 +85,8 @@ leave_three v a b c =
     (λ _. under q b (r ∷ s ∷ []) (c ∷ v.count ∷ []) ((c + 1) ∷ []) (λ _. left r s c v.count [] (last_below v p q r s x))))
 
 -- a list before one key is a list before another
-pub moved : (v : Vertices) (key other : List ℕ) (rows : List (List ℕ)) → Same v key other → IsCellListBefore v key rows → IsCellListBefore v other rows
+pub moved : (v : Vertices) (key other : List ℕ) (rows : List (List ℕ)) → Same v key other → IsCellListBefore v key rows
+    → IsCellListBefore v other rows
 moved v key other rows e h =
     record {
       rising = h.rising;
@@ -102,45 +110,67 @@ none_before v =
     nothing (p ∷ row) h = ⊎_elim (λ l. absurd (omega arith)) (λ l. not_before_none row l.1) h
 
 -- before a b c d + 1 come those before a b c d, and this row itself
-pub or_this : (a b c d : ℕ) (v : Vertices) (row : List ℕ) → IsRisingCell v row → IsBefore row (a ∷ b ∷ c ∷ (d + 1) ∷ []) → IsBefore row (a ∷ b ∷ c ∷ d ∷ []) ⊎ (row ≡ a ∷ b ∷ c ∷ d ∷ [])
+pub or_this : (a b c d : ℕ) (v : Vertices) (row : List ℕ) → IsRisingCell v row → IsBefore row (a ∷ b ∷ c ∷ (d + 1) ∷ [])
+    → IsBefore row (a ∷ b ∷ c ∷ d ∷ []) ⊎ (row ≡ a ∷ b ∷ c ∷ d ∷ [])
 or_this a b c d v =
     of_cell v (λ row. IsBefore row (a ∷ b ∷ c ∷ (d + 1) ∷ []) → IsBefore row (a ∷ b ∷ c ∷ d ∷ []) ⊎ (row ≡ a ∷ b ∷ c ∷ d ∷ []))
     (λ p q r s _ _ _ _. λ h. ⊎_elim (λ l. inl (inl l)) (λ l. at_b p q r s l.0 l.1) h)
   where
-    at_d : (p q r s : ℕ) → p ≡ a → q ≡ b → r ≡ c → s < d + 1 → (e : Bool) → ltb s d ≡ e → IsBefore (p ∷ q ∷ r ∷ s ∷ []) (a ∷ b ∷ c ∷ d ∷ []) ⊎ (p ∷ q ∷ r ∷ s ∷ [] ≡ a ∷ b ∷ c ∷ d ∷ [])
+    at_d : (p q r s : ℕ) → p ≡ a → q ≡ b → r ≡ c → s < d + 1 → (e : Bool) → ltb s d ≡ e
+        → IsBefore (p ∷ q ∷ r ∷ s ∷ []) (a ∷ b ∷ c ∷ d ∷ []) ⊎ (p ∷ q ∷ r ∷ s ∷ [] ≡ a ∷ b ∷ c ∷ d ∷ [])
     at_d p q r s i j k l true e = inl (inr (i, inr (j, inr (k, inl (ltb-true s d e)))))
     at_d p q r s i j k l false e = let m : d ≤ s = ltb-false s d e in let n : s ≡ d = omega arith in inr (cc)
 
-    at_c : (p q r s : ℕ) → p ≡ a → q ≡ b → IsBefore (r ∷ s ∷ []) (c ∷ (d + 1) ∷ []) → IsBefore (p ∷ q ∷ r ∷ s ∷ []) (a ∷ b ∷ c ∷ d ∷ []) ⊎ (p ∷ q ∷ r ∷ s ∷ [] ≡ a ∷ b ∷ c ∷ d ∷ [])
-    at_c p q r s i j h = ⊎_elim (λ l. inl (inr (i, inr (j, inl l)))) (λ l. ⊎_elim (λ m. at_d p q r s i j l.0 m (ltb s d) refl) (λ m. absurd m.1) l.1) h
+    at_c : (p q r s : ℕ) → p ≡ a → q ≡ b → IsBefore (r ∷ s ∷ []) (c ∷ (d + 1) ∷ [])
+        → IsBefore (p ∷ q ∷ r ∷ s ∷ []) (a ∷ b ∷ c ∷ d ∷ []) ⊎ (p ∷ q ∷ r ∷ s ∷ [] ≡ a ∷ b ∷ c ∷ d ∷ [])
+    at_c p q r s i j h =
+        ⊎_elim (λ l. inl (inr (i, inr (j, inl l))))
+        (λ l. ⊎_elim (λ m. at_d p q r s i j l.0 m (ltb s d) refl) (λ m. absurd m.1) l.1) h
 
-    at_b : (p q r s : ℕ) → p ≡ a → IsBefore (q ∷ r ∷ s ∷ []) (b ∷ c ∷ (d + 1) ∷ []) → IsBefore (p ∷ q ∷ r ∷ s ∷ []) (a ∷ b ∷ c ∷ d ∷ []) ⊎ (p ∷ q ∷ r ∷ s ∷ [] ≡ a ∷ b ∷ c ∷ d ∷ [])
+    at_b : (p q r s : ℕ) → p ≡ a → IsBefore (q ∷ r ∷ s ∷ []) (b ∷ c ∷ (d + 1) ∷ [])
+        → IsBefore (p ∷ q ∷ r ∷ s ∷ []) (a ∷ b ∷ c ∷ d ∷ []) ⊎ (p ∷ q ∷ r ∷ s ∷ [] ≡ a ∷ b ∷ c ∷ d ∷ [])
     at_b p q r s i h = ⊎_elim (λ l. inl (inr (i, inl l))) (λ l. at_c p q r s i l.0 l.1) h
 
 this_before : (a b c d : ℕ) → IsBefore (a ∷ b ∷ c ∷ d ∷ []) (a ∷ b ∷ c ∷ (d + 1) ∷ [])
 this_before a b c d = inr (refl, inr (refl, inr (refl, inl (omega arith))))
 
 -- the row is a cell and was pushed
-pub pushed : (v : Vertices) (a b c d : ℕ) (rows : List (List ℕ)) → IsRisingCell v (a ∷ b ∷ c ∷ d ∷ []) → IsCellListBefore v (a ∷ b ∷ c ∷ d ∷ []) rows → IsCellListBefore v (a ∷ b ∷ c ∷ (d + 1) ∷ []) (rows ++ (a ∷ b ∷ c ∷ d ∷ []) ∷ [])
+pub pushed : (v : Vertices) (a b c d : ℕ) (rows : List (List ℕ)) → IsRisingCell v (a ∷ b ∷ c ∷ d ∷ [])
+    → IsCellListBefore v (a ∷ b ∷ c ∷ d ∷ []) rows
+    → IsCellListBefore v (a ∷ b ∷ c ∷ (d + 1) ∷ []) (rows ++ (a ∷ b ∷ c ∷ d ∷ []) ∷ [])
 pushed v a b c d rows k h =
     let this : List ℕ = a ∷ b ∷ c ∷ d ∷ [] in
     let next : List ℕ = a ∷ b ∷ c ∷ (d + 1) ∷ [] in
-    let one : (row : List ℕ) → Contains (this ∷ []) row → this ≡ row = λ row x. ⊎_elim (λ e. e) (λ y. absurd (contains_none row y)) (contains_cases this [] row x) in
+    let one : (row : List ℕ) → Contains (this ∷ []) row → this ≡ row =
+    λ row x. ⊎_elim (λ e. e) (λ y. absurd (contains_none row y)) (contains_cases this [] row x) in
     record {
-      rising = all_pairs_push IsBefore rows this h.rising (λ i e l. h.before (get_or rows i e) (i, l, sym (get_or_default rows i e _ l)));
-      cells = λ row x. ⊎_elim (h.cells row) (λ y. subst (λ (z : List ℕ). IsRisingCell v z) (one row y) k) (Contains-append_cases rows (this ∷ []) row x);
-      before = λ row x. ⊎_elim (λ y. before_trans row this next (h.before row y) (this_before a b c d)) (λ y. subst (λ (z : List ℕ). IsBefore z next) (one row y) (this_before a b c d)) (Contains-append_cases rows (this ∷ []) row x);
-      all = λ row x y. ⊎_elim (λ z. Contains-append_left rows (this ∷ []) row (h.all row x z)) (λ e. Contains-append_right rows (this ∷ []) row (subst (λ (z : List ℕ). Contains (this ∷ []) z) (sym e) (contains_head this []))) (or_this a b c d v row x y);
+      rising =
+          all_pairs_push IsBefore rows this h.rising
+          (λ i e l. h.before (get_or rows i e) (i, l, sym (get_or_default rows i e _ l)));
+      cells =
+          λ row x. ⊎_elim (h.cells row) (λ y. subst (λ (z : List ℕ). IsRisingCell v z) (one row y) k)
+          (Contains-append_cases rows (this ∷ []) row x);
+      before =
+          λ row x. ⊎_elim (λ y. before_trans row this next (h.before row y) (this_before a b c d))
+          (λ y. subst (λ (z : List ℕ). IsBefore z next) (one row y) (this_before a b c d))
+          (Contains-append_cases rows (this ∷ []) row x);
+      all =
+          λ row x y. ⊎_elim (λ z. Contains-append_left rows (this ∷ []) row (h.all row x z))
+          (λ e. Contains-append_right rows (this ∷ []) row
+          (subst (λ (z : List ℕ). Contains (this ∷ []) z) (sym e) (contains_head this []))) (or_this a b c d v row x y);
     }
 
 -- the row is no cell and was left out
-pub passed : (v : Vertices) (a b c d : ℕ) (rows : List (List ℕ)) → ¬ IsRisingCell v (a ∷ b ∷ c ∷ d ∷ []) → IsCellListBefore v (a ∷ b ∷ c ∷ d ∷ []) rows → IsCellListBefore v (a ∷ b ∷ c ∷ (d + 1) ∷ []) rows
+pub passed : (v : Vertices) (a b c d : ℕ) (rows : List (List ℕ)) → ¬ IsRisingCell v (a ∷ b ∷ c ∷ d ∷ [])
+    → IsCellListBefore v (a ∷ b ∷ c ∷ d ∷ []) rows → IsCellListBefore v (a ∷ b ∷ c ∷ (d + 1) ∷ []) rows
 passed v a b c d rows n h =
     record {
       rising = h.rising;
       cells = h.cells;
       before = λ row x. before_trans row (a ∷ b ∷ c ∷ d ∷ []) (a ∷ b ∷ c ∷ (d + 1) ∷ []) (h.before row x) (this_before a b c d);
-      all = λ row x y. ⊎_elim (λ z. h.all row x z) (λ e. absurd (n (subst (λ (z : List ℕ). IsRisingCell v z) e x))) (or_this a b c d v row x y);
+      all =
+          λ row x y. ⊎_elim (λ z. h.all row x z) (λ e. absurd (n (subst (λ (z : List ℕ). IsRisingCell v z) e x)))
+          (or_this a b c d v row x y);
     }
 
 -- before the number of all vertices come all cells
@@ -149,5 +179,8 @@ all_before v rows h =
     record {
       rising = h.rising;
       cells = h.cells;
-      all = λ row k. h.all row k (of_cell v (λ row. IsBefore row (v.count ∷ [])) (λ p q r s i j l c. inl (let m = last_below v p q r s c in omega arith)) row k);
+      all =
+          λ row k. h.all row k
+          (of_cell v (λ row. IsBefore row (v.count ∷ []))
+          (λ p q r s i j l c. inl (let m = last_below v p q r s c in omega arith)) row k);
     }

@@ -18,26 +18,32 @@ pub AreKept-push : (room : ℕ) (files : List MemFile) (all : List Handed) (file
 AreKept-push room [] [] file handed kept is = (is, tt)
 AreKept-push room [] (first ∷ all) file handed kept is = absurd kept
 AreKept-push room (first ∷ files) [] file handed kept is = absurd kept
-AreKept-push room (first ∷ files) (taken ∷ all) file handed kept is = (kept.0, AreKept-push room files all file handed kept.1 is)
+AreKept-push room (first ∷ files) (taken ∷ all) file handed kept is =
+    (kept.0, AreKept-push room files all file handed kept.1 is)
 
-kept_file_at : (room : ℕ) (files : List MemFile) (all : List Handed) → AreKept room files all → (name : List ℕ) → files_of files name ≡ files_handed all name
+kept_file_at : (room : ℕ) (files : List MemFile) (all : List Handed) → AreKept room files all → (name : List ℕ)
+    → files_of files name ≡ files_handed all name
 kept_file_at room [] [] kept name = refl
 kept_file_at room [] (taken ∷ all) kept name = absurd kept
 kept_file_at room (first ∷ files) [] kept name = absurd kept
-kept_file_at room (first ∷ files) (taken ∷ all) kept name = rw (kept.0.name, kept.0.bytes, kept_file_at room files all kept.1 name) refl
+kept_file_at room (first ∷ files) (taken ∷ all) kept name =
+    rw (kept.0.name, kept.0.bytes, kept_file_at room files all kept.1 name) refl
 
 -- they are the files that were handed in
-pub kept_files_of : (room : ℕ) (files : List MemFile) (all : List Handed) → AreKept room files all → files_of files ≡ files_handed all
+pub kept_files_of : (room : ℕ) (files : List MemFile) (all : List Handed) → AreKept room files all
+    → files_of files ≡ files_handed all
 kept_files_of room files all kept = fun_ext (kept_file_at room files all kept)
 
 -- they have the names that were handed in
-pub kept_names : (room : ℕ) (files : List MemFile) (all : List Handed) → AreKept room files all → names_of_files files ≡ names_handed all
+pub kept_names : (room : ℕ) (files : List MemFile) (all : List Handed) → AreKept room files all
+    → names_of_files files ≡ names_handed all
 kept_names room [] [] kept = refl
 kept_names room [] (taken ∷ all) kept = absurd kept
 kept_names room (first ∷ files) [] kept = absurd kept
 kept_names room (first ∷ files) (taken ∷ all) kept = rw (kept.0.name, kept_names room files all kept.1) refl
 
-kept_name : (room : ℕ) (files : List MemFile) (all : List Handed) → AreKept room files all → (i : ℕ) → name_at files i ≡ handed_name all i
+kept_name : (room : ℕ) (files : List MemFile) (all : List Handed) → AreKept room files all → (i : ℕ)
+    → name_at files i ≡ handed_name all i
 kept_name room [] [] kept i = refl
 kept_name room [] (taken ∷ all) kept i = absurd kept
 kept_name room (first ∷ files) [] kept i = absurd kept
@@ -51,11 +57,15 @@ kept_count room (first ∷ files) [] kept = absurd kept
 kept_count room (first ∷ files) (taken ∷ all) kept = let rest = kept_count room files all kept.1 in omega arith
 
 -- where the names handed in differ, theirs do
-pub kept_apart : (room : ℕ) (files : List MemFile) (all : List Handed) → AreKept room files all → NamesApart all → FilesApart files
-kept_apart room files all kept apart i j lt within same = apart i j lt (rw (sym (kept_count room files all kept)) within) (sym (kept_name room files all kept i) ∙ same ∙ kept_name room files all kept j)
+pub kept_apart : (room : ℕ) (files : List MemFile) (all : List Handed) → AreKept room files all → NamesApart all
+    → FilesApart files
+kept_apart room files all kept apart i j lt within same =
+    apart i j lt (rw (sym (kept_count room files all kept)) within)
+    (sym (kept_name room files all kept i) ∙ same ∙ kept_name room files all kept j)
 
 -- each has the room
-pub kept_room : (room : ℕ) (files : List MemFile) (all : List Handed) → AreKept room files all → (i : ℕ) → i < length files → room_at files i ≡ room
+pub kept_room : (room : ℕ) (files : List MemFile) (all : List Handed) → AreKept room files all → (i : ℕ) → i < length files
+    → room_at files i ≡ room
 kept_room room [] all kept i lt = absurd (omega arith)
 kept_room room (first ∷ files) [] kept i lt = absurd kept
 kept_room room (first ∷ files) (taken ∷ all) kept zero lt = kept.0.holds

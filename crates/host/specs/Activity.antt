@@ -38,10 +38,12 @@ target_of files (Writing at) = name_at files at
 
 -- what is told
 abbrev pub told_by : List MemFile → Activity → List ℕ → Told
-told_by files activity said = record { files = files_of files; left = left_of files activity; target = target_of files activity; said = said }
+told_by files activity said =
+    record { files = files_of files; left = left_of files activity; target = target_of files activity; said = said }
 
 -- what is told of an open file is empty where none is open
-pub coherent : (files : List MemFile) (activity : Activity) (said : List ℕ) → ClosedIsEmpty (is_reading activity) (is_writing activity) (told_by files activity said)
+pub coherent : (files : List MemFile) (activity : Activity) (said : List ℕ)
+    → ClosedIsEmpty (is_reading activity) (is_writing activity) (told_by files activity said)
 coherent files Idle said = record { left = λ _. refl; target = λ _. refl }
 coherent files (Reading at start) said = record { left = λ closed. cc; target = λ _. refl }
 coherent files (Writing at) said = record { left = λ _. refl; target = λ closed. cc }

@@ -6,7 +6,8 @@
 --     name_at, exists_at, bytes_at, room_at  the file at a place: its name, whether it is there, its bytes, its room
 --     FilesApart files                       no two files have one name
 --     KeepsPlaces old new                    each place keeps its name and its room
-use Rattle.std.specs.Prelude.{◌≡◌, ◌≢◌, ℕ, suc, zero, ◌<◌, List, [], ◌∷◌, length, map, Bool, false, if◌then◌else◌, Option, Some, None, string_bytes}
+use Rattle.std.specs.Prelude.{◌≡◌, ◌≢◌, ℕ, suc, zero, ◌<◌, List, [], ◌∷◌, length, map, Bool, false, if◌then◌else◌, Option, Some}
+use Rattle.std.specs.Prelude.{None, string_bytes}
 use Rattle.std.specs.Str.{bytes_eq}
 use Rattle.host.specs.State.{Files}
 use Rattle.host.specs.declared.files.MemFile.{MemFile}

@@ -4,7 +4,8 @@
 --     files_handed, names_handed   the files by name; the names, in their order
 --     NamesApart files             no two names are one
 --     IsKept room file handed      a file was made of what was handed in
-use Rattle.std.specs.Prelude.{◌≡◌, ◌≢◌, ℕ, zero, suc, ◌<◌, List, [], ◌∷◌, length, map, Vec, String, Option, None, string_bytes, if◌then◌else◌}
+use Rattle.std.specs.Prelude.{◌≡◌, ◌≢◌, ℕ, zero, suc, ◌<◌, List, [], ◌∷◌, length, map, Vec, String, Option, None, string_bytes}
+use Rattle.std.specs.Prelude.{if◌then◌else◌}
 use Rattle.std.specs.Option.{option_map}
 use Rattle.std.specs.Str.{bytes_eq}
 use Rattle.std.specs.declared.alloc.Global.{Global}
@@ -19,7 +20,8 @@ Handed = String Global × Option (Vec ℕ Global)
 -- the files that are handed in, by name
 abbrev pub files_handed : List Handed → Files
 files_handed [] name = None
-files_handed (file ∷ files) name = if bytes_eq name (string_bytes file.0) then option_map (λ bytes. bytes.items) file.1 else files_handed files name
+files_handed (file ∷ files) name =
+    if bytes_eq name (string_bytes file.0) then option_map (λ bytes. bytes.items) file.1 else files_handed files name
 
 -- the names, in their order
 abbrev pub names_handed : List Handed → List (List ℕ)

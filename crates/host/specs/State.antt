@@ -11,7 +11,8 @@
 --                                  the state after a call, each named for what it does
 --     IsNext count buffer left  what a read puts into the buffer
 --     IsFront count bytes       how many of the bytes a call may take
-use Rattle.std.specs.Prelude.{◌≡◌, ℕ, ◌≤◌, ◌<◌, ◌↔◌, List, [], ◌++◌, length, take, drop, Bool, true, false, if◌then◌else◌, Option, Some, None, IsSome, IfSome, unwrap_or}
+use Rattle.std.specs.Prelude.{◌≡◌, ℕ, ◌≤◌, ◌<◌, ◌↔◌, List, [], ◌++◌, length, take, drop, Bool, true, false, if◌then◌else◌}
+use Rattle.std.specs.Prelude.{Option, Some, None, IsSome, IfSome, unwrap_or}
 use Rattle.host.specs.Counts.{next, Rose}
 use Rattle.std.specs.Option.{option_map}
 use Rattle.std.specs.Str.{bytes_eq}
@@ -79,11 +80,19 @@ with_more name more files asked = if bytes_eq asked name then option_map (λ byt
 
 -- the named file is read from its first byte on
 abbrev pub opens_file : List ℕ → State → State
-opens_file name state = record state { opens = next state.opens; reading = true; told = after_change (λ told. record told { left = file_bytes told.files name }) state.told }
+opens_file name state = record state {
+  opens = next state.opens;
+  reading = true;
+  told = after_change (λ told. record told { left = file_bytes told.files name }) state.told;
+}
 
 -- a file was asked for, and none is read
 abbrev pub opens_none : State → State
-opens_none state = record state { opens = next state.opens; reading = false; told = after_change (λ told. record told { left = [] }) state.told }
+opens_none state = record state {
+  opens = next state.opens;
+  reading = false;
+  told = after_change (λ told. record told { left = [] }) state.told;
+}
 
 -- so many bytes were taken of those left
 abbrev pub takes : ℕ → State → State
@@ -97,7 +106,11 @@ pub record IsNext (count : ℕ) (buffer : List ℕ) (left : List ℕ) : Type 0 w
 
 -- no file is read, and the named file is empty and is being written
 abbrev pub creates : List ℕ → State → State
-creates name state = record state { reading = false; writing = true; told = after_change (λ told. record told { files = with_file name [] told.files; left = []; target = name }) state.told }
+creates name state = record state {
+  reading = false;
+  writing = true;
+  told = after_change (λ told. record told { files = with_file name [] told.files; left = []; target = name }) state.told;
+}
 
 -- no file is read
 abbrev pub stops_reading : State → State
@@ -105,7 +118,8 @@ stops_reading state = record state { reading = false; told = after_change (λ to
 
 -- bytes were added to the file that is being written
 abbrev pub appends : List ℕ → State → State
-appends bytes state = record state { told = after_change (λ told. record told { files = with_more told.target bytes told.files }) state.told }
+appends bytes state =
+    record state { told = after_change (λ told. record told { files = with_more told.target bytes told.files }) state.told }
 
 -- no file is written
 abbrev pub finishes : State → State

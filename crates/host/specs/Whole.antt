@@ -3,12 +3,13 @@
 --     SaysFront, AppendsFront, WritesFront    what stands after a failure: a front of the bytes went out
 --     writes name bytes state                 the named file holds the bytes, and no file is open
 --     reads_whole name state                  the named file was opened and read to its end
---     TakesFront, ReadFails                   what stands after a reading for which there was no memory, or in which a call failed
---     OnlyReads before after                  what a reading leaves as it was, and that it opens one file
+--     TakesFront, ReadFails                   what stands after a reading for which there was no memory, or in which a call
+--     failed OnlyReads before after                  what a reading leaves as it was, and that it opens one file
 --     HasCause result before after            the count of faults, by the answer of a reading
 use Rattle.std.specs.Prelude.{◌≡◌, ℕ, ◌≤◌, List, [], length, take, false, true, Option, Result, Ok, Err, ◌⊎◌}
 use Rattle.host.specs.Counts.{next, Rose}
-use Rattle.host.specs.State.{State, Told, after_change, FailedFrom, HasFile, with_file, opens_file, opens_none, takes, stops_reading, appends, says}
+use Rattle.host.specs.State.{State, Told, after_change, FailedFrom, HasFile, with_file, opens_file, opens_none, takes}
+use Rattle.host.specs.State.{stops_reading, appends, says}
 use Rattle.host.specs.declared.calls.ReadRefusal.{ReadRefusal}
 use Rattle.host.specs.declared.calls.ReadRefusal.TheVariants as refusals
 
@@ -22,7 +23,11 @@ AppendsFront bytes before after = (count : ℕ) × (count ≤ length bytes) × F
 
 -- the named file holds these bytes, and no file is read or written
 abbrev pub writes : List ℕ → List ℕ → State → State
-writes name bytes state = record state { reading = false; writing = false; told = after_change (λ told. record told { files = with_file name bytes told.files; left = []; target = [] }) state.told }
+writes name bytes state = record state {
+  reading = false;
+  writing = false;
+  told = after_change (λ told. record told { files = with_file name bytes told.files; left = []; target = [] }) state.told;
+}
 
 -- a call failed: the file is as it was, or holds a front of the bytes, the whole included
 abbrev pub WritesFront : List ℕ → List ℕ → State → State → Type 0
@@ -32,7 +37,11 @@ WritesFront name bytes before after =
 
 -- the named file was opened, and all its bytes were taken
 abbrev pub reads_whole : List ℕ → State → State
-reads_whole name state = record state { opens = next state.opens; reading = true; told = after_change (λ told. record told { left = [] }) state.told }
+reads_whole name state = record state {
+  opens = next state.opens;
+  reading = true;
+  told = after_change (λ told. record told { left = [] }) state.told;
+}
 
 -- some bytes of the named file were taken, at most as many as the limit
 abbrev pub TakesFront : ℕ → List ℕ → State → State → Type 0

@@ -1,5 +1,6 @@
 -- Texts of which none stands at the front of another.
-use Rattle.std.proofs.Common.{ℕ, zero, suc, ◌≡◌, ◌<◌, ◌^◌, refl, ap, sym, ◌∙◌, arith, ℤ, pos, negsuc, List, [], ◌∷◌, ◌++◌, length, decimal, append_assoc}
+use Rattle.std.proofs.Common.{ℕ, zero, suc, ◌≡◌, ◌<◌, ◌^◌, refl, ap, sym, ◌∙◌, arith, ℤ, pos, negsuc, List, [], ◌∷◌, ◌++◌}
+use Rattle.std.proofs.Common.{length, decimal, append_assoc}
 use Rattle.std.specs.Fmt.{signed_decimal}
 use Rattle.std.specs.List.{flat_map, All}
 use Rattle.std.specs.Int.Signed.{mag}
@@ -15,7 +16,8 @@ first_of : {x y : ℕ} {xs ys : List ℕ} → x ∷ xs ≡ y ∷ ys → x ≡ y
 first_of e = cc
 
 -- the first such byte ends one word
-pub one_split : (stop : ℕ) (w a rest b : List ℕ) → Lacks stop w → Lacks stop a → w ++ stop ∷ rest ≡ a ++ stop ∷ b → (w ≡ a) × (rest ≡ b)
+pub one_split : (stop : ℕ) (w a rest b : List ℕ) → Lacks stop w → Lacks stop a → w ++ stop ∷ rest ≡ a ++ stop ∷ b
+    → (w ≡ a) × (rest ≡ b)
 one_split stop [] [] rest b lw la e = (refl, cc)
 one_split stop [] (y ∷ a) rest b lw la e = absurd (la zero (omega arith) (sym (first_of e)))
 one_split stop (x ∷ w) [] rest b lw la e = absurd (lw zero (omega arith) (first_of e))
@@ -40,37 +42,46 @@ signed_lacks (negsuc n) stop small low zero lt e = omega arith
 signed_lacks (negsuc n) stop small low (suc k) lt e = decimal_lacks (suc n) stop (omega arith) (omega arith) k (omega arith) e
 
 -- a number ends at the first byte that is no digit
-pub number_first : (stop m n : ℕ) (r s : List ℕ) → stop < 48 → m < 2 ^ 64 → n < 2 ^ 64 → decimal m ++ stop ∷ r ≡ decimal n ++ stop ∷ s → (m ≡ n) × (r ≡ s)
+pub number_first : (stop m n : ℕ) (r s : List ℕ) → stop < 48 → m < 2 ^ 64 → n < 2 ^ 64
+    → decimal m ++ stop ∷ r ≡ decimal n ++ stop ∷ s → (m ≡ n) × (r ≡ s)
 number_first stop m n r s low a b e =
     let same = one_split stop (decimal m) (decimal n) r s (decimal_lacks m stop a low) (decimal_lacks n stop b low) e in
     (decimal_injective m n a b same.0, same.1)
 
-pub signed_first : (stop : ℕ) (y z : ℤ) (r s : List ℕ) → stop < 45 → mag y < 2 ^ 63 → mag z < 2 ^ 63 → signed_decimal y ++ stop ∷ r ≡ signed_decimal z ++ stop ∷ s → (y ≡ z) × (r ≡ s)
+pub signed_first : (stop : ℕ) (y z : ℤ) (r s : List ℕ) → stop < 45 → mag y < 2 ^ 63 → mag z < 2 ^ 63
+    → signed_decimal y ++ stop ∷ r ≡ signed_decimal z ++ stop ∷ s → (y ≡ z) × (r ≡ s)
 signed_first stop y z r s low a b e =
-    let same = one_split stop (signed_decimal y) (signed_decimal z) r s (signed_lacks y stop a low) (signed_lacks z stop b low) e in
+    let same =
+    one_split stop (signed_decimal y) (signed_decimal z) r s (signed_lacks y stop a low) (signed_lacks z stop b low) e in
     (signed_decimal_injective y z a b same.0, same.1)
 
 pub ended_is : (n end : ℕ) (rest : List ℕ) → ended n end ++ rest ≡ decimal n ++ (end ∷ rest)
 ended_is n end rest = append_assoc (decimal n) (end ∷ []) rest
 
-pub ended_code : (m n end : ℕ) (r s : List ℕ) → end < 48 → m < 2 ^ 64 → n < 2 ^ 64 → ended m end ++ r ≡ ended n end ++ s → (m ≡ n) × (r ≡ s)
+pub ended_code : (m n end : ℕ) (r s : List ℕ) → end < 48 → m < 2 ^ 64 → n < 2 ^ 64 → ended m end ++ r ≡ ended n end ++ s
+    → (m ≡ n) × (r ≡ s)
 ended_code m n end r s low a b e = number_first end m n r s low a b (sym (ended_is m end r) ∙ e ∙ ended_is n end s)
 
-pub counted_code : (word : List ℕ) (m n : ℕ) (r s : List ℕ) → m < 2 ^ 64 → n < 2 ^ 64 → counted word m ++ r ≡ counted word n ++ s → (m ≡ n) × (r ≡ s)
+pub counted_code : (word : List ℕ) (m n : ℕ) (r s : List ℕ) → m < 2 ^ 64 → n < 2 ^ 64
+    → counted word m ++ r ≡ counted word n ++ s → (m ≡ n) × (r ≡ s)
 counted_code word m n r s a b e =
-    ended_code m n 10 r s (omega arith) a b (behind_same word _ _ (sym (append_assoc word (ended m 10) r) ∙ e ∙ append_assoc word (ended n 10) s))
+    ended_code m n 10 r s (omega arith) a b
+    (behind_same word _ _ (sym (append_assoc word (ended m 10) r) ∙ e ∙ append_assoc word (ended n 10) s))
 
 -- two values with these texts in front are one value, and what is behind is the same
 abbrev pub IsCode : {A : Type 0} → (A → Type 0) → (A → List ℕ) → Type 0
 IsCode {A} P text = (v w : A) (r s : List ℕ) → P v → P w → text v ++ r ≡ text w ++ s → (v ≡ w) × (r ≡ s)
 
-pub code_list : {A : Type 0} (P : A → Type 0) (line : A → List ℕ) → IsCode P line → (xs ys : List A) (r s : List ℕ) → length xs ≡ length ys → All P xs → All P ys
+pub code_list : {A : Type 0} (P : A → Type 0) (line : A → List ℕ) → IsCode P line → (xs ys : List A) (r s : List ℕ)
+    → length xs ≡ length ys → All P xs → All P ys
     → flat_map line xs ++ r ≡ flat_map line ys ++ s → (xs ≡ ys) × (r ≡ s)
 code_list P line code [] [] r s l a b e = (refl, e)
 code_list P line code [] (y ∷ ys) r s l a b e = absurd (omega arith)
 code_list P line code (x ∷ xs) [] r s l a b e = absurd (omega arith)
 code_list {A} P line code (x ∷ xs) (y ∷ ys) r s l a b e =
-    let first = code x y (flat_map line xs ++ r) (flat_map line ys ++ s) (All-head P x xs a) (All-head P y ys b) (sym (append_assoc (line x) (flat_map line xs) r) ∙ e ∙ append_assoc (line y) (flat_map line ys) s) in
+    let first =
+    code x y (flat_map line xs ++ r) (flat_map line ys ++ s) (All-head P x xs a) (All-head P y ys b)
+    (sym (append_assoc (line x) (flat_map line xs) r) ∙ e ∙ append_assoc (line y) (flat_map line ys) s) in
     let rest = code_list P line code xs ys r s (omega arith) (All-tail P x xs a) (All-tail P y ys b) first.1 in
     (ap (λ (z : A). z ∷ xs) first.0 ∙ ap (λ (zs : List A). y ∷ zs) rest.0, rest.1)
 
@@ -78,14 +89,19 @@ code_list {A} P line code (x ∷ xs) (y ∷ ys) r s l a b e =
 pub code_fewer : {A : Type 0} (P Q : A → Type 0) (text : A → List ℕ) → ((a : A) → P a → Q a) → IsCode Q text → IsCode P text
 code_fewer P Q text are code = λ v w r s a b e. code v w r s (are v a) (are w b) e
 
-pub none_fewer : {A : Type 0} (P Q : A → Type 0) (text_of : A → List ℕ) (text : List ℕ) → ((a : A) → P a → Q a) → BeginsWithNone Q text_of text → BeginsWithNone P text_of text
+pub none_fewer : {A : Type 0} (P Q : A → Type 0) (text_of : A → List ℕ) (text : List ℕ) → ((a : A) → P a → Q a)
+    → BeginsWithNone Q text_of text → BeginsWithNone P text_of text
 none_fewer P Q text_of text are none = λ a rest h e. none a rest (are a h) e
 
-pub between_code : (end least greatest : ℕ) → end < 48 → greatest < 2 ^ 64 → IsCode (IsBetween least greatest) (λ n. ended n end)
-between_code end least greatest low fits = λ m n r s a b e. ended_code m n end r s low (omega (arith, a.1)) (omega (arith, b.1)) e
+pub between_code : (end least greatest : ℕ) → end < 48 → greatest < 2 ^ 64
+    → IsCode (IsBetween least greatest) (λ n. ended n end)
+between_code end least greatest low fits =
+    λ m n r s a b e. ended_code m n end r s low (omega (arith, a.1)) (omega (arith, b.1)) e
 
-pub counted_between_code : (word : List ℕ) (least greatest : ℕ) → greatest < 2 ^ 64 → IsCode (IsBetween least greatest) (counted word)
-counted_between_code word least greatest fits = λ m n r s a b e. counted_code word m n r s (omega (arith, a.1)) (omega (arith, b.1)) e
+pub counted_between_code : (word : List ℕ) (least greatest : ℕ) → greatest < 2 ^ 64
+    → IsCode (IsBetween least greatest) (counted word)
+counted_between_code word least greatest fits =
+    λ m n r s a b e. counted_code word m n r s (omega (arith, a.1)) (omega (arith, b.1)) e
 
 -- ---- two forms, one behind the other
 abbrev pub Both : {A B : Type 0} → (A → Type 0) → (B → Type 0) → A × B → Type 0
@@ -94,15 +110,19 @@ Both P Q p = P p.0 × Q p.1
 abbrev pub joined : {A B : Type 0} → (A → List ℕ) → (B → List ℕ) → A × B → List ℕ
 joined line next p = line p.0 ++ next p.1
 
-pub none_first : {A B : Type 0} (P : A → Type 0) (Q : B → Type 0) (line : A → List ℕ) (next : B → List ℕ) (text : List ℕ) → BeginsWithNone P line text → BeginsWithNone (Both P Q) (joined line next) text
+pub none_first : {A B : Type 0} (P : A → Type 0) (Q : B → Type 0) (line : A → List ℕ) (next : B → List ℕ) (text : List ℕ)
+    → BeginsWithNone P line text → BeginsWithNone (Both P Q) (joined line next) text
 none_first P Q line next text none = λ p rest h e. none p.0 (next p.1 ++ rest) h.0 (e ∙ append_assoc (line p.0) (next p.1) rest)
 
-pub none_second : {A B : Type 0} (P : A → Type 0) (Q : B → Type 0) (line : A → List ℕ) (next : B → List ℕ) (text behind : List ℕ) (a : A) → IsCode P line → P a → text ≡ line a ++ behind → BeginsWithNone Q next behind → BeginsWithNone (Both P Q) (joined line next) text
+pub none_second : {A B : Type 0} (P : A → Type 0) (Q : B → Type 0) (line : A → List ℕ) (next : B → List ℕ)
+    (text behind : List ℕ) (a : A) → IsCode P line → P a → text ≡ line a ++ behind → BeginsWithNone Q next behind
+    → BeginsWithNone (Both P Q) (joined line next) text
 none_second P Q line next text behind a code pa is none = λ p rest h e.
     let same = code a p.0 behind (next p.1 ++ rest) pa h.0 (sym is ∙ (e ∙ append_assoc (line p.0) (next p.1) rest)) in
     none p.1 rest h.1 same.1
 
 -- the same where the first part is fixed
-pub none_behind : {B : Type 0} (Q : B → Type 0) (front : List ℕ) (next : B → List ℕ) (text behind : List ℕ) → text ≡ front ++ behind → BeginsWithNone Q next behind → BeginsWithNone Q (λ b. front ++ next b) text
+pub none_behind : {B : Type 0} (Q : B → Type 0) (front : List ℕ) (next : B → List ℕ) (text behind : List ℕ)
+    → text ≡ front ++ behind → BeginsWithNone Q next behind → BeginsWithNone Q (λ b. front ++ next b) text
 none_behind Q front next text behind is none = λ b rest h e.
     none b rest h (behind_same front behind (next b ++ rest) (sym is ∙ (e ∙ append_assoc front (next b) rest)))

@@ -1,5 +1,6 @@
 -- What a list held stays at its front while more is added.
-use Rattle.std.proofs.Common.{ℕ, ◌≡◌, ◌++◌, refl, ap, ◌∙◌, List, [], ◌∷◌, length, take, Result, Ok, Err, OnErr, Option, Some, None, IfNone}
+use Rattle.std.proofs.Common.{ℕ, ◌≡◌, ◌++◌, refl, ap, ◌∙◌, List, [], ◌∷◌, length, take, Result, Ok, Err, OnErr, Option, Some}
+use Rattle.std.proofs.Common.{None, IfNone}
 
 -- a fact holds at any error
 pub OnErr-holds : {A E : Type 0} (r : Result A E) (P : Type 0) → P → OnErr r P

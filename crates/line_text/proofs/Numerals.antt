@@ -1,10 +1,12 @@
 -- A token is the text of a number where it is plain and consists of digits.
-use Rattle.std.proofs.Common.{ℕ, zero, suc, ◌≡◌, ◌<◌, ◌≤◌, ◌^◌, refl, ap, sym, subst, ◌∙◌, arith, List, ◌∷◌, ◌++◌, length, get_or, decimal, Result, Ok, Err}
+use Rattle.std.proofs.Common.{ℕ, zero, suc, ◌≡◌, ◌<◌, ◌≤◌, ◌^◌, refl, ap, sym, subst, ◌∙◌, arith, List, ◌∷◌, ◌++◌, length}
+use Rattle.std.proofs.Common.{get_or, decimal, Result, Ok, Err}
 use Rattle.std.specs.Str.{IsUtf8}
 use Rattle.std.specs.Str.Parse.{AllDigits, IsNumeral, digits_value, without_leading_plus, ParsesUnsigned}
 use Rattle.std.proofs.lemmas.Str.{IsUtf8-from_ascii}
 use Rattle.std.proofs.lemmas.Str.Parse.{IsNumeralModel, numerals_by_value, tells_digits, digit_at, parse_plain}
-use Rattle.std.proofs.lemmas.Fmt.{decimal_is_IsNumeral, decimal_nonempty, decimal_digit, first_decimal, parse-decimal, decimal-digits_value, IsAscii-decimal, decimal_injective}
+use Rattle.std.proofs.lemmas.Fmt.{decimal_is_IsNumeral, decimal_nonempty, decimal_digit, first_decimal, parse-decimal}
+use Rattle.std.proofs.lemmas.Fmt.{decimal-digits_value, IsAscii-decimal, decimal_injective}
 use Rattle.line_text.specs.Numbers.{ended, BeginsWithNone, Lacks, IsPlain, IsBetween}
 use Rattle.line_text.proofs.Codes.{one_split, decimal_lacks, number_first, ended_is}
 
@@ -36,7 +38,8 @@ parsed : List ℕ → ℕ → Type 0
 parsed text n = ParsesUnsigned {E = ℕ} 64 10 text (Ok n)
 
 -- what is parsed of a plain token prints as the token
-pub parsed_prints : (token text : List ℕ) (n : ℕ) → IsPlain token → text ≡ token → IsParsed text × (n ≡ digits_value 10 (without_leading_plus text)) → token ≡ decimal n
+pub parsed_prints : (token text : List ℕ) (n : ℕ) → IsPlain token → text ≡ token
+    → IsParsed text × (n ≡ digits_value 10 (without_leading_plus text)) → token ≡ decimal n
 unfolding parsed
 parsed_prints token text n plain same h =
     let r : Result ℕ ℕ = Ok n in
@@ -51,20 +54,29 @@ not_parsed token text n lt same h e =
 
 -- ---- numbers at the front of a text
 -- the token before the end is the number's text
-same_token : (text token behind : List ℕ) (n end : ℕ) (rest : List ℕ) → end < 48 → n < 2 ^ 64 → text ≡ token ++ (end ∷ behind) → Lacks end token → text ≡ ended n end ++ rest → token ≡ decimal n
+same_token : (text token behind : List ℕ) (n end : ℕ) (rest : List ℕ) → end < 48 → n < 2 ^ 64 → text ≡ token ++ (end ∷ behind)
+    → Lacks end token → text ≡ ended n end ++ rest → token ≡ decimal n
 same_token text token behind n end rest low lt e lacks f =
     (one_split end token (decimal n) behind rest lacks (decimal_lacks n end lt low) (sym e ∙ (f ∙ ended_is n end rest))).0
 
-pub no_token : (text token behind : List ℕ) (end limit : ℕ) → end < 48 → limit < 2 ^ 64 → text ≡ token ++ (end ∷ behind) → Lacks end token → ((n : ℕ) → n < 2 ^ 64 → ¬ (token ≡ decimal n)) → BeginsWithNone (λ n. n ≤ limit) (λ n. ended n end) text
-no_token text token behind end limit low fits e lacks none = λ n rest le f. none n (omega arith) (same_token text token behind n end rest low (omega arith) e lacks f)
+pub no_token : (text token behind : List ℕ) (end limit : ℕ) → end < 48 → limit < 2 ^ 64 → text ≡ token ++ (end ∷ behind)
+    → Lacks end token → ((n : ℕ) → n < 2 ^ 64 → ¬ (token ≡ decimal n)) → BeginsWithNone (λ n. n ≤ limit) (λ n. ended n end) text
+no_token text token behind end limit low fits e lacks none =
+    λ n rest le f. none n (omega arith) (same_token text token behind n end rest low (omega arith) e lacks f)
 
-pub over_limit : (text token behind : List ℕ) (end limit m : ℕ) → end < 48 → limit < m → m < 2 ^ 64 → text ≡ token ++ (end ∷ behind) → Lacks end token → token ≡ decimal m → BeginsWithNone (λ n. n ≤ limit) (λ n. ended n end) text
+pub over_limit : (text token behind : List ℕ) (end limit m : ℕ) → end < 48 → limit < m → m < 2 ^ 64
+    → text ≡ token ++ (end ∷ behind) → Lacks end token → token ≡ decimal m
+    → BeginsWithNone (λ n. n ≤ limit) (λ n. ended n end) text
 over_limit text token behind end limit m low less fits e lacks is = λ n rest le f.
-    let same : n ≡ m = decimal_injective n m (omega arith) fits (sym (same_token text token behind n end rest low (omega arith) e lacks f) ∙ is) in
+    let same : n ≡ m =
+    decimal_injective n m (omega arith) fits (sym (same_token text token behind n end rest low (omega arith) e lacks f) ∙ is) in
     omega arith
 
 -- ---- numbers from a least to a greatest
-pub under_least : (text rest : List ℕ) (end least greatest m : ℕ) → end < 48 → m < 2 ^ 64 → greatest < 2 ^ 64 → m < least → text ≡ ended m end ++ rest → BeginsWithNone (IsBetween least greatest) (λ n. ended n end) text
+pub under_least : (text rest : List ℕ) (end least greatest m : ℕ) → end < 48 → m < 2 ^ 64 → greatest < 2 ^ 64 → m < least
+    → text ≡ ended m end ++ rest → BeginsWithNone (IsBetween least greatest) (λ n. ended n end) text
 under_least text rest end least greatest m low fits top less is = λ n behind h f.
-    let same = number_first end m n rest behind low fits (omega (arith, h.1)) (sym (ended_is m end rest) ∙ (sym is ∙ (f ∙ ended_is n end behind))) in
+    let same =
+    number_first end m n rest behind low fits (omega (arith, h.1))
+    (sym (ended_is m end rest) ∙ (sym is ∙ (f ∙ ended_is n end behind))) in
     omega (arith, same.0, h.0)

@@ -1,23 +1,31 @@
 -- Parts of a text, one behind the other: the whole is refused in one way, and not where all parts are good.
-use Rattle.std.proofs.Common.{ℕ, ◌≡◌, ◌+◌, ◌-◌, ◌<◌, ◌^◌, inl, inr, refl, ap, sym, subst, ◌∙◌, arith, Option, List, [], ◌++◌, length, append_assoc}
+use Rattle.std.proofs.Common.{ℕ, ◌≡◌, ◌+◌, ◌-◌, ◌<◌, ◌^◌, inl, inr, refl, ap, sym, subst, ◌∙◌, arith, Option, List, [], ◌++◌}
+use Rattle.std.proofs.Common.{length, append_assoc}
 use Rattle.std.specs.List.{flat_map}
 use Rattle.line_text.specs.Numbers.{counted, BeginsWithNone, IsBetween}
 use Rattle.line_text.specs.declared.refusal.LineRefusal.{LineRefusal}
-use Rattle.line_text.specs.Refusals.{line_after, RefusedWord, RefusedNumber, AreRows, AreCounted, IsRefusedRow, AtPart, AtWord, AtNumber, AtRows, AtList, RefusedList, list_text, IsList, IsBehindEnd}
+use Rattle.line_text.specs.Refusals.{line_after, RefusedWord, RefusedNumber, AreRows, AreCounted, IsRefusedRow, AtPart, AtWord}
+use Rattle.line_text.specs.Refusals.{AtNumber, AtRows, AtList, RefusedList, list_text, IsList, IsBehindEnd}
 use Rattle.line_text.proofs.Codes.{IsCode, behind_same, code_list, counted_between_code}
 use Rattle.line_text.proofs.Fronts.{cut_or_bad_same, row_same, row_not_good}
 
 -- ---- any part
-pub part_once : {A : Type 0} (P : A → Type 0) (text_of : A → List ℕ) → IsCode P text_of → (text : List ℕ) (R S X : Type 0) (K L : A → List ℕ → Type 0) → (R → S → X) → (R → BeginsWithNone P text_of text) → (S → BeginsWithNone P text_of text)
+pub part_once : {A : Type 0} (P : A → Type 0) (text_of : A → List ℕ) → IsCode P text_of
+    → (text : List ℕ) (R S X : Type 0) (K L : A → List ℕ → Type 0) → (R → S → X) → (R → BeginsWithNone P text_of text)
+    → (S → BeginsWithNone P text_of text)
     → AtPart P text_of text R K → AtPart P text_of text S L → ((a : A) (rest : List ℕ) → P a → K a rest → L a rest → X) → X
 part_once P text_of code text R S X K L once none_r none_s (inl h) (inl k) next = once h k
-part_once P text_of code text R S X K L once none_r none_s (inl h) (inr k) next = absurd (none_r h k.value k.rest k.form k.front)
-part_once P text_of code text R S X K L once none_r none_s (inr h) (inl k) next = absurd (none_s k h.value h.rest h.form h.front)
+part_once P text_of code text R S X K L once none_r none_s (inl h) (inr k) next =
+    absurd (none_r h k.value k.rest k.form k.front)
+part_once P text_of code text R S X K L once none_r none_s (inr h) (inl k) next =
+    absurd (none_s k h.value h.rest h.form h.front)
 part_once {A} P text_of code text R S X K L once none_r none_s (inr h) (inr k) next =
     let both = code h.value k.value h.rest k.rest h.form k.form (sym h.front ∙ k.front) in
-    next h.value h.rest h.form h.next (subst (λ (t : List ℕ). L h.value t) (sym both.1) (subst (λ (a : A). L a k.rest) (sym both.0) k.next))
+    next h.value h.rest h.form h.next
+    (subst (λ (t : List ℕ). L h.value t) (sym both.1) (subst (λ (a : A). L a k.rest) (sym both.0) k.next))
 
-pub part_passed : {A : Type 0} (P : A → Type 0) (text_of : A → List ℕ) → IsCode P text_of → (text rest : List ℕ) (a : A) (R : Type 0) (Next : A → List ℕ → Type 0) → (R → BeginsWithNone P text_of text)
+pub part_passed : {A : Type 0} (P : A → Type 0) (text_of : A → List ℕ) → IsCode P text_of
+    → (text rest : List ℕ) (a : A) (R : Type 0) (Next : A → List ℕ → Type 0) → (R → BeginsWithNone P text_of text)
     → AtPart P text_of text R Next → P a → text ≡ text_of a ++ rest → (Next a rest → ⊥) → ⊥
 part_passed P text_of code text rest a R Next none (inl h) form front never = none h a rest form front
 part_passed {A} P text_of code text rest a R Next none (inr h) form front never =
@@ -25,103 +33,152 @@ part_passed {A} P text_of code text rest a R Next none (inr h) form front never 
     never (subst (λ (t : List ℕ). Next a t) both.1 (subst (λ (b : A). Next b h.rest) both.0 h.next))
 
 -- ---- a fixed text
-pub word_once : (word : List ℕ) (n : ℕ) (text : List ℕ) (r s : LineRefusal) (K L : List ℕ → Type 0) → AtWord word n text r K → AtWord word n text s L → ((rest : List ℕ) → K rest → L rest → r ≡ s) → r ≡ s
+pub word_once : (word : List ℕ) (n : ℕ) (text : List ℕ) (r s : LineRefusal) (K L : List ℕ → Type 0) → AtWord word n text r K
+    → AtWord word n text s L → ((rest : List ℕ) → K rest → L rest → r ≡ s) → r ≡ s
 word_once word n text r s K L (inl h) (inl k) next = cut_or_bad_same n text r s h.1 k.1
 word_once word n text r s K L (inl h) (inr k) next = absurd (h.0 k.0 k.1)
 word_once word n text r s K L (inr h) (inl k) next = absurd (k.0 h.0 h.1)
 word_once word n text r s K L (inr h) (inr k) next = next h.0 h.2 (subst L (behind_same word k.0 h.0 (sym k.1 ∙ h.1)) k.2)
 
-pub word_passed : (word : List ℕ) (n : ℕ) (text rest : List ℕ) (r : LineRefusal) (Next : List ℕ → Type 0) → AtWord word n text r Next → text ≡ word ++ rest → (Next rest → ⊥) → ⊥
+pub word_passed : (word : List ℕ) (n : ℕ) (text rest : List ℕ) (r : LineRefusal) (Next : List ℕ → Type 0)
+    → AtWord word n text r Next → text ≡ word ++ rest → (Next rest → ⊥) → ⊥
 word_passed word n text rest r Next (inl h) front never = h.0 rest front
 word_passed word n text rest r Next (inr h) front never = never (subst Next (behind_same word h.0 rest (sym h.1 ∙ front)) h.2)
 
 -- the line as the code has it: its word is a value that is this text
-pub word_refused : (shown word : List ℕ) (n : ℕ) (text : List ℕ) (r : LineRefusal) (Next : List ℕ → Type 0) → shown ≡ word → RefusedWord shown n text r → AtWord word n text r Next
+pub word_refused : (shown word : List ℕ) (n : ℕ) (text : List ℕ) (r : LineRefusal) (Next : List ℕ → Type 0) → shown ≡ word
+    → RefusedWord shown n text r → AtWord word n text r Next
 word_refused shown word n text r Next e h = inl (subst (λ (w : List ℕ). RefusedWord w n text r) e h)
 
 pub behind_word : (shown word text rest : List ℕ) → shown ≡ word → text ≡ shown ++ rest → text ≡ word ++ rest
 behind_word shown word text rest e f = f ∙ ap (λ (w : List ℕ). w ++ rest) e
 
-pub word_good : (shown word : List ℕ) (n : ℕ) (text rest : List ℕ) (r : LineRefusal) (Next : List ℕ → Type 0) → shown ≡ word → text ≡ shown ++ rest → Next rest → AtWord word n text r Next
+pub word_good : (shown word : List ℕ) (n : ℕ) (text rest : List ℕ) (r : LineRefusal) (Next : List ℕ → Type 0) → shown ≡ word
+    → text ≡ shown ++ rest → Next rest → AtWord word n text r Next
 word_good shown word n text rest r Next e f next = inr (rest, behind_word shown word text rest e f, next)
 
 -- ---- a word and a number
-pub number_once : (word : List ℕ) (least greatest n : ℕ) (text : List ℕ) (r s : LineRefusal) (K L : ℕ → List ℕ → Type 0) → greatest < 2 ^ 64
-    → AtNumber word least greatest n text r K → AtNumber word least greatest n text s L → ((a : ℕ) (rest : List ℕ) → IsBetween least greatest a → K a rest → L a rest → r ≡ s) → r ≡ s
+pub number_once : (word : List ℕ) (least greatest n : ℕ) (text : List ℕ) (r s : LineRefusal) (K L : ℕ → List ℕ → Type 0)
+    → greatest < 2 ^ 64
+    → AtNumber word least greatest n text r K → AtNumber word least greatest n text s L
+    → ((a : ℕ) (rest : List ℕ) → IsBetween least greatest a → K a rest → L a rest → r ≡ s) → r ≡ s
 number_once word least greatest n text r s K L fits =
-    part_once (IsBetween least greatest) (counted word) (counted_between_code word least greatest fits) text (RefusedNumber word least greatest n text r) (RefusedNumber word least greatest n text s) (r ≡ s) K L
+    part_once (IsBetween least greatest) (counted word) (counted_between_code word least greatest fits) text
+    (RefusedNumber word least greatest n text r) (RefusedNumber word least greatest n text s) (r ≡ s) K L
     (λ h k. cut_or_bad_same n text r s h.1 k.1) (λ h. h.0) (λ k. k.0)
 
-pub number_passed : (word : List ℕ) (least greatest n a : ℕ) (text rest : List ℕ) (r : LineRefusal) (Next : ℕ → List ℕ → Type 0) → greatest < 2 ^ 64 → AtNumber word least greatest n text r Next → IsBetween least greatest a → text ≡ counted word a ++ rest → (Next a rest → ⊥) → ⊥
+pub number_passed : (word : List ℕ) (least greatest n a : ℕ) (text rest : List ℕ) (r : LineRefusal) (Next : ℕ → List ℕ → Type 0)
+    → greatest < 2 ^ 64 → AtNumber word least greatest n text r Next → IsBetween least greatest a
+    → text ≡ counted word a ++ rest → (Next a rest → ⊥) → ⊥
 number_passed word least greatest n a text rest r Next fits =
-    part_passed (IsBetween least greatest) (counted word) (counted_between_code word least greatest fits) text rest a (RefusedNumber word least greatest n text r) Next (λ h. h.0)
+    part_passed (IsBetween least greatest) (counted word) (counted_between_code word least greatest fits) text rest a
+    (RefusedNumber word least greatest n text r) Next (λ h. h.0)
 
 -- the line as the code has it
-pub number_refused : (shown word : List ℕ) (least greatest n : ℕ) (text : List ℕ) (r : LineRefusal) (Next : ℕ → List ℕ → Type 0) → shown ≡ word → RefusedNumber shown least greatest n text r → AtNumber word least greatest n text r Next
-number_refused shown word least greatest n text r Next e h = inl (subst (λ (w : List ℕ). RefusedNumber w least greatest n text r) e h)
+pub number_refused : (shown word : List ℕ) (least greatest n : ℕ) (text : List ℕ) (r : LineRefusal) (Next : ℕ → List ℕ → Type 0)
+    → shown ≡ word → RefusedNumber shown least greatest n text r → AtNumber word least greatest n text r Next
+number_refused shown word least greatest n text r Next e h =
+    inl (subst (λ (w : List ℕ). RefusedNumber w least greatest n text r) e h)
 
-pub behind_number : (shown word text rest : List ℕ) (a : ℕ) → shown ≡ word → text ≡ counted shown a ++ rest → text ≡ counted word a ++ rest
+pub behind_number : (shown word text rest : List ℕ) (a : ℕ) → shown ≡ word → text ≡ counted shown a ++ rest
+    → text ≡ counted word a ++ rest
 behind_number shown word text rest a e f = f ∙ ap (λ (w : List ℕ). counted w a ++ rest) e
 
-pub number_good : (shown word : List ℕ) (least greatest n a : ℕ) (text rest : List ℕ) (r : LineRefusal) (Next : ℕ → List ℕ → Type 0) → shown ≡ word → IsBetween least greatest a → text ≡ counted shown a ++ rest → Next a rest → AtNumber word least greatest n text r Next
-number_good shown word least greatest n a text rest r Next e form f next = inr (record { value = a; rest = rest; form = form; front = behind_number shown word text rest a e f; next = next })
+pub number_good : (shown word : List ℕ) (least greatest n a : ℕ) (text rest : List ℕ) (r : LineRefusal)
+    (Next : ℕ → List ℕ → Type 0) → shown ≡ word → IsBetween least greatest a → text ≡ counted shown a ++ rest → Next a rest
+    → AtNumber word least greatest n text r Next
+number_good shown word least greatest n a text rest r Next e form f next =
+    inr (record { value = a; rest = rest; form = form; front = behind_number shown word text rest a e f; next = next })
 
 -- ---- rows
-rows_code : {A : Type 0} (P : A → Type 0) (line_of : A → List ℕ) (order : Option (A → List ℕ)) (count : ℕ) → IsCode P line_of → IsCode (AreCounted P order count) (flat_map line_of)
-rows_code P line_of order count code = λ xs ys r s a b e. code_list P line_of code xs ys r s (a.0 ∙ sym b.0) (a.1).each (b.1).each e
+rows_code : {A : Type 0} (P : A → Type 0) (line_of : A → List ℕ) (order : Option (A → List ℕ)) (count : ℕ) → IsCode P line_of
+    → IsCode (AreCounted P order count) (flat_map line_of)
+rows_code P line_of order count code =
+    λ xs ys r s a b e. code_list P line_of code xs ys r s (a.0 ∙ sym b.0) (a.1).each (b.1).each e
 
-pub rows_once : {A : Type 0} (P : A → Type 0) (line_of : A → List ℕ) (order : Option (A → List ℕ)) → IsCode P line_of → (count n : ℕ) (text : List ℕ) (r s : LineRefusal) (K L : List A → List ℕ → Type 0)
-    → AtRows P line_of order count n text r K → AtRows P line_of order count n text s L → ((rows : List A) (rest : List ℕ) → AreCounted P order count rows → K rows rest → L rows rest → r ≡ s) → r ≡ s
+pub rows_once : {A : Type 0} (P : A → Type 0) (line_of : A → List ℕ) (order : Option (A → List ℕ)) → IsCode P line_of
+    → (count n : ℕ) (text : List ℕ) (r s : LineRefusal) (K L : List A → List ℕ → Type 0)
+    → AtRows P line_of order count n text r K → AtRows P line_of order count n text s L
+    → ((rows : List A) (rest : List ℕ) → AreCounted P order count rows → K rows rest → L rows rest → r ≡ s) → r ≡ s
 rows_once P line_of order code count n text r s K L =
-    part_once (AreCounted P order count) (flat_map line_of) (rows_code P line_of order count code) text (IsRefusedRow P line_of order count n text r) (IsRefusedRow P line_of order count n text s) (r ≡ s) K L
+    part_once (AreCounted P order count) (flat_map line_of) (rows_code P line_of order count code) text
+    (IsRefusedRow P line_of order count n text r) (IsRefusedRow P line_of order count n text s) (r ≡ s) K L
     (row_same P line_of order code count n text r s)
     (λ h rows rest form front. row_not_good P line_of order code count n text rest rows r h form.0 form.1 front)
     (λ k rows rest form front. row_not_good P line_of order code count n text rest rows s k form.0 form.1 front)
 
-pub rows_passed : {A : Type 0} (P : A → Type 0) (line_of : A → List ℕ) (order : Option (A → List ℕ)) → IsCode P line_of → (count n : ℕ) (text rest : List ℕ) (rows : List A) (r : LineRefusal) (Next : List A → List ℕ → Type 0)
-    → AtRows P line_of order count n text r Next → AreCounted P order count rows → text ≡ flat_map line_of rows ++ rest → (Next rows rest → ⊥) → ⊥
+pub rows_passed : {A : Type 0} (P : A → Type 0) (line_of : A → List ℕ) (order : Option (A → List ℕ)) → IsCode P line_of
+    → (count n : ℕ) (text rest : List ℕ) (rows : List A) (r : LineRefusal) (Next : List A → List ℕ → Type 0)
+    → AtRows P line_of order count n text r Next → AreCounted P order count rows → text ≡ flat_map line_of rows ++ rest
+    → (Next rows rest → ⊥) → ⊥
 rows_passed P line_of order code count n text rest rows r Next =
-    part_passed (AreCounted P order count) (flat_map line_of) (rows_code P line_of order count code) text rest rows (IsRefusedRow P line_of order count n text r) Next
+    part_passed (AreCounted P order count) (flat_map line_of) (rows_code P line_of order count code) text rest rows
+    (IsRefusedRow P line_of order count n text r) Next
     (λ h some behind good is. row_not_good P line_of order code count n text behind some r h good.0 good.1 is)
 
-pub rows_good : {A : Type 0} (P : A → Type 0) (line_of : A → List ℕ) (order : Option (A → List ℕ)) (count n : ℕ) (text rest : List ℕ) (rows : List A) (r : LineRefusal) (Next : List A → List ℕ → Type 0) → AreCounted P order count rows → text ≡ flat_map line_of rows ++ rest → Next rows rest → AtRows P line_of order count n text r Next
-rows_good P line_of order count n text rest rows r Next form front next = inr (record { value = rows; rest = rest; form = form; front = front; next = next })
+pub rows_good : {A : Type 0} (P : A → Type 0) (line_of : A → List ℕ) (order : Option (A → List ℕ)) (count n : ℕ)
+    (text rest : List ℕ) (rows : List A) (r : LineRefusal) (Next : List A → List ℕ → Type 0) → AreCounted P order count rows
+    → text ≡ flat_map line_of rows ++ rest → Next rows rest → AtRows P line_of order count n text r Next
+rows_good P line_of order count n text rest rows r Next form front next =
+    inr (record { value = rows; rest = rest; form = form; front = front; next = next })
 
 -- ---- a list with its length before it
-pub list_once : {A : Type 0} (P : A → Type 0) (line_of : A → List ℕ) (order : Option (A → List ℕ)) → IsCode P line_of → (word : List ℕ) (n : ℕ) (text : List ℕ) (r s : LineRefusal) (K L : ℕ → List ℕ → Type 0)
-    → AtList P line_of order word n text r K → AtList P line_of order word n text s L → ((m : ℕ) (rest : List ℕ) → K m rest → L m rest → r ≡ s) → r ≡ s
+pub list_once : {A : Type 0} (P : A → Type 0) (line_of : A → List ℕ) (order : Option (A → List ℕ)) → IsCode P line_of
+    → (word : List ℕ) (n : ℕ) (text : List ℕ) (r s : LineRefusal) (K L : ℕ → List ℕ → Type 0)
+    → AtList P line_of order word n text r K → AtList P line_of order word n text s L
+    → ((m : ℕ) (rest : List ℕ) → K m rest → L m rest → r ≡ s) → r ≡ s
 list_once P line_of order code word n text r s K L h k next =
     number_once word 0 (2 ^ 64 - 1) n text r s _ _ (omega arith) h k (λ count rows _ i j.
-    rows_once P line_of order code count (line_after n 1) rows r s _ _ i j (λ _ rest _. next (line_after (line_after n 1) count) rest))
+    rows_once P line_of order code count (line_after n 1) rows r s _ _ i j
+    (λ _ rest _. next (line_after (line_after n 1) count) rest))
 
-pub list_passed : {A : Type 0} (P : A → Type 0) (line_of : A → List ℕ) (order : Option (A → List ℕ)) → IsCode P line_of → (word : List ℕ) (n : ℕ) (text rest : List ℕ) (rows : List A) (r : LineRefusal) (Next : ℕ → List ℕ → Type 0) → AtList P line_of order word n text r Next → length rows < 2 ^ 64 → AreRows P order rows
-    → text ≡ counted word (length rows) ++ (flat_map line_of rows ++ rest) → (Next (line_after (line_after n 1) (length rows)) rest → ⊥) → ⊥
+pub list_passed : {A : Type 0} (P : A → Type 0) (line_of : A → List ℕ) (order : Option (A → List ℕ)) → IsCode P line_of
+    → (word : List ℕ) (n : ℕ) (text rest : List ℕ) (rows : List A) (r : LineRefusal) (Next : ℕ → List ℕ → Type 0)
+    → AtList P line_of order word n text r Next → length rows < 2 ^ 64 → AreRows P order rows
+    → text ≡ counted word (length rows) ++ (flat_map line_of rows ++ rest)
+    → (Next (line_after (line_after n 1) (length rows)) rest → ⊥) → ⊥
 list_passed P line_of order code word n text rest rows r Next h few good front never =
-    number_passed word 0 (2 ^ 64 - 1) n (length rows) text (flat_map line_of rows ++ rest) r _ (omega arith) h (omega arith, omega arith) front (λ k.
-    rows_passed P line_of order code (length rows) (line_after n 1) (flat_map line_of rows ++ rest) rest rows r _ k (refl, good) refl never)
+    number_passed word 0 (2 ^ 64 - 1) n (length rows) text (flat_map line_of rows ++ rest) r _ (omega arith) h
+    (omega arith, omega arith) front (λ k.
+    rows_passed P line_of order code (length rows) (line_after n 1) (flat_map line_of rows ++ rest) rest rows r _ k
+    (refl, good) refl never)
 
 -- a list as the code has it, at its length, at a row, and whole
-pub list_unstated : {A : Type 0} (P : A → Type 0) (line_of : A → List ℕ) (order : Option (A → List ℕ)) (shown word : List ℕ) (n : ℕ) (text : List ℕ) (r : LineRefusal) → shown ≡ word → RefusedNumber shown 0 (2 ^ 64 - 1) n text r → RefusedList P line_of order word n text r
+pub list_unstated : {A : Type 0} (P : A → Type 0) (line_of : A → List ℕ) (order : Option (A → List ℕ)) (shown word : List ℕ)
+    (n : ℕ) (text : List ℕ) (r : LineRefusal) → shown ≡ word → RefusedNumber shown 0 (2 ^ 64 - 1) n text r
+    → RefusedList P line_of order word n text r
 list_unstated P line_of order shown word n text r e h = number_refused shown word 0 (2 ^ 64 - 1) n text r _ e h
 
-pub list_row : {A : Type 0} (P : A → Type 0) (line_of : A → List ℕ) (order : Option (A → List ℕ)) (shown word : List ℕ) (n m count : ℕ) (text rest : List ℕ) (r : LineRefusal) → shown ≡ word → IsBetween 0 (2 ^ 64 - 1) count → text ≡ counted shown count ++ rest → m ≡ line_after n 1 → IsRefusedRow P line_of order count m rest r
+pub list_row : {A : Type 0} (P : A → Type 0) (line_of : A → List ℕ) (order : Option (A → List ℕ)) (shown word : List ℕ)
+    (n m count : ℕ) (text rest : List ℕ) (r : LineRefusal) → shown ≡ word → IsBetween 0 (2 ^ 64 - 1) count
+    → text ≡ counted shown count ++ rest → m ≡ line_after n 1 → IsRefusedRow P line_of order count m rest r
     → RefusedList P line_of order word n text r
-list_row P line_of order shown word n m count text rest r e form f is h = number_good shown word 0 (2 ^ 64 - 1) n count text rest r _ e form f (inl (subst (λ (k : ℕ). IsRefusedRow P line_of order count k rest r) is h))
+list_row P line_of order shown word n m count text rest r e form f is h =
+    number_good shown word 0 (2 ^ 64 - 1) n count text rest r _ e form f
+    (inl (subst (λ (k : ℕ). IsRefusedRow P line_of order count k rest r) is h))
 
-pub list_refused : {A : Type 0} (P : A → Type 0) (line_of : A → List ℕ) (order : Option (A → List ℕ)) (word : List ℕ) (n : ℕ) (text : List ℕ) (r : LineRefusal) (Next : ℕ → List ℕ → Type 0) → RefusedList P line_of order word n text r → AtList P line_of order word n text r Next
+pub list_refused : {A : Type 0} (P : A → Type 0) (line_of : A → List ℕ) (order : Option (A → List ℕ)) (word : List ℕ) (n : ℕ)
+    (text : List ℕ) (r : LineRefusal) (Next : ℕ → List ℕ → Type 0) → RefusedList P line_of order word n text r
+    → AtList P line_of order word n text r Next
 list_refused P line_of order word n text r Next (inl h) = inl h
-list_refused P line_of order word n text r Next (inr h) = inr (record { value = h.value; rest = h.rest; form = h.form; front = h.front; next = by h.next })
+list_refused P line_of order word n text r Next (inr h) =
+    inr (record { value = h.value; rest = h.rest; form = h.form; front = h.front; next = by h.next })
   where
-    by : AtRows P line_of order h.value (line_after n 1) h.rest r (λ _ _. ⊥) → AtRows P line_of order h.value (line_after n 1) h.rest r (λ _ rest. Next (line_after (line_after n 1) h.value) rest)
+    by : AtRows P line_of order h.value (line_after n 1) h.rest r (λ _ _. ⊥)
+        → AtRows P line_of order h.value (line_after n 1) h.rest r (λ _ rest. Next (line_after (line_after n 1) h.value) rest)
     by (inl k) = inl k
     by (inr k) = absurd k.next
 
-pub list_good : {A : Type 0} (P : A → Type 0) (line_of : A → List ℕ) (order : Option (A → List ℕ)) (word : List ℕ) (n m : ℕ) (text rest : List ℕ) (rows : List A) (r : LineRefusal) (Next : ℕ → List ℕ → Type 0) → IsList P order rows → text ≡ list_text line_of word rows ++ rest → m ≡ line_after n (1 + length rows) → Next m rest
+pub list_good : {A : Type 0} (P : A → Type 0) (line_of : A → List ℕ) (order : Option (A → List ℕ)) (word : List ℕ) (n m : ℕ)
+    (text rest : List ℕ) (rows : List A) (r : LineRefusal) (Next : ℕ → List ℕ → Type 0) → IsList P order rows
+    → text ≡ list_text line_of word rows ++ rest → m ≡ line_after n (1 + length rows) → Next m rest
     → AtList P line_of order word n text r Next
 list_good P line_of order word n m text rest rows r Next form front is next =
     let place : m ≡ line_after (line_after n 1) (length rows) = omega (arith, is) in
-    number_good word word 0 (2 ^ 64 - 1) n (length rows) text (flat_map line_of rows ++ rest) r _ refl (omega arith, omega (arith, form.0)) (front ∙ append_assoc (counted word (length rows)) (flat_map line_of rows) rest)
-    (rows_good P line_of order (length rows) (line_after n 1) (flat_map line_of rows ++ rest) rest rows r _ (refl, form.1) refl (subst (λ (k : ℕ). Next k rest) place next))
+    number_good word word 0 (2 ^ 64 - 1) n (length rows) text (flat_map line_of rows ++ rest) r _ refl
+    (omega arith, omega (arith, form.0)) (front ∙ append_assoc (counted word (length rows)) (flat_map line_of rows) rest)
+    (rows_good P line_of order (length rows) (line_after n 1) (flat_map line_of rows ++ rest) rest rows r _ (refl, form.1) refl
+    (subst (λ (k : ℕ). Next k rest) place next))
 
 -- ---- the end
 pub end_once : (n : ℕ) (rest : List ℕ) (r s : LineRefusal) → IsBehindEnd n rest r → IsBehindEnd n rest s → r ≡ s

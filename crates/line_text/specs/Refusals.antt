@@ -16,7 +16,8 @@
 --   RefusedList                  a list is refused
 --   list_text, IsList            the text of a whole list, and when its rows are good
 --   IsBehindEnd n rest r         something follows the last line, as a line n of its own
-use Rattle.std.specs.Prelude.{ℕ, ◌≡◌, ◌⊎◌, ◌+◌, ◌-◌, ◌<◌, ◌^◌, min, Option, Some, None, List, [], ◌∷◌, ◌++◌, All, AllPairs, Contains, length, map}
+use Rattle.std.specs.Prelude.{ℕ, ◌≡◌, ◌⊎◌, ◌+◌, ◌-◌, ◌<◌, ◌^◌, min, Option, Some, None, List, [], ◌∷◌, ◌++◌, All, AllPairs}
+use Rattle.std.specs.Prelude.{Contains, length, map}
 use Rattle.std.specs.List.{flat_map}
 use Rattle.line_text.specs.Numbers.{line_feed, counted, Lacks, BeginsWithNone, IsBetween}
 use Rattle.line_text.specs.Rising.{IsBefore}
@@ -56,7 +57,8 @@ Rise (Some key) rows = AllPairs IsBefore (map key rows)
 -- the row rises above the row before it, if there is one and rows have to rise
 abbrev pub RisesAbove : {A : Type 0} → Option (A → List ℕ) → List A → A → Type 0
 RisesAbove None rows row = Unit {0}
-RisesAbove {A} (Some key) rows row = (earlier : List A) (before : A) → rows ≡ earlier ++ before ∷ [] → IsBefore (key before) (key row)
+RisesAbove {A} (Some key) rows row =
+    (earlier : List A) (before : A) → rows ≡ earlier ++ before ∷ [] → IsBefore (key before) (key row)
 
 -- rows of their form that rise
 pub record AreRows {A : Type 0} (IsForm : A → Type 0) (order : Option (A → List ℕ)) (rows : List A) : Type 0 where
@@ -68,7 +70,8 @@ abbrev pub AreCounted : {A : Type 0} → (A → Type 0) → Option (A → List �
 AreCounted IsForm order count rows = (length rows ≡ count) × AreRows IsForm order rows
 
 -- line n is of the form, but its row does not rise above the row before it
-pub record IsOutOfOrder {A : Type 0} (IsForm : A → Type 0) (line_of : A → List ℕ) (order : Option (A → List ℕ)) (rows : List A) (n : ℕ) (text : List ℕ) (r : LineRefusal) : Type 0 where
+pub record IsOutOfOrder {A : Type 0} (IsForm : A → Type 0) (line_of : A → List ℕ) (order : Option (A → List ℕ)) (rows : List A)
+    (n : ℕ) (text : List ℕ) (r : LineRefusal) : Type 0 where
   pub row : A
   pub rest : List ℕ
   pub form : IsForm row
@@ -77,11 +80,14 @@ pub record IsOutOfOrder {A : Type 0} (IsForm : A → Type 0) (line_of : A → Li
   pub says : r ≡ Order n
 
 -- the row at line n, behind these rows, is not of its form or out of order
-abbrev pub IsRefusedLine : {A : Type 0} → (A → Type 0) → (A → List ℕ) → Option (A → List ℕ) → List A → ℕ → List ℕ → LineRefusal → Type 0
-IsRefusedLine IsForm line_of order rows n text r = (BeginsWithNone IsForm line_of text × IsCutOrBad n text r) ⊎ IsOutOfOrder IsForm line_of order rows n text r
+abbrev pub IsRefusedLine : {A : Type 0} → (A → Type 0) → (A → List ℕ) → Option (A → List ℕ) → List A → ℕ → List ℕ → LineRefusal
+    → Type 0
+IsRefusedLine IsForm line_of order rows n text r =
+    (BeginsWithNone IsForm line_of text × IsCutOrBad n text r) ⊎ IsOutOfOrder IsForm line_of order rows n text r
 
 -- one of `count` rows that begin at line n is refused, and the rows before it are good
-pub record IsRefusedRow {A : Type 0} (IsForm : A → Type 0) (line_of : A → List ℕ) (order : Option (A → List ℕ)) (count n : ℕ) (text : List ℕ) (r : LineRefusal) : Type 0 where
+pub record IsRefusedRow {A : Type 0} (IsForm : A → Type 0) (line_of : A → List ℕ) (order : Option (A → List ℕ)) (count n : ℕ)
+    (text : List ℕ) (r : LineRefusal) : Type 0 where
   pub rows : List A
   pub rest : List ℕ
   pub few : length rows < count
@@ -91,7 +97,8 @@ pub record IsRefusedRow {A : Type 0} (IsForm : A → Type 0) (line_of : A → Li
 
 -- ---- parts, one behind the other
 -- a part of the form stands in front, and what is said of the text behind it holds
-pub record BeginsWith {A : Type 0} (IsForm : A → Type 0) (text_of : A → List ℕ) (text : List ℕ) (Next : A → List ℕ → Type 0) : Type 0 where
+pub record BeginsWith {A : Type 0} (IsForm : A → Type 0) (text_of : A → List ℕ) (text : List ℕ)
+    (Next : A → List ℕ → Type 0) : Type 0 where
   pub value : A
   pub rest : List ℕ
   pub form : IsForm value
@@ -108,19 +115,26 @@ AtWord word n text r Next = RefusedWord word n text r ⊎ ((rest : List ℕ) × 
 
 -- line n, a word and a number
 abbrev pub AtNumber : List ℕ → (least greatest : ℕ) → ℕ → List ℕ → LineRefusal → (ℕ → List ℕ → Type 0) → Type 0
-AtNumber word least greatest n text r = AtPart (IsBetween least greatest) (counted word) text (RefusedNumber word least greatest n text r)
+AtNumber word least greatest n text r =
+    AtPart (IsBetween least greatest) (counted word) text (RefusedNumber word least greatest n text r)
 
 -- so many rows from line n on
-abbrev pub AtRows : {A : Type 0} → (A → Type 0) → (A → List ℕ) → Option (A → List ℕ) → (count : ℕ) → ℕ → List ℕ → LineRefusal → (List A → List ℕ → Type 0) → Type 0
-AtRows IsForm line_of order count n text r = AtPart (AreCounted IsForm order count) (flat_map line_of) text (IsRefusedRow IsForm line_of order count n text r)
+abbrev pub AtRows : {A : Type 0} → (A → Type 0) → (A → List ℕ) → Option (A → List ℕ) → (count : ℕ) → ℕ → List ℕ → LineRefusal
+    → (List A → List ℕ → Type 0) → Type 0
+AtRows IsForm line_of order count n text r =
+    AtPart (AreCounted IsForm order count) (flat_map line_of) text (IsRefusedRow IsForm line_of order count n text r)
 
 -- a list from line n on, with its length before it: what is said of the text behind it has that text's first line
-abbrev pub AtList : {A : Type 0} → (A → Type 0) → (A → List ℕ) → Option (A → List ℕ) → (word : List ℕ) → ℕ → List ℕ → LineRefusal → (ℕ → List ℕ → Type 0) → Type 0
+abbrev pub AtList : {A : Type 0} → (A → Type 0) → (A → List ℕ) → Option (A → List ℕ) → (word : List ℕ) → ℕ → List ℕ
+    → LineRefusal → (ℕ → List ℕ → Type 0) → Type 0
 AtList IsForm line_of order word n text r Next =
-    AtNumber word 0 (2 ^ 64 - 1) n text r (λ count rows. AtRows IsForm line_of order count (line_after n 1) rows r (λ _ rest. Next (line_after (line_after n 1) count) rest))
+    AtNumber word 0 (2 ^ 64 - 1) n text r
+    (λ count rows.
+    AtRows IsForm line_of order count (line_after n 1) rows r (λ _ rest. Next (line_after (line_after n 1) count) rest))
 
 -- a list is refused, at its length or at one of its rows
-abbrev pub RefusedList : {A : Type 0} → (A → Type 0) → (A → List ℕ) → Option (A → List ℕ) → (word : List ℕ) → ℕ → List ℕ → LineRefusal → Type 0
+abbrev pub RefusedList : {A : Type 0} → (A → Type 0) → (A → List ℕ) → Option (A → List ℕ) → (word : List ℕ) → ℕ → List ℕ
+    → LineRefusal → Type 0
 RefusedList IsForm line_of order word n text r = AtList IsForm line_of order word n text r (λ _ _. ⊥)
 
 -- the text of a whole list, and when its rows are good

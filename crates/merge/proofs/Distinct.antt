@@ -1,5 +1,6 @@
 -- The distinct points of rows, and a row more.
-use Rattle.std.proofs.Common.{ℤ, ◌≡◌, ◌≢◌, ◌≤◌, ◌&&◌, ◌||◌, not, Bool, true, false, cond, refl, ap, sym, subst, ◌∙◌, arith, List, [], ◌∷◌, ◌++◌, length, filter, All, AllPairs, Contains}
+use Rattle.std.proofs.Common.{ℤ, ◌≡◌, ◌≢◌, ◌≤◌, ◌&&◌, ◌||◌, not, Bool, true, false, cond, refl, ap, sym, subst, ◌∙◌, arith}
+use Rattle.std.proofs.Common.{List, [], ◌∷◌, ◌++◌, length, filter, All, AllPairs, Contains}
 use Rattle.std.specs.Cmp.{IsEquivalence}
 use Rattle.std.specs.List.{list_any}
 use Rattle.std.specs.Ordering.{int_eq}
@@ -65,27 +66,35 @@ not_false true e = absurd (false≢true e)
 not_false false e = refl
 
 -- a place other than a left out one is as much among the points as before
-any_other : (p q : Point) (points : List Point) → is_same_point q p ≡ false → list_any (is_same_point q) (filter (is_other p) points) ≡ list_any (is_same_point q) points
+any_other : (p q : Point) (points : List Point) → is_same_point q p ≡ false
+    → list_any (is_same_point q) (filter (is_other p) points) ≡ list_any (is_same_point q) points
 any_other p q points differ =
     any-filter_same (is_same_point q) (is_other p) true
     (λ r e. subst (λ (z : Point). is_other p z ≡ true) (same_is q r e) (ap not (same_flips p q ∙ differ)))
     points
 
 -- a place is among the distinct points exactly where it is a row's
-pub any_distinct : (q : Point) (rows : List Point) → list_any (is_same_point q) (distinct_points rows) ≡ list_any (is_same_point q) rows
+pub any_distinct : (q : Point) (rows : List Point)
+    → list_any (is_same_point q) (distinct_points rows) ≡ list_any (is_same_point q) rows
 any_distinct q [] = refl
 any_distinct q (p ∷ rest) = by (any_distinct q rest) (is_same_point q p) refl
   where
     by : list_any (is_same_point q) (distinct_points rest) ≡ list_any (is_same_point q) rest
-        → (b : Bool) → is_same_point q p ≡ b → (b || list_any (is_same_point q) (filter (is_other p) (distinct_points rest))) ≡ (b || list_any (is_same_point q) rest)
+        → (b : Bool) → is_same_point q p ≡ b
+        → (b || list_any (is_same_point q) (filter (is_other p) (distinct_points rest)))
+        ≡ (b || list_any (is_same_point q) rest)
     by behind true e = refl
     by behind false e = any_other p q (distinct_points rest) e ∙ behind
 
 pub each_distinct : (rows : List Point) → All (Contains rows) (distinct_points rows)
-each_distinct rows = All-from_any same_equivalence (Contains rows) (distinct_points rows) (λ q h. Contains-from_any same_is q rows (sym (any_distinct q rows) ∙ h))
+each_distinct rows =
+    All-from_any same_equivalence (Contains rows) (distinct_points rows)
+    (λ q h. Contains-from_any same_is q rows (sym (any_distinct q rows) ∙ h))
 
 pub each_row : (rows : List Point) → All (Contains (distinct_points rows)) rows
-each_row rows = All-from_any same_equivalence (Contains (distinct_points rows)) rows (λ q h. Contains-from_any same_is q (distinct_points rows) (any_distinct q rows ∙ h))
+each_row rows =
+    All-from_any same_equivalence (Contains (distinct_points rows)) rows
+    (λ q h. Contains-from_any same_is q (distinct_points rows) (any_distinct q rows ∙ h))
 
 pub keep : (Holds : Point → Type 0) (rows : List Point) → All Holds rows → All Holds (distinct_points rows)
 keep Holds [] h = h
@@ -95,20 +104,24 @@ keep Holds (p ∷ rest) h =
 
 -- the other points are none of p
 pub others : (p : Point) (points : List Point) → All (λ q. is_same_point p q ≡ false) (filter (is_other p) points)
-others p points = All-weaker (λ q. is_other p q ≡ true) (λ q. is_same_point p q ≡ false) (λ q e. not_false (is_same_point p q) e) (filter (is_other p) points) (filter_passes (is_other p) points)
+others p points =
+    All-weaker (λ q. is_other p q ≡ true) (λ q. is_same_point p q ≡ false) (λ q e. not_false (is_same_point p q) e)
+    (filter (is_other p) points) (filter_passes (is_other p) points)
 
 pub distinct : (rows : List Point) → AllPairs (λ p q. p ≢ q) (distinct_points rows)
 distinct [] = λ i j d l m. absurd (omega (arith, m))
 distinct (p ∷ rest) =
     AllPairs-cons (λ a b. a ≢ b) p (filter (is_other p) (distinct_points rest))
-    (All-weaker (λ q. is_same_point p q ≡ false) (λ q. p ≢ q) (differ_is p) (filter (is_other p) (distinct_points rest)) (others p (distinct_points rest)))
+    (All-weaker (λ q. is_same_point p q ≡ false) (λ q. p ≢ q) (differ_is p) (filter (is_other p) (distinct_points rest))
+    (others p (distinct_points rest)))
     (AllPairs-filter (λ a b. a ≢ b) (is_other p) (distinct_points rest) (distinct rest))
 
 few_kept : (test : Point → Bool) (points : List Point) → length (filter test points) ≤ length points
 few_kept test [] = omega arith
 few_kept test (p ∷ rest) = by (few_kept test rest) (test p)
   where
-    by : length (filter test rest) ≤ length rest → (b : Bool) → length (cond b (p ∷ filter test rest) (filter test rest)) ≤ length (p ∷ rest)
+    by : length (filter test rest) ≤ length rest → (b : Bool)
+        → length (cond b (p ∷ filter test rest) (filter test rest)) ≤ length (p ∷ rest)
     by behind true = omega (arith, behind)
     by behind false = omega (arith, behind)
 
@@ -119,10 +132,12 @@ few (p ∷ rest) = omega (arith, few_kept (is_other p) (distinct_points rest), f
 -- ---- a row more
 
 -- the distinct points, with the new row's point behind them where it is none of them
-pub distinct_push : (rows : List Point) (p : Point) → distinct_points (rows ++ p ∷ []) ≡ insert_key is_same_point (distinct_points rows) p
+pub distinct_push : (rows : List Point) (p : Point)
+    → distinct_points (rows ++ p ∷ []) ≡ insert_key is_same_point (distinct_points rows) p
 distinct_push [] p = refl
 distinct_push (first ∷ rest) p =
-    ap (λ (points : List Point). first ∷ filter (is_other first) points) (distinct_push rest p) ∙ at_head (is_same_point p first) refl
+    ap (λ (points : List Point). first ∷ filter (is_other first) points) (distinct_push rest p)
+    ∙ at_head (is_same_point p first) refl
   where
     points : List Point
     points = distinct_points rest
@@ -131,22 +146,29 @@ distinct_push (first ∷ rest) p =
     others_of list = filter (is_other first) list
 
     -- with p left out
-    left_out : (b : Bool) → is_same_point first p ≡ true → first ∷ others_of (cond b points (points ++ p ∷ [])) ≡ first ∷ others_of points
+    left_out : (b : Bool) → is_same_point first p ≡ true
+        → first ∷ others_of (cond b points (points ++ p ∷ [])) ≡ first ∷ others_of points
     left_out true same = refl
     left_out false same =
         ap (λ (list : List Point). first ∷ list)
-        (filter-append (is_other first) points (p ∷ []) ∙ ap (λ (b : Bool). others_of points ++ cond (not b) (p ∷ []) []) same ∙ append-nil (others_of points))
+        (filter-append (is_other first) points (p ∷ []) ∙ ap (λ (b : Bool). others_of points ++ cond (not b) (p ∷ []) []) same
+        ∙ append-nil (others_of points))
 
     -- with p kept
-    kept : (b : Bool) → is_same_point first p ≡ false → first ∷ others_of (cond b points (points ++ p ∷ [])) ≡ cond b (first ∷ others_of points) ((first ∷ others_of points) ++ p ∷ [])
+    kept : (b : Bool) → is_same_point first p ≡ false
+        → first ∷ others_of (cond b points (points ++ p ∷ []))
+        ≡ cond b (first ∷ others_of points) ((first ∷ others_of points) ++ p ∷ [])
     kept true other = refl
     kept false other =
         ap (λ (list : List Point). first ∷ list)
         (filter-append (is_other first) points (p ∷ []) ∙ ap (λ (b : Bool). others_of points ++ cond (not b) (p ∷ []) []) other)
 
     at_head : (b : Bool) → is_same_point p first ≡ b
-        → first ∷ others_of (cond (list_any (is_same_point p) points) points (points ++ p ∷ [])) ≡ cond (b || list_any (is_same_point p) (others_of points)) (first ∷ others_of points) ((first ∷ others_of points) ++ p ∷ [])
+        → first ∷ others_of (cond (list_any (is_same_point p) points) points (points ++ p ∷ []))
+        ≡ cond (b || list_any (is_same_point p) (others_of points)) (first ∷ others_of points)
+        ((first ∷ others_of points) ++ p ∷ [])
     at_head true e = left_out (list_any (is_same_point p) points) (same_flips first p ∙ e)
     at_head false e =
         kept (list_any (is_same_point p) points) (same_flips first p ∙ e)
-        ∙ ap (λ (b : Bool). cond b (first ∷ others_of points) ((first ∷ others_of points) ++ p ∷ [])) (sym (any_other first p points e))
+        ∙ ap (λ (b : Bool). cond b (first ∷ others_of points) ((first ∷ others_of points) ++ p ∷ []))
+        (sym (any_other first p points e))

@@ -1,10 +1,12 @@
 -- What a form has received, from step to step of a mesh that is handed to it.
-use Rattle.std.proofs.Common.{ℕ, ◌≡◌, ◌≢◌, ◌<◌, ◌≤◌, ◌+◌, refl, ap, sym, ◌∙◌, subst, arith, List, [], ◌∷◌, ◌++◌, length, take, get_or}
+use Rattle.std.proofs.Common.{ℕ, ◌≡◌, ◌≢◌, ◌<◌, ◌≤◌, ◌+◌, refl, ap, sym, ◌∙◌, subst, arith, List, [], ◌∷◌, ◌++◌, length, take}
+use Rattle.std.proofs.Common.{get_or}
 use Rattle.std.proofs.lemmas.List.{take_all, take_more, length-take-le}
 use Rattle.geo_sign.specs.Point.{Point}
 use Rattle.mesh_form.specs.declared.stage.Stage.{Stage}
 use Rattle.mesh_form.specs.declared.stage.Stage.TheVariants.{Fresh, Begun, Ended}
-use Rattle.mesh_form.specs.Received.{Received, IsFresh, HasPoints, HasFaces, HasPrefix, HasAll, begun, with_point, with_face, ended}
+use Rattle.mesh_form.specs.Received.{Received, IsFresh, HasPoints, HasFaces, HasPrefix, HasAll, begun, with_point, with_face}
+use Rattle.mesh_form.specs.Received.{ended}
 
 begun_not_ended : (s : Stage) → s ≡ Begun → s ≢ Ended
 begun_not_ended s b e = let f : Begun ≡ Ended = sym b ∙ e in cc
@@ -17,23 +19,48 @@ front_of : {A : Type 0} (xs ys : List A) (k : ℕ) → k ≤ length ys → xs �
 front_of xs ys k l e = let n : length xs ≡ k = ap length e ∙ length-take-le k ys l in e ∙ ap (λ (i : ℕ). take i ys) (sym n)
 
 -- ---- one more
-pub point_more : (k : ℕ) (r s : Received) (points : List Point) (p : Point) → HasPoints k r points → k < length points → p ≡ get_or points k p → s ≡ with_point p r → HasPoints (k + 1) s points
+pub point_more : (k : ℕ) (r s : Received) (points : List Point) (p : Point) → HasPoints k r points → k < length points
+    → p ≡ get_or points k p → s ≡ with_point p r → HasPoints (k + 1) s points
 point_more k r s points p h l at e =
-    let front : r.points ++ p ∷ [] ≡ take (k + 1) points = ap (λ (t : List Point). t ++ p ∷ []) h.front ∙ (ap (λ (q : Point). take k points ++ q ∷ []) at ∙ sym (take_more points k p l)) in
-    subst (λ (x : Received). HasPoints (k + 1) x points) (sym e) (record { stage = h.stage; due = h.due; within = omega arith; front = front; no_faces = h.no_faces })
+    let front : r.points ++ p ∷ [] ≡ take (k + 1) points =
+    ap (λ (t : List Point). t ++ p ∷ []) h.front
+    ∙ (ap (λ (q : Point). take k points ++ q ∷ []) at ∙ sym (take_more points k p l)) in
+    subst (λ (x : Received). HasPoints (k + 1) x points) (sym e)
+    (record { stage = h.stage; due = h.due; within = omega arith; front = front; no_faces = h.no_faces })
 
-pub face_more : (k : ℕ) (r s : Received) (points : List Point) (faces : List (List ℕ)) → HasFaces k r points faces → k < length faces → s ≡ with_face (get_or faces k []) r → HasFaces (k + 1) s points faces
+pub face_more : (k : ℕ) (r s : Received) (points : List Point) (faces : List (List ℕ)) → HasFaces k r points faces
+    → k < length faces → s ≡ with_face (get_or faces k []) r → HasFaces (k + 1) s points faces
 face_more k r s points faces h l e =
-    let front : r.faces ++ get_or faces k [] ∷ [] ≡ take (k + 1) faces = ap (λ (t : List (List ℕ)). t ++ get_or faces k [] ∷ []) h.front ∙ sym (take_more faces k [] l) in
-    subst (λ (x : Received). HasFaces (k + 1) x points faces) (sym e) (record { stage = h.stage; points_due = h.points_due; all_points = h.all_points; due = h.due; within = omega arith; front = front })
+    let front : r.faces ++ get_or faces k [] ∷ [] ≡ take (k + 1) faces =
+    ap (λ (t : List (List ℕ)). t ++ get_or faces k [] ∷ []) h.front ∙ sym (take_more faces k [] l) in
+    subst (λ (x : Received). HasFaces (k + 1) x points faces) (sym e)
+    (record {
+      stage = h.stage;
+      points_due = h.points_due;
+      all_points = h.all_points;
+      due = h.due;
+      within = omega arith;
+      front = front;
+    })
 
 -- ---- from one part to the next
-pub points_begun : (r s : Received) (points : List Point) (m : ℕ) → IsFresh r → s ≡ begun (length points) m r → HasPoints 0 s points
-points_begun r s points m f e = subst (λ (x : Received). HasPoints 0 x points) (sym e) (record { stage = refl; due = refl; within = omega arith; front = f.no_points; no_faces = f.no_faces })
+pub points_begun : (r s : Received) (points : List Point) (m : ℕ) → IsFresh r → s ≡ begun (length points) m r
+    → HasPoints 0 s points
+points_begun r s points m f e =
+    subst (λ (x : Received). HasPoints 0 x points) (sym e)
+    (record { stage = refl; due = refl; within = omega arith; front = f.no_points; no_faces = f.no_faces })
 
-pub faces_begun : (r : Received) (points : List Point) (faces : List (List ℕ)) → HasPoints (length points) r points → r.faces_due ≡ length faces → HasFaces 0 r points faces
+pub faces_begun : (r : Received) (points : List Point) (faces : List (List ℕ)) → HasPoints (length points) r points
+    → r.faces_due ≡ length faces → HasFaces 0 r points faces
 faces_begun r points faces h due =
-    record { stage = h.stage; points_due = h.due; all_points = h.front ∙ take_all (length points) points (omega arith); due = due; within = omega arith; front = h.no_faces }
+    record {
+      stage = h.stage;
+      points_due = h.due;
+      all_points = h.front ∙ take_all (length points) points (omega arith);
+      due = due;
+      within = omega arith;
+      front = h.no_faces;
+    }
 
 -- ---- at the end
 pub prefix_of_fresh : (r : Received) (points : List Point) (faces : List (List ℕ)) → IsFresh r → HasPrefix r points faces
@@ -45,7 +72,8 @@ prefix_of_fresh r points faces h =
       in_turn = λ l. absurd (omega (arith, ap length h.no_faces));
     }
 
-pub prefix_of_points : (r : Received) (points : List Point) (faces : List (List ℕ)) (k : ℕ) → HasPoints k r points → HasPrefix r points faces
+pub prefix_of_points : (r : Received) (points : List Point) (faces : List (List ℕ)) (k : ℕ) → HasPoints k r points
+    → HasPrefix r points faces
 prefix_of_points r points faces k h =
     record {
       stage = begun_not_ended r.stage h.stage;
@@ -54,23 +82,36 @@ prefix_of_points r points faces k h =
       in_turn = λ l. absurd (omega (arith, ap length h.no_faces));
     }
 
-pub prefix_of_faces : (r : Received) (points : List Point) (faces : List (List ℕ)) (k : ℕ) → HasFaces k r points faces → HasPrefix r points faces
+pub prefix_of_faces : (r : Received) (points : List Point) (faces : List (List ℕ)) (k : ℕ) → HasFaces k r points faces
+    → HasPrefix r points faces
 prefix_of_faces r points faces k h =
     record {
       stage = begun_not_ended r.stage h.stage;
-      front_points = front_of r.points points (length points) (omega arith) (h.all_points ∙ sym (take_all (length points) points (omega arith)));
+      front_points =
+          front_of r.points points (length points) (omega arith)
+          (h.all_points ∙ sym (take_all (length points) points (omega arith)));
       front_faces = front_of r.faces faces k h.within h.front;
       in_turn = λ l. h.all_points;
     }
 
 -- an end that is refused leaves the prefix
-pub prefix_of_refused : (r s : Received) (ps points : List Point) (fs faces : List (List ℕ)) → HasFaces (length fs) r ps fs → ps ≡ points → fs ≡ faces → s ≡ r → HasPrefix s points faces
+pub prefix_of_refused : (r s : Received) (ps points : List Point) (fs faces : List (List ℕ)) → HasFaces (length fs) r ps fs
+    → ps ≡ points → fs ≡ faces → s ≡ r → HasPrefix s points faces
 prefix_of_refused r s ps points fs faces h e f same =
     subst (λ (x : Received). HasPrefix x points faces) (sym same)
-    (subst (λ (qs : List Point). HasPrefix r qs faces) e (subst (λ (gs : List (List ℕ)). HasPrefix r ps gs) f (prefix_of_faces r ps fs (length fs) h)))
+    (subst (λ (qs : List Point). HasPrefix r qs faces) e
+    (subst (λ (gs : List (List ℕ)). HasPrefix r ps gs) f (prefix_of_faces r ps fs (length fs) h)))
 
-pub all_of_faces : (r s : Received) (ps points : List Point) (fs faces : List (List ℕ)) → HasFaces (length fs) r ps fs → ps ≡ points → fs ≡ faces → s ≡ ended r → HasAll s points faces
+pub all_of_faces : (r s : Received) (ps points : List Point) (fs faces : List (List ℕ)) → HasFaces (length fs) r ps fs
+    → ps ≡ points → fs ≡ faces → s ≡ ended r → HasAll s points faces
 all_of_faces r s ps points fs faces h e f same =
     let all_faces : r.faces ≡ fs = h.front ∙ take_all (length fs) fs (omega arith) in
-    let full : HasAll (ended r) ps fs = record { stage = refl; all_points = h.all_points; all_faces = all_faces; points_due = h.points_due; faces_due = h.due } in
-    subst (λ (x : Received). HasAll x points faces) (sym same) (subst (λ (qs : List Point). HasAll (ended r) qs faces) e (subst (λ (gs : List (List ℕ)). HasAll (ended r) ps gs) f full))
+    let full : HasAll (ended r) ps fs = record {
+      stage = refl;
+      all_points = h.all_points;
+      all_faces = all_faces;
+      points_due = h.points_due;
+      faces_due = h.due;
+    } in
+    subst (λ (x : Received). HasAll x points faces) (sym same)
+    (subst (λ (qs : List Point). HasAll (ended r) qs faces) e (subst (λ (gs : List (List ℕ)). HasAll (ended r) ps gs) f full))

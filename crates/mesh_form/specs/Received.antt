@@ -60,11 +60,13 @@ begun n m r = record { stage = Begun; points_due = n; faces_due = m; points = r.
 
 -- one point more
 abbrev pub with_point : Point → Received → Received
-with_point p r = record { stage = r.stage; points_due = r.points_due; faces_due = r.faces_due; points = r.points ++ p ∷ []; faces = r.faces }
+with_point p r =
+    record { stage = r.stage; points_due = r.points_due; faces_due = r.faces_due; points = r.points ++ p ∷ []; faces = r.faces }
 
 -- one face more
 abbrev pub with_face : List ℕ → Received → Received
-with_face f r = record { stage = r.stage; points_due = r.points_due; faces_due = r.faces_due; points = r.points; faces = r.faces ++ f ∷ [] }
+with_face f r =
+    record { stage = r.stage; points_due = r.points_due; faces_due = r.faces_due; points = r.points; faces = r.faces ++ f ∷ [] }
 
 -- all is received
 abbrev pub ended : Received → Received

@@ -10,7 +10,8 @@ use Rattle.line_text.proofs.Codes.{IsCode, behind_same, counted_code, code_list,
 use Rattle.line_text.proofs.SignedTokens.{signed_code}
 use Rattle.line_text.proofs.FacetForms.{facet_code}
 use Rattle.mesh_ply.specs.Meshes.{IsFace, IsMesh}
-use Rattle.mesh_ply.specs.Texts.{ply_line, format_line, vertex_word, x_line, y_line, z_line, face_word, list_line, header_end, IsCoordinate, point_line, face_line, mesh_text, IsPrinted}
+use Rattle.mesh_ply.specs.Texts.{ply_line, format_line, vertex_word, x_line, y_line, z_line, face_word, list_line, header_end}
+use Rattle.mesh_ply.specs.Texts.{IsCoordinate, point_line, face_line, mesh_text, IsPrinted}
 use Rattle.geo_sign.specs.declared.point.TheConstants.{BOX_LIMIT}
 
 small : (z : ℤ) → IsCoordinate z → mag z < 2 ^ 63
@@ -20,8 +21,11 @@ small (negsuc n) le = omega arith
 pub coordinate_code : (end : ℕ) → end < 45 → IsCode IsCoordinate (λ z. signed_ended z end)
 coordinate_code end low = code_fewer IsCoordinate (λ z. mag z < 2 ^ 63) (λ z. signed_ended z end) small (signed_code end low)
 
-pub point_parts : (p : Point) (r : List ℕ) → point_line p ++ r ≡ signed_ended p.x 32 ++ (signed_ended p.y 32 ++ (signed_ended p.z 10 ++ r))
-point_parts p r = append_assoc (signed_ended p.x 32) (signed_ended p.y 32 ++ signed_ended p.z 10) r ∙ ap (λ (t : List ℕ). signed_ended p.x 32 ++ t) (append_assoc (signed_ended p.y 32) (signed_ended p.z 10) r)
+pub point_parts : (p : Point) (r : List ℕ)
+    → point_line p ++ r ≡ signed_ended p.x 32 ++ (signed_ended p.y 32 ++ (signed_ended p.z 10 ++ r))
+point_parts p r =
+    append_assoc (signed_ended p.x 32) (signed_ended p.y 32 ++ signed_ended p.z 10) r
+    ∙ ap (λ (t : List ℕ). signed_ended p.x 32 ++ t) (append_assoc (signed_ended p.y 32) (signed_ended p.z 10) r)
 
 pub point_code : IsCode (IsWithin BOX_LIMIT) point_line
 point_code p q r s a b e =
@@ -33,7 +37,9 @@ point_code p q r s a b e =
 -- ---- faces
 pub face_row_code : IsCode IsFacetRow face_line
 face_row_code f g r s a b e =
-    facet_code 10 (omega arith) f g r s a b (behind_same (51 ∷ 32 ∷ []) _ _ (sym (append_assoc (51 ∷ 32 ∷ []) (facet_fields f 10) r) ∙ e ∙ append_assoc (51 ∷ 32 ∷ []) (facet_fields g 10) s))
+    facet_code 10 (omega arith) f g r s a b
+    (behind_same (51 ∷ 32 ∷ []) _ _
+    (sym (append_assoc (51 ∷ 32 ∷ []) (facet_fields f 10) r) ∙ e ∙ append_assoc (51 ∷ 32 ∷ []) (facet_fields g 10) s))
 
 -- the places of a valid mesh are numbers of 32 bits
 pub row_of_face : (n : ℕ) → n < 2 ^ 32 → (f : List ℕ) → IsFace n f → IsFacetRow f
@@ -48,17 +54,31 @@ face_code n few = code_fewer (IsFace n) IsFacetRow face_line (row_of_face n few)
 
 -- ---- the whole text
 pub lines_of : (ps : List Point) (fs : List (List ℕ)) (r : List ℕ)
-    → mesh_text ps fs ++ r ≡ ply_line ++ (format_line ++ (counted vertex_word (length ps) ++ (x_line ++ (y_line ++ (z_line ++ (counted face_word (length fs) ++ (list_line ++ (header_end ++ (flat_map point_line ps ++ (flat_map face_line fs ++ r))))))))))
+    → mesh_text ps fs ++ r
+    ≡ ply_line ++ (format_line
+    ++ (counted vertex_word (length ps)
+    ++ (x_line ++ (y_line
+    ++ (z_line ++ (counted face_word (length fs)
+    ++ (list_line ++ (header_end ++ (flat_map point_line ps ++ (flat_map face_line fs ++ r))))))))))
 lines_of ps fs r = simp append_assoc
 
 -- what stands behind two texts is the same, and so are the meshes
-pub mesh_code : (ps qs : List Point) (fs gs : List (List ℕ)) (r s : List ℕ) → IsPrinted ps fs → IsPrinted qs gs → mesh_text ps fs ++ r ≡ mesh_text qs gs ++ s → (ps ≡ qs) × (fs ≡ gs) × (r ≡ s)
+pub mesh_code : (ps qs : List Point) (fs gs : List (List ℕ)) (r s : List ℕ) → IsPrinted ps fs → IsPrinted qs gs
+    → mesh_text ps fs ++ r ≡ mesh_text qs gs ++ s → (ps ≡ qs) × (fs ≡ gs) × (r ≡ s)
 mesh_code ps qs fs gs r s a b e =
     let t = sym (lines_of ps fs r) ∙ e ∙ lines_of qs gs s in
-    let n = counted_code vertex_word (length ps) (length qs) _ _ (omega (arith, a.valid.few_points)) (omega (arith, b.valid.few_points)) (behind_same format_line _ _ (behind_same ply_line _ _ t)) in
-    let m = counted_code face_word (length fs) (length gs) _ _ (omega (arith, a.valid.few_faces)) (omega (arith, b.valid.few_faces)) (behind_same z_line _ _ (behind_same y_line _ _ (behind_same x_line _ _ n.1))) in
-    let points = code_list (IsWithin BOX_LIMIT) point_line point_code ps qs (flat_map face_line fs ++ r) (flat_map face_line gs ++ s) n.0 a.boxed b.boxed (behind_same header_end _ _ (behind_same list_line _ _ m.1)) in
-    let faces = code_list IsFacetRow face_line face_row_code fs gs r s m.0 (rows_of_mesh ps fs a.valid) (rows_of_mesh qs gs b.valid) points.1 in
+    let n =
+    counted_code vertex_word (length ps) (length qs) _ _ (omega (arith, a.valid.few_points)) (omega (arith, b.valid.few_points))
+    (behind_same format_line _ _ (behind_same ply_line _ _ t)) in
+    let m =
+    counted_code face_word (length fs) (length gs) _ _ (omega (arith, a.valid.few_faces)) (omega (arith, b.valid.few_faces))
+    (behind_same z_line _ _ (behind_same y_line _ _ (behind_same x_line _ _ n.1))) in
+    let points =
+    code_list (IsWithin BOX_LIMIT) point_line point_code ps qs (flat_map face_line fs ++ r) (flat_map face_line gs ++ s) n.0
+    a.boxed b.boxed (behind_same header_end _ _ (behind_same list_line _ _ m.1)) in
+    let faces =
+    code_list IsFacetRow face_line face_row_code fs gs r s m.0 (rows_of_mesh ps fs a.valid)
+    (rows_of_mesh qs gs b.valid) points.1 in
     (points.0, faces.0, faces.1)
   where
     rows_of_mesh : (ps : List Point) (fs : List (List ℕ)) → IsMesh ps fs → All IsFacetRow fs

@@ -1,5 +1,6 @@
 -- Numbers below a bound, and the vertices that facets have.
-use Rattle.std.proofs.Common.{ℕ, zero, suc, ◌≡◌, ◌+◌, ◌-◌, ◌<◌, ◌≤◌, refl, ap, sym, ◌∙◌, arith, Bool, false, cond, List, [], ◌∷◌, ◌++◌, length, get_or, map, filter, length-append, add-one, inl, inr, ◌⊎◌}
+use Rattle.std.proofs.Common.{ℕ, zero, suc, ◌≡◌, ◌+◌, ◌-◌, ◌<◌, ◌≤◌, refl, ap, sym, ◌∙◌, arith, Bool, false, cond, List, []}
+use Rattle.std.proofs.Common.{◌∷◌, ◌++◌, length, get_or, map, filter, length-append, add-one, inl, inr, ◌⊎◌}
 use Rattle.std.proofs.lemmas.Bool.{cases_lt}
 use Rattle.std.proofs.lemmas.List.{get_or-map, length-map, ext_get_or, get_or_append_left, get_or-append_right}
 use Rattle.std.proofs.lemmas.List.Elements.{filter-append}
@@ -38,17 +39,22 @@ filter_below_same p q zero h = refl
 filter_below_same p q (suc n) h =
     filter-append p (below n) (n ∷ [])
     ∙ (ap (λ (t : List ℕ). t ++ cond (p n) (n ∷ []) []) (filter_below_same p q n (λ v l. h v (omega arith)))
-    ∙ (ap (λ (b : Bool). filter q (below n) ++ cond b (n ∷ []) []) (h n (omega arith)) ∙ sym (filter-append q (below n) (n ∷ []))))
+    ∙ (ap (λ (b : Bool). filter q (below n) ++ cond b (n ∷ []) []) (h n (omega arith))
+    ∙ sym (filter-append q (below n) (n ∷ []))))
 
 -- the marks say which vertices are used
-pub marked_used : (facets : List (List ℕ)) (marks : List Bool) (n m : ℕ) → marks ≡ map (is_used facets) (below n) → m ≤ n → marked marks m ≡ used facets m
+pub marked_used : (facets : List (List ℕ)) (marks : List Bool) (n m : ℕ) → marks ≡ map (is_used facets) (below n) → m ≤ n
+    → marked marks m ≡ used facets m
 marked_used facets marks n m e le =
     filter_below_same (λ v. get_or marks v false) (is_used facets) m (λ v l.
     let inside : v < length (below n) = omega (arith, length_below n) in
-    ap (λ (t : List Bool). get_or t v false) e ∙ (get_or-map (is_used facets) (below n) v 0 false inside ∙ ap (is_used facets) (get_or-below n v 0 (omega arith))))
+    ap (λ (t : List Bool). get_or t v false) e
+    ∙ (get_or-map (is_used facets) (below n) v 0 false inside ∙ ap (is_used facets) (get_or-below n v 0 (omega arith))))
 
 -- the number in the table is the vertex's new number
-pub number_in_table : (facets : List (List ℕ)) (marks : List Bool) (numbers : List ℕ) (n v : ℕ) → marks ≡ map (is_used facets) (below n) → numbers ≡ map (number_among marks) (below n) → v < n → get_or numbers v 0 ≡ new_number facets v
+pub number_in_table : (facets : List (List ℕ)) (marks : List Bool) (numbers : List ℕ) (n v : ℕ)
+    → marks ≡ map (is_used facets) (below n) → numbers ≡ map (number_among marks) (below n) → v < n
+    → get_or numbers v 0 ≡ new_number facets v
 number_in_table facets marks numbers n v e f l =
     let inside : v < length (below n) = omega (arith, length_below n) in
     ap (λ (t : List ℕ). get_or t v 0) f
@@ -67,7 +73,8 @@ facet_same n f g (a ∷ b ∷ c ∷ []) o h =
     cc
 facet_same n f g (a ∷ b ∷ c ∷ d ∷ t) o h = absurd o
 
-pub facets_same : (n : ℕ) (f g : ℕ → ℕ) (facets : List (List ℕ)) → All (IsFace n) facets → ((v : ℕ) → v < n → f v ≡ g v) → map (map f) facets ≡ map (map g) facets
+pub facets_same : (n : ℕ) (f g : ℕ → ℕ) (facets : List (List ℕ)) → All (IsFace n) facets → ((v : ℕ) → v < n → f v ≡ g v)
+    → map (map f) facets ≡ map (map g) facets
 facets_same n f g [] o h = refl
 facets_same n f g (facet ∷ facets) o h =
     let first : map f facet ≡ map g facet = facet_same n f g facet (o 0 [] (omega arith)) h in
@@ -75,8 +82,11 @@ facets_same n f g (facet ∷ facets) o h =
     ap (λ (x : List ℕ). x ∷ map (map f) facets) first ∙ ap (λ (t : List (List ℕ)). map g facet ∷ t) rest
 
 -- the marks by places are those by the test
-pub marks_are : (facets : List (List ℕ)) (marks : List Bool) (n : ℕ) → length marks ≡ n → ((v : ℕ) → v < n → get_or marks v false ≡ is_used facets v) → marks ≡ map (is_used facets) (below n)
+pub marks_are : (facets : List (List ℕ)) (marks : List Bool) (n : ℕ) → length marks ≡ n
+    → ((v : ℕ) → v < n → get_or marks v false ≡ is_used facets v) → marks ≡ map (is_used facets) (below n)
 marks_are facets marks n len h =
-    let same : length marks ≡ length (map (is_used facets) (below n)) = omega (arith, length-map (below n) (is_used facets), length_below n) in
+    let same : length marks ≡ length (map (is_used facets) (below n)) =
+    omega (arith, length-map (below n) (is_used facets), length_below n) in
     ext_get_or false marks (map (is_used facets) (below n)) same (λ v l.
-    h v (omega arith) ∙ (ap (is_used facets) (sym (get_or-below n v 0 (omega arith))) ∙ sym (get_or-map (is_used facets) (below n) v 0 false (omega (arith, length_below n)))))
+    h v (omega arith) ∙ (ap (is_used facets) (sym (get_or-below n v 0 (omega arith)))
+    ∙ sym (get_or-map (is_used facets) (below n) v 0 false (omega (arith, length_below n)))))

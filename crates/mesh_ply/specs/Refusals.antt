@@ -13,7 +13,8 @@ use Rattle.line_text.specs.Refusals.{line_after, AtWord, AtNumber, AtRows, IsBeh
 use Rattle.mesh_ply.specs.declared.refusal.MeshRefusal.{MeshRefusal}
 use Rattle.mesh_ply.specs.declared.refusal.MeshRefusal.TheVariants.{BadLine, MeshCut, NoMemory}
 use Rattle.mesh_ply.specs.Meshes.{IsFace}
-use Rattle.mesh_ply.specs.Texts.{ply_line, format_line, vertex_word, x_line, y_line, z_line, face_word, list_line, header_end, point_line, face_line}
+use Rattle.mesh_ply.specs.Texts.{ply_line, format_line, vertex_word, x_line, y_line, z_line, face_word, list_line, header_end}
+use Rattle.mesh_ply.specs.Texts.{point_line, face_line}
 use Rattle.geo_sign.specs.declared.point.TheConstants.{BOX_LIMIT}
 
 -- The refusal of a line as one of a mesh: a line's number stays at the last number of 32 bits. No list of a mesh has an

@@ -70,12 +70,15 @@ face_line f = (51 ∷ space ∷ []) ++ facet_fields f line_feed
 -- the text behind the number of points
 abbrev pub text_behind_count : List Point → List (List ℕ) → List ℕ
 text_behind_count points faces =
-    x_line ++ (y_line ++ (z_line ++ (counted face_word (length faces) ++ (list_line ++ (header_end ++ (flat_map point_line points ++ flat_map face_line faces))))))
+    x_line ++ (y_line ++ (z_line
+    ++ (counted face_word (length faces)
+    ++ (list_line ++ (header_end ++ (flat_map point_line points ++ flat_map face_line faces))))))
 
 -- the header, a line for each point, a line for each face
 abbrev pub mesh_text : List Point → List (List ℕ) → List ℕ
 mesh_text points faces =
-    counted vertex_head (length points) ++ (counted face_head (length faces) ++ (head_end ++ (flat_map point_line points ++ flat_map face_line faces)))
+    counted vertex_head (length points)
+    ++ (counted face_head (length faces) ++ (head_end ++ (flat_map point_line points ++ flat_map face_line faces)))
 
 -- a valid mesh whose points are points of the box
 pub record IsPrinted (points : List Point) (faces : List (List ℕ)) : Type 0 where

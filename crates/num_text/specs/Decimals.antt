@@ -10,7 +10,8 @@
 -- nearest         N / M in units, to the nearest whole number, halves upwards
 -- in_range        a number under its sign, if it is within the limit
 -- scaled_of       the number of units that a token is, or why it is none
-use Rattle.std.specs.Prelude.{ℕ, ◌+◌, ◌*◌, ◌/◌, ◌^◌, ℤ, List, ◌++◌, Bool, not, ◌==◌, ◌||◌, ◌&&◌, nat_lt, length, Option, None, Some, Result, Ok, Err, if◌then◌else◌}
+use Rattle.std.specs.Prelude.{ℕ, ◌+◌, ◌*◌, ◌/◌, ◌^◌, ℤ, List, ◌++◌, Bool, not, ◌==◌, ◌||◌, ◌&&◌, nat_lt, length, Option, None}
+use Rattle.std.specs.Prelude.{Some, Result, Ok, Err, if◌then◌else◌}
 use Rattle.std.specs.List.{before_first, after_first, position_or_len}
 use Rattle.std.specs.Str.Parse.{digits_value}
 use Rattle.num_text.specs.declared.refusal.NumRefusal.{NumRefusal}
@@ -60,7 +61,8 @@ is_decimal parts = are_digits (parts.whole ++ parts.fraction) && (not parts.has_
 
 -- over 30 digits, the point taken out, or over 4 in the exponent, both without leading zeros
 abbrev pub is_long : DecimalParts → Bool
-is_long parts = nat_lt 30 (length (significant (parts.whole ++ parts.fraction))) || nat_lt 4 (length (significant parts.exponent))
+is_long parts =
+    nat_lt 30 (length (significant (parts.whole ++ parts.fraction))) || nat_lt 4 (length (significant parts.exponent))
 
 -- the exponent without its sign, 0 where there is none
 abbrev pub exponent_of : DecimalParts → ℕ
@@ -68,7 +70,8 @@ exponent_of parts = if parts.has_exponent then digits_value 10 parts.exponent el
 
 -- N of the absolute value N / M: the digits, times ten for each step of a positive exponent
 abbrev pub numerator : DecimalParts → ℕ
-numerator parts = digits_value 10 (parts.whole ++ parts.fraction) * 10 ^ (if parts.exponent_is_negative then 0 else exponent_of parts)
+numerator parts =
+    digits_value 10 (parts.whole ++ parts.fraction) * 10 ^ (if parts.exponent_is_negative then 0 else exponent_of parts)
 
 -- M of the absolute value N / M: ten for each digit behind the point and each step of a negative exponent
 abbrev pub denominator : DecimalParts → ℕ

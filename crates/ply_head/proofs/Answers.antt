@@ -10,7 +10,8 @@ module _ {A E : Type 0} where
   same_done x y e = cc
 
   -- both calls answered with a value
-  pub bind_ok : {B : Type 0} (r : Result B E) (f : B → Result A E) (y : A) → (r >>= f) ≡ Ok y → (x : B) × (r ≡ Ok x) × (f x ≡ Ok y)
+  pub bind_ok : {B : Type 0} (r : Result B E) (f : B → Result A E) (y : A) → (r >>= f) ≡ Ok y
+      → (x : B) × (r ≡ Ok x) × (f x ≡ Ok y)
   bind_ok (Ok x) f y e = (x, refl, e)
   bind_ok (Err d) f y e = absurd cc
 

@@ -1,5 +1,6 @@
 -- Lines, and the elements of a header.
-use Rattle.std.proofs.Common.{◌≡◌, ℕ, zero, suc, ◌+◌, ◌-◌, ◌<◌, ◌≤◌, Bool, true, false, cond, eqb, ltb, List, [], ◌∷◌, ◌++◌, length, get_or, take, drop, Result, Ok, Err, refl, sym, ap, ◌∙◌, arith, All}
+use Rattle.std.proofs.Common.{◌≡◌, ℕ, zero, suc, ◌+◌, ◌-◌, ◌<◌, ◌≤◌, Bool, true, false, cond, eqb, ltb, List, [], ◌∷◌, ◌++◌}
+use Rattle.std.proofs.Common.{length, get_or, take, drop, Result, Ok, Err, refl, sym, ap, ◌∙◌, arith, All}
 use Rattle.std.proofs.lemmas.List.{drop_more, take-append-drop, take_rest}
 use Rattle.std.proofs.lemmas.List.Splits.{slice_split-cons_yes, slice_split-cons_no, slice_split_at, slice_split_none}
 use Rattle.std.specs.List.{slice_split, onto_first}
@@ -49,8 +50,18 @@ pub record Parts (bytes : List ℕ) (least : ℕ) : Type 0 where
 
 by_feed : (b : ℕ) (bytes : List ℕ) (f : Bool) → is_line_feed b ≡ f → Parts bytes zero → Parts (b ∷ bytes) zero
 unfolding parts_of
-by_feed b bytes true e rest = record { first = []; more = slice_split is_line_feed bytes; is = slice_split-cons_yes is_line_feed b bytes e; long = omega arith }
-by_feed b bytes false e rest = record { first = b ∷ rest.first; more = rest.more; is = slice_split-cons_no is_line_feed b bytes e ∙ ap (onto_first b) rest.is; long = omega arith }
+by_feed b bytes true e rest = record {
+  first = [];
+  more = slice_split is_line_feed bytes;
+  is = slice_split-cons_yes is_line_feed b bytes e;
+  long = omega arith;
+}
+by_feed b bytes false e rest = record {
+  first = b ∷ rest.first;
+  more = rest.more;
+  is = slice_split-cons_no is_line_feed b bytes e ∙ ap (onto_first b) rest.is;
+  long = omega arith;
+}
 
 pub some_part : (bytes : List ℕ) → Parts bytes zero
 unfolding parts_of
@@ -64,57 +75,80 @@ first_part bytes zero le all = some_part bytes
 first_part [] (suc k) le all = absurd (omega arith)
 first_part (b ∷ bytes) (suc k) le all =
     let rest : Parts bytes k = first_part bytes k (omega arith) (λ j d lt. all (suc j) d (omega arith)) in
-    record { first = b ∷ rest.first; more = rest.more; is = slice_split-cons_no is_line_feed b bytes (all 0 0 (omega arith)) ∙ ap (onto_first b) rest.is; long = omega (arith, rest.long) }
+    record {
+      first = b ∷ rest.first;
+      more = rest.more;
+      is = slice_split-cons_no is_line_feed b bytes (all 0 0 (omega arith)) ∙ ap (onto_first b) rest.is;
+      long = omega (arith, rest.long);
+    }
 
 -- a line that is too long, whether it is ended or not
 long_first : (n : ℕ) (first : List ℕ) (more : List (List ℕ)) → 1002 ≤ length first → line_at n (first ∷ more) ≡ Err (LongLine n)
 long_first n first [] le = rw (le-ltb (length first) 1002 le) refl
 long_first n first (next ∷ more) le = rw (lt-ltb 1000 (length (line_text first)) (omega (arith, long_text first))) refl
 
-pub long_line : (n : ℕ) (bytes : List ℕ) → 1002 ≤ length bytes → All (λ x. is_line_feed x ≡ false) (take 1002 bytes) → line_at n (parts_of bytes) ≡ Err (LongLine n)
+pub long_line : (n : ℕ) (bytes : List ℕ) → 1002 ≤ length bytes → All (λ x. is_line_feed x ≡ false) (take 1002 bytes)
+    → line_at n (parts_of bytes) ≡ Err (LongLine n)
 long_line n bytes le all =
     let part : Parts bytes 1002 = first_part bytes 1002 le all in
     rw part.is (long_first n part.first part.more part.long)
 
-pub cut_line : (n : ℕ) (bytes : List ℕ) → length bytes < 1002 → All (λ x. is_line_feed x ≡ false) bytes → line_at n (parts_of bytes) ≡ Err HeadCut
+pub cut_line : (n : ℕ) (bytes : List ℕ) → length bytes < 1002 → All (λ x. is_line_feed x ≡ false) bytes
+    → line_at n (parts_of bytes) ≡ Err HeadCut
 unfolding parts_of
 cut_line n bytes lt all = rw (slice_split_none is_line_feed bytes all, lt-ltb (length bytes) 1002 lt) refl
 
 -- a line that is ended at position i
-ended_at : (bytes : List ℕ) (i : ℕ) → i < length bytes → All (λ x. is_line_feed x ≡ false) (take i bytes) → is_line_feed (get_or bytes i 0) ≡ true → parts_of bytes ≡ take i bytes ∷ parts_of (drop (i + 1) bytes)
+ended_at : (bytes : List ℕ) (i : ℕ) → i < length bytes → All (λ x. is_line_feed x ≡ false) (take i bytes)
+    → is_line_feed (get_or bytes i 0) ≡ true → parts_of bytes ≡ take i bytes ∷ parts_of (drop (i + 1) bytes)
 unfolding parts_of
 ended_at bytes i lt all feed =
-    ap (slice_split is_line_feed) (sym (take-append-drop i bytes) ∙ ap (λ (r : List ℕ). take i bytes ++ r) (drop_more bytes i 0 lt))
+    ap (slice_split is_line_feed)
+    (sym (take-append-drop i bytes) ∙ ap (λ (r : List ℕ). take i bytes ++ r) (drop_more bytes i 0 lt))
     ∙ slice_split_at is_line_feed (take i bytes) (get_or bytes i 0) (drop (i + 1) bytes) all feed
 
 abbrev line_and : List ℕ → List (List ℕ) → Result (List ℕ × List (List ℕ)) HeadRefusal
 line_and text more = Ok (text, more)
 
-pub line_is : (n : ℕ) (bytes : List ℕ) (i : ℕ) → i < length bytes → All (λ x. is_line_feed x ≡ false) (take i bytes) → get_or bytes i 0 ≡ 10
-    → line_at n (parts_of bytes) ≡ cond (ltb 1000 (length (line_text (take i bytes)))) (Err (LongLine n)) (Ok (line_text (take i bytes), parts_of (take (length bytes - (i + 1)) (drop (i + 1) bytes))))
+pub line_is : (n : ℕ) (bytes : List ℕ) (i : ℕ) → i < length bytes → All (λ x. is_line_feed x ≡ false) (take i bytes)
+    → get_or bytes i 0 ≡ 10
+    → line_at n (parts_of bytes)
+    ≡ cond (ltb 1000 (length (line_text (take i bytes)))) (Err (LongLine n))
+    (Ok (line_text (take i bytes), parts_of (take (length bytes - (i + 1)) (drop (i + 1) bytes))))
 line_is n bytes i lt all feed =
     let rest = drop (i + 1) bytes in
     let part : Parts rest zero = some_part rest in
-    let is : parts_of bytes ≡ take i bytes ∷ part.first ∷ part.more = ended_at bytes i lt all (rw feed refl) ∙ ap (λ (ps : List (List ℕ)). take i bytes ∷ ps) part.is in
-    rw (is, take_rest bytes (i + 1), part.is) (by_case (ltb 1000 (length (line_text (take i bytes)))) (line_text (take i bytes)) part.first part.more)
+    let is : parts_of bytes ≡ take i bytes ∷ part.first ∷ part.more =
+    ended_at bytes i lt all (rw feed refl) ∙ ap (λ (ps : List (List ℕ)). take i bytes ∷ ps) part.is in
+    rw (is, take_rest bytes (i + 1), part.is)
+    (by_case (ltb 1000 (length (line_text (take i bytes)))) (line_text (take i bytes)) part.first part.more)
   where
-    by_case : (b : Bool) (text first : List ℕ) (more : List (List ℕ)) → (cond b (Err (LongLine n)) (Ok text) >>= λ t. line_and t (first ∷ more)) ≡ cond b (Err (LongLine n)) (line_and text (first ∷ more))
+    by_case : (b : Bool) (text first : List ℕ) (more : List (List ℕ))
+        → (cond b (Err (LongLine n)) (Ok text) >>= λ t. line_and t (first ∷ more))
+        ≡ cond b (Err (LongLine n)) (line_and text (first ∷ more))
     by_case true text first more = refl
     by_case false text first more = refl
 
 -- ---- a property for the last element
 
-pub with_property_last : (n : ℕ) (p : Property) (xs : List Element) (e : Element) → with_property n p (xs ++ e ∷ []) ≡ cond (has_property p.name e.properties) (Err (Twice n)) (Ok (xs ++ record e { properties = e.properties ++ p ∷ [] } ∷ []))
+pub with_property_last : (n : ℕ) (p : Property) (xs : List Element) (e : Element)
+    → with_property n p (xs ++ e ∷ [])
+    ≡ cond (has_property p.name e.properties) (Err (Twice n)) (Ok (xs ++ record e { properties = e.properties ++ p ∷ [] } ∷ []))
 with_property_last n p [] e = refl
 with_property_last n p (x ∷ []) e = by_case (has_property p.name e.properties)
   where
-    by_case : (b : Bool) → (cond b (Err (Twice n)) (Ok (record e { properties = e.properties ++ p ∷ [] } ∷ [])) >>= λ es. Ok (x ∷ es)) ≡ cond b (Err (Twice n)) (Ok (x ∷ record e { properties = e.properties ++ p ∷ [] } ∷ []))
+    by_case : (b : Bool)
+        → (cond b (Err (Twice n)) (Ok (record e { properties = e.properties ++ p ∷ [] } ∷ [])) >>= λ es. Ok (x ∷ es))
+        ≡ cond b (Err (Twice n)) (Ok (x ∷ record e { properties = e.properties ++ p ∷ [] } ∷ []))
     by_case true = refl
     by_case false = refl
 with_property_last n p (x ∷ y ∷ xs) e =
     rw (with_property_last n p (y ∷ xs) e) (by_case (has_property p.name e.properties))
   where
-    by_case : (b : Bool) → (cond b (Err (Twice n)) (Ok (y ∷ (xs ++ record e { properties = e.properties ++ p ∷ [] } ∷ []))) >>= λ es. Ok (x ∷ es)) ≡ cond b (Err (Twice n)) (Ok (x ∷ y ∷ (xs ++ record e { properties = e.properties ++ p ∷ [] } ∷ [])))
+    by_case : (b : Bool)
+        → (cond b (Err (Twice n)) (Ok (y ∷ (xs ++ record e { properties = e.properties ++ p ∷ [] } ∷ [])))
+        >>= λ es. Ok (x ∷ es))
+        ≡ cond b (Err (Twice n)) (Ok (x ∷ y ∷ (xs ++ record e { properties = e.properties ++ p ∷ [] } ∷ [])))
     by_case true = refl
     by_case false = refl
 

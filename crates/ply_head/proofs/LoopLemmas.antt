@@ -1,5 +1,6 @@
 -- One line of a header after another.
-use Rattle.std.proofs.Common.{◌≡◌, ℕ, zero, ◌+◌, ◌-◌, ◌≤◌, length, drop, List, [], ◌∷◌, Option, Result, Ok, Err, refl, sym, ap, ◌∙◌, arith}
+use Rattle.std.proofs.Common.{◌≡◌, ℕ, zero, ◌+◌, ◌-◌, ◌≤◌, length, drop, List, [], ◌∷◌, Option, Result, Ok, Err, refl, sym, ap}
+use Rattle.std.proofs.Common.{◌∙◌, arith}
 use Rattle.std.proofs.lemmas.Bool.{le-ltb, lt-ltb}
 use Rattle.std.proofs.lemmas.List.{drop-drop, length-drop}
 use Rattle.std.proofs.lemmas.List.Splits.{join_with_byte-slice_split}
@@ -23,52 +24,69 @@ whole_and whole body = Ok (whole, body)
 
 -- what comes of a line
 abbrev pub line_done : ℕ → Option Header → List ℕ × List (List ℕ) → Whole
-line_done n head x = step_of n head (statement_of_words (words_of x.0)) >>= λ step. then_lines step x.1 (λ next. header_from (n + 1) next x.1)
+line_done n head x =
+    step_of n head (statement_of_words (words_of x.0)) >>= λ step. then_lines step x.1 (λ next. header_from (n + 1) next x.1)
 
-pub header_step : (n : ℕ) (head : Option Header) (parts : List (List ℕ)) → n ≤ 1000 → header_from n head parts ≡ (line_at n parts >>= line_done n head)
+pub header_step : (n : ℕ) (head : Option Header) (parts : List (List ℕ)) → n ≤ 1000
+    → header_from n head parts ≡ (line_at n parts >>= line_done n head)
 unfolding header_from
 header_step n head [] le = refl
 header_step n head (part ∷ more) le = rw (le-ltb 1000 n le) (by_text (text_of_line n part more))
   where
-    by_text : (r : Result (List ℕ) HeadRefusal) → (r >>= λ text. step_of n head (statement_of_words (words_of text)) >>= λ step. then_lines step more (λ next. header_from (n + 1) next more)) ≡ ((r >>= λ text. text_and text more) >>= line_done n head)
+    by_text : (r : Result (List ℕ) HeadRefusal)
+        → (r >>= λ text. step_of n head (statement_of_words (words_of text))
+        >>= λ step. then_lines step more (λ next. header_from (n + 1) next more))
+        ≡ ((r >>= λ text. text_and text more) >>= line_done n head)
     by_text (Ok text) = refl
     by_text (Err e) = refl
 
 -- the line is refused
-pub line_refused : (e : HeadRefusal) (n : ℕ) (head : Option Header) (parts : List (List ℕ)) (total : Whole) → n ≤ 1000 → Fails e (line_at n parts) → header_from n head parts ≡ total → Fails e total
+pub line_refused : (e : HeadRefusal) (n : ℕ) (head : Option Header) (parts : List (List ℕ)) (total : Whole) → n ≤ 1000
+    → Fails e (line_at n parts) → header_from n head parts ≡ total → Fails e total
 line_refused NoMemory n head parts total le h so_far = tt
-line_refused e n head parts total le h so_far = sym so_far ∙ header_step n head parts le ∙ ap (λ (r : Result (List ℕ × List (List ℕ)) HeadRefusal). r >>= line_done n head) h
+line_refused e n head parts total le h so_far =
+    sym so_far ∙ header_step n head parts le
+    ∙ ap (λ (r : Result (List ℕ × List (List ℕ)) HeadRefusal). r >>= line_done n head) h
 
 abbrev step_done : ℕ → List (List ℕ) → Step → Whole
 step_done n more step = then_lines step more (λ next. header_from (n + 1) next more)
 
-read_line : (n : ℕ) (head : Option Header) (parts : List (List ℕ)) (text : List ℕ) (more : List (List ℕ)) → n ≤ 1000 → line_at n parts ≡ Ok (text, more)
+read_line : (n : ℕ) (head : Option Header) (parts : List (List ℕ)) (text : List ℕ) (more : List (List ℕ)) → n ≤ 1000
+    → line_at n parts ≡ Ok (text, more)
     → header_from n head parts ≡ (step_of n head (statement_of_words (words_of text)) >>= step_done n more)
-read_line n head parts text more le h = header_step n head parts le ∙ ap (λ (r : Result (List ℕ × List (List ℕ)) HeadRefusal). r >>= line_done n head) h
+read_line n head parts text more le h =
+    header_step n head parts le ∙ ap (λ (r : Result (List ℕ × List (List ℕ)) HeadRefusal). r >>= line_done n head) h
 
 -- what the line says is refused
-pub step_refused : (e : HeadRefusal) (n : ℕ) (head : Option Header) (parts : List (List ℕ)) (text : List ℕ) (more : List (List ℕ)) (total : Whole) → n ≤ 1000 → line_at n parts ≡ Ok (text, more)
+pub step_refused : (e : HeadRefusal) (n : ℕ) (head : Option Header) (parts : List (List ℕ)) (text : List ℕ)
+    (more : List (List ℕ)) (total : Whole) → n ≤ 1000 → line_at n parts ≡ Ok (text, more)
     → Fails e (step_of n head (statement_of_words (words_of text))) → header_from n head parts ≡ total → Fails e total
 step_refused NoMemory n head parts text more total le h f so_far = tt
 step_refused e n head parts text more total le h f so_far =
     sym so_far ∙ read_line n head parts text more le h ∙ ap (λ (r : Result Step HeadRefusal). r >>= step_done n more) f
 
 -- the header goes on
-pub step_goes : (n : ℕ) (head next : Option Header) (parts : List (List ℕ)) (text : List ℕ) (more : List (List ℕ)) (total : Whole) → n ≤ 1000 → line_at n parts ≡ Ok (text, more)
-    → step_of n head (statement_of_words (words_of text)) ≡ Ok (goes next) → header_from n head parts ≡ total → header_from (n + 1) next more ≡ total
+pub step_goes : (n : ℕ) (head next : Option Header) (parts : List (List ℕ)) (text : List ℕ) (more : List (List ℕ))
+    (total : Whole) → n ≤ 1000 → line_at n parts ≡ Ok (text, more)
+    → step_of n head (statement_of_words (words_of text)) ≡ Ok (goes next) → header_from n head parts ≡ total
+    → header_from (n + 1) next more ≡ total
 step_goes n head next parts text more total le h f so_far =
     sym (ap (λ (r : Result Step HeadRefusal). r >>= step_done n more) f) ∙ sym (read_line n head parts text more le h) ∙ so_far
 
 -- the header ends
-pub step_ends : (n : ℕ) (head : Option Header) (whole : Header) (parts : List (List ℕ)) (text behind : List ℕ) (total : Whole) → n ≤ 1000 → line_at n parts ≡ Ok (text, parts_of behind)
-    → step_of n head (statement_of_words (words_of text)) ≡ Ok (ends whole) → header_from n head parts ≡ total → total ≡ Ok (whole, behind)
+pub step_ends : (n : ℕ) (head : Option Header) (whole : Header) (parts : List (List ℕ)) (text behind : List ℕ) (total : Whole)
+    → n ≤ 1000 → line_at n parts ≡ Ok (text, parts_of behind)
+    → step_of n head (statement_of_words (words_of text)) ≡ Ok (ends whole) → header_from n head parts ≡ total
+    → total ≡ Ok (whole, behind)
 unfolding parts_of
 step_ends n head whole parts text behind total le h f so_far =
-    sym so_far ∙ read_line n head parts text (parts_of behind) le h ∙ ap (λ (r : Result Step HeadRefusal). r >>= step_done n (parts_of behind)) f
+    sym so_far ∙ read_line n head parts text (parts_of behind) le h
+    ∙ ap (λ (r : Result Step HeadRefusal). r >>= step_done n (parts_of behind)) f
     ∙ ap (λ (body : List ℕ). whole_and whole body) (join_with_byte-slice_split 10 behind)
 
 -- no line is left
-pub lines_over : (n : ℕ) (head : Option Header) (rest : List ℕ) (total : Whole) → 1001 ≤ n → header_from n head (parts_of rest) ≡ total → total ≡ Err LongHeader
+pub lines_over : (n : ℕ) (head : Option Header) (rest : List ℕ) (total : Whole) → 1001 ≤ n
+    → header_from n head (parts_of rest) ≡ total → total ≡ Err LongHeader
 unfolding header_from
 lines_over n head rest total ge so_far =
     let part : Parts rest zero = some_part rest in

@@ -1,5 +1,6 @@
 -- The printed lines of a header lead to it.
-use Rattle.std.proofs.Common.{◌≡◌, ℕ, zero, suc, ◌<◌, ◌≤◌, Bool, true, false, leb, eqb, ◌&&◌, List, [], ◌∷◌, ◌++◌, length, Some, refl, ap, ◌∙◌, arith, All, codes, decimal, append_assoc}
+use Rattle.std.proofs.Common.{◌≡◌, ℕ, zero, suc, ◌<◌, ◌≤◌, Bool, true, false, leb, eqb, ◌&&◌, List, [], ◌∷◌, ◌++◌, length, Some}
+use Rattle.std.proofs.Common.{refl, ap, ◌∙◌, arith, All, codes, decimal, append_assoc}
 use Rattle.std.specs.Prelude.{nat_le}
 use Rattle.std.specs.List.{list_all}
 use Rattle.std.specs.Char.{is_ascii_digit}
@@ -15,7 +16,9 @@ use Rattle.ply_head.specs.declared.header.Shape.{Shape}
 use Rattle.ply_head.specs.declared.header.Shape.TheVariants.{One, Many}
 use Rattle.ply_head.specs.declared.header.Property.{Property}
 use Rattle.ply_head.specs.Lines.{is_line_feed, is_blank, line_text, words_of}
-use Rattle.ply_head.specs.Statements.{Statement, format, element, property, finish, is_name_byte, kind_of, scalar_of, whole_scalar, count_of, name_of, format_line, element_line, property_line, finish_line, statement_of_words}
+use Rattle.ply_head.specs.Statements.{Statement, format, element, property, finish, is_name_byte, kind_of, scalar_of}
+use Rattle.ply_head.specs.Statements.{whole_scalar, count_of, name_of, format_line, element_line, property_line, finish_line}
+use Rattle.ply_head.specs.Statements.{statement_of_words}
 use Rattle.ply_head.specs.Spelling.{kind_name, scalar_name, format_text, element_text, shape_text, property_text}
 use Rattle.ply_head.specs.Grammar.{Says, IsLine}
 use Rattle.ply_head.specs.Readable.{IsName, HasWholeCount}
@@ -54,7 +57,8 @@ each p q follows (b ∷ bs) all =
     let parts = both_true (p b) (list_all p bs) all in
     rw (follows b parts.0, each p q follows bs parts.1) refl
 
-none_of : (p q : ℕ → Bool) → ((b : ℕ) → p b ≡ true → q b ≡ false) → (bs : List ℕ) → list_all p bs ≡ true → All (λ b. q b ≡ false) bs
+none_of : (p q : ℕ → Bool) → ((b : ℕ) → p b ≡ true → q b ≡ false) → (bs : List ℕ) → list_all p bs ≡ true
+    → All (λ b. q b ≡ false) bs
 none_of p q follows [] all i d lt = absurd (omega arith)
 none_of p q follows (b ∷ bs) all zero d lt = follows b (both_true (p b) (list_all p bs) all).0
 none_of p q follows (b ∷ bs) all (suc i) d lt = none_of p q follows bs (both_true (p b) (list_all p bs) all).1 i d (omega arith)
@@ -62,10 +66,14 @@ none_of p q follows (b ∷ bs) all (suc i) d lt = none_of p q follows bs (both_t
 text_same : (line : List ℕ) → list_all is_plain line ≡ true → line_text line ≡ line
 text_same [] all = refl
 text_same (b ∷ []) all = rw (plain_no_return b (both_true (is_plain b) true all).0) refl
-text_same (b ∷ c ∷ bs) all = ap (λ (r : List ℕ). b ∷ r) (text_same (c ∷ bs) (both_true (is_plain b) (list_all is_plain (c ∷ bs)) all).1)
+text_same (b ∷ c ∷ bs) all =
+    ap (λ (r : List ℕ). b ∷ r) (text_same (c ∷ bs) (both_true (is_plain b) (list_all is_plain (c ∷ bs)) all).1)
 
 pub line_plain : (line : List ℕ) → list_all is_plain line ≡ true → length line ≤ 1000 → IsLine line
-line_plain line all le = record { no_feed = none_of is_plain is_line_feed plain_no_feed line all; short = omega (arith, ap length (text_same line all)) }
+line_plain line all le = record {
+  no_feed = none_of is_plain is_line_feed plain_no_feed line all;
+  short = omega (arith, ap length (text_same line all));
+}
 
 -- two plain texts and a space between
 spaced : (a b : List ℕ) → list_all is_plain a ≡ true → list_all is_plain b ≡ true → list_all is_plain (a ++ 32 ∷ b) ≡ true
@@ -88,7 +96,10 @@ name_word : (name : List ℕ) → IsName name → IsWord name
 name_word name is = record { some = is.some; visible = is.visible }
 
 decimal_word : (n : ℕ) → n ≤ 4294967295 → IsWord (decimal n)
-decimal_word n le = record { some = ((decimal_is_IsNumeral n (omega arith)).0).0; visible = each is_ascii_digit is_name_byte digit_visible (decimal n) (decimal_digits n (omega arith)) }
+decimal_word n le = record {
+  some = ((decimal_is_IsNumeral n (omega arith)).0).0;
+  visible = each is_ascii_digit is_name_byte digit_visible (decimal n) (decimal_digits n (omega arith));
+}
 
 scalar_word : (scalar : Scalar) → IsWord (scalar_name scalar)
 scalar_word Char = record { some = omega arith; visible = refl }
@@ -105,16 +116,20 @@ kind_word Ascii = record { some = omega arith; visible = refl }
 kind_word BinaryLittle = record { some = omega arith; visible = refl }
 kind_word BinaryBig = record { some = omega arith; visible = refl }
 
-next_word : (word rest : List ℕ) (words : List (List ℕ)) → IsWord word → words_of rest ≡ words → words_of (word ++ 32 ∷ rest) ≡ word ∷ words
-next_word word rest words is more = words_word word 32 rest is.some (word_whole word is) refl ∙ ap (λ (ws : List (List ℕ)). word ∷ ws) more
+next_word : (word rest : List ℕ) (words : List (List ℕ)) → IsWord word → words_of rest ≡ words
+    → words_of (word ++ 32 ∷ rest) ≡ word ∷ words
+next_word word rest words is more =
+    words_word word 32 rest is.some (word_whole word is) refl ∙ ap (λ (ws : List (List ℕ)). word ∷ ws) more
 
 last_word : (word : List ℕ) → IsWord word → words_of word ≡ word ∷ []
 last_word word is = words_last word is.some (word_whole word is)
 
 -- ---- what a printed line says
 
-says_words : (line : List ℕ) (words : List (List ℕ)) (s : Statement) → list_all is_plain line ≡ true → words_of line ≡ words → statement_of_words words ≡ Some s → Says line s
-says_words line words s all is said = ap (λ (t : List ℕ). statement_of_words (words_of t)) (text_same line all) ∙ ap statement_of_words is ∙ said
+says_words : (line : List ℕ) (words : List (List ℕ)) (s : Statement) → list_all is_plain line ≡ true → words_of line ≡ words
+    → statement_of_words words ≡ Some s → Says line s
+says_words line words s all is said =
+    ap (λ (t : List ℕ). statement_of_words (words_of t)) (text_same line all) ∙ ap statement_of_words is ∙ said
 
 scalar_read : (scalar : Scalar) → scalar_of (scalar_name scalar) ≡ Some scalar
 unfolding scalar_of
@@ -142,7 +157,8 @@ unfolding count_of
 count_read n le =
     let numeral = decimal_is_IsNumeral n (omega arith) in
     let some : leb 1 (length (decimal n)) ≡ true = is_le 1 (length (decimal n)) (numeral.0).0 in
-    let short : leb (length (decimal n)) 10 ≡ true = is_le (length (decimal n)) 10 (length-decimal-le 10 n (omega arith) (omega arith) (omega arith)) in
+    let short : leb (length (decimal n)) 10 ≡ true =
+    is_le (length (decimal n)) 10 (length-decimal-le 10 n (omega arith) (omega arith) (omega arith)) in
     rw (some, short, decimal_digits n (omega arith), numeral.1, is_le n 4294967295 le) refl
   where
     is_le : (a b : ℕ) → a ≤ b → leb a b ≡ true
@@ -167,7 +183,9 @@ end_word : IsWord (codes "end_header")
 end_word = record { some = omega arith; visible = refl }
 
 pub format_plain : (kind : Kind) → list_all is_plain (format_text kind) ≡ true
-format_plain kind = spaced (codes "format") (kind_name kind ++ 32 ∷ codes "1.0") refl (spaced (kind_name kind) (codes "1.0") (word_plain (kind_name kind) (kind_word kind)) refl)
+format_plain kind =
+    spaced (codes "format") (kind_name kind ++ 32 ∷ codes "1.0") refl
+    (spaced (kind_name kind) (codes "1.0") (word_plain (kind_name kind) (kind_word kind)) refl)
 
 format_statement : (kind : Kind) → statement_of_words (codes "format" ∷ kind_name kind ∷ codes "1.0" ∷ []) ≡ Some (format kind)
 unfolding statement_of_words format_line
@@ -180,49 +198,67 @@ format_says kind =
     (next_word (kind_name kind) (codes "1.0") (codes "1.0" ∷ []) (kind_word kind) (last_word (codes "1.0") version_word)))
     (format_statement kind)
 
-pub element_plain : (name : List ℕ) (count : ℕ) → IsName name → count ≤ 4294967295 → list_all is_plain (element_text name count) ≡ true
+pub element_plain : (name : List ℕ) (count : ℕ) → IsName name → count ≤ 4294967295
+    → list_all is_plain (element_text name count) ≡ true
 element_plain name count is le =
-    spaced (codes "element") (name ++ 32 ∷ decimal count) refl (spaced name (decimal count) (word_plain name (name_word name is)) (word_plain (decimal count) (decimal_word count le)))
+    spaced (codes "element") (name ++ 32 ∷ decimal count) refl
+    (spaced name (decimal count) (word_plain name (name_word name is)) (word_plain (decimal count) (decimal_word count le)))
 
-element_statement : (name : List ℕ) (count : ℕ) → IsName name → count ≤ 4294967295 → statement_of_words (codes "element" ∷ name ∷ decimal count ∷ []) ≡ Some (element name count)
+element_statement : (name : List ℕ) (count : ℕ) → IsName name → count ≤ 4294967295
+    → statement_of_words (codes "element" ∷ name ∷ decimal count ∷ []) ≡ Some (element name count)
 unfolding statement_of_words element_line
 element_statement name count is le = rw (name_read name is, count_read count le) refl
 
-pub element_says : (name : List ℕ) (count : ℕ) → IsName name → count ≤ 4294967295 → Says (element_text name count) (element name count)
+pub element_says : (name : List ℕ) (count : ℕ) → IsName name → count ≤ 4294967295
+    → Says (element_text name count) (element name count)
 element_says name count is le =
-    says_words (element_text name count) (codes "element" ∷ name ∷ decimal count ∷ []) (element name count) (element_plain name count is le)
+    says_words (element_text name count) (codes "element" ∷ name ∷ decimal count ∷ []) (element name count)
+    (element_plain name count is le)
     (next_word (codes "element") (name ++ 32 ∷ decimal count) (name ∷ decimal count ∷ []) element_word
-    (next_word name (decimal count) (decimal count ∷ []) (name_word name is) (last_word (decimal count) (decimal_word count le))))
+    (next_word name (decimal count) (decimal count ∷ []) (name_word name is)
+    (last_word (decimal count) (decimal_word count le))))
     (element_statement name count is le)
 
 shape_plain : (shape : Shape) → list_all is_plain (shape_text shape) ≡ true
 shape_plain (One scalar) = word_plain (scalar_name scalar) (scalar_word scalar)
 shape_plain (Many count item) =
-    spaced (codes "list") (scalar_name count ++ 32 ∷ scalar_name item) refl (spaced (scalar_name count) (scalar_name item) (word_plain (scalar_name count) (scalar_word count)) (word_plain (scalar_name item) (scalar_word item)))
+    spaced (codes "list") (scalar_name count ++ 32 ∷ scalar_name item) refl
+    (spaced (scalar_name count) (scalar_name item) (word_plain (scalar_name count) (scalar_word count))
+    (word_plain (scalar_name item) (scalar_word item)))
 
 pub property_plain : (p : Property) → IsName p.name → list_all is_plain (property_text p) ≡ true
 property_plain p is =
-    spaced (codes "property") (shape_text p.shape ++ 32 ∷ p.name) refl (spaced (shape_text p.shape) p.name (shape_plain p.shape) (word_plain p.name (name_word p.name is)))
+    spaced (codes "property") (shape_text p.shape ++ 32 ∷ p.name) refl
+    (spaced (shape_text p.shape) p.name (shape_plain p.shape) (word_plain p.name (name_word p.name is)))
 
-one_statement : (name : List ℕ) (scalar : Scalar) → IsName name → statement_of_words (codes "property" ∷ scalar_name scalar ∷ name ∷ []) ≡ Some (property name (One scalar))
+one_statement : (name : List ℕ) (scalar : Scalar) → IsName name
+    → statement_of_words (codes "property" ∷ scalar_name scalar ∷ name ∷ []) ≡ Some (property name (One scalar))
 unfolding statement_of_words property_line
 one_statement name scalar is = rw (scalar_read scalar, name_read name is) refl
 
-many_statement : (name : List ℕ) (count item : Scalar) → IsName name → whole_scalar count ≡ Some count → statement_of_words (codes "property" ∷ codes "list" ∷ scalar_name count ∷ scalar_name item ∷ name ∷ []) ≡ Some (property name (Many count item))
+many_statement : (name : List ℕ) (count item : Scalar) → IsName name → whole_scalar count ≡ Some count
+    → statement_of_words (codes "property" ∷ codes "list" ∷ scalar_name count ∷ scalar_name item ∷ name ∷ [])
+    ≡ Some (property name (Many count item))
 unfolding statement_of_words property_line
 many_statement name count item is whole = rw (scalar_read count, whole, scalar_read item, name_read name is) refl
 
-pub property_says : (name : List ℕ) (shape : Shape) → IsName name → HasWholeCount shape → Says (property_text (record { name = name; shape = shape })) (property name shape)
+pub property_says : (name : List ℕ) (shape : Shape) → IsName name → HasWholeCount shape
+    → Says (property_text (record { name = name; shape = shape })) (property name shape)
 property_says name (One scalar) is whole =
-    says_words (property_text (record { name = name; shape = One scalar })) (codes "property" ∷ scalar_name scalar ∷ name ∷ []) (property name (One scalar)) (property_plain (record { name = name; shape = One scalar }) is)
+    says_words (property_text (record { name = name; shape = One scalar })) (codes "property" ∷ scalar_name scalar ∷ name ∷ [])
+    (property name (One scalar)) (property_plain (record { name = name; shape = One scalar }) is)
     (next_word (codes "property") (scalar_name scalar ++ 32 ∷ name) (scalar_name scalar ∷ name ∷ []) property_word
     (next_word (scalar_name scalar) name (name ∷ []) (scalar_word scalar) (last_word name (name_word name is))))
     (one_statement name scalar is)
 property_says name (Many count item) is whole =
-    says_words (property_text (record { name = name; shape = Many count item })) (codes "property" ∷ codes "list" ∷ scalar_name count ∷ scalar_name item ∷ name ∷ []) (property name (Many count item)) (property_plain (record { name = name; shape = Many count item }) is)
-    (next_word (codes "property") ((codes "list" ++ 32 ∷ (scalar_name count ++ 32 ∷ scalar_name item)) ++ 32 ∷ name) (codes "list" ∷ scalar_name count ∷ scalar_name item ∷ name ∷ []) property_word
+    says_words (property_text (record { name = name; shape = Many count item }))
+    (codes "property" ∷ codes "list" ∷ scalar_name count ∷ scalar_name item ∷ name ∷ []) (property name (Many count item))
+    (property_plain (record { name = name; shape = Many count item }) is)
+    (next_word (codes "property") ((codes "list" ++ 32 ∷ (scalar_name count ++ 32 ∷ scalar_name item)) ++ 32 ∷ name)
+    (codes "list" ∷ scalar_name count ∷ scalar_name item ∷ name ∷ []) property_word
     (ap words_of (append_assoc (codes "list") (32 ∷ (scalar_name count ++ 32 ∷ scalar_name item)) (32 ∷ name))
-    ∙ next_word (codes "list") ((scalar_name count ++ 32 ∷ scalar_name item) ++ 32 ∷ name) (scalar_name count ∷ scalar_name item ∷ name ∷ []) list_word
+    ∙ next_word (codes "list") ((scalar_name count ++ 32 ∷ scalar_name item) ++ 32 ∷ name)
+    (scalar_name count ∷ scalar_name item ∷ name ∷ []) list_word
     (ap words_of (append_assoc (scalar_name count) (32 ∷ scalar_name item) (32 ∷ name))
     ∙ next_word (scalar_name count) (scalar_name item ++ 32 ∷ name) (scalar_name item ∷ name ∷ []) (scalar_word count)
     (next_word (scalar_name item) name (name ∷ []) (scalar_word item) (last_word name (name_word name is))))))
@@ -233,7 +269,9 @@ unfolding statement_of_words finish_line
 end_statement = refl
 
 pub end_says : Says (codes "end_header") finish
-end_says = says_words (codes "end_header") (codes "end_header" ∷ []) finish refl (last_word (codes "end_header") end_word) end_statement
+end_says =
+    says_words (codes "end_header") (codes "end_header" ∷ []) finish refl (last_word (codes "end_header") end_word)
+    end_statement
 
 pub end_plain : list_all is_plain (codes "end_header") ≡ true
 end_plain = refl

@@ -22,7 +22,8 @@ Says line statement = statement_of_words (words_of (line_text line)) ≡ Some st
 -- the header with an element more, whose name is new and which has no properties yet
 pub record AddsElement (before : Header) (name : List ℕ) (count : ℕ) (after : Option Header) : Type 0 where
   pub is_new : has_element name before.elements ≡ false
-  pub is : after ≡ Some (record before { elements = before.elements ++ record { name = name; count = count; properties = [] } ∷ [] })
+  pub is : after
+      ≡ Some (record before { elements = before.elements ++ record { name = name; count = count; properties = [] } ∷ [] })
 
 -- the header whose last element has a property more, with a name that is new there
 pub record AddsProperty (before : Header) (added : Property) (after : Option Header) : Type 0 where
@@ -44,7 +45,9 @@ Adds before statement after = ⊥
 -- the lines lead from one header so far to another: each says a statement that makes the next
 abbrev pub Leads : Option Header → List (List ℕ) → Option Header → Type 0
 Leads before [] after = after ≡ before
-Leads before (line ∷ lines) after = (next : Option Header) × ((statement : Statement) × (Says line statement × Adds before statement next × Leads next lines after))
+Leads before (line ∷ lines) after =
+    (next : Option Header)
+    × ((statement : Statement) × (Says line statement × Adds before statement next × Leads next lines after))
 
 -- no LF stands in the line, and without a CR at its end it has at most 1,000 bytes
 pub record IsLine (line : List ℕ) : Type 0 where

@@ -11,14 +11,16 @@
 --
 -- These say the refusals in their order. specs/Grammar says in the format's own words which
 -- texts have a header, and a law of the crate that both agree.
-use Rattle.std.specs.Prelude.{ℕ, Bool, ◌+◌, ◌≡◌, ◌≤◌, List, [], ◌∷◌, ◌++◌, nat_eq, nat_lt, length, drop, codes, Option, Some, None, Result, Ok, Err, if◌then◌else◌}
+use Rattle.std.specs.Prelude.{ℕ, Bool, ◌+◌, ◌≡◌, ◌≤◌, List, [], ◌∷◌, ◌++◌, nat_eq, nat_lt, length, drop, codes, Option, Some}
+use Rattle.std.specs.Prelude.{None, Result, Ok, Err, if◌then◌else◌}
 use Rattle.std.specs.List.{list_any, join_with_byte, starts_with}
 use Rattle.std.specs.Str.{bytes_eq}
 use Rattle.ply_head.specs.declared.header.Header.{Header}
 use Rattle.ply_head.specs.declared.header.Element.{Element}
 use Rattle.ply_head.specs.declared.header.Property.{Property}
 use Rattle.ply_head.specs.declared.refusal.HeadRefusal.{HeadRefusal}
-use Rattle.ply_head.specs.declared.refusal.HeadRefusal.TheVariants.{NotPly, BadLine, LongLine, LongHeader, Twice, HeadCut, NoMemory}
+use Rattle.ply_head.specs.declared.refusal.HeadRefusal.TheVariants.{NotPly, BadLine, LongLine, LongHeader, Twice, HeadCut}
+use Rattle.ply_head.specs.declared.refusal.HeadRefusal.TheVariants.{NoMemory}
 use Rattle.ply_head.specs.Answers.{◌>>=◌}
 use Rattle.ply_head.specs.Lines.{parts_of, line_text, words_of}
 use Rattle.ply_head.specs.Statements.{Statement, nothing, format, element, property, finish, statement_of_words}
@@ -54,7 +56,8 @@ has_element name elements = list_any (λ e. bytes_eq e.name name) elements
 -- the property goes to the last element
 abbrev pub with_property : ℕ → Property → List Element → Result (List Element) HeadRefusal
 with_property n p [] = Err (BadLine n)
-with_property n p (e ∷ []) = if has_property p.name e.properties then Err (Twice n) else Ok (record e { properties = e.properties ++ p ∷ [] } ∷ [])
+with_property n p (e ∷ []) =
+    if has_property p.name e.properties then Err (Twice n) else Ok (record e { properties = e.properties ++ p ∷ [] } ∷ [])
 with_property n p (e ∷ next ∷ more) = with_property n p (next ∷ more) >>= λ es. Ok (e ∷ es)
 
 -- the header after a line that isn't the last, or the whole header
@@ -71,13 +74,16 @@ step_of n None (Some said) = Err (BadLine n)
 step_of n (Some head) (Some (format kind)) = Err (BadLine n)
 step_of n (Some head) (Some (element name count)) =
     if has_element name head.elements then Err (Twice n)
-    else Ok (goes (Some (record head { elements = head.elements ++ record { name = name; count = count; properties = [] } ∷ [] })))
+    else Ok
+    (goes (Some (record head { elements = head.elements ++ record { name = name; count = count; properties = [] } ∷ [] })))
 step_of n (Some head) (Some (property name shape)) =
-    with_property n (record { name = name; shape = shape }) head.elements >>= λ es. Ok (goes (Some (record head { elements = es })))
+    with_property n (record { name = name; shape = shape }) head.elements
+    >>= λ es. Ok (goes (Some (record head { elements = es })))
 step_of n (Some head) (Some finish) = Ok (ends head)
 
 -- what follows a step: more lines, or the body
-abbrev pub then_lines : Step → List (List ℕ) → (Option Header → Result (Header × List ℕ) HeadRefusal) → Result (Header × List ℕ) HeadRefusal
+abbrev pub then_lines : Step → List (List ℕ) → (Option Header → Result (Header × List ℕ) HeadRefusal)
+    → Result (Header × List ℕ) HeadRefusal
 then_lines (goes head) more read = read head
 then_lines (ends head) more read = Ok (head, join_with_byte 10 more)
 
@@ -86,7 +92,8 @@ unfoldable pub header_from : ℕ → Option Header → List (List ℕ) → Resul
 header_from n head [] = Err HeadCut
 header_from n head (part ∷ more) =
     if nat_lt 1000 n then Err LongHeader
-    else (text_of_line n part more >>= λ text. step_of n head (statement_of_words (words_of text)) >>= λ step. then_lines step more (λ next. header_from (n + 1) next more))
+    else (text_of_line n part more >>= λ text. step_of n head (statement_of_words (words_of text))
+    >>= λ step. then_lines step more (λ next. header_from (n + 1) next more))
 
 -- the header and the body of a text, which begins with the line `ply`
 unfoldable pub header_of : List ℕ → Result (Header × List ℕ) HeadRefusal

@@ -65,7 +65,8 @@ whole_scalar scalar = Some scalar
 -- 1 to 10 digits, with a value of 32 bits
 unfoldable pub count_of : List ℕ → Option ℕ
 count_of word =
-    if nat_le 1 (length word) && (nat_le (length word) 10 && (list_all is_ascii_digit word && nat_le (digits_value 10 word) 4294967295))
+    if nat_le 1 (length word)
+    && (nat_le (length word) 10 && (list_all is_ascii_digit word && nat_le (digits_value 10 word) 4294967295))
     then Some (digits_value 10 word) else None
 
 -- a word of visible characters, which may be a name

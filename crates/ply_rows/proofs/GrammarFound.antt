@@ -1,5 +1,6 @@
 -- The reader and the grammar agree: what is read of a property is what the body begins with.
-use Rattle.std.proofs.Common.{◌≡◌, ℕ, ◌+◌, ◌*◌, ◌≤◌, ltb, ℤ, pos, negsuc, List, [], ◌∷◌, ◌++◌, length, take, drop, Result, Ok, Err, refl, sym, ap, subst, ◌∙◌, arith}
+use Rattle.std.proofs.Common.{◌≡◌, ℕ, ◌+◌, ◌*◌, ◌≤◌, ltb, ℤ, pos, negsuc, List, [], ◌∷◌, ◌++◌, length, take, drop, Result, Ok}
+use Rattle.std.proofs.Common.{Err, refl, sym, ap, subst, ◌∙◌, arith}
 use Rattle.std.proofs.lemmas.Bool.{ltb-false}
 use Rattle.std.proofs.lemmas.List.{take-append-drop, length-take-le, length-append, append_assoc}
 use Rattle.std.proofs.Math.Seq.{take-append_seam}
@@ -32,14 +33,20 @@ counted at (pos m) n e =
 abbrev pub whole_number : ℤ → Result ℤ NumRefusal
 whole_number z = Ok z
 
-count_found : (at : Place) (r : Result ℤ NumRefusal) (n : ℕ) → count_of at r ≡ Ok n → (r ≡ whole_number (pos n)) × (n ≤ 4294967295)
+count_found : (at : Place) (r : Result ℤ NumRefusal) (n : ℕ) → count_of at r ≡ Ok n
+    → (r ≡ whole_number (pos n)) × (n ≤ 4294967295)
 count_found at (Err e) n is = absurd cc
 count_found at (Ok z) n is = let both = counted at z n is in (ap whole_number both.0, both.1)
 
-one_field : (t : Token) (field : Field) → record { place = t.place; size = length t.bytes; items = 1 } ≡ field → field ≡ field_of_items (t ∷ [])
+one_field : (t : Token) (field : Field) → record {
+  place = t.place;
+  size = length t.bytes;
+  items = 1;
+} ≡ field → field ≡ field_of_items (t ∷ [])
 one_field t field e = sym e ∙ ap (λ (n : ℕ). record { place = t.place; size = n; items = 1 }) (omega arith)
 
-text_found : (at : Place) (shape : Shape) (tokens : List Token) (field : Field) (behind : List Token) → text_field at shape tokens ≡ done (field, behind) → BeginsText shape field tokens (text behind)
+text_found : (at : Place) (shape : Shape) (tokens : List Token) (field : Field) (behind : List Token)
+    → text_field at shape tokens ≡ done (field, behind) → BeginsText shape field tokens (text behind)
 unfolding text_field
 text_found at (One scalar) [] field behind e = absurd cc
 text_found at (Many count item) [] field behind e = absurd cc
@@ -56,7 +63,9 @@ text_found at (One scalar) (t ∷ tokens) field behind e =
 text_found at (Many count item) (t ∷ tokens) field behind e =
     let read = bind_ok (count_of at (whole_of t.bytes)) (λ n. items_of at n tokens) (field, behind) e in
     let count_is = count_found at (whole_of t.bytes) read.0 read.1 in
-    let enough = guarded (ltb (length tokens) read.0) (Cut at) (done (field_of_items (take read.0 tokens), drop read.0 tokens)) (field, behind) read.2 in
+    let enough =
+    guarded (ltb (length tokens) read.0) (Cut at) (done (field_of_items (take read.0 tokens), drop read.0 tokens))
+    (field, behind) read.2 in
     let least : read.0 ≤ length tokens = ltb-false (length tokens) read.0 enough.0 in
     let items : length (take read.0 tokens) ≡ read.0 = length-take-le read.0 tokens least in
     let same = same_done (field_of_items (take read.0 tokens), drop read.0 tokens) (field, behind) enough.1 in
@@ -71,7 +80,8 @@ text_found at (Many count item) (t ∷ tokens) field behind e =
 
 -- ---- in a binary body
 
-bytes_found : (at : Place) (n : ℕ) (bytes : List ℕ) (read : List ℕ × List ℕ) → bytes_of at n bytes ≡ done read → (n ≤ length bytes) × (read ≡ (take n bytes, drop n bytes))
+bytes_found : (at : Place) (n : ℕ) (bytes : List ℕ) (read : List ℕ × List ℕ) → bytes_of at n bytes ≡ done read
+    → (n ≤ length bytes) × (read ≡ (take n bytes, drop n bytes))
 bytes_found at n bytes read e =
     let enough = guarded (ltb (length bytes) n) (Cut at) (done (take n bytes, drop n bytes)) read e in
     (ltb-false (length bytes) n enough.0, sym (same_done (take n bytes, drop n bytes) read enough.1))
@@ -79,15 +89,24 @@ bytes_found at n bytes read e =
 abbrev ByteRead : Type 0
 ByteRead = Field × (ℕ × List ℕ)
 
-binary_found : (kind : Kind) (at : Place) (shape : Shape) (place : ℕ) (bytes : List ℕ) (field : Field) (next : ℕ) (behind : List ℕ) → binary_field kind at shape (place, bytes) ≡ done (field, (next, behind)) → BeginsBytes kind shape field place bytes (raw kind next behind)
+binary_found : (kind : Kind) (at : Place) (shape : Shape) (place : ℕ) (bytes : List ℕ) (field : Field) (next : ℕ)
+    (behind : List ℕ) → binary_field kind at shape (place, bytes) ≡ done (field, (next, behind))
+    → BeginsBytes kind shape field place bytes (raw kind next behind)
 unfolding binary_field
 binary_found kind at (One scalar) place bytes field next behind e =
-    let read = bind_ok (bytes_of at (size_of scalar) bytes) (λ value. done (record { place = place; size = size_of scalar; items = 1 }, (place + size_of scalar, value.1))) (field, (next, behind)) e in
+    let read =
+    bind_ok (bytes_of at (size_of scalar) bytes)
+    (λ value. done (record { place = place; size = size_of scalar; items = 1 }, (place + size_of scalar, value.1)))
+    (field, (next, behind)) e in
     let value = bytes_found at (size_of scalar) bytes read.0 read.1 in
-    let same = same_done (record { place = place; size = size_of scalar; items = 1 }, (place + size_of scalar, read.0.1)) (field, (next, behind)) read.2 in
+    let same =
+    same_done (record { place = place; size = size_of scalar; items = 1 }, (place + size_of scalar, read.0.1))
+    (field, (next, behind)) read.2 in
     let size : length (take (size_of scalar) bytes) ≡ size_of scalar = length-take-le (size_of scalar) bytes value.0 in
-    let rest : drop (size_of scalar) bytes ≡ behind = ap (λ (x : List ℕ × List ℕ). x.1) (sym value.1) ∙ ap (λ (x : ByteRead). x.1.1) same in
-    let place_is : place + length (take (size_of scalar) bytes) ≡ next = ap (λ (n : ℕ). place + n) size ∙ ap (λ (x : ByteRead). x.1.0) same in
+    let rest : drop (size_of scalar) bytes ≡ behind =
+    ap (λ (x : List ℕ × List ℕ). x.1) (sym value.1) ∙ ap (λ (x : ByteRead). x.1.1) same in
+    let place_is : place + length (take (size_of scalar) bytes) ≡ next =
+    ap (λ (n : ℕ). place + n) size ∙ ap (λ (x : ByteRead). x.1.0) same in
     record {
       items = 1;
       piece = take (size_of scalar) bytes;
@@ -95,30 +114,60 @@ binary_found kind at (One scalar) place bytes field next behind e =
       is_piece = size;
       cut = sym (take-append-drop (size_of scalar) bytes);
       field_is = ap (λ (x : ByteRead). x.0) (sym same);
-      left_is = ap (λ (n : ℕ). raw kind n behind) (sym place_is) ∙ ap (λ (xs : List ℕ). raw kind (place + length (take (size_of scalar) bytes)) xs) (sym rest);
+      left_is =
+          ap (λ (n : ℕ). raw kind n behind) (sym place_is)
+          ∙ ap (λ (xs : List ℕ). raw kind (place + length (take (size_of scalar) bytes)) xs) (sym rest);
     }
 binary_found kind at (Many count item) place bytes field next behind e =
     let a = size_of count in
-    let read = bind_ok (bytes_of at (size_of count) bytes) (λ first. count_in at (number_of kind count first.0) >>= λ n. bytes_of at (n * size_of item) first.1 >>= λ items. done (list_field (place + size_of count) (n * size_of item) n, (place + size_of count + n * size_of item, items.1))) (field, (next, behind)) e in
+    let read =
+    bind_ok (bytes_of at (size_of count) bytes)
+    (λ first. count_in at (number_of kind count first.0) >>= λ n. bytes_of at (n * size_of item) first.1
+    >>= λ items. done
+    (list_field (place + size_of count) (n * size_of item) n, (place + size_of count + n * size_of item, items.1)))
+    (field, (next, behind)) e in
     let first = bytes_found at (size_of count) bytes read.0 read.1 in
-    let counts = bind_ok (count_in at (number_of kind count read.0.0)) (λ n. bytes_of at (n * size_of item) read.0.1 >>= λ items. done (list_field (place + size_of count) (n * size_of item) n, (place + size_of count + n * size_of item, items.1))) (field, (next, behind)) read.2 in
+    let counts =
+    bind_ok (count_in at (number_of kind count read.0.0))
+    (λ n. bytes_of at (n * size_of item) read.0.1
+    >>= λ items. done
+    (list_field (place + size_of count) (n * size_of item) n, (place + size_of count + n * size_of item, items.1)))
+    (field, (next, behind)) read.2 in
     let count_is = counted at (number_of kind count read.0.0) counts.0 counts.1 in
-    let third = bind_ok (bytes_of at (counts.0 * size_of item) read.0.1) (λ items. done (list_field (place + size_of count) (counts.0 * size_of item) counts.0, (place + size_of count + counts.0 * size_of item, items.1))) (field, (next, behind)) counts.2 in
+    let third =
+    bind_ok (bytes_of at (counts.0 * size_of item) read.0.1)
+    (λ items. done (
+      list_field (place + size_of count) (counts.0 * size_of item) counts.0,
+      (place + size_of count + counts.0 * size_of item, items.1),
+    )) (field, (next, behind)) counts.2 in
     let items = bytes_found at (counts.0 * size_of item) read.0.1 third.0 third.1 in
-    let same = same_done (list_field (place + size_of count) (counts.0 * size_of item) counts.0, (place + size_of count + counts.0 * size_of item, third.0.1)) (field, (next, behind)) third.2 in
+    let same =
+    same_done (
+      list_field (place + size_of count) (counts.0 * size_of item) counts.0,
+      (place + size_of count + counts.0 * size_of item, third.0.1),
+    ) (field, (next, behind)) third.2 in
     let front : read.0.0 ≡ take (size_of count) bytes = ap (λ (x : List ℕ × List ℕ). x.0) first.1 in
     let rest : read.0.1 ≡ drop (size_of count) bytes = ap (λ (x : List ℕ × List ℕ). x.1) first.1 in
     let front_size : length read.0.0 ≡ size_of count = ap length front ∙ length-take-le (size_of count) bytes first.0 in
-    let items_size : length (take (counts.0 * size_of item) read.0.1) ≡ counts.0 * size_of item = length-take-le (counts.0 * size_of item) read.0.1 items.0 in
-    let size : length (read.0.0 ++ take (counts.0 * size_of item) read.0.1) ≡ size_of count + counts.0 * size_of item = length-append read.0.0 (take (counts.0 * size_of item) read.0.1) ∙ omega (arith, front_size, items_size) in
+    let items_size : length (take (counts.0 * size_of item) read.0.1) ≡ counts.0 * size_of item =
+    length-take-le (counts.0 * size_of item) read.0.1 items.0 in
+    let size : length (read.0.0 ++ take (counts.0 * size_of item) read.0.1) ≡ size_of count + counts.0 * size_of item =
+    length-append read.0.0 (take (counts.0 * size_of item) read.0.1) ∙ omega (arith, front_size, items_size) in
     let left : third.0.1 ≡ drop (counts.0 * size_of item) read.0.1 = ap (λ (x : List ℕ × List ℕ). x.1) items.1 in
     record {
       items = counts.0;
       piece = read.0.0 ++ take (counts.0 * size_of item) read.0.1;
       behind = behind;
-      is_piece = (size, ap (number_of kind count) (ap (λ (n : ℕ). take n (read.0.0 ++ take (counts.0 * size_of item) read.0.1)) (sym front_size) ∙ take-append_seam read.0.0 (take (counts.0 * size_of item) read.0.1)) ∙ count_is.0, count_is.1);
+      is_piece = (
+        size,
+        ap (number_of kind count)
+            (ap (λ (n : ℕ). take n (read.0.0 ++ take (counts.0 * size_of item) read.0.1)) (sym front_size)
+            ∙ take-append_seam read.0.0 (take (counts.0 * size_of item) read.0.1)) ∙ count_is.0,
+        count_is.1,
+      );
       cut = sym (append_assoc read.0.0 (take (counts.0 * size_of item) read.0.1) behind
-          ∙ ap (λ (xs : List ℕ). read.0.0 ++ (take (counts.0 * size_of item) read.0.1 ++ xs)) (ap (λ (x : ByteRead). x.1.1) (sym same) ∙ left)
+          ∙ ap (λ (xs : List ℕ). read.0.0 ++ (take (counts.0 * size_of item) read.0.1 ++ xs))
+          (ap (λ (x : ByteRead). x.1.1) (sym same) ∙ left)
           ∙ ap (λ (xs : List ℕ). read.0.0 ++ xs) (take-append-drop (counts.0 * size_of item) read.0.1)
           ∙ ap (λ (xs : List ℕ). xs ++ read.0.1) front ∙ ap (λ (xs : List ℕ). take (size_of count) bytes ++ xs) rest
           ∙ take-append-drop (size_of count) bytes);
@@ -128,22 +177,37 @@ binary_found kind at (Many count item) place bytes field next behind e =
 
 -- ---- in either
 
-pub property_found : (at : Place) (shape : Shape) (rest : Rest) (field : Field) (left : Rest) → field_of at shape rest ≡ done (field, left) → Begins shape field rest left
+pub property_found : (at : Place) (shape : Shape) (rest : Rest) (field : Field) (left : Rest)
+    → field_of at shape rest ≡ done (field, left) → Begins shape field rest left
 unfolding field_of
 property_found at shape (text tokens) field left e =
     let read = bind_ok (text_field at shape tokens) (λ read. done (read.0, text read.1)) (field, left) e in
     let same = same_done (read.0.0, text read.0.1) (field, left) read.2 in
     subst (λ (x : Field × Rest). BeginsText shape x.0 tokens x.1) same (text_found at shape tokens read.0.0 read.0.1 read.1)
 property_found at shape (raw kind place bytes) field left e =
-    let read = bind_ok (binary_field kind at shape (place, bytes)) (λ read. done (read.0, raw kind read.1.0 read.1.1)) (field, left) e in
+    let read =
+    bind_ok (binary_field kind at shape (place, bytes)) (λ read. done (read.0, raw kind read.1.0 read.1.1)) (field, left) e in
     let same = same_done (read.0.0, raw kind read.0.1.0 read.0.1.1) (field, left) read.2 in
-    subst (λ (x : Field × Rest). BeginsBytes kind shape x.0 place bytes x.1) same (binary_found kind at shape place bytes read.0.0 read.0.1.0 read.0.1.1 read.1)
+    subst (λ (x : Field × Rest). BeginsBytes kind shape x.0 place bytes x.1) same
+    (binary_found kind at shape place bytes read.0.0 read.0.1.0 read.0.1.1 read.1)
 
-pub fields_found : (e r k : ℕ) (properties : List Property) (rest : Rest) (fields : List Field) (left : Rest) → fields_of e r k properties rest ≡ done (fields, left) → BeginsRow properties fields rest left
+pub fields_found : (e r k : ℕ) (properties : List Property) (rest : Rest) (fields : List Field) (left : Rest)
+    → fields_of e r k properties rest ≡ done (fields, left) → BeginsRow properties fields rest left
 unfolding fields_of
-fields_found e r k [] rest fields left is = subst (λ (x : List Field × Rest). BeginsRow [] x.0 rest x.1) (same_done ([], rest) (fields, left) is) refl
+fields_found e r k [] rest fields left is =
+    subst (λ (x : List Field × Rest). BeginsRow [] x.0 rest x.1) (same_done ([], rest) (fields, left) is) refl
 fields_found e r k (p ∷ properties) rest fields left is =
-    let first = bind_ok (field_of (record { element = e; row = r; property = k }) p.shape rest) (λ first. fields_of e r (k + 1) properties first.1 >>= λ others. done (first.0 ∷ others.0, others.1)) (fields, left) is in
-    let others = bind_ok (fields_of e r (k + 1) properties first.0.1) (λ others. done (first.0.0 ∷ others.0, others.1)) (fields, left) first.2 in
-    subst (λ (x : List Field × Rest). BeginsRow (p ∷ properties) x.0 rest x.1) (same_done (first.0.0 ∷ others.0.0, others.0.1) (fields, left) others.2)
-    (first.0.1, (property_found (record { element = e; row = r; property = k }) p.shape rest first.0.0 first.0.1 first.1, fields_found e r (k + 1) properties first.0.1 others.0.0 others.0.1 others.1))
+    let first =
+    bind_ok (field_of (record { element = e; row = r; property = k }) p.shape rest)
+    (λ first. fields_of e r (k + 1) properties first.1 >>= λ others. done (first.0 ∷ others.0, others.1)) (fields, left) is in
+    let others =
+    bind_ok (fields_of e r (k + 1) properties first.0.1) (λ others. done (first.0.0 ∷ others.0, others.1))
+    (fields, left) first.2 in
+    subst (λ (x : List Field × Rest). BeginsRow (p ∷ properties) x.0 rest x.1)
+    (same_done (first.0.0 ∷ others.0.0, others.0.1) (fields, left) others.2) (
+      first.0.1,
+      (
+        property_found (record { element = e; row = r; property = k }) p.shape rest first.0.0 first.0.1 first.1,
+        fields_found e r (k + 1) properties first.0.1 others.0.0 others.0.1 others.1,
+      ),
+    )

@@ -1,5 +1,6 @@
 -- The reader and the grammar agree on whole bodies.
-use Rattle.std.proofs.Common.{◌≡◌, ℕ, zero, suc, ◌+◌, ◌-◌, List, [], ◌∷◌, ◌++◌, length, Option, Some, None, Result, Ok, Err, refl, sym, ap, subst, ◌∙◌, arith}
+use Rattle.std.proofs.Common.{◌≡◌, ℕ, zero, suc, ◌+◌, ◌-◌, List, [], ◌∷◌, ◌++◌, length, Option, Some, None, Result, Ok, Err}
+use Rattle.std.proofs.Common.{refl, sym, ap, subst, ◌∙◌, arith}
 use Rattle.ply_head.specs.declared.header.Element.{Element}
 use Rattle.ply_head.specs.declared.header.Property.{Property}
 use Rattle.ply_head.specs.declared.header.Header.{Header}
@@ -23,24 +24,31 @@ abbrev walk : List Due → Rest → BodyRows
 walk [] rest = ending rest
 walk (due ∷ others) rest = row_then due.0 (fields_of due.0.element due.0.row 0 due.1 rest) (λ behind. walk others behind)
 
-alike : (at : RowAt) (read : Result (List Field × Rest) RowRefusal) (f g : Rest → BodyRows) → ((rest : Rest) → f rest ≡ g rest) → row_then at read f ≡ row_then at read g
+alike : (at : RowAt) (read : Result (List Field × Rest) RowRefusal) (f g : Rest → BodyRows) → ((rest : Rest) → f rest ≡ g rest)
+    → row_then at read f ≡ row_then at read g
 alike at (Ok x) f g same = ap (row at x.0) (same x.1)
 alike at (Err e) f g same = refl
 
-walk_element : (properties : List Property) (e r count : ℕ) (rest : Rest) (next : Rest → BodyRows) (others : List Due) → ((behind : Rest) → next behind ≡ walk others behind)
+walk_element : (properties : List Property) (e r count : ℕ) (rest : Rest) (next : Rest → BodyRows) (others : List Due)
+    → ((behind : Rest) → next behind ≡ walk others behind)
     → rows_of_element properties e r count rest next ≡ walk (announced_rows properties e r count ++ others) rest
 unfolding rows_of_element
 walk_element [] e r count rest next others same = same rest
 walk_element (p ∷ properties) e r zero rest next others same = same rest
 walk_element (p ∷ properties) e r (suc count) rest next others same =
-    alike (record { element = e; row = r }) (fields_of e r 0 (p ∷ properties) rest) (λ behind. rows_of_element (p ∷ properties) e (r + 1) count behind next) (λ behind. walk (announced_rows (p ∷ properties) e (r + 1) count ++ others) behind)
+    alike (record { element = e; row = r }) (fields_of e r 0 (p ∷ properties) rest)
+    (λ behind. rows_of_element (p ∷ properties) e (r + 1) count behind next)
+    (λ behind. walk (announced_rows (p ∷ properties) e (r + 1) count ++ others) behind)
     (λ behind. walk_element (p ∷ properties) e (r + 1) count behind next others same)
 
-walk_from : (elements : List Element) (number given : ℕ) (rest : Rest) → rows_from elements number given rest ≡ walk (announced elements number given) rest
+walk_from : (elements : List Element) (number given : ℕ) (rest : Rest)
+    → rows_from elements number given rest ≡ walk (announced elements number given) rest
 unfolding rows_from
 walk_from [] number given rest = refl
 walk_from (element ∷ elements) number given rest =
-    walk_element element.properties number given (element.count - given) rest (λ behind. rows_from elements (number + 1) 0 behind) (announced elements (number + 1) 0) (λ behind. walk_from elements (number + 1) 0 behind)
+    walk_element element.properties number given (element.count - given) rest
+    (λ behind. rows_from elements (number + 1) 0 behind) (announced elements (number + 1) 0)
+    (λ behind. walk_from elements (number + 1) 0 behind)
 
 abbrev well_ended : List Given → BodyRows
 well_ended rows = record { rows = rows; end = None }
@@ -64,7 +72,8 @@ tail_of : List Given → List Given
 tail_of [] = []
 tail_of (g ∷ rows) = rows
 
-found_row : (due : Due) (others : List Due) (rest : Rest) (rows : List Given) (read : Result (List Field × Rest) RowRefusal) → fields_of due.0.element due.0.row 0 due.1 rest ≡ read
+found_row : (due : Due) (others : List Due) (rest : Rest) (rows : List Given) (read : Result (List Field × Rest) RowRefusal)
+    → fields_of due.0.element due.0.row 0 due.1 rest ≡ read
     → ((behind : Rest) (more : List Given) → walk others behind ≡ well_ended more → Follows others more behind)
     → row_then due.0 read (λ behind. walk others behind) ≡ well_ended rows → Follows (due ∷ others) rows rest
 unfolding head_of tail_of
@@ -74,13 +83,23 @@ found_row due others rest (g ∷ rows) (Ok x) read behind_them is =
     let same : (due.0, x.0) ≡ g = ap (λ (b : BodyRows). head_of (due.0, x.0) b.rows) is in
     let behind : walk others x.1 ≡ well_ended rows =
     ap (λ (gs : List Given). record { rows = gs; end = (walk others x.1).end }) (ap (λ (b : BodyRows). tail_of b.rows) is)
-    ∙ ap (λ (e : Option RowRefusal). record { rows = rows; end = e }) (ap (λ (b : BodyRows). b.end) is) in
-    (ap (λ (h : Given). h.0) (sym same), (x.1, (subst (λ (h : Given). BeginsRow due.1 h.1 rest x.1) same (fields_found due.0.element due.0.row 0 due.1 rest x.0 x.1 read), behind_them x.1 rows behind)))
+    ∙ ap (λ (e : Option RowRefusal). record { rows = rows; end = e }) (ap (λ (b : BodyRows). b.end) is) in (
+      ap (λ (h : Given). h.0) (sym same),
+      (
+        x.1,
+        (
+          subst (λ (h : Given). BeginsRow due.1 h.1 rest x.1) same
+              (fields_found due.0.element due.0.row 0 due.1 rest x.0 x.1 read),
+          behind_them x.1 rows behind,
+        ),
+      ),
+    )
 
 -- the rows of a walk that ends well follow
 found : (due : List Due) (rest : Rest) (rows : List Given) → walk due rest ≡ well_ended rows → Follows due rows rest
 found [] rest rows is = ending_follows rest rows is
-found (due ∷ others) rest rows is = found_row due others rest rows (fields_of due.0.element due.0.row 0 due.1 rest) refl (found others) is
+found (due ∷ others) rest rows is =
+    found_row due others rest rows (fields_of due.0.element due.0.row 0 due.1 rest) refl (found others) is
 
 ending_nothing : (rest : Rest) → IsNothing rest → ending rest ≡ well_ended []
 ending_nothing (text tokens) is = ap (λ ts. ending (text ts)) is
@@ -92,12 +111,19 @@ read [] rest [] f = ending_nothing rest f
 read [] rest (g ∷ rows) f = absurd f
 read (due ∷ others) rest [] f = absurd f
 read (due ∷ others) rest (g ∷ rows) f =
-    ap (λ (r : Result (List Field × Rest) RowRefusal). row_then due.0 r (λ behind. walk others behind)) (fields_read due.0.element due.0.row 0 due.1 rest g.1 f.1.0 f.1.1.0)
+    ap (λ (r : Result (List Field × Rest) RowRefusal). row_then due.0 r (λ behind. walk others behind))
+    (fields_read due.0.element due.0.row 0 due.1 rest g.1 f.1.0 f.1.1.0)
     ∙ ap (row due.0 g.1) (read others f.1.0 rows f.1.1.1)
     ∙ ap (λ (at : RowAt). well_ended ((at, g.1) ∷ rows)) (sym f.0)
 
-pub rows_found : (head : Header) (body : List ℕ) (rows : List Given) → rows_of head body ≡ well_ended rows → HasRows head body rows
-rows_found head body rows is = found (announced head.elements 0 0) (rest_at head.kind body 0) rows (sym (walk_from head.elements 0 0 (rest_at head.kind body 0)) ∙ is)
+pub rows_found : (head : Header) (body : List ℕ) (rows : List Given) → rows_of head body ≡ well_ended rows
+    → HasRows head body rows
+rows_found head body rows is =
+    found (announced head.elements 0 0) (rest_at head.kind body 0) rows
+    (sym (walk_from head.elements 0 0 (rest_at head.kind body 0)) ∙ is)
 
-pub rows_read : (head : Header) (body : List ℕ) (rows : List Given) → HasRows head body rows → rows_of head body ≡ well_ended rows
-rows_read head body rows has = walk_from head.elements 0 0 (rest_at head.kind body 0) ∙ read (announced head.elements 0 0) (rest_at head.kind body 0) rows has
+pub rows_read : (head : Header) (body : List ℕ) (rows : List Given) → HasRows head body rows
+    → rows_of head body ≡ well_ended rows
+rows_read head body rows has =
+    walk_from head.elements 0 0 (rest_at head.kind body 0)
+    ∙ read (announced head.elements 0 0) (rest_at head.kind body 0) rows has

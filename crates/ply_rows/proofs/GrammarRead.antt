@@ -1,5 +1,6 @@
 -- The reader and the grammar agree: what the body begins with is what is read of a property.
-use Rattle.std.proofs.Common.{◌≡◌, ℕ, ◌+◌, ◌*◌, ◌≤◌, List, [], ◌∷◌, ◌++◌, length, take, drop, ℤ, pos, Result, refl, sym, ap, ◌∙◌, arith}
+use Rattle.std.proofs.Common.{◌≡◌, ℕ, ◌+◌, ◌*◌, ◌≤◌, List, [], ◌∷◌, ◌++◌, length, take, drop, ℤ, pos, Result, refl, sym, ap}
+use Rattle.std.proofs.Common.{◌∙◌, arith}
 use Rattle.std.proofs.lemmas.Bool.{le-ltb}
 use Rattle.std.proofs.lemmas.List.{length-append, append_assoc, length-take-le, length-drop, take-append-drop}
 use Rattle.std.proofs.Math.Seq.{take-append_seam, drop-append_seam}
@@ -28,13 +29,16 @@ fields_and field behind = done (field, behind)
 count_read : (at : Place) (n : ℕ) → n ≤ 4294967295 → count_in at (pos n) ≡ done n
 count_read at n le = rw (le-ltb 4294967295 n le) refl
 
-items_read : (at : Place) (items behind : List Token) → items_of at (length items) (items ++ behind) ≡ fields_and (field_of_items items) behind
+items_read : (at : Place) (items behind : List Token)
+    → items_of at (length items) (items ++ behind) ≡ fields_and (field_of_items items) behind
 items_read at items behind =
     rw (le-ltb (length (items ++ behind)) (length items) (omega (arith, length-append items behind)))
-    (ap (λ (ts : List Token). fields_and (field_of_items ts) (drop (length items) (items ++ behind))) (take-append_seam items behind)
+    (ap (λ (ts : List Token). fields_and (field_of_items ts) (drop (length items) (items ++ behind)))
+    (take-append_seam items behind)
     ∙ ap (λ (ts : List Token). fields_and (field_of_items items) ts) (drop-append_seam items behind))
 
-group_read : (at : Place) (shape : Shape) (group behind : List Token) → IsGroup shape group → text_field at shape (group ++ behind) ≡ fields_and (group_field shape group) behind
+group_read : (at : Place) (shape : Shape) (group behind : List Token) → IsGroup shape group
+    → text_field at shape (group ++ behind) ≡ fields_and (group_field shape group) behind
 unfolding text_field
 group_read at (One scalar) [] behind is = absurd is
 group_read at (Many count item) [] behind is = absurd is
@@ -55,54 +59,85 @@ bytes_and bytes behind = done (bytes, behind)
 abbrev field_then : Field → ℕ → List ℕ → Result (Field × (ℕ × List ℕ)) RowRefusal
 field_then field next behind = done (field, (next, behind))
 
-bytes_read : (at : Place) (n : ℕ) (front behind : List ℕ) → length front ≡ n → bytes_of at n (front ++ behind) ≡ bytes_and front behind
+bytes_read : (at : Place) (n : ℕ) (front behind : List ℕ) → length front ≡ n
+    → bytes_of at n (front ++ behind) ≡ bytes_and front behind
 bytes_read at n front behind is =
     ap (λ (k : ℕ). bytes_of at k (front ++ behind)) (sym is)
     ∙ rw (le-ltb (length (front ++ behind)) (length front) (omega (arith, length-append front behind)))
-    (ap (λ (xs : List ℕ). bytes_and xs (drop (length front) (front ++ behind))) (take-append_seam front behind) ∙ ap (bytes_and front) (drop-append_seam front behind))
+    (ap (λ (xs : List ℕ). bytes_and xs (drop (length front) (front ++ behind))) (take-append_seam front behind)
+    ∙ ap (bytes_and front) (drop-append_seam front behind))
 
-list_read : (kind : Kind) (at : Place) (count item : Scalar) (items place : ℕ) (front back behind : List ℕ) → length front ≡ size_of count → length back ≡ items * size_of item → number_of kind count front ≡ pos items → items ≤ 4294967295
-    → binary_field kind at (Many count item) (place, front ++ (back ++ behind)) ≡ field_then (list_field (place + size_of count) (items * size_of item) items) (place + size_of count + items * size_of item) behind
+list_read : (kind : Kind) (at : Place) (count item : Scalar) (items place : ℕ) (front back behind : List ℕ)
+    → length front ≡ size_of count → length back ≡ items * size_of item → number_of kind count front ≡ pos items
+    → items ≤ 4294967295
+    → binary_field kind at (Many count item) (place, front ++ (back ++ behind))
+    ≡ field_then (list_field (place + size_of count) (items * size_of item) items)
+    (place + size_of count + items * size_of item) behind
 unfolding binary_field
 list_read kind at count item items place front back behind front_size back_size is few =
-    ap (λ (r : Result (List ℕ × List ℕ) RowRefusal). r >>= λ first. count_in at (number_of kind count first.0) >>= λ n. bytes_of at (n * size_of item) first.1 >>= λ read. field_then (list_field (place + size_of count) (n * size_of item) n) (place + size_of count + n * size_of item) read.1) (bytes_read at (size_of count) front (back ++ behind) front_size)
-    ∙ ap (λ (r : Result ℕ RowRefusal). r >>= λ n. bytes_of at (n * size_of item) (back ++ behind) >>= λ read. field_then (list_field (place + size_of count) (n * size_of item) n) (place + size_of count + n * size_of item) read.1) (ap (count_in at) is ∙ count_read at items few)
-    ∙ ap (λ (r : Result (List ℕ × List ℕ) RowRefusal). r >>= λ read. field_then (list_field (place + size_of count) (items * size_of item) items) (place + size_of count + items * size_of item) read.1) (bytes_read at (items * size_of item) back behind back_size)
+    ap (λ (r : Result (List ℕ × List ℕ) RowRefusal). r >>= λ first. count_in at (number_of kind count first.0)
+    >>= λ n. bytes_of at (n * size_of item) first.1
+    >>= λ read. field_then (list_field (place + size_of count) (n * size_of item) n) (place + size_of count + n * size_of item)
+    read.1) (bytes_read at (size_of count) front (back ++ behind) front_size)
+    ∙ ap (λ (r : Result ℕ RowRefusal). r >>= λ n. bytes_of at (n * size_of item) (back ++ behind)
+    >>= λ read. field_then (list_field (place + size_of count) (n * size_of item) n) (place + size_of count + n * size_of item)
+    read.1) (ap (count_in at) is ∙ count_read at items few)
+    ∙ ap (λ (r : Result (List ℕ × List ℕ) RowRefusal). r
+    >>= λ read. field_then (list_field (place + size_of count) (items * size_of item) items)
+    (place + size_of count + items * size_of item) read.1) (bytes_read at (items * size_of item) back behind back_size)
 
-piece_read : (kind : Kind) (at : Place) (shape : Shape) (items place : ℕ) (piece behind : List ℕ) → IsPiece kind shape items piece
-    → binary_field kind at shape (place, piece ++ behind) ≡ field_then (piece_field shape items place) (place + length piece) behind
+piece_read : (kind : Kind) (at : Place) (shape : Shape) (items place : ℕ) (piece behind : List ℕ)
+    → IsPiece kind shape items piece
+    → binary_field kind at shape (place, piece ++ behind)
+    ≡ field_then (piece_field shape items place) (place + length piece) behind
 unfolding binary_field
 piece_read kind at (One scalar) items place piece behind is =
-    ap (λ (r : Result (List ℕ × List ℕ) RowRefusal). r >>= λ value. field_then (record { place = place; size = size_of scalar; items = 1 }) (place + size_of scalar) value.1) (bytes_read at (size_of scalar) piece behind is)
+    ap (λ (r : Result (List ℕ × List ℕ) RowRefusal). r
+    >>= λ value. field_then (record { place = place; size = size_of scalar; items = 1 }) (place + size_of scalar) value.1)
+    (bytes_read at (size_of scalar) piece behind is)
     ∙ ap (λ (n : ℕ). field_then (record { place = place; size = size_of scalar; items = 1 }) (place + n) behind) (sym is)
 piece_read kind at (Many count item) items place piece behind is =
-    let front_size : length (take (size_of count) piece) ≡ size_of count = length-take-le (size_of count) piece (omega (arith, is.0)) in
-    let back_size : length (drop (size_of count) piece) ≡ items * size_of item = length-drop (size_of count) piece ∙ omega (arith, is.0) in
-    ap (λ (xs : List ℕ). binary_field kind at (Many count item) (place, xs)) (ap (λ (xs : List ℕ). xs ++ behind) (sym (take-append-drop (size_of count) piece)) ∙ append_assoc (take (size_of count) piece) (drop (size_of count) piece) behind)
-    ∙ list_read kind at count item items place (take (size_of count) piece) (drop (size_of count) piece) behind front_size back_size is.1 is.2
-    ∙ ap (λ (n : ℕ). field_then (list_field (place + size_of count) (items * size_of item) items) n behind) (omega (arith, is.0))
+    let front_size : length (take (size_of count) piece) ≡ size_of count =
+    length-take-le (size_of count) piece (omega (arith, is.0)) in
+    let back_size : length (drop (size_of count) piece) ≡ items * size_of item =
+    length-drop (size_of count) piece ∙ omega (arith, is.0) in
+    ap (λ (xs : List ℕ). binary_field kind at (Many count item) (place, xs))
+    (ap (λ (xs : List ℕ). xs ++ behind) (sym (take-append-drop (size_of count) piece))
+    ∙ append_assoc (take (size_of count) piece) (drop (size_of count) piece) behind)
+    ∙ list_read kind at count item items place (take (size_of count) piece) (drop (size_of count) piece) behind front_size
+    back_size is.1 is.2
+    ∙ ap (λ (n : ℕ). field_then (list_field (place + size_of count) (items * size_of item) items) n behind)
+    (omega (arith, is.0))
 
 -- ---- in either
 
-property_read : (at : Place) (shape : Shape) (rest : Rest) (field : Field) (left : Rest) → Begins shape field rest left → field_of at shape rest ≡ done (field, left)
+property_read : (at : Place) (shape : Shape) (rest : Rest) (field : Field) (left : Rest) → Begins shape field rest left
+    → field_of at shape rest ≡ done (field, left)
 unfolding field_of
 property_read at shape (text tokens) field left b =
     ap (λ (ts : List Token). text_field at shape ts >>= λ read. done (read.0, text read.1)) b.cut
-    ∙ ap (λ (r : Result (Field × List Token) RowRefusal). r >>= λ read. done (read.0, text read.1)) (group_read at shape b.group b.behind b.is_group)
+    ∙ ap (λ (r : Result (Field × List Token) RowRefusal). r >>= λ read. done (read.0, text read.1))
+    (group_read at shape b.group b.behind b.is_group)
     ∙ ap (λ (f : Field). done (f, text b.behind)) (sym b.field_is) ∙ ap (λ (l : Rest). done (field, l)) (sym b.left_is)
 property_read at shape (raw kind place bytes) field left b =
     ap (λ (xs : List ℕ). binary_field kind at shape (place, xs) >>= λ read. done (read.0, raw kind read.1.0 read.1.1)) b.cut
-    ∙ ap (λ (r : Result (Field × (ℕ × List ℕ)) RowRefusal). r >>= λ read. done (read.0, raw kind read.1.0 read.1.1)) (piece_read kind at shape b.items place b.piece b.behind b.is_piece)
-    ∙ ap (λ (f : Field). done (f, raw kind (place + length b.piece) b.behind)) (sym b.field_is) ∙ ap (λ (l : Rest). done (field, l)) (sym b.left_is)
+    ∙ ap (λ (r : Result (Field × (ℕ × List ℕ)) RowRefusal). r >>= λ read. done (read.0, raw kind read.1.0 read.1.1))
+    (piece_read kind at shape b.items place b.piece b.behind b.is_piece)
+    ∙ ap (λ (f : Field). done (f, raw kind (place + length b.piece) b.behind)) (sym b.field_is)
+    ∙ ap (λ (l : Rest). done (field, l)) (sym b.left_is)
 
 abbrev row_and : List Field → Rest → Result (List Field × Rest) RowRefusal
 row_and fields left = done (fields, left)
 
-pub fields_read : (e r k : ℕ) (properties : List Property) (rest : Rest) (fields : List Field) (left : Rest) → BeginsRow properties fields rest left → fields_of e r k properties rest ≡ done (fields, left)
+pub fields_read : (e r k : ℕ) (properties : List Property) (rest : Rest) (fields : List Field) (left : Rest)
+    → BeginsRow properties fields rest left → fields_of e r k properties rest ≡ done (fields, left)
 unfolding fields_of
 fields_read e r k [] rest [] left b = ap (row_and []) (sym b)
 fields_read e r k [] rest (f ∷ fields) left b = absurd b
 fields_read e r k (p ∷ properties) rest [] left b = absurd b
 fields_read e r k (p ∷ properties) rest (f ∷ fields) left b =
-    ap (λ (read : Result (Field × Rest) RowRefusal). read >>= λ first. fields_of e r (k + 1) properties first.1 >>= λ others. row_and (first.0 ∷ others.0) others.1) (property_read (record { element = e; row = r; property = k }) p.shape rest f b.0 b.1.0)
-    ∙ ap (λ (read : Result (List Field × Rest) RowRefusal). read >>= λ others. row_and (f ∷ others.0) others.1) (fields_read e r (k + 1) properties b.0 fields left b.1.1)
+    ap (λ (read : Result (Field × Rest) RowRefusal). read >>= λ first. fields_of e r (k + 1) properties first.1
+    >>= λ others. row_and (first.0 ∷ others.0) others.1)
+    (property_read (record { element = e; row = r; property = k }) p.shape rest f b.0 b.1.0)
+    ∙ ap (λ (read : Result (List Field × Rest) RowRefusal). read >>= λ others. row_and (f ∷ others.0) others.1)
+    (fields_read e r (k + 1) properties b.0 fields left b.1.1)

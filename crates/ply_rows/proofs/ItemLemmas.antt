@@ -1,5 +1,6 @@
 -- The items of a list, one after another.
-use Rattle.std.proofs.Common.{◌≡◌, ℕ, zero, suc, ◌+◌, ◌-◌, ◌<◌, ◌≤◌, List, [], ◌∷◌, ◌++◌, length, get_or, take, drop, Result, Ok, Err, refl, sym, ap, ◌∙◌, arith, inl, inr, subst}
+use Rattle.std.proofs.Common.{◌≡◌, ℕ, zero, suc, ◌+◌, ◌-◌, ◌<◌, ◌≤◌, List, [], ◌∷◌, ◌++◌, length, get_or, take, drop, Result}
+use Rattle.std.proofs.Common.{Ok, Err, refl, sym, ap, ◌∙◌, arith, inl, inr, subst}
 use Rattle.std.proofs.lemmas.Bool.{le-ltb, lt-ltb, cases_lt}
 use Rattle.std.proofs.lemmas.List.{take_more, drop-drop, length-drop, length-take, length-take-le, get_or-drop}
 use Rattle.ply_head.specs.Answers.{◌>>=◌}
@@ -23,50 +24,71 @@ pub record AreRead (ts left : List Token) (place k end : ℕ) : Type 0 where
 pub none_read : (ts : List Token) (place : ℕ) → AreRead ts ts place 0 place
 none_read ts place = record { within = omega arith; left_is = refl; end_is = refl }
 
-pub one_read : (ts left more : List Token) (t : Token) (place k end behind : ℕ) → AreRead ts left place k end → left ≡ t ∷ more → t.place + length t.bytes ≡ behind → AreRead ts more place (k + 1) behind
+pub one_read : (ts left more : List Token) (t : Token) (place k end behind : ℕ) → AreRead ts left place k end → left ≡ t ∷ more
+    → t.place + length t.bytes ≡ behind → AreRead ts more place (k + 1) behind
 one_read ts left more t place k end behind read is ends =
     let here : drop k ts ≡ t ∷ more = sym read.left_is ∙ is in
     let lt : k < length ts = omega (arith, ap length here, length-drop k ts) in
-    let at : get_or ts k t ≡ t = ap (λ (n : ℕ). get_or ts n t) (omega arith) ∙ sym (get_or-drop k ts 0 t) ∙ ap (λ (us : List Token). get_or us 0 t) here in
+    let at : get_or ts k t ≡ t =
+    ap (λ (n : ℕ). get_or ts n t) (omega arith) ∙ sym (get_or-drop k ts 0 t) ∙ ap (λ (us : List Token). get_or us 0 t) here in
     record {
       within = omega arith;
       left_is = sym (ap (drop 1) here) ∙ drop-drop 1 k ts;
-      end_is = sym ends ∙ sym (end_of-push place (take k ts) t) ∙ sym (ap (end_of place) (take_more ts k t lt ∙ ap (λ (u : Token). take k ts ++ u ∷ []) at));
+      end_is =
+          sym ends ∙ sym (end_of-push place (take k ts) t)
+          ∙ sym (ap (end_of place) (take_more ts k t lt ∙ ap (λ (u : Token). take k ts ++ u ∷ []) at));
     }
 
-pub items_cut : (at : Place) (n : ℕ) (ts left : List Token) (place k end : ℕ) → AreRead ts left place k end → left ≡ [] → k < n → items_end at n place ts ≡ Err (Cut at)
-items_cut at n ts left place k end read is lt = rw (lt-ltb (length ts) n (omega (arith, ap length read.left_is, ap length is, length-drop k ts))) refl
+pub items_cut : (at : Place) (n : ℕ) (ts left : List Token) (place k end : ℕ) → AreRead ts left place k end → left ≡ [] → k < n
+    → items_end at n place ts ≡ Err (Cut at)
+items_cut at n ts left place k end read is lt =
+    rw (lt-ltb (length ts) n (omega (arith, ap length read.left_is, ap length is, length-drop k ts))) refl
 
 abbrev ended : ℕ → List Token → Result (ℕ × List Token) RowRefusal
 ended end left = Ok (end, left)
 
-pub items_read : (at : Place) (n : ℕ) (ts left : List Token) (place k end : ℕ) → AreRead ts left place k end → k ≡ n → items_end at n place ts ≡ Ok (end, left)
+pub items_read : (at : Place) (n : ℕ) (ts left : List Token) (place k end : ℕ) → AreRead ts left place k end → k ≡ n
+    → items_end at n place ts ≡ Ok (end, left)
 items_read at n ts left place k end read is =
     let le : n ≤ length ts = omega (arith, read.within) in
-    rw (le-ltb (length ts) n le) (ap (λ (m : ℕ). ended (end_of place (take m ts)) (drop m ts)) (sym is) ∙ ap (λ (e : ℕ). ended e (drop k ts)) (sym read.end_is) ∙ ap (ended end) (sym read.left_is))
+    rw (le-ltb (length ts) n le)
+    (ap (λ (m : ℕ). ended (end_of place (take m ts)) (drop m ts)) (sym is)
+    ∙ ap (λ (e : ℕ). ended e (drop k ts)) (sym read.end_is) ∙ ap (ended end) (sym read.left_is))
 
 abbrev pub with_first : ℕ → ℕ → ℕ × List Token → Result (Field × List Token) RowRefusal
 with_first n first x = Ok (record { place = first; size = x.0 - first; items = n }, x.1)
 
-first_item : (at : Place) (m : ℕ) (t : Token) (ts : List Token) → items_of at (suc m) (t ∷ ts) ≡ (items_end at m (t.place + length t.bytes) ts >>= with_first (suc m) t.place)
+first_item : (at : Place) (m : ℕ) (t : Token) (ts : List Token)
+    → items_of at (suc m) (t ∷ ts) ≡ (items_end at m (t.place + length t.bytes) ts >>= with_first (suc m) t.place)
 first_item at m t ts =
     elim (cases_lt (length ts) m) [
       | inl lt ↦ rw (lt-ltb (length (t ∷ ts)) (suc m) (omega arith), lt-ltb (length ts) m lt) refl
-      | inr ge ↦ rw (le-ltb (length (t ∷ ts)) (suc m) (omega arith), le-ltb (length ts) m ge) (ap (λ (n : ℕ). with_first (suc n) t.place (end_of (t.place + length t.bytes) (take m ts), drop m ts)) (length-take-le m ts ge))
+      | inr ge ↦
+          rw (le-ltb (length (t ∷ ts)) (suc m) (omega arith), le-ltb (length ts) m ge)
+          (ap (λ (n : ℕ). with_first (suc n) t.place (end_of (t.place + length t.bytes) (take m ts), drop m ts))
+          (length-take-le m ts ge))
     ]
 
-pub items_first : (at : Place) (n : ℕ) (t : Token) (ts : List Token) (behind : ℕ) → 0 < n → t.place + length t.bytes ≡ behind → items_of at n (t ∷ ts) ≡ (items_end at (n - 1) behind ts >>= with_first n t.place)
+pub items_first : (at : Place) (n : ℕ) (t : Token) (ts : List Token) (behind : ℕ) → 0 < n → t.place + length t.bytes ≡ behind
+    → items_of at n (t ∷ ts) ≡ (items_end at (n - 1) behind ts >>= with_first n t.place)
 items_first at zero t ts behind lt ends = absurd (omega arith)
-items_first at (suc m) t ts behind lt ends = subst (λ (b : ℕ). items_of at (suc m) (t ∷ ts) ≡ (items_end at (suc m - 1) b ts >>= with_first (suc m) t.place)) ends (ap (λ (k : ℕ). items_of at (suc k) (t ∷ ts)) (omega arith) ∙ first_item at (suc m - 1) t ts ∙ ap (λ (k : ℕ). items_end at (suc m - 1) (t.place + length t.bytes) ts >>= with_first (suc k) t.place) (omega arith))
+items_first at (suc m) t ts behind lt ends =
+    subst (λ (b : ℕ). items_of at (suc m) (t ∷ ts) ≡ (items_end at (suc m - 1) b ts >>= with_first (suc m) t.place)) ends
+    (ap (λ (k : ℕ). items_of at (suc k) (t ∷ ts)) (omega arith) ∙ first_item at (suc m - 1) t ts
+    ∙ ap (λ (k : ℕ). items_end at (suc m - 1) (t.place + length t.bytes) ts >>= with_first (suc k) t.place) (omega arith))
 
-pub no_items : (at : Place) (n : ℕ) (ts : List Token) → n ≡ 0 → items_of at n ts ≡ Ok (record { place = 0; size = 0; items = 0 }, ts)
-no_items at n ts is = subst (λ (k : ℕ). items_of at k ts ≡ Ok (record { place = 0; size = 0; items = 0 }, ts)) (sym is) (rw (le-ltb (length ts) 0 (omega arith)) refl)
+pub no_items : (at : Place) (n : ℕ) (ts : List Token) → n ≡ 0
+    → items_of at n ts ≡ Ok (record { place = 0; size = 0; items = 0 }, ts)
+no_items at n ts is =
+    subst (λ (k : ℕ). items_of at k ts ≡ Ok (record { place = 0; size = 0; items = 0 }, ts)) (sym is)
+    (rw (le-ltb (length ts) 0 (omega arith)) refl)
 
 pub no_token : (at : Place) (n : ℕ) (ts : List Token) → 0 < n → ts ≡ [] → items_of at n ts ≡ Err (Cut at)
 no_token at n ts lt is = rw (is, lt-ltb 0 n lt) refl
 
 -- tokens that were read were there
-pub items_there : (at : Place) (n place : ℕ) (ts : List Token) (read : ℕ × List Token) → items_end at n place ts ≡ Ok read → n ≤ length ts
+pub items_there : (at : Place) (n place : ℕ) (ts : List Token) (read : ℕ × List Token) → items_end at n place ts ≡ Ok read
+    → n ≤ length ts
 items_there at n place ts read e =
     elim (cases_lt (length ts) n) [
       | inl lt ↦ let cut : items_end at n place ts ≡ Err (Cut at) = rw (lt-ltb (length ts) n lt) refl in absurd cc
@@ -74,14 +96,21 @@ items_there at n place ts read e =
     ]
 
 -- a list is refused as its items are
-pub items_fail : (e : RowRefusal) (at : Place) (n : ℕ) (t : Token) (ts all : List Token) (behind : ℕ) → 0 < n → t.place + length t.bytes ≡ behind → all ≡ t ∷ ts → Fails e (items_end at (n - 1) behind ts) → Fails e (items_of at n all)
+pub items_fail : (e : RowRefusal) (at : Place) (n : ℕ) (t : Token) (ts all : List Token) (behind : ℕ) → 0 < n
+    → t.place + length t.bytes ≡ behind → all ≡ t ∷ ts → Fails e (items_end at (n - 1) behind ts) → Fails e (items_of at n all)
 items_fail NoMemory at n t ts all behind lt ends is fails = tt
-items_fail e at n t ts all behind lt ends is fails = ap (items_of at n) is ∙ items_first at n t ts behind lt ends ∙ ap (λ (r : Result (ℕ × List Token) RowRefusal). r >>= with_first n t.place) fails
+items_fail e at n t ts all behind lt ends is fails =
+    ap (items_of at n) is ∙ items_first at n t ts behind lt ends
+    ∙ ap (λ (r : Result (ℕ × List Token) RowRefusal). r >>= with_first n t.place) fails
 
-pub items_done : (at : Place) (n : ℕ) (t : Token) (ts all left : List Token) (behind end : ℕ) → 0 < n → t.place + length t.bytes ≡ behind → all ≡ t ∷ ts → items_end at (n - 1) behind ts ≡ Ok (end, left)
+pub items_done : (at : Place) (n : ℕ) (t : Token) (ts all left : List Token) (behind end : ℕ) → 0 < n
+    → t.place + length t.bytes ≡ behind → all ≡ t ∷ ts → items_end at (n - 1) behind ts ≡ Ok (end, left)
     → items_of at n all ≡ Ok (record { place = t.place; size = end - t.place; items = n }, left)
-items_done at n t ts all left behind end lt ends is done = ap (items_of at n) is ∙ items_first at n t ts behind lt ends ∙ ap (λ (r : Result (ℕ × List Token) RowRefusal). r >>= with_first n t.place) done
+items_done at n t ts all left behind end lt ends is done =
+    ap (items_of at n) is ∙ items_first at n t ts behind lt ends
+    ∙ ap (λ (r : Result (ℕ × List Token) RowRefusal). r >>= with_first n t.place) done
 
 -- where a token ends
-pub token_ends : (body : List ℕ) (start end : ℕ) → start < end → end ≤ length body → start + length (take (end - start) (drop start body)) ≡ end
+pub token_ends : (body : List ℕ) (start end : ℕ) → start < end → end ≤ length body
+    → start + length (take (end - start) (drop start body)) ≡ end
 token_ends body start end lt le = omega (arith, length-take (end - start) (drop start body), length-drop start body)

@@ -23,8 +23,11 @@ pub record IsNext (els : List Element) (e r : ℕ) (properties : List Property) 
   pub less : r < el.count
   pub same : properties ≡ el.properties
 
-pub is_next : (els shown : List Element) (e r : ℕ) (el : Element) (properties : List Property) → shown ≡ els → e ≤ length els → (e ≡ length shown → ⊥) → el ≡ get_or shown e el
-    → ((d : Element) → e < length els → r < (get_or els e d).count) → ((d : Element) → e < length els → 0 < length (get_or els e d).properties) → properties ≡ (get_or shown e el).properties → IsNext els e r properties
+pub is_next : (els shown : List Element) (e r : ℕ) (el : Element) (properties : List Property) → shown ≡ els → e ≤ length els
+    → (e ≡ length shown → ⊥) → el ≡ get_or shown e el
+    → ((d : Element) → e < length els → r < (get_or els e d).count)
+    → ((d : Element) → e < length els → 0 < length (get_or els e d).properties) → properties ≡ (get_or shown e el).properties
+    → IsNext els e r properties
 is_next els shown e r el properties shows le ne is less some same =
     let lt : e < length els = omega (arith, ap length shows) in
     let at : el ≡ get_or els e el = is ∙ ap (λ (xs : List Element). get_or xs e el) shows in
@@ -37,33 +40,48 @@ is_next els shown e r el properties shows le ne is less some same =
       same = same ∙ ap (λ (x : Element). x.properties) (sym is);
     }
 
-row_start : (els : List Element) (e r : ℕ) (properties : List Property) (tokens : Rest) (left : BodyRows) → IsNext els e r properties → rows_from (drop e els) e r tokens ≡ left
+row_start : (els : List Element) (e r : ℕ) (properties : List Property) (tokens : Rest) (left : BodyRows)
+    → IsNext els e r properties → rows_from (drop e els) e r tokens ≡ left
     → left ≡ row_then (row_at e r) (fields_of e r 0 properties tokens) (λ behind. rows_from (drop e els) e (r + 1) behind)
 row_start els e r properties tokens left next is =
     sym is ∙ next_is els e r next.el tokens next.within next.is next.some next.less
-    ∙ ap (λ (ps : List Property). row_then (row_at e r) (fields_of e r 0 ps tokens) (λ behind. rows_from (drop e els) e (r + 1) behind)) (sym next.same)
+    ∙ ap (λ (ps : List Property).
+    row_then (row_at e r) (fields_of e r 0 ps tokens) (λ behind. rows_from (drop e els) e (r + 1) behind)) (sym next.same)
 
-pub row_read : (els : List Element) (e r : ℕ) (properties : List Property) (tokens behind : Rest) (fields : List Field) (left : BodyRows) → IsNext els e r properties → rows_from (drop e els) e r tokens ≡ left
-    → fields_of e r 0 properties tokens ≡ Ok (fields, behind) → left ≡ row (row_at e r) fields (rows_from (drop e els) e (r + 1) behind)
+pub row_read : (els : List Element) (e r : ℕ) (properties : List Property) (tokens behind : Rest) (fields : List Field)
+    (left : BodyRows) → IsNext els e r properties → rows_from (drop e els) e r tokens ≡ left
+    → fields_of e r 0 properties tokens ≡ Ok (fields, behind)
+    → left ≡ row (row_at e r) fields (rows_from (drop e els) e (r + 1) behind)
 row_read els e r properties tokens behind fields left next is read =
-    row_start els e r properties tokens left next is ∙ ap (λ (f : FieldsRead). row_then (row_at e r) f (λ more. rows_from (drop e els) e (r + 1) more)) read
+    row_start els e r properties tokens left next is
+    ∙ ap (λ (f : FieldsRead). row_then (row_at e r) f (λ more. rows_from (drop e els) e (r + 1) more)) read
 
-pub refused_row : (why : RowRefusal) (fields : List Field) (old : Reader) → old.left ≡ refused why → fields ≡ [] → NextRow (Err why) fields old old
+pub refused_row : (why : RowRefusal) (fields : List Field) (old : Reader) → old.left ≡ refused why → fields ≡ []
+    → NextRow (Err why) fields old old
 refused_row NoMemory fields old is none = (refl, none)
 refused_row why fields old is none = (is, refl, none)
 
-pub row_refused : (why : RowRefusal) (els : List Element) (e r : ℕ) (properties : List Property) (tokens : Rest) (fields : List Field) (old : Reader) → IsNext els e r properties → rows_from (drop e els) e r tokens ≡ old.left
+pub row_refused : (why : RowRefusal) (els : List Element) (e r : ℕ) (properties : List Property) (tokens : Rest)
+    (fields : List Field) (old : Reader) → IsNext els e r properties → rows_from (drop e els) e r tokens ≡ old.left
     → Fails why (fields_of e r 0 properties tokens) → fields ≡ [] → NextRow (Err why) fields old old
 row_refused NoMemory els e r properties tokens fields old next is fails none = (refl, none)
-row_refused why els e r properties tokens fields old next is fails none =
-    (row_start els e r properties tokens old.left next is ∙ ap (λ (f : FieldsRead). row_then (row_at e r) f (λ more. rows_from (drop e els) e (r + 1) more)) fails, refl, none)
+row_refused why els e r properties tokens fields old next is fails none = (
+  row_start els e r properties tokens old.left next is
+      ∙ ap (λ (f : FieldsRead). row_then (row_at e r) f (λ more. rows_from (drop e els) e (r + 1) more)) fails,
+  refl,
+  none,
+)
 
 -- the fields that fit the properties are those of the row
-pub row_fits : (head : Header) (body : List ℕ) (e r : ℕ) (properties : List Property) (fields : List Field) → IsNext head.elements e r properties → AreFieldsOf head.kind body properties fields → IsRowOf head body (row_at e r) fields
+pub row_fits : (head : Header) (body : List ℕ) (e r : ℕ) (properties : List Property) (fields : List Field)
+    → IsNext head.elements e r properties → AreFieldsOf head.kind body properties fields → IsRowOf head body (row_at e r) fields
 row_fits head body e r properties fields next fits =
-    let same : (d : Element) → next.el ≡ get_or head.elements e d = λ d. next.is ∙ get_or_default head.elements e next.el d next.within in
+    let same : (d : Element) → next.el ≡ get_or head.elements e d =
+    λ d. next.is ∙ get_or_default head.elements e next.el d next.within in
     record {
       element = next.within;
       row = λ d. subst (λ (el : Element). r < el.count) (same d) next.less;
-      fields_are = λ d. subst (λ (ps : List Property). AreFieldsOf head.kind body ps fields) (next.same ∙ ap (λ (el : Element). el.properties) (same d)) fits;
+      fields_are =
+          λ d. subst (λ (ps : List Property). AreFieldsOf head.kind body ps fields)
+          (next.same ∙ ap (λ (el : Element). el.properties) (same d)) fits;
     }

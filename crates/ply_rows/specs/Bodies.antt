@@ -47,7 +47,8 @@ unfoldable pub rows_of_element : List Property → ℕ → ℕ → ℕ → Rest 
 rows_of_element [] element number count rest next = next rest
 rows_of_element (property ∷ properties) element number zero rest next = next rest
 rows_of_element (property ∷ properties) element number (suc count) rest next =
-    row_then (record { element = element; row = number }) (fields_of element number 0 (property ∷ properties) rest) (λ behind. rows_of_element (property ∷ properties) element (number + 1) count behind next)
+    row_then (record { element = element; row = number }) (fields_of element number 0 (property ∷ properties) rest)
+    (λ behind. rows_of_element (property ∷ properties) element (number + 1) count behind next)
 
 -- behind the last row nothing may be left
 abbrev pub ending : Rest → BodyRows
@@ -60,7 +61,9 @@ ending (raw kind place (b ∷ bytes)) = refused (Trailing place)
 -- given already
 unfoldable pub rows_from : List Element → ℕ → ℕ → Rest → BodyRows
 rows_from [] number given rest = ending rest
-rows_from (element ∷ elements) number given rest = rows_of_element element.properties number given (element.count - given) rest (λ behind. rows_from elements (number + 1) 0 behind)
+rows_from (element ∷ elements) number given rest =
+    rows_of_element element.properties number given (element.count - given) rest
+    (λ behind. rows_from elements (number + 1) 0 behind)
 
 -- the rows of a body
 abbrev pub rows_of : Header → List ℕ → BodyRows

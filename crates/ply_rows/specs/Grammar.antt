@@ -41,7 +41,9 @@ group_field (Many count item) (token ∷ items) = field_of_items items
 -- then the items
 abbrev pub IsPiece : Kind → Shape → ℕ → List ℕ → Type 0
 IsPiece kind (One scalar) items piece = length piece ≡ size_of scalar
-IsPiece kind (Many count item) items piece = (length piece ≡ size_of count + items * size_of item) × (number_of kind count (take (size_of count) piece) ≡ pos items) × (items ≤ 4294967295)
+IsPiece kind (Many count item) items piece =
+    (length piece ≡ size_of count + items * size_of item) × (number_of kind count (take (size_of count) piece) ≡ pos items)
+    × (items ≤ 4294967295)
 
 -- the field of such bytes, which begin at a place
 abbrev pub piece_field : Shape → ℕ → ℕ → Field
@@ -78,19 +80,23 @@ abbrev pub BeginsRow : List Property → List Field → Rest → Rest → Type 0
 BeginsRow [] [] before left = left ≡ before
 BeginsRow [] (field ∷ fields) before left = ⊥
 BeginsRow (property ∷ properties) [] before left = ⊥
-BeginsRow (property ∷ properties) (field ∷ fields) before left = (behind : Rest) × (Begins property.shape field before behind × BeginsRow properties fields behind left)
+BeginsRow (property ∷ properties) (field ∷ fields) before left =
+    (behind : Rest) × (Begins property.shape field before behind × BeginsRow properties fields behind left)
 
 -- so many rows of an element, from one on: none if it has no properties
 abbrev pub announced_rows : List Property → ℕ → ℕ → ℕ → List (RowAt × List Property)
 announced_rows [] element row count = []
 announced_rows (property ∷ properties) element row zero = []
-announced_rows (property ∷ properties) element row (suc count) = (record { element = element; row = row }, property ∷ properties) ∷ announced_rows (property ∷ properties) element (row + 1) count
+announced_rows (property ∷ properties) element row (suc count) =
+    (record { element = element; row = row }, property ∷ properties)
+    ∷ announced_rows (property ∷ properties) element (row + 1) count
 
 -- the rows that elements announce, of which the first has this number and so many of its
 -- rows were given already
 abbrev pub announced : List Element → ℕ → ℕ → List (RowAt × List Property)
 announced [] number given = []
-announced (element ∷ elements) number given = announced_rows element.properties number given (element.count - given) ++ announced elements (number + 1) 0
+announced (element ∷ elements) number given =
+    announced_rows element.properties number given (element.count - given) ++ announced elements (number + 1) 0
 
 -- nothing is left
 abbrev pub IsNothing : Rest → Type 0
@@ -102,7 +108,8 @@ abbrev pub Follows : List (RowAt × List Property) → List (RowAt × List Field
 Follows [] [] rest = IsNothing rest
 Follows [] (row ∷ rows) rest = ⊥
 Follows (due ∷ others) [] rest = ⊥
-Follows (due ∷ others) (row ∷ rows) rest = (row.0 ≡ due.0) × ((behind : Rest) × (BeginsRow due.1 row.1 rest behind × Follows others rows behind))
+Follows (due ∷ others) (row ∷ rows) rest =
+    (row.0 ≡ due.0) × ((behind : Rest) × (BeginsRow due.1 row.1 rest behind × Follows others rows behind))
 
 -- the body is these rows with their fields, one for each that the header announces
 abbrev pub HasRows : Header → List ℕ → List (RowAt × List Field) → Type 0

@@ -31,7 +31,8 @@ rest_at BinaryBig body place = raw BinaryBig place (drop place body)
 -- the field of a property, and what is left behind it
 unfoldable pub field_of : Place → Shape → Rest → Result (Field × Rest) RowRefusal
 field_of at shape (text tokens) = text_field at shape tokens >>= λ read. Ok (read.0, text read.1)
-field_of at shape (raw kind place bytes) = binary_field kind at shape (place, bytes) >>= λ read. Ok (read.0, raw kind read.1.0 read.1.1)
+field_of at shape (raw kind place bytes) =
+    binary_field kind at shape (place, bytes) >>= λ read. Ok (read.0, raw kind read.1.0 read.1.1)
 
 -- the fields of some properties of a row, the first of which has this number, and what is
 -- left behind them

@@ -8,7 +8,8 @@
 -- items_of          the field of so many items, and the tokens behind them
 -- items_end         where so many tokens end, and the tokens behind them
 -- text_field        the field of a property, and the tokens behind it
-use Rattle.std.specs.Prelude.{ℕ, ◌+◌, ◌-◌, ◌≡◌, ℤ, pos, negsuc, List, [], ◌∷◌, nat_lt, length, take, drop, Result, Ok, Err, if◌then◌else◌}
+use Rattle.std.specs.Prelude.{ℕ, ◌+◌, ◌-◌, ◌≡◌, ℤ, pos, negsuc, List, [], ◌∷◌, nat_lt, length, take, drop, Result, Ok, Err}
+use Rattle.std.specs.Prelude.{if◌then◌else◌}
 use Rattle.num_text.specs.WholeNumbers.{whole_of}
 use Rattle.num_text.specs.declared.refusal.NumRefusal.{NumRefusal}
 use Rattle.ply_head.specs.declared.header.Shape.{Shape}
@@ -38,7 +39,11 @@ end_of place (token ∷ tokens) = end_of (token.place + length token.bytes) toke
 -- the field that the items of a list make: from the first to the end of the last
 abbrev pub field_of_items : List Token → Field
 field_of_items [] = record { place = 0; size = 0; items = 0 }
-field_of_items (token ∷ tokens) = record { place = token.place; size = end_of (token.place + length token.bytes) tokens - token.place; items = length (token ∷ tokens) }
+field_of_items (token ∷ tokens) = record {
+  place = token.place;
+  size = end_of (token.place + length token.bytes) tokens - token.place;
+  items = length (token ∷ tokens);
+}
 
 -- a number of items, which is at least 0 and at most 2 ^ 32 - 1
 abbrev pub count_in : Place → ℤ → Result ℕ RowRefusal
@@ -56,7 +61,8 @@ items_of at n tokens = if nat_lt (length tokens) n then Err (Cut at) else Ok (fi
 
 -- where so many tokens end, and the tokens behind them
 abbrev pub items_end : Place → ℕ → ℕ → List Token → Result (ℕ × List Token) RowRefusal
-items_end at n place tokens = if nat_lt (length tokens) n then Err (Cut at) else Ok (end_of place (take n tokens), drop n tokens)
+items_end at n place tokens =
+    if nat_lt (length tokens) n then Err (Cut at) else Ok (end_of place (take n tokens), drop n tokens)
 
 -- the field of a property in a text, and the tokens behind it: one token, or one that
 -- counts the items and then the items

@@ -1,5 +1,7 @@
 -- The certificate of a scan's network is well formed.
-use Rattle.std.proofs.Common.{ℕ, zero, suc, ◌≡◌, ◌+◌, ◌<◌, ◌≤◌, ◌^◌, not, refl, ap, sym, subst, arith, Bool, true, false, cond, inl, inr, ⊎_elim, List, [], ◌∷◌, length, map, filter, get_or, eqb, AllPairs, Contains, Option, Some, None}
+use Rattle.std.proofs.Common.{ℕ, zero, suc, ◌≡◌, ◌+◌, ◌<◌, ◌≤◌, ◌^◌, not, refl, ap, sym, subst, arith, Bool, true, false, cond}
+use Rattle.std.proofs.Common.{inl, inr, ⊎_elim, List, [], ◌∷◌, length, map, filter, get_or, eqb, AllPairs, Contains, Option}
+use Rattle.std.proofs.Common.{Some, None}
 use Rattle.std.proofs.lemmas.Bool.{eqb-false}
 use Rattle.std.proofs.lemmas.List.{get_or-map, length-map}
 use Rattle.std.proofs.lemmas.List.Kept.{AllPairs-filter}
@@ -35,7 +37,8 @@ same_before : (xs ys : List ℕ) → IsBefore xs ys → IsRowBefore xs ys
 same_before [] [] h = h
 same_before [] (y ∷ ys) h = h
 same_before (x ∷ xs) [] h = h
-same_before (x ∷ xs) (y ∷ ys) h = ⊎_elim (λ (l : x < y). inl l) (λ (p : (x ≡ y) × IsBefore xs ys). inr (p.0, same_before xs ys p.1)) h
+same_before (x ∷ xs) (y ∷ ys) h =
+    ⊎_elim (λ (l : x < y). inl l) (λ (p : (x ≡ y) × IsBefore xs ys). inr (p.0, same_before xs ys p.1)) h
 
 pub rise_so : (rows : List (List ℕ)) → AllPairs IsBefore rows → AllPairs IsRowBefore rows
 rise_so rows rising = λ i j d l m. same_before (get_or rows i d) (get_or rows j d) (rising i j d l m)
@@ -45,7 +48,8 @@ record IsKept (test : List ℕ → Bool) (rows : List (List ℕ)) (row : List �
   there : Contains rows row
   passes : test row ≡ true
 
-kept : (test : List ℕ → Bool) (rows : List (List ℕ)) (k : ℕ) (d : List ℕ) → k < length (filter test rows) → IsKept test rows (get_or (filter test rows) k d)
+kept : (test : List ℕ → Bool) (rows : List (List ℕ)) (k : ℕ) (d : List ℕ) → k < length (filter test rows)
+    → IsKept test rows (get_or (filter test rows) k d)
 kept test [] k d within = absurd (omega arith)
 kept test (row ∷ rows) k d within = by (test row) refl k within (λ j l. kept test rows j d l)
   where
@@ -53,13 +57,16 @@ kept test (row ∷ rows) k d within = by (test row) refl k within (λ j l. kept 
     later other h = record { there = (suc h.there.0, omega (arith, h.there.1), h.there.2); passes = h.passes }
 
     by : (b : Bool) → test row ≡ b → (k : ℕ) → k < length (cond b (row ∷ filter test rows) (filter test rows))
-        → ((j : ℕ) → j < length (filter test rows) → IsKept test rows (get_or (filter test rows) j d)) → IsKept test (row ∷ rows) (get_or (cond b (row ∷ filter test rows) (filter test rows)) k d)
+        → ((j : ℕ) → j < length (filter test rows) → IsKept test rows (get_or (filter test rows) j d))
+        → IsKept test (row ∷ rows) (get_or (cond b (row ∷ filter test rows) (filter test rows)) k d)
     by true e zero l rest = record { there = (0, omega arith, refl); passes = e }
     by true e (suc k) l rest = later (get_or (filter test rows) k d) (rest k (omega (arith, l)))
     by false e k l rest = later (get_or (filter test rows) k d) (rest k l)
 
 facet_is : (n : ℕ) (f : List ℕ) → n ≤ 8 + point_limit → IsOrdered n f → IsFacetRow f
-facet_is n f few o = subst IsFacetRow (sym o.three) (o.first_second, o.first_third, o.apart, omega (arith, o.second_below), omega (arith, o.third_below))
+facet_is n f few o =
+    subst IsFacetRow (sym o.three)
+    (o.first_second, o.first_third, o.apart, omega (arith, o.second_below), omega (arith, o.third_below))
 
 -- a cell of such vertices
 cell_is : (v : Vertices) (row : List ℕ) → v.count ≤ 8 + point_limit → IsRisingCell v row → IsCellRow row
@@ -70,7 +77,8 @@ cell_is v (a ∷ b ∷ c ∷ []) few h = elim h [ ]
 cell_is v (a ∷ b ∷ c ∷ d ∷ e ∷ rest) few h = elim h [ ]
 cell_is v (a ∷ b ∷ c ∷ d ∷ []) few h = let below : d < v.count = form_below v a b c d h.3 in (h.0, h.1, h.2, omega arith)
 
-a_cell : (s : Scene) (complex : Complex) → IsComplexOf s complex → s.vertices.count ≤ 8 + point_limit → (row : List ℕ) → Contains complex.cells row → IsCellRow row
+a_cell : (s : Scene) (complex : Complex) → IsComplexOf s complex → s.vertices.count ≤ 8 + point_limit → (row : List ℕ)
+    → Contains complex.cells row → IsCellRow row
 a_cell s complex is few row there = cell_is s.vertices row few (is.cells_are.cells row there)
 
 -- an amount that is not 0
@@ -82,7 +90,8 @@ some_amount zero e = by (eqb 0 0) refl e
     by false h e = absurd (eqb-false 0 0 h refl)
 some_amount (suc n) e = omega arith
 
-flow_list : (s : Scene) (complex : Complex) (claim : Claim) → IsComplexOf s complex → s.vertices.count ≤ 8 + point_limit → IsSightList s.sights → length (flow_rows complex.facets (flow_on claim)) < 2 ^ 64
+flow_list : (s : Scene) (complex : Complex) (claim : Claim) → IsComplexOf s complex → s.vertices.count ≤ 8 + point_limit
+    → IsSightList s.sights → length (flow_rows complex.facets (flow_on claim)) < 2 ^ 64
     → IsValidFlow s complex (flow_on claim) (sink_at claim) → IsFlowList (flow_rows complex.facets (flow_on claim))
 flow_list s complex claim is few few_sights short valid =
     let test : List ℕ → Bool = λ key. not (eqb (flow_on claim key) 0) in
@@ -94,18 +103,28 @@ flow_list s complex claim is few few_sights short valid =
           let h : IsKept test complex.facets (get_or keys k []) = kept test complex.facets k [] m in
           subst IsFlowRow (sym (get_or-map make keys k [] d m))
           (record {
-            facet = facet_is s.vertices.count (get_or keys k []) few (facets_are_ordered s complex is (get_or keys k []) h.there);
+            facet =
+                facet_is s.vertices.count (get_or keys k []) few (facets_are_ordered s complex is (get_or keys k []) h.there);
             some = some_amount (flow_on claim (get_or keys k [])) h.passes;
-            fits = omega (arith, valid.within_capacity (get_or keys k []) h.there, capacity_fits s (facet_at (get_or keys k [])) few_sights);
+            fits =
+                omega (
+                  arith,
+                  valid.within_capacity (get_or keys k []) h.there,
+                  capacity_fits s (facet_at (get_or keys k [])) few_sights,
+                );
           });
-      rising = subst (λ (rows : List (List ℕ)). AllPairs IsRowBefore rows) (sym (keys_of keys)) (rise_so keys (AllPairs-filter IsBefore test complex.facets is.facets_are.rising));
+      rising =
+          subst (λ (rows : List (List ℕ)). AllPairs IsRowBefore rows) (sym (keys_of keys))
+          (rise_so keys (AllPairs-filter IsBefore test complex.facets is.facets_are.rising));
     }
   where
-    keys_of : (keys : List (List ℕ)) → map (λ (row : FlowRow). row.facet) (map (λ (key : List ℕ). flow_row key (flow_on claim key)) keys) ≡ keys
+    keys_of : (keys : List (List ℕ))
+        → map (λ (row : FlowRow). row.facet) (map (λ (key : List ℕ). flow_row key (flow_on claim key)) keys) ≡ keys
     keys_of [] = refl
     keys_of (key ∷ rest) = ap (λ (list : List (List ℕ)). key ∷ list) (keys_of rest)
 
-sink_list : (s : Scene) (complex : Complex) (claim : Claim) → IsComplexOf s complex → s.vertices.count ≤ 8 + point_limit → IsSightList s.sights → length (sink_rows complex.cells (sink_at claim)) < 2 ^ 64
+sink_list : (s : Scene) (complex : Complex) (claim : Claim) → IsComplexOf s complex → s.vertices.count ≤ 8 + point_limit
+    → IsSightList s.sights → length (sink_rows complex.cells (sink_at claim)) < 2 ^ 64
     → IsValidFlow s complex (flow_on claim) (sink_at claim) → IsSinkList (sink_rows complex.cells (sink_at claim))
 sink_list s complex claim is few few_sights short valid =
     let test : List ℕ → Bool = λ key. not (eqb (sink_at claim key) 0) in
@@ -121,18 +140,24 @@ sink_list s complex claim is few few_sights short valid =
             some = some_amount (sink_at claim (get_or keys k [])) h.passes;
             fits = omega (arith, valid.within_sink (get_or keys k []) h.there, sink_fits s (get_or keys k []) few_sights);
           });
-      rising = subst (λ (rows : List (List ℕ)). AllPairs IsRowBefore rows) (sym (keys_of keys)) (rise_so keys (AllPairs-filter IsBefore test complex.cells is.cells_are.rising));
+      rising =
+          subst (λ (rows : List (List ℕ)). AllPairs IsRowBefore rows) (sym (keys_of keys))
+          (rise_so keys (AllPairs-filter IsBefore test complex.cells is.cells_are.rising));
     }
   where
-    keys_of : (keys : List (List ℕ)) → map (λ (row : SinkRow). row.cell) (map (λ (key : List ℕ). sink_row key (sink_at claim key)) keys) ≡ keys
+    keys_of : (keys : List (List ℕ))
+        → map (λ (row : SinkRow). row.cell) (map (λ (key : List ℕ). sink_row key (sink_at claim key)) keys) ≡ keys
     keys_of [] = refl
     keys_of (key ∷ rest) = ap (λ (list : List (List ℕ)). key ∷ list) (keys_of rest)
 
-cell_list : (s : Scene) (complex : Complex) (inside : List ℕ → Bool) → IsComplexOf s complex → s.vertices.count ≤ 8 + point_limit → length (filter inside complex.cells) < 2 ^ 64 → AreCellRows (filter inside complex.cells)
+cell_list : (s : Scene) (complex : Complex) (inside : List ℕ → Bool) → IsComplexOf s complex
+    → s.vertices.count ≤ 8 + point_limit → length (filter inside complex.cells) < 2 ^ 64
+    → AreCellRows (filter inside complex.cells)
 cell_list s complex inside is few short =
     record {
       few = short;
-      each = λ k d l. a_cell s complex is few (get_or (filter inside complex.cells) k d) (kept inside complex.cells k d l).there;
+      each =
+          λ k d l. a_cell s complex is few (get_or (filter inside complex.cells) k d) (kept inside complex.cells k d l).there;
       rising = rise_so (filter inside complex.cells) (AllPairs-filter IsBefore inside complex.cells is.cells_are.rising);
     }
 
@@ -143,7 +168,8 @@ pub record IsShort (claim : Claim) : Type 0 where
   pub sink : length claim.sink < 2 ^ 64
 
 -- a certificate of a complex of as many vertices as a scan has at most is well formed, where its counts and its lists fit
-pub well_formed : (s : Scene) (complex : Complex) (inside : List ℕ → Bool) (claim : Claim) → IsComplexOf s complex → s.vertices.count ≤ 8 + point_limit → IsSightList s.sights → IsVersion claim.stamp → FitCounts claim.counts → IsShort claim
+pub well_formed : (s : Scene) (complex : Complex) (inside : List ℕ → Bool) (claim : Claim) → IsComplexOf s complex
+    → s.vertices.count ≤ 8 + point_limit → IsSightList s.sights → IsVersion claim.stamp → FitCounts claim.counts → IsShort claim
     → IsCertificate s complex inside claim → IsWellFormed claim
 well_formed s complex inside claim is few few_sights stamp counts short certificate =
     let inside_is : claim.inside ≡ filter inside complex.cells = certificate.inside_is in
@@ -152,9 +178,17 @@ well_formed s complex inside claim is few few_sights stamp counts short certific
     record {
       stamp = stamp;
       counts = counts;
-      inside = subst AreCellRows (sym inside_is) (cell_list s complex inside is few (subst (λ (rows : List (List ℕ)). length rows < 2 ^ 64) inside_is short.inside));
-      flow = subst IsFlowList (sym flow_is) (flow_list s complex claim is few few_sights (subst (λ (rows : List FlowRow). length rows < 2 ^ 64) flow_is short.flow) certificate.flow);
-      sink = subst IsSinkList (sym sink_is) (sink_list s complex claim is few few_sights (subst (λ (rows : List SinkRow). length rows < 2 ^ 64) sink_is short.sink) certificate.flow);
+      inside =
+          subst AreCellRows (sym inside_is)
+          (cell_list s complex inside is few (subst (λ (rows : List (List ℕ)). length rows < 2 ^ 64) inside_is short.inside));
+      flow =
+          subst IsFlowList (sym flow_is)
+          (flow_list s complex claim is few few_sights
+          (subst (λ (rows : List FlowRow). length rows < 2 ^ 64) flow_is short.flow) certificate.flow);
+      sink =
+          subst IsSinkList (sym sink_is)
+          (sink_list s complex claim is few few_sights
+          (subst (λ (rows : List SinkRow). length rows < 2 ^ 64) sink_is short.sink) certificate.flow);
     }
 
 -- a stamp is what its type keeps
@@ -163,7 +197,8 @@ version_of None = tt
 version_of (Some s) = record { digest = s.digest_is; unit = s.unit_is; fixed = s.fixed_is }
 
 -- the counts of a scan fit
-pub fit_counts : (claim : Claim) (scan : Scan) (settings : Settings) → HasCounts claim (shown_of scan) settings → claim.counts.cost < 2 ^ 64 → FitCounts claim.counts
+pub fit_counts : (claim : Claim) (scan : Scan) (settings : Settings) → HasCounts claim (shown_of scan) settings
+    → claim.counts.cost < 2 ^ 64 → FitCounts claim.counts
 fit_counts claim scan settings has cost =
     record {
       points = omega (arith, has.points, few_points scan);

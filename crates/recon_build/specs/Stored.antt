@@ -21,8 +21,8 @@ pub record AreRowsOf (slots : List (Option Cell)) (cells : List (List ℕ)) : Ty
   pub row : (id : ℕ) → IsLive (links_of slots) id → (row : List ℕ) × IsRowOf ((links_of slots).at id) row × Contains cells row
   pub cell : (row : List ℕ) → Contains cells row → (id : ℕ) × IsLive (links_of slots) id × IsRowOf ((links_of slots).at id) row
 
--- The corners of the box and the scan's distinct points in their order, all inserted. The live cells are exactly their Delaunay cells,
--- and part the box. Any complex of the scan, so also that of a solution, has the live cells' rows as its cells.
+-- The corners of the box and the scan's distinct points in their order, all inserted. The live cells are exactly their Delaunay
+-- cells, and part the box. Any complex of the scan, so also that of a solution, has the live cells' rows as its cells.
 pub record IsStoreOf (scan : Shown) (settings : Settings) (s : Store) : Type 0 where
   pub points : s.points ≡ corners ++ points_of scan
   pub inserted : (u : ℕ) → u < length s.points → slice_index_or s.inserted u false ≡ true

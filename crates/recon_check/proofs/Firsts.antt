@@ -9,7 +9,8 @@ pub record Stands (rows : List (List ℕ)) (P : ℕ → Type 0) (Q : List ℕ �
   pub to_rows : (k : ℕ) → k < length rows → P k → Q (get_or rows k [])
   pub to_numbers : (k : ℕ) → k < length rows → Q (get_or rows k []) → P k
 
-pub first_over : (rows : List (List ℕ)) (n k : ℕ) (P : ℕ → Type 0) (Q : List ℕ → Type 0) → n ≡ length rows → Stands rows P Q → IsFirst n P k → IsFirstOf rows Q (get_or rows k [])
+pub first_over : (rows : List (List ℕ)) (n k : ℕ) (P : ℕ → Type 0) (Q : List ℕ → Type 0) → n ≡ length rows → Stands rows P Q
+    → IsFirst n P k → IsFirstOf rows Q (get_or rows k [])
 first_over rows n k P Q e stands h =
     let l : k < length rows = omega (arith, h.in_range) in
     record {
@@ -22,7 +23,8 @@ first_over rows n k P Q e stands h =
       row_is = refl;
     }
 
-pub none_over : (rows : List (List ℕ)) (n : ℕ) (P : ℕ → Type 0) (Q : List ℕ → Type 0) → n ≡ length rows → Stands rows P Q → NoneBelow n P → NoneOf rows Q
+pub none_over : (rows : List (List ℕ)) (n : ℕ) (P : ℕ → Type 0) (Q : List ℕ → Type 0) → n ≡ length rows → Stands rows P Q
+    → NoneBelow n P → NoneOf rows Q
 none_over rows n P Q e stands none row there q =
     none there.0 (omega (arith, there.1)) (stands.to_numbers there.0 there.1 (subst Q (sym (at_index rows row there)) q))
 
@@ -34,9 +36,11 @@ one_first n j k P a b =
     omega (arith, not_less, not_more)
 
 -- and one first row
-pub one_first_of : (rows : List (List ℕ)) (row other : List ℕ) (P : List ℕ → Type 0) → IsFirstOf rows P row → IsFirstOf rows P other → row ≡ other
+pub one_first_of : (rows : List (List ℕ)) (row other : List ℕ) (P : List ℕ → Type 0) → IsFirstOf rows P row
+    → IsFirstOf rows P other → row ≡ other
 one_first_of rows row other P a b =
-    a.row_is ∙ ap (λ (k : ℕ). get_or rows k []) (one_first (length rows) a.place b.place (λ k. P (get_or rows k [])) a.first b.first) ∙ sym b.row_is
+    a.row_is ∙ ap (λ (k : ℕ). get_or rows k [])
+    (one_first (length rows) a.place b.place (λ k. P (get_or rows k [])) a.first b.first) ∙ sym b.row_is
 
 -- none has what the first has
 pub not_first_of : (rows : List (List ℕ)) (row : List ℕ) (P : List ℕ → Type 0) → NoneOf rows P → IsFirstOf rows P row → ⊥

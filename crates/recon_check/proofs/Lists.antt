@@ -1,5 +1,6 @@
 -- Lists of rows: what is among them, what a test keeps, and rows that state amounts of rising keys.
-use Rattle.std.proofs.Common.{ℕ, zero, suc, ◌≡◌, ◌≢◌, ◌<◌, ◌≤◌, not, refl, ap, sym, subst, ◌∙◌, arith, Bool, true, false, cond, eqb, List, [], ◌∷◌, length, map, filter, get_or, All, AllPairs, Contains}
+use Rattle.std.proofs.Common.{ℕ, zero, suc, ◌≡◌, ◌≢◌, ◌<◌, ◌≤◌, not, refl, ap, sym, subst, ◌∙◌, arith, Bool, true, false, cond}
+use Rattle.std.proofs.Common.{eqb, List, [], ◌∷◌, length, map, filter, get_or, All, AllPairs, Contains}
 use Rattle.std.specs.List.{sum_by}
 use Rattle.std.proofs.lemmas.Bool.{eq-eqb, ne_eqb, false_from_ne_true}
 use Rattle.std.proofs.lemmas.List.{get_or-map, get_or_default, length-map, same_lists}
@@ -25,7 +26,8 @@ among_means rows row h =
     subst (λ (r : List ℕ). Contains rows r) (is_equal_means found.1 row found.4) (found.0, found.2, found.3)
 
 -- ---- what a test keeps
-pub kept_has : (test : List ℕ → Bool) (rows : List (List ℕ)) (row : List ℕ) → Contains rows row → test row ≡ true → Contains (filter test rows) row
+pub kept_has : (test : List ℕ → Bool) (rows : List (List ℕ)) (row : List ℕ) → Contains rows row → test row ≡ true
+    → Contains (filter test rows) row
 kept_has test [] row h passes = absurd (omega (arith, h.1))
 kept_has test (first ∷ rows) row h passes = pick (λ k. kept_has test rows row k passes) h.0 h.1 h.2
   where
@@ -33,27 +35,37 @@ kept_has test (first ∷ rows) row h passes = pick (λ k. kept_has test rows row
     later true k = (suc k.0, omega (arith, k.1), k.2)
     later false k = k
 
-    pick : (Contains rows row → Contains (filter test rows) row) → (k : ℕ) → k < length (first ∷ rows) → get_or (first ∷ rows) k row ≡ row → Contains (cond (test first) (first ∷ filter test rows) (filter test rows)) row
-    pick rest zero l same = subst (λ (b : Bool). Contains (cond b (first ∷ filter test rows) (filter test rows)) row) (sym (ap test same ∙ passes)) (0, omega arith, same)
+    pick : (Contains rows row → Contains (filter test rows) row) → (k : ℕ) → k < length (first ∷ rows)
+        → get_or (first ∷ rows) k row ≡ row → Contains (cond (test first) (first ∷ filter test rows) (filter test rows)) row
+    pick rest zero l same =
+        subst (λ (b : Bool). Contains (cond b (first ∷ filter test rows) (filter test rows)) row) (sym (ap test same ∙ passes))
+        (0, omega arith, same)
     pick rest (suc k) l same = later (test first) (rest (k, omega arith, same))
 
 pub kept_there : (test : List ℕ → Bool) (rows : List (List ℕ)) → All (Contains rows) (filter test rows)
 kept_there test rows = All-filter test (Contains rows) rows (All-contains_itself rows)
 
-pub kept_from : (test : List ℕ → Bool) (rows : List (List ℕ)) (row : List ℕ) → Contains (filter test rows) row → Contains rows row
+pub kept_from : (test : List ℕ → Bool) (rows : List (List ℕ)) (row : List ℕ) → Contains (filter test rows) row
+    → Contains rows row
 kept_from test rows row h = All-contains (Contains rows) (filter test rows) row (kept_there test rows) h
 
-pub kept_passes : (test : List ℕ → Bool) (rows : List (List ℕ)) (row : List ℕ) → Contains (filter test rows) row → test row ≡ true
+pub kept_passes : (test : List ℕ → Bool) (rows : List (List ℕ)) (row : List ℕ) → Contains (filter test rows) row
+    → test row ≡ true
 kept_passes test rows row h = All-contains (λ (r : List ℕ). test r ≡ true) (filter test rows) row (filter_passes test rows) h
 
 -- rising rows that are among rising keys are those of the keys that are among the rows
-pub among_kept : (rows keys : List (List ℕ)) → AllPairs IsBefore rows → AllPairs IsBefore keys → All (Contains keys) rows → rows ≡ filter (is_among rows) keys
+pub among_kept : (rows keys : List (List ℕ)) → AllPairs IsBefore rows → AllPairs IsBefore keys → All (Contains keys) rows
+    → rows ≡ filter (is_among rows) keys
 among_kept rows keys rise keys_rise there =
     rising_law rows (filter (is_among rows) keys) rise (AllPairs-filter IsBefore (is_among rows) keys keys_rise)
-    (λ row. (λ h. kept_has (is_among rows) keys row (All-contains (Contains keys) rows row there h) (among_from rows row h), λ h. among_means rows row (kept_passes (is_among rows) keys row h)))
+    (λ row. (
+      λ h. kept_has (is_among rows) keys row (All-contains (Contains keys) rows row there h) (among_from rows row h),
+      λ h. among_means rows row (kept_passes (is_among rows) keys row h),
+    ))
 
 -- ---- sums of terms that agree
-pub sum_same : (f g : List ℕ → ℕ) (rows : List (List ℕ)) → ((row : List ℕ) → Contains rows row → f row ≡ g row) → sum_by f rows ≡ sum_by g rows
+pub sum_same : (f g : List ℕ → ℕ) (rows : List (List ℕ)) → ((row : List ℕ) → Contains rows row → f row ≡ g row)
+    → sum_by f rows ≡ sum_by g rows
 sum_same f g [] same = refl
 sum_same f g (row ∷ rows) same =
     let first : f row ≡ g row = same row (0, omega arith, refl) in
@@ -62,26 +74,37 @@ sum_same f g (row ∷ rows) same =
 
 -- ---- rows that state amounts
 -- what rising rows state of the key of one of them is its amount
-pub stated_row : {Row : Type 0} (about : Row → List ℕ) (amount : Row → ℕ) (rows : List Row) → AllPairs IsBefore (map about rows) → (i : ℕ) (d : Row) → i < length rows
+pub stated_row : {Row : Type 0} (about : Row → List ℕ) (amount : Row → ℕ) (rows : List Row) → AllPairs IsBefore (map about rows)
+    → (i : ℕ) (d : Row) → i < length rows
     → stated about amount rows (about (get_or rows i d)) ≡ amount (get_or rows i d)
 stated_row about amount [] rising i d l = absurd (omega arith)
-stated_row about amount (row ∷ rows) rising zero d l = ap (λ (b : Bool). cond b (amount row) (stated about amount rows (about row))) (is_equal_itself (about row))
+stated_row about amount (row ∷ rows) rising zero d l =
+    ap (λ (b : Bool). cond b (amount row) (stated about amount rows (about row))) (is_equal_itself (about row))
 stated_row about amount (row ∷ rows) rising (suc i) d l =
     let m : i < length rows = omega arith in
-    let before : IsBefore (about row) (about (get_or rows i d)) = subst (λ (key : List ℕ). IsBefore (about row) key) (get_or-map about rows i d [] m) (rising 0 (suc i) [] (omega arith) (omega (arith, m, length-map rows about))) in
+    let before : IsBefore (about row) (about (get_or rows i d)) =
+    subst (λ (key : List ℕ). IsBefore (about row) key) (get_or-map about rows i d [] m)
+    (rising 0 (suc i) [] (omega arith) (omega (arith, m, length-map rows about))) in
     let differs : is_equal (about row) (about (get_or rows i d)) ≡ false =
-    false_from_ne_true _ (λ e. not_before_itself (about (get_or rows i d)) (subst (λ (key : List ℕ). IsBefore key (about (get_or rows i d))) (is_equal_means _ _ e) before)) in
+    false_from_ne_true _
+    (λ e. not_before_itself (about (get_or rows i d))
+    (subst (λ (key : List ℕ). IsBefore key (about (get_or rows i d))) (is_equal_means _ _ e) before)) in
     ap (λ (b : Bool). cond b (amount row) (stated about amount rows (about (get_or rows i d)))) differs
     ∙ stated_row about amount rows (λ j k e n o. rising (suc j) (suc k) e (omega arith) (omega arith)) i d m
 
 -- a key with an amount has a row
-about_one : {Row : Type 0} (about : Row → List ℕ) (amount : Row → ℕ) (rows : List Row) (key : List ℕ) → stated about amount rows key ≢ 0 → Contains (map about rows) key
+about_one : {Row : Type 0} (about : Row → List ℕ) (amount : Row → ℕ) (rows : List Row) (key : List ℕ)
+    → stated about amount rows key ≢ 0 → Contains (map about rows) key
 about_one {Row} about amount rows key some = by (is_among (map about rows) key) refl
   where
     by : (b : Bool) → is_among (map about rows) key ≡ b → Contains (map about rows) key
     by true e = among_means (map about rows) key e
     by false e = absurd (some ((stated_says about amount).absent rows key (λ i l same.
-        let there : Contains (map about rows) key = (i, omega (arith, l, length-map rows about), get_or_default (map about rows) i key [] (omega (arith, l, length-map rows about)) ∙ same) in
+        let there : Contains (map about rows) key = (
+          i,
+          omega (arith, l, length-map rows about),
+          get_or_default (map about rows) i key [] (omega (arith, l, length-map rows about)) ∙ same,
+        ) in
         cc (e, among_from (map about rows) key there))))
 
 some_from : (n : ℕ) → not (eqb n 0) ≡ true → n ≢ 0
@@ -91,8 +114,10 @@ some_to : (n : ℕ) → 1 ≤ n → not (eqb n 0) ≡ true
 some_to n l = ap not (ne_eqb n 0 (λ (none : n ≡ 0). omega arith))
 
 -- rising rows of amounts that are not 0, about rising keys, are the rows of what they state
-pub rows_listed : {Row : Type 0} (make : List ℕ → ℕ → Row) (about : Row → List ℕ) (amount : Row → ℕ) → ((row : Row) → make (about row) (amount row) ≡ row) → (rows : List Row) (keys : List (List ℕ))
-    → AllPairs IsBefore (map about rows) → AllPairs IsBefore keys → All (Contains keys) (map about rows) → All (λ row. 1 ≤ amount row) rows → rows ≡ listed make keys (stated about amount rows)
+pub rows_listed : {Row : Type 0} (make : List ℕ → ℕ → Row) (about : Row → List ℕ) (amount : Row → ℕ)
+    → ((row : Row) → make (about row) (amount row) ≡ row) → (rows : List Row) (keys : List (List ℕ))
+    → AllPairs IsBefore (map about rows) → AllPairs IsBefore keys → All (Contains keys) (map about rows)
+    → All (λ row. 1 ≤ amount row) rows → rows ≡ listed make keys (stated about amount rows)
 rows_listed {Row} make about amount makes rows keys rise keys_rise there some =
     elements ∙ ap (map (λ (key : List ℕ). make key (stated about amount rows key))) same_keys
   where
@@ -102,14 +127,16 @@ rows_listed {Row} make about amount makes rows keys rise keys_rise there some =
     tests : All (λ (key : List ℕ). not (eqb (stated about amount rows key) 0) ≡ true) (map about rows)
     tests =
         All-map (λ (key : List ℕ). not (eqb (stated about amount rows key) 0) ≡ true) about rows
-        (λ k d l. some_to (stated about amount rows (about (get_or rows k d))) (let is = row_is k d l in let at_least : 1 ≤ amount (get_or rows k d) = some k d l in omega arith))
+        (λ k d l. some_to (stated about amount rows (about (get_or rows k d)))
+        (let is = row_is k d l in let at_least : 1 ≤ amount (get_or rows k d) = some k d l in omega arith))
 
     same_keys : map about rows ≡ filter (λ (key : List ℕ). not (eqb (stated about amount rows key) 0)) keys
     same_keys =
         let test : List ℕ → Bool = λ key. not (eqb (stated about amount rows key) 0) in
         rising_law (map about rows) (filter test keys) rise (AllPairs-filter IsBefore test keys keys_rise)
         (λ key. (
-          λ h. kept_has test keys key (All-contains (Contains keys) (map about rows) key there h) (All-contains (λ (k : List ℕ). test k ≡ true) (map about rows) key tests h),
+          λ h. kept_has test keys key (All-contains (Contains keys) (map about rows) key there h)
+              (All-contains (λ (k : List ℕ). test k ≡ true) (map about rows) key tests h),
           λ h. about_one about amount rows key (some_from (stated about amount rows key) (kept_passes test keys key h)),
         ))
 
@@ -117,15 +144,19 @@ rows_listed {Row} make about amount makes rows keys rise keys_rise there some =
     elements =
         let f : List ℕ → Row = λ key. make key (stated about amount rows key) in
         same_lists rows (map f (map about rows)) (sym (length-map (map about rows) f ∙ length-map rows about))
-        (λ k c l. sym (get_or-map f (map about rows) k [] c (omega (arith, l, length-map rows about)) ∙ ap f (get_or-map about rows k c [] l)
+        (λ k c l. sym
+        (get_or-map f (map about rows) k [] c (omega (arith, l, length-map rows about)) ∙ ap f (get_or-map about rows k c [] l)
         ∙ ap (make (about (get_or rows k c))) (row_is k c l) ∙ makes (get_or rows k c)))
 
 -- the rows of amounts are about keys of the list
-pub listed_there : {Row : Type 0} (make : List ℕ → ℕ → Row) (about : Row → List ℕ) (keys : List (List ℕ)) (on : List ℕ → ℕ) → ((key : List ℕ) (n : ℕ) → about (make key n) ≡ key) → All (Contains keys) (map about (listed make keys on))
+pub listed_there : {Row : Type 0} (make : List ℕ → ℕ → Row) (about : Row → List ℕ) (keys : List (List ℕ)) (on : List ℕ → ℕ)
+    → ((key : List ℕ) (n : ℕ) → about (make key n) ≡ key) → All (Contains keys) (map about (listed make keys on))
 listed_there {Row} make about keys on about_is =
     let test : List ℕ → Bool = λ key. not (eqb (on key) 0) in
     subst (λ (list : List (List ℕ)). All (Contains keys) list) (sym (keys_of (filter test keys))) (kept_there test keys)
   where
     keys_of : (list : List (List ℕ)) → map about (map (λ (key : List ℕ). make key (on key)) list) ≡ list
     keys_of [] = refl
-    keys_of (key ∷ rest) = ap (λ (first : List ℕ). first ∷ map about (map (λ (k : List ℕ). make k (on k)) rest)) (about_is key (on key)) ∙ ap (λ (list : List (List ℕ)). key ∷ list) (keys_of rest)
+    keys_of (key ∷ rest) =
+        ap (λ (first : List ℕ). first ∷ map about (map (λ (k : List ℕ). make k (on k)) rest)) (about_is key (on key))
+        ∙ ap (λ (list : List (List ℕ)). key ∷ list) (keys_of rest)

@@ -14,10 +14,12 @@ no_part here stated (OtherUnit a b) same h = h.3 (h.1 ∙ ap (λ (s : StampView)
 no_part here stated (OtherFixed p q) same h = h.4 (h.2 ∙ ap (λ (s : StampView). s.fixed) same ∙ sym h.3)
 no_part here stated _ same h = absurd h
 
-pub not_other : (here : StampView) (claim : Claim) (reason : Reason) → IsStampedFor here claim → IsOtherStamp here claim reason → ⊥
+pub not_other : (here : StampView) (claim : Claim) (reason : Reason) → IsStampedFor here claim → IsOtherStamp here claim reason
+    → ⊥
 not_other here claim reason stamped other = no_part here other.stated reason (stamped other.stated other.stamp_is) other.part
 
-one_part : (here stated : StampView) (reason other : Reason) → IsOtherPart here stated reason → IsOtherPart here stated other → reason ≡ other
+one_part : (here stated : StampView) (reason other : Reason) → IsOtherPart here stated reason → IsOtherPart here stated other
+    → reason ≡ other
 one_part here stated (OtherScan a b) (OtherScan c d) h k =
     let first : a ≡ c = h.0 ∙ sym k.0 in
     let second : b ≡ d = h.1 ∙ sym k.1 in
@@ -44,7 +46,8 @@ one_part here stated _ other h k = absurd h
 some_same : {A : Type 0} (a b : A) → Some a ≡ Some b → a ≡ b
 some_same a b e = cc
 
-pub one_stamp : (here : StampView) (claim : Claim) (reason other : Reason) → IsOtherStamp here claim reason → IsOtherStamp here claim other → reason ≡ other
+pub one_stamp : (here : StampView) (claim : Claim) (reason other : Reason) → IsOtherStamp here claim reason
+    → IsOtherStamp here claim other → reason ≡ other
 one_stamp here claim reason other h k =
     let same : k.stated ≡ h.stated = some_same k.stated h.stated (sym k.stamp_is ∙ h.stamp_is) in
     one_part here h.stated reason other h.part (subst (λ (s : StampView). IsOtherPart here s other) same k.part)
@@ -56,4 +59,5 @@ stamp_with d u p = record { digest = d; unit = u; fixed = p }
 pub stamp_same : (a b : StampView) → a.digest ≡ b.digest → a.unit ≡ b.unit → a.fixed ≡ b.fixed → a ≡ b
 unfolding stamp_with
 stamp_same a b digest unit fixed =
-    ap (λ (d : List ℕ). stamp_with d a.unit a.fixed) digest ∙ (ap (λ (u : ℕ). stamp_with b.digest u a.fixed) unit ∙ ap (λ (p : Option Point). stamp_with b.digest b.unit p) fixed)
+    ap (λ (d : List ℕ). stamp_with d a.unit a.fixed) digest
+    ∙ (ap (λ (u : ℕ). stamp_with b.digest u a.fixed) unit ∙ ap (λ (p : Option Point). stamp_with b.digest b.unit p) fixed)

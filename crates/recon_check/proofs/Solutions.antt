@@ -1,5 +1,6 @@
 -- A solution is a certificate without a fault, and the text of its mesh.
-use Rattle.std.proofs.Common.{ℕ, ◌≡◌, ◌≤◌, ◌&&◌, ◌++◌, not, refl, ap, sym, subst, ◌∙◌, arith, Bool, cond, List, map, All, Contains}
+use Rattle.std.proofs.Common.{ℕ, ◌≡◌, ◌≤◌, ◌&&◌, ◌++◌, not, refl, ap, sym, subst, ◌∙◌, arith, Bool, cond, List, map, All}
+use Rattle.std.proofs.Common.{Contains}
 use Rattle.std.specs.List.{sum_by}
 use Rattle.std.proofs.lemmas.List.Elements.{All-weaker}
 use Rattle.cert_text.specs.Certificates.{Claim, IsWellFormed}
@@ -24,49 +25,67 @@ use Rattle.recon_check.specs.Answers.{best_surface}
 use Rattle.recon_check.specs.Claims.{is_inside}
 use Rattle.recon_check.specs.Faults.{IsBest}
 use Rattle.recon_check.specs.Networks.{IsBestSurface}
-use Rattle.recon_check.proofs.Lists.{among_from, among_means, among_kept, kept_has, kept_passes, kept_there, sum_same, rows_listed, listed_there}
+use Rattle.recon_check.proofs.Lists.{among_from, among_means, among_kept, kept_has, kept_passes, kept_there, sum_same}
+use Rattle.recon_check.proofs.Lists.{rows_listed, listed_there}
 
 -- two tests agree on the cells
 abbrev pub Agree : Complex → (List ℕ → Bool) → (List ℕ → Bool) → Type 0
 Agree complex inside other = (row : List ℕ) → Contains complex.cells row → inside row ≡ other row
 
 -- tests that agree cut the same facets
-cut_at : (s : Scene) (complex : Complex) (inside other : List ℕ → Bool) → IsComplexOf s complex → Agree complex inside other → (f : List ℕ) → Contains complex.facets f → is_cut s.vertices complex.cells inside f ≡ is_cut s.vertices complex.cells other f
+cut_at : (s : Scene) (complex : Complex) (inside other : List ℕ → Bool) → IsComplexOf s complex → Agree complex inside other
+    → (f : List ℕ) → Contains complex.facets f
+    → is_cut s.vertices complex.cells inside f ≡ is_cut s.vertices complex.cells other f
 cut_at s complex inside other is same f there =
     let j : IsJoined s complex.cells f = joined s complex.cells f (is.facets_are.only f there) in
-    let own : inside (cell_of s.vertices complex.cells (facet_at f)) ≡ other (cell_of s.vertices complex.cells (facet_at f)) = same (cell_of s.vertices complex.cells (facet_at f)) (index_has complex.cells _ j.own) in
-    let across : inside (cell_of s.vertices complex.cells (turned (facet_at f))) ≡ other (cell_of s.vertices complex.cells (turned (facet_at f))) = same (cell_of s.vertices complex.cells (turned (facet_at f))) (index_has complex.cells _ j.across) in
+    let own : inside (cell_of s.vertices complex.cells (facet_at f)) ≡ other (cell_of s.vertices complex.cells (facet_at f)) =
+    same (cell_of s.vertices complex.cells (facet_at f)) (index_has complex.cells _ j.own) in
+    let across : inside (cell_of s.vertices complex.cells (turned (facet_at f)))
+    ≡ other (cell_of s.vertices complex.cells (turned (facet_at f))) =
+    same (cell_of s.vertices complex.cells (turned (facet_at f))) (index_has complex.cells _ j.across) in
     ap (λ (t : Bool). not t && inside (cell_of s.vertices complex.cells (turned (facet_at f)))) own
     ∙ ap (λ (t : Bool). not (other (cell_of s.vertices complex.cells (facet_at f))) && t) across
 
-pub cut_same : (s : Scene) (complex : Complex) (inside other : List ℕ → Bool) → IsComplexOf s complex → Agree complex inside other → cut_facets s.vertices complex inside ≡ cut_facets s.vertices complex other
+pub cut_same : (s : Scene) (complex : Complex) (inside other : List ℕ → Bool) → IsComplexOf s complex
+    → Agree complex inside other → cut_facets s.vertices complex inside ≡ cut_facets s.vertices complex other
 cut_same s complex inside other is same =
-    filter_same (is_cut s.vertices complex.cells inside) (is_cut s.vertices complex.cells other) complex.facets (cut_at s complex inside other is same)
+    filter_same (is_cut s.vertices complex.cells inside) (is_cut s.vertices complex.cells other) complex.facets
+    (cut_at s complex inside other is same)
 
 -- and cost the same
-pub cost_same : (s : Scene) (complex : Complex) (inside other : List ℕ → Bool) → IsComplexOf s complex → Agree complex inside other → cost s complex inside ≡ cost s complex other
+pub cost_same : (s : Scene) (complex : Complex) (inside other : List ℕ → Bool) → IsComplexOf s complex
+    → Agree complex inside other → cost s complex inside ≡ cost s complex other
 cost_same s complex inside other is same =
-    let facets : sum_by (facet_cost s complex.cells inside) complex.facets ≡ sum_by (facet_cost s complex.cells other) complex.facets =
-    sum_same (facet_cost s complex.cells inside) (facet_cost s complex.cells other) complex.facets (λ f there. ap (λ (b : Bool). cond b (capacity s (facet_at f)) 0) (cut_at s complex inside other is same f there)) in
+    let facets : sum_by (facet_cost s complex.cells inside) complex.facets
+    ≡ sum_by (facet_cost s complex.cells other) complex.facets =
+    sum_same (facet_cost s complex.cells inside) (facet_cost s complex.cells other) complex.facets
+    (λ f there. ap (λ (b : Bool). cond b (capacity s (facet_at f)) 0) (cut_at s complex inside other is same f there)) in
     let cells : sum_by (cell_cost s inside) complex.cells ≡ sum_by (cell_cost s other) complex.cells =
-    sum_same (cell_cost s inside) (cell_cost s other) complex.cells (λ row there. ap (λ (b : Bool). cond b 0 (sink s row)) (same row there)) in
+    sum_same (cell_cost s inside) (cell_cost s other) complex.cells
+    (λ row there. ap (λ (b : Bool). cond b 0 (sink s row)) (same row there)) in
     omega (arith, facets, cells)
 
 -- and are the least inside together
-pub least_same : (s : Scene) (complex : Complex) (inside other : List ℕ → Bool) → IsComplexOf s complex → Agree complex inside other → IsLeastInside s complex inside → IsLeastInside s complex other
+pub least_same : (s : Scene) (complex : Complex) (inside other : List ℕ → Bool) → IsComplexOf s complex
+    → Agree complex inside other → IsLeastInside s complex inside → IsLeastInside s complex other
 least_same s complex inside other is same h = record {
   least_cost = record {
-    admissible = record { none_fixed = λ row there fixed. sym (same row there) ∙ h.least_cost.admissible.none_fixed row there fixed };
-    least = λ any admissible. let equal = cost_same s complex inside other is same in let least = h.least_cost.least any admissible in omega arith;
+    admissible =
+        record { none_fixed = λ row there fixed. sym (same row there) ∙ h.least_cost.admissible.none_fixed row there fixed };
+    least = λ any admissible. let equal = cost_same s complex inside other is same in
+        let least = h.least_cost.least any admissible in
+        omega arith;
   };
   within = λ any least row there passes. h.within any least row there (same row there ∙ passes);
 }
 
 -- a solution's mesh is the surface of its certificate's labels
-pub best_from : (scan : Shown) (settings : Settings) (surface : Surface) (claim : Claim) → IsSolution scan settings surface claim → IsBestSurface scan settings claim surface
+pub best_from : (scan : Shown) (settings : Settings) (surface : Surface) (claim : Claim)
+    → IsSolution scan settings surface claim → IsBestSurface scan settings claim surface
 best_from scan settings surface claim h =
     let s : Scene = scene_of_scan scan settings in
-    let costs : cost s h.complex h.inside ≡ cost s h.complex (is_inside claim) = cost_same s h.complex h.inside (is_inside claim) h.complex_is agree in
+    let costs : cost s h.complex h.inside ≡ cost s h.complex (is_inside claim) =
+    cost_same s h.complex h.inside (is_inside claim) h.complex_is agree in
     record {
       complex = h.complex;
       complex_is = h.complex_is;
@@ -74,9 +93,17 @@ best_from scan settings surface claim h =
       best = record {
         certified = record {
           there = record {
-            inside = subst (λ (list : List (List ℕ)). All (Contains h.complex.cells) list) (sym h.certificate.inside_is) (kept_there h.inside h.complex.cells);
-            flow = subst (λ (list : List FlowRow). All (Contains h.complex.facets) (map (λ (row : FlowRow). row.facet) list)) (sym h.certificate.flow_is) (listed_there flow_row (λ (row : FlowRow). row.facet) h.complex.facets (flow_on claim) (λ key n. refl));
-            sink = subst (λ (list : List SinkRow). All (Contains h.complex.cells) (map (λ (row : SinkRow). row.cell) list)) (sym h.certificate.sink_is) (listed_there sink_row (λ (row : SinkRow). row.cell) h.complex.cells (sink_at claim) (λ key n. refl));
+            inside =
+                subst (λ (list : List (List ℕ)). All (Contains h.complex.cells) list) (sym h.certificate.inside_is)
+                (kept_there h.inside h.complex.cells);
+            flow =
+                subst (λ (list : List FlowRow). All (Contains h.complex.facets) (map (λ (row : FlowRow). row.facet) list))
+                (sym h.certificate.flow_is)
+                (listed_there flow_row (λ (row : FlowRow). row.facet) h.complex.facets (flow_on claim) (λ key n. refl));
+            sink =
+                subst (λ (list : List SinkRow). All (Contains h.complex.cells) (map (λ (row : SinkRow). row.cell) list))
+                (sym h.certificate.sink_is)
+                (listed_there sink_row (λ (row : SinkRow). row.cell) h.complex.cells (sink_at claim) (λ key n. refl));
           };
           admissible = (least_same s h.complex h.inside (is_inside claim) h.complex_is agree h.least).least_cost.admissible;
           valid = h.certificate.flow;
@@ -85,18 +112,26 @@ best_from scan settings surface claim h =
         least = least_same s h.complex h.inside (is_inside claim) h.complex_is agree h.least;
       };
       cost_is = h.certificate.cost_is ∙ costs;
-      surface_is = h.mesh_is ∙ ap (mesh_of (corners ++ points_of scan)) (cut_same s h.complex h.inside (is_inside claim) h.complex_is agree);
+      surface_is =
+          h.mesh_is
+          ∙ ap (mesh_of (corners ++ points_of scan)) (cut_same s h.complex h.inside (is_inside claim) h.complex_is agree);
     }
   where
     agree : Agree h.complex h.inside (is_inside claim)
     agree row there =
         same_bools (h.inside row) (is_inside claim row)
-        (λ passes. among_from claim.inside row (subst (λ (list : List (List ℕ)). Contains list row) (sym h.certificate.inside_is) (kept_has h.inside h.complex.cells row there passes)))
-        (λ passes. kept_passes h.inside h.complex.cells row (subst (λ (list : List (List ℕ)). Contains list row) h.certificate.inside_is (among_means claim.inside row passes)))
+        (λ passes. among_from claim.inside row
+        (subst (λ (list : List (List ℕ)). Contains list row) (sym h.certificate.inside_is)
+        (kept_has h.inside h.complex.cells row there passes)))
+        (λ passes. kept_passes h.inside h.complex.cells row
+        (subst (λ (list : List (List ℕ)). Contains list row) h.certificate.inside_is (among_means claim.inside row passes)))
 
 -- a certificate without a fault is that of a solution
-pub solution_from : (scan : Shown) (settings : Settings) (complex : Complex) (claim : Claim) → IsWellFormed claim → IsComplexOf (scene_of_scan scan settings) complex → HasCounts claim scan settings
-    → IsBest (scene_of_scan scan settings) complex claim → claim.counts.cost ≡ cost (scene_of_scan scan settings) complex (is_inside claim) → IsSolution scan settings (best_surface scan complex (is_inside claim)) claim
+pub solution_from : (scan : Shown) (settings : Settings) (complex : Complex) (claim : Claim) → IsWellFormed claim
+    → IsComplexOf (scene_of_scan scan settings) complex → HasCounts claim scan settings
+    → IsBest (scene_of_scan scan settings) complex claim
+    → claim.counts.cost ≡ cost (scene_of_scan scan settings) complex (is_inside claim)
+    → IsSolution scan settings (best_surface scan complex (is_inside claim)) claim
 solution_from scan settings complex claim formed is counts best cost_is = record {
   complex = complex;
   inside = is_inside claim;
@@ -109,9 +144,15 @@ solution_from scan settings complex claim formed is counts best cost_is = record
     inside_is = among_kept claim.inside complex.cells formed.inside.rising is.cells_are.rising best.certified.there.inside;
     flow = best.certified.valid;
     value_is = best.certified.equal ∙ sym cost_is;
-    flow_is = rows_listed flow_row (λ (row : FlowRow). row.facet) (λ (row : FlowRow). row.amount) (λ row. refl) claim.flow complex.facets
-        formed.flow.rising is.facets_are.rising best.certified.there.flow (All-weaker IsFlowRow (λ (row : FlowRow). 1 ≤ row.amount) (λ row h. h.some) claim.flow formed.flow.each);
-    sink_is = rows_listed sink_row (λ (row : SinkRow). row.cell) (λ (row : SinkRow). row.amount) (λ row. refl) claim.sink complex.cells
-        formed.sink.rising is.cells_are.rising best.certified.there.sink (All-weaker IsSinkRow (λ (row : SinkRow). 1 ≤ row.amount) (λ row h. h.some) claim.sink formed.sink.each);
+    flow_is =
+        rows_listed flow_row (λ (row : FlowRow). row.facet) (λ (row : FlowRow). row.amount) (λ row. refl) claim.flow
+        complex.facets
+        formed.flow.rising is.facets_are.rising best.certified.there.flow
+        (All-weaker IsFlowRow (λ (row : FlowRow). 1 ≤ row.amount) (λ row h. h.some) claim.flow formed.flow.each);
+    sink_is =
+        rows_listed sink_row (λ (row : SinkRow). row.cell) (λ (row : SinkRow). row.amount) (λ row. refl) claim.sink
+        complex.cells
+        formed.sink.rising is.cells_are.rising best.certified.there.sink
+        (All-weaker IsSinkRow (λ (row : SinkRow). 1 ≤ row.amount) (λ row h. h.some) claim.sink formed.sink.each);
   };
 }

@@ -35,7 +35,8 @@ use Rattle.recon_check.proofs.Bridge.{labels_by}
 use Rattle.recon_check.proofs.Solutions.{Agree, cut_same}
 
 -- the flags of a test of cells say what the test says
-test_agrees : (complex : Complex) (inside : List ℕ → Bool) → AllPairs IsBefore complex.cells → Agree complex (test_of complex.cells (map inside complex.cells)) inside
+test_agrees : (complex : Complex) (inside : List ℕ → Bool) → AllPairs IsBefore complex.cells
+    → Agree complex (test_of complex.cells (map inside complex.cells)) inside
 test_agrees complex inside rising row there =
     let here : get_or complex.cells there.0 [] ≡ row = at_index complex.cells row there in
     ap (λ (r : List ℕ). flag_at (map inside complex.cells) (row_index complex.cells r)) (sym here)
@@ -43,19 +44,31 @@ test_agrees complex inside rising row there =
     ∙ get_or-map inside complex.cells there.0 [] false there.1 ∙ ap inside here
 
 -- the mesh of the labels is the surface of the claim
-pub surface_is : (scan : Shown) (settings : Settings) (network : Network) (claim : Claim) (cutting : Cutting) (labels : Labels) (mesh : Mesh)
-    → IsNetworkOfScan scan settings network → cutting ≡ cutting_of scan settings network → labels ≡ labels_by network.counted.voted claim
-    → mesh.points.items ≡ (mesh_of network.linked.points (cut_facets cutting.scene.vertices cutting.complex (test_of cutting.complex.cells labels.inside))).points
-    → mesh.faces.items ≡ (mesh_of network.linked.points (cut_facets cutting.scene.vertices cutting.complex (test_of cutting.complex.cells labels.inside))).faces
+pub surface_is : (scan : Shown) (settings : Settings) (network : Network) (claim : Claim) (cutting : Cutting) (labels : Labels)
+    (mesh : Mesh)
+    → IsNetworkOfScan scan settings network → cutting ≡ cutting_of scan settings network
+    → labels ≡ labels_by network.counted.voted claim
+    → mesh.points.items ≡ (mesh_of network.linked.points
+    (cut_facets cutting.scene.vertices cutting.complex (test_of cutting.complex.cells labels.inside))).points
+    → mesh.faces.items ≡ (mesh_of network.linked.points
+    (cut_facets cutting.scene.vertices cutting.complex (test_of cutting.complex.cells labels.inside))).faces
     → surface_of mesh ≡ best_surface scan (complex_of network.counted.voted) (is_inside claim)
 surface_is scan settings network claim cutting labels mesh is same labels_are points_are faces_are =
     ap (λ (list : List Point). record { points = list; faces = mesh.faces.items }) points_are
-    ∙ ap (λ (faces : List (List ℕ)). record { points = (mesh_of network.linked.points (cut_facets cutting.scene.vertices cutting.complex (test_of cutting.complex.cells labels.inside))).points; faces = faces }) faces_are
-    ∙ ap (λ (k : Cutting). mesh_of network.linked.points (cut_facets k.scene.vertices k.complex (test_of k.complex.cells labels.inside))) same
+    ∙ ap (λ (faces : List (List ℕ)). record {
+      points =
+          (mesh_of network.linked.points
+          (cut_facets cutting.scene.vertices cutting.complex (test_of cutting.complex.cells labels.inside))).points;
+      faces = faces;
+    }) faces_are
+    ∙ ap (λ (k : Cutting).
+    mesh_of network.linked.points (cut_facets k.scene.vertices k.complex (test_of k.complex.cells labels.inside))) same
     ∙ ap (λ (list : List Point). mesh_of list (cut_facets v complex (test_of complex.cells labels.inside))) is.points
-    ∙ ap (λ (l : Labels). mesh_of (corners ++ points_of scan) (cut_facets v complex (test_of complex.cells l.inside))) labels_are
+    ∙ ap
+    (λ (l : Labels). mesh_of (corners ++ points_of scan) (cut_facets v complex (test_of complex.cells l.inside))) labels_are
     ∙ ap (mesh_of (corners ++ points_of scan))
-    (cut_same (scene_of_scan scan settings) complex (test_of complex.cells (map (is_inside claim) complex.cells)) (is_inside claim) is.voted.complex_is
+    (cut_same (scene_of_scan scan settings) complex (test_of complex.cells (map (is_inside claim) complex.cells))
+    (is_inside claim) is.voted.complex_is
     (test_agrees complex (is_inside claim) is.voted.complex_is.cells_are.rising))
   where
     v : Vertices
@@ -65,10 +78,16 @@ surface_is scan settings network claim cutting labels mesh is same labels_are po
     complex = complex_of network.counted.voted
 
 -- the labels have no fixed cell inside, where the claim's have none
-flags_admissible : (s : Scene) (voted : Voted) (claim : Claim) (labels : Labels) → IsNetworkOf s voted → labels ≡ labels_by voted claim → IsAdmissible s (complex_of voted) (is_inside claim) → IsAdmissible s (complex_of voted) (test_of voted.cells labels.inside)
+flags_admissible : (s : Scene) (voted : Voted) (claim : Claim) (labels : Labels) → IsNetworkOf s voted
+    → labels ≡ labels_by voted claim → IsAdmissible s (complex_of voted) (is_inside claim)
+    → IsAdmissible s (complex_of voted) (test_of voted.cells labels.inside)
 flags_admissible s voted claim labels network same admissible =
     subst (λ (l : Labels). IsAdmissible s (complex_of voted) (test_of voted.cells l.inside)) (sym same)
-    (record { none_fixed = λ row there fixed. test_agrees (complex_of voted) (is_inside claim) network.complex_is.cells_are.rising row there ∙ admissible.none_fixed row there fixed })
+    (record {
+      none_fixed =
+          λ row there fixed. test_agrees (complex_of voted) (is_inside claim) network.complex_is.cells_are.rising row there
+          ∙ admissible.none_fixed row there fixed;
+    })
 
 -- what is asked of labels whose surface is wanted
 abbrev pub CanBeCut : Network → List ℕ → Labels → Cutting → Type 0
@@ -80,9 +99,12 @@ CanBeCut network ids labels cutting =
     × ((length labels.inside ≡ length cutting.complex.cells)
     × IsAdmissible cutting.scene cutting.complex (test_of cutting.complex.cells labels.inside)))))
 
-pub can_be_cut : (scan : Shown) (settings : Settings) (network : Network) (claim : Claim) (cutting : Cutting) (ids : List ℕ) (labels : Labels)
-    → IsNetworkOfScan scan settings network → cutting ≡ cutting_of scan settings network → ids ≡ network.counted.ids.items → labels ≡ labels_by network.counted.voted claim
-    → IsAdmissible (scene_of_scan scan settings) (complex_of network.counted.voted) (is_inside claim) → CanBeCut network ids labels cutting
+pub can_be_cut : (scan : Shown) (settings : Settings) (network : Network) (claim : Claim) (cutting : Cutting) (ids : List ℕ)
+    (labels : Labels)
+    → IsNetworkOfScan scan settings network → cutting ≡ cutting_of scan settings network → ids ≡ network.counted.ids.items
+    → labels ≡ labels_by network.counted.voted claim
+    → IsAdmissible (scene_of_scan scan settings) (complex_of network.counted.voted) (is_inside claim)
+    → CanBeCut network ids labels cutting
 can_be_cut scan settings network claim cutting ids labels is same ids_are labels_are admissible =
     subst (CanBeCut network ids labels) (sym same) (
       is.cells,
@@ -102,13 +124,17 @@ can_be_cut scan settings network claim cutting ids labels is same ids_are labels
     )
 
 -- the labels cost what the claim's labels cost
-pub cost_is : (s : Scene) (voted : Voted) (claim : Claim) (labels : Labels) → IsNetworkOf s voted → labels ≡ labels_by voted claim → cost_of voted.net labels ≡ cost s (complex_of voted) (is_inside claim)
+pub cost_is : (s : Scene) (voted : Voted) (claim : Claim) (labels : Labels) → IsNetworkOf s voted
+    → labels ≡ labels_by voted claim → cost_of voted.net labels ≡ cost s (complex_of voted) (is_inside claim)
 cost_is s voted claim labels network same =
-    let agree : AgreeAsLabels s voted (is_inside claim) = labels_agree s voted (is_inside claim) (in_any_order s voted network) in
+    let agree : AgreeAsLabels s voted (is_inside claim) =
+    labels_agree s voted (is_inside claim) (in_any_order s voted network) in
     ap (λ (l : Labels). cost_of voted.net l) same ∙ agree.cost_is
 
 -- and are the least inside with them
-pub least_is : (s : Scene) (voted : Voted) (claim : Claim) (labels : Labels) → IsNetworkOf s voted → labels ≡ labels_by voted claim → IsBest s (complex_of voted) claim → IsLeastInsideNet voted.net labels
+pub least_is : (s : Scene) (voted : Voted) (claim : Claim) (labels : Labels) → IsNetworkOf s voted
+    → labels ≡ labels_by voted claim → IsBest s (complex_of voted) claim → IsLeastInsideNet voted.net labels
 least_is s voted claim labels network same best =
-    let agree : AgreeAsLabels s voted (is_inside claim) = labels_agree s voted (is_inside claim) (in_any_order s voted network) in
+    let agree : AgreeAsLabels s voted (is_inside claim) =
+    labels_agree s voted (is_inside claim) (in_any_order s voted network) in
     subst (λ (l : Labels). IsLeastInsideNet voted.net l) (sym same) (agree.least_inside.1 best.least)

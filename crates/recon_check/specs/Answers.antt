@@ -37,18 +37,22 @@ use Rattle.visibility.specs.Cuts.{cost, cut_facets, IsAdmissible}
 use Rattle.visibility.specs.Flows.{value, IsValidFlow}
 use Rattle.recon_check.specs.Claims.{is_inside, facets_of, cells_of, IsStray, AreThere, IsFirstOf}
 use Rattle.recon_check.specs.Differences.{IsFirstDifference}
-use Rattle.recon_check.specs.Faults.{IsFixedInside, IsOverCapacity, sink_limit, IsOverSink, entering, leaving, IsUnbalanced, IsNotLeast, IsWithinFacets, IsWithinLimits, IsCertified, IsBest}
+use Rattle.recon_check.specs.Faults.{IsFixedInside, IsOverCapacity, sink_limit, IsOverSink, entering, leaving, IsUnbalanced}
+use Rattle.recon_check.specs.Faults.{IsNotLeast, IsWithinFacets, IsWithinLimits, IsCertified, IsBest}
 use Rattle.recon_check.specs.Stamps.{IsStampedFor, IsOtherStamp}
 use Rattle.recon_check.specs.declared.answer.Answer.{Answer}
 use Rattle.recon_check.specs.declared.answer.Answer.TheVariants.{Yes, No}
 use Rattle.recon_check.specs.declared.answer.Reason.{Reason}
-use Rattle.recon_check.specs.declared.answer.Reason.TheVariants.{CertLine, CertOrder, CertCut, OtherCounts, NoSuchCell, NoSuchFacet, NoSuchSink, FixedInside, OverCapacity, OverSink, Unbalanced, NotEqual, NotLeast, WrongCost, MeshDiffers}
+use Rattle.recon_check.specs.declared.answer.Reason.TheVariants.{CertLine, CertOrder, CertCut, OtherCounts, NoSuchCell}
+use Rattle.recon_check.specs.declared.answer.Reason.TheVariants.{NoSuchFacet, NoSuchSink, FixedInside, OverCapacity, OverSink}
+use Rattle.recon_check.specs.declared.answer.Reason.TheVariants.{Unbalanced, NotEqual, NotLeast, WrongCost, MeshDiffers}
 use Rattle.recon_check.specs.declared.answer.Which.{Which}
 use Rattle.recon_check.specs.declared.answer.Which.TheVariants.{Points, Scanners, Sights, Vote, Smooth}
 
 -- the mesh of the facets of outside cells with an inside cell across
 abbrev pub best_surface : Shown → Complex → (List ℕ → Bool) → Surface
-best_surface scan complex inside = mesh_of (corners ++ points_of scan) (cut_facets (vertices_of (points_of scan)) complex inside)
+best_surface scan complex inside =
+    mesh_of (corners ++ points_of scan) (cut_facets (vertices_of (points_of scan)) complex inside)
 
 -- the text of a mesh
 abbrev pub surface_text : Surface → List ℕ
@@ -100,7 +104,8 @@ IsReason scan s complex claim mesh (NoSuchFacet k) =
 IsReason scan s complex claim mesh (NoSuchSink k) =
     All (Contains complex.cells) claim.inside × All (Contains complex.facets) (facets_of claim)
     × IsFirst (length (cells_of claim)) (IsStray complex.cells (cells_of claim)) k
-IsReason scan s complex claim mesh (FixedInside cell) = AreThere complex claim × IsFirstOf complex.cells (IsFixedInside s claim) cell
+IsReason scan s complex claim mesh (FixedInside cell) =
+    AreThere complex claim × IsFirstOf complex.cells (IsFixedInside s claim) cell
 IsReason scan s complex claim mesh (OverCapacity facet flow cap) =
     AreThere complex claim × IsAdmissible s complex (is_inside claim) × IsFirstOf complex.facets (IsOverCapacity s claim) facet
     × (flow ≡ flow_on claim facet) × (cap ≡ capacity s (facet_at facet))
@@ -113,7 +118,8 @@ IsReason scan s complex claim mesh (Unbalanced cell amount_in amount_out) =
 IsReason scan s complex claim mesh (NotEqual a b) =
     AreThere complex claim × IsAdmissible s complex (is_inside claim) × IsValidFlow s complex (flow_on claim) (sink_at claim)
     × (a ≡ value s complex (sink_at claim)) × (b ≡ cost s complex (is_inside claim)) × (a ≢ b)
-IsReason scan s complex claim mesh (NotLeast cell) = IsCertified s complex claim × IsFirstOf complex.cells (IsNotLeast s complex claim) cell
+IsReason scan s complex claim mesh (NotLeast cell) =
+    IsCertified s complex claim × IsFirstOf complex.cells (IsNotLeast s complex claim) cell
 IsReason scan s complex claim mesh (WrongCost stated least) =
     IsBest s complex claim × (stated ≡ claim.counts.cost) × (least ≡ cost s complex (is_inside claim)) × (stated ≢ least)
 IsReason scan s complex claim mesh (MeshDiffers place) =
@@ -135,7 +141,8 @@ IsFault scan settings mesh claim reason = IsFaultOver scan settings mesh claim r
 
 -- the stamp's first part that is another, or else the first fault of what the certificate states
 abbrev pub IsFaultHere : Shown → Settings → StampView → List ℕ → Claim → Reason → Type 0
-IsFaultHere scan settings stamp mesh claim reason = IsOtherStamp stamp claim reason ⊎ (IsStampedFor stamp claim × IsFault scan settings mesh claim reason)
+IsFaultHere scan settings stamp mesh claim reason =
+    IsOtherStamp stamp claim reason ⊎ (IsStampedFor stamp claim × IsFault scan settings mesh claim reason)
 
 -- the text is that of a well-formed certificate, and something holds of what it states
 pub record HasCertificate (cert : List ℕ) (P : Claim → Type 0) : Type 0 where
@@ -144,27 +151,30 @@ pub record HasCertificate (cert : List ℕ) (P : Claim → Type 0) : Type 0 wher
   pub text_is : cert ≡ cert_text claim
   pub holds : P claim
 
--- the two texts are those of a solution: there are a surface and a claim with these texts that solve the scan, and the claim has no
--- stamp or this one
+-- the two texts are those of a solution: there are a surface and a claim with these texts that solve the scan, and the claim
+-- has no stamp or this one
 abbrev pub IsAccepted : Shown → Settings → StampView → (mesh cert : List ℕ) → Type 0
-IsAccepted scan settings stamp mesh cert = HasCertificate cert (λ claim. IsStampedFor stamp claim × IsShown scan settings mesh claim)
+IsAccepted scan settings stamp mesh cert =
+    HasCertificate cert (λ claim. IsStampedFor stamp claim × IsShown scan settings mesh claim)
 
 -- the two texts are those of a solution with so many inside cells and faces, and of this cost
-pub record IsShownWith (scan : Shown) (settings : Settings) (mesh : List ℕ) (inside faces least : ℕ) (claim : Claim) : Type 0 where
+pub record IsShownWith (scan : Shown) (settings : Settings) (mesh : List ℕ) (inside faces least : ℕ)
+    (claim : Claim) : Type 0 where
   pub shown : IsShown scan settings mesh claim
   pub inside_is : inside ≡ length claim.inside
   pub faces_is : faces ≡ length shown.surface.faces
   pub cost_is : least ≡ claim.counts.cost
 
--- Yes is a solution and no other stamp, with the numbers of its inside cells and faces and its cost. Else it is the first reason: the
--- certificate is no text of a certificate, its stamp is another, or the first fault of what it states.
+-- Yes is a solution and no other stamp, with the numbers of its inside cells and faces and its cost. Else it is the first
+-- reason: the certificate is no text of a certificate, its stamp is another, or the first fault of what it states.
 abbrev pub IsAnswer : Shown → Settings → StampView → (mesh cert : List ℕ) → Answer → Type 0
 IsAnswer scan settings stamp mesh cert (Yes inside faces least) =
     HasCertificate cert (λ claim. IsStampedFor stamp claim × IsShownWith scan settings mesh inside faces least claim)
 IsAnswer scan settings stamp mesh cert (No (CertLine n)) = IsRefused cert (refusals.BadLine n)
 IsAnswer scan settings stamp mesh cert (No (CertOrder n)) = IsRefused cert (refusals.Order n)
 IsAnswer scan settings stamp mesh cert (No CertCut) = IsRefused cert refusals.CertCut
-IsAnswer scan settings stamp mesh cert (No reason) = HasCertificate cert (λ claim. IsFaultHere scan settings stamp mesh claim reason)
+IsAnswer scan settings stamp mesh cert (No reason) =
+    HasCertificate cert (λ claim. IsFaultHere scan settings stamp mesh claim reason)
 
 -- the answer is Yes
 abbrev pub IsYes : Answer → Type 0

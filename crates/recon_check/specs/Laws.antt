@@ -11,5 +11,6 @@ use Rattle.recon_check.specs.declared.answer.Answer.{Answer}
 -- no mesh and certificate have two answers
 abbrev pub OneAnswer : Type 0
 OneAnswer =
-    (scan : Shown) (settings : Settings) (stamp : StampView) (mesh cert : List ℕ) (answer other : Answer) → IsAnswer scan settings stamp mesh cert answer
+    (scan : Shown) (settings : Settings) (stamp : StampView) (mesh cert : List ℕ) (answer other : Answer)
+    → IsAnswer scan settings stamp mesh cert answer
     → IsAnswer scan settings stamp mesh cert other → answer ≡ other

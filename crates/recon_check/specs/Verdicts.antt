@@ -8,7 +8,8 @@ use Rattle.flow_check.specs.declared.verdict.Verdict.{Verdict}
 use Rattle.flow_check.specs.declared.verdict.Verdict.TheVariants as verdicts
 use Rattle.flow_net.specs.declared.Voted.{Voted}
 use Rattle.recon_check.specs.declared.answer.Reason.{Reason}
-use Rattle.recon_check.specs.declared.answer.Reason.TheVariants.{FixedInside, OverCapacity, OverSink, Unbalanced, NotEqual, NotLeast}
+use Rattle.recon_check.specs.declared.answer.Reason.TheVariants.{FixedInside, OverCapacity, OverSink, Unbalanced, NotEqual}
+use Rattle.recon_check.specs.declared.answer.Reason.TheVariants.{NotLeast}
 
 -- the cell of a node
 abbrev pub cell_at : Voted → ℕ → List ℕ

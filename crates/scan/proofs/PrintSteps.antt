@@ -1,6 +1,8 @@
 -- The lines of a scan's points, printed one after another: the sights of a row stand side by side among all sights, since
 -- these stand in the order of their points.
-use Rattle.std.proofs.Common.{◌≡◌, ◌≢◌, ℕ, zero, suc, ◌+◌, ◌-◌, ◌<◌, ◌≤◌, ◌==◌, Bool, true, false, ◌&&◌, not, cond, List, [], ◌∷◌, ◌++◌, length, filter, take, drop, get_or, AllPairs, inl, inr, refl, sym, ap, subst, ◌∙◌, arith, append_assoc}
+use Rattle.std.proofs.Common.{◌≡◌, ◌≢◌, ℕ, zero, suc, ◌+◌, ◌-◌, ◌<◌, ◌≤◌, ◌==◌, Bool, true, false, ◌&&◌, not, cond, List, []}
+use Rattle.std.proofs.Common.{◌∷◌, ◌++◌, length, filter, take, drop, get_or, AllPairs, inl, inr, refl, sym, ap, subst, ◌∙◌}
+use Rattle.std.proofs.Common.{arith, append_assoc}
 use Rattle.std.specs.List.{flat_map, list_all}
 use Rattle.std.proofs.lemmas.Bool.{cases_lt, eq-eqb, ne_eqb}
 use Rattle.std.proofs.lemmas.List.{flat_map_more, take_more, take_all, take-append-drop, length-take-le}
@@ -9,7 +11,8 @@ use Rattle.geo_sign.specs.Point.{Point}
 use Rattle.scan.specs.declared.scan.Seen.{Seen}
 use Rattle.scan.specs.ScanRows.{VertexRow}
 use Rattle.scan.specs.Shown.{Shown, IsNoEarlier}
-use Rattle.scan.specs.PlainForm.{header, vertex_line, scanner_line, is_once, is_wide, text_in_form, of_row, row_of, vertices_from, rows_of, scan_text}
+use Rattle.scan.specs.PlainForm.{header, vertex_line, scanner_line, is_once, is_wide, text_in_form, of_row, row_of}
+use Rattle.scan.specs.PlainForm.{vertices_from, rows_of, scan_text}
 
 -- ---- the sights of one row
 
@@ -30,7 +33,8 @@ pub record IsRun (seen : List Seen) (start end row : ℕ) : Type 0 where
   pub ends : (d : Seen) → end < length seen → (get_or seen end d).row ≢ row
 
 -- the place behind the sights of a row
-pub next_cut : (seen : List Seen) (start end row : ℕ) → AllPairs IsNoEarlier seen → IsCut seen start row → IsRun seen start end row → IsCut seen end (row + 1)
+pub next_cut : (seen : List Seen) (start end row : ℕ) → AllPairs IsNoEarlier seen → IsCut seen start row
+    → IsRun seen start end row → IsCut seen end (row + 1)
 next_cut seen start end row in_order cut run = record { inside = run.most; before = earlier; after = later }
   where
     earlier : (k : ℕ) (d : Seen) → k < end → (get_or seen k d).row < row + 1
@@ -51,12 +55,16 @@ next_cut seen start end row in_order cut run = record { inside = run.most; befor
     later : (k : ℕ) (d : Seen) → end ≤ k → k < length seen → row + 1 ≤ (get_or seen k d).row
     later k d ge inside = elim (cases_lt end k) [
       | inl lt ↦ omega (arith, at_end d (omega (arith, lt, inside)), in_order end k d lt inside)
-      | inr le ↦ let same : k ≡ end = omega (arith, ge, le) in subst (λ (n : ℕ). row + 1 ≤ (get_or seen n d).row) (sym same) (at_end d (omega (arith, same, inside)))
+      | inr le ↦
+          let same : k ≡ end = omega (arith, ge, le) in
+          subst (λ (n : ℕ). row + 1 ≤ (get_or seen n d).row) (sym same) (at_end d (omega (arith, same, inside)))
     ]
 
 -- the sights that pass a test, where they stand side by side
-kept_between : (test : Seen → Bool) (seen : List Seen) (start end : ℕ) → start ≤ end → ((k : ℕ) → k < start → k < length seen → (d : Seen) → test (get_or seen k d) ≡ false)
-    → ((k : ℕ) → start ≤ k → k < end → k < length seen → (d : Seen) → test (get_or seen k d) ≡ true) → ((k : ℕ) → end ≤ k → k < length seen → (d : Seen) → test (get_or seen k d) ≡ false)
+kept_between : (test : Seen → Bool) (seen : List Seen) (start end : ℕ) → start ≤ end
+    → ((k : ℕ) → k < start → k < length seen → (d : Seen) → test (get_or seen k d) ≡ false)
+    → ((k : ℕ) → start ≤ k → k < end → k < length seen → (d : Seen) → test (get_or seen k d) ≡ true)
+    → ((k : ℕ) → end ≤ k → k < length seen → (d : Seen) → test (get_or seen k d) ≡ false)
     → filter test seen ≡ take (end - start) (drop start seen)
 kept_between test [] start end le before inside after = sym (nothing start (end - start))
   where
@@ -71,24 +79,32 @@ kept_between test [] start end le before inside after = sym (nothing start (end 
 kept_between test (s ∷ seen) (suc start) zero le before inside after = absurd (omega (arith, le))
 kept_between test (s ∷ seen) (suc start) (suc end) le before inside after =
     ap (λ (b : Bool). cond b (s ∷ filter test seen) (filter test seen)) (before 0 (omega arith) (omega arith) s)
-    ∙ kept_between test seen start end (omega (arith, le)) (λ k lt there d. before (suc k) (omega (arith, lt)) (omega (arith, there)) d) (λ k ge lt there d. inside (suc k) (omega (arith, ge)) (omega (arith, lt)) (omega (arith, there)) d) (λ k ge there d. after (suc k) (omega (arith, ge)) (omega (arith, there)) d)
+    ∙ kept_between test seen start end (omega (arith, le))
+    (λ k lt there d. before (suc k) (omega (arith, lt)) (omega (arith, there)) d)
+    (λ k ge lt there d. inside (suc k) (omega (arith, ge)) (omega (arith, lt)) (omega (arith, there)) d)
+    (λ k ge there d. after (suc k) (omega (arith, ge)) (omega (arith, there)) d)
     ∙ ap (λ (n : ℕ). take n (drop start seen)) (less start end)
   where
     less : (n m : ℕ) → m - n ≡ suc m - suc n
     less n m = omega arith
 kept_between test (s ∷ seen) zero (suc end) le before inside after =
     ap (λ (b : Bool). cond b (s ∷ filter test seen) (filter test seen)) (inside 0 (omega arith) (omega arith) (omega arith) s)
-    ∙ ap (λ (ss : List Seen). s ∷ ss) (kept_between test seen zero end (omega arith) (λ k lt there d. absurd (omega (arith, lt))) (λ k ge lt there d. inside (suc k) (omega arith) (omega (arith, lt)) (omega (arith, there)) d) (λ k ge there d. after (suc k) (omega (arith, ge)) (omega (arith, there)) d))
+    ∙ ap (λ (ss : List Seen). s ∷ ss)
+    (kept_between test seen zero end (omega arith) (λ k lt there d. absurd (omega (arith, lt)))
+    (λ k ge lt there d. inside (suc k) (omega arith) (omega (arith, lt)) (omega (arith, there)) d)
+    (λ k ge there d. after (suc k) (omega (arith, ge)) (omega (arith, there)) d))
     ∙ ap (λ (n : ℕ). take n (s ∷ seen)) (all_less end)
   where
     all_less : (m : ℕ) → suc (m - 0) ≡ suc m - 0
     all_less m = omega arith
 kept_between test (s ∷ seen) zero zero le before inside after =
     ap (λ (b : Bool). cond b (s ∷ filter test seen) (filter test seen)) (after 0 (omega arith) (omega arith) s)
-    ∙ kept_between test seen zero zero (omega arith) (λ k lt there d. absurd (omega (arith, lt))) (λ k ge lt there d. absurd (omega (arith, lt))) (λ k ge there d. after (suc k) (omega arith) (omega (arith, there)) d)
+    ∙ kept_between test seen zero zero (omega arith) (λ k lt there d. absurd (omega (arith, lt)))
+    (λ k ge lt there d. absurd (omega (arith, lt))) (λ k ge there d. after (suc k) (omega arith) (omega (arith, there)) d)
 
 -- the sights of a row are those between the places
-pub row_between : (seen : List Seen) (start end row : ℕ) → AllPairs IsNoEarlier seen → IsCut seen start row → IsRun seen start end row → of_row row seen ≡ take (end - start) (drop start seen)
+pub row_between : (seen : List Seen) (start end row : ℕ) → AllPairs IsNoEarlier seen → IsCut seen start row
+    → IsRun seen start end row → of_row row seen ≡ take (end - start) (drop start seen)
 row_between seen start end row in_order cut run =
     let next = next_cut seen start end row in_order cut run in
     kept_between (λ (s : Seen). s.row == row) seen start end run.least
@@ -98,14 +114,17 @@ row_between seen start end row in_order cut run =
 
 -- ---- rows one after another
 
-vertices_append : (number : ℕ) (points more : List Point) (seen : List Seen) → vertices_from number (points ++ more) seen ≡ vertices_from number points seen ++ vertices_from (number + length points) more seen
+vertices_append : (number : ℕ) (points more : List Point) (seen : List Seen)
+    → vertices_from number (points ++ more) seen
+    ≡ vertices_from number points seen ++ vertices_from (number + length points) more seen
 vertices_append number [] more seen = ap (λ (n : ℕ). vertices_from n more seen) (plus_zero number)
   where
     plus_zero : (n : ℕ) → n ≡ n + 0
     plus_zero n = omega arith
 vertices_append number (p ∷ points) more seen =
     ap (λ (rows : List VertexRow). row_of p (of_row number seen) ∷ rows)
-    (vertices_append (number + 1) points more seen ∙ ap (λ (n : ℕ). vertices_from (number + 1) points seen ++ vertices_from n more seen) (next number (length points)))
+    (vertices_append (number + 1) points more seen
+    ∙ ap (λ (n : ℕ). vertices_from (number + 1) points seen ++ vertices_from n more seen) (next number (length points)))
   where
     next : (n k : ℕ) → n + 1 + k ≡ n + suc k
     next n k = omega arith
@@ -117,17 +136,22 @@ one_more_row points seen i p lt is =
     let so_many : length (take i points) ≡ i = length-take-le i points (omega arith) in
     ap (λ (ps : List Point). vertices_from 0 ps seen) (take_more points i p lt)
     ∙ vertices_append 0 (take i points) (get_or points i p ∷ []) seen
-    ∙ ap (λ (q : Point). vertices_from 0 (take i points) seen ++ row_of q (of_row (0 + length (take i points)) seen) ∷ []) (sym is)
+    ∙ ap (λ (q : Point). vertices_from 0 (take i points) seen ++ row_of q (of_row (0 + length (take i points)) seen) ∷ [])
+    (sym is)
     ∙ ap (λ (n : ℕ). vertices_from 0 (take i points) seen ++ row_of p (of_row n seen) ∷ []) (omega (arith, so_many))
 
 -- one more line of the vertex rows
-pub one_more_line : (wide : Bool) (points : List Point) (seen : List Seen) (start end i : ℕ) (p : Point) (sights : List Seen) (first now next : List ℕ)
-    → i < length points → p ≡ get_or points i p → AllPairs IsNoEarlier seen → IsCut seen start i → IsRun seen start end i → sights ≡ take (end - start) (drop start seen)
-    → now ≡ first ++ flat_map (vertex_line wide) (vertices_from 0 (take i points) seen) → next ≡ now ++ vertex_line wide (row_of p sights)
+pub one_more_line : (wide : Bool) (points : List Point) (seen : List Seen) (start end i : ℕ) (p : Point) (sights : List Seen)
+    (first now next : List ℕ)
+    → i < length points → p ≡ get_or points i p → AllPairs IsNoEarlier seen → IsCut seen start i → IsRun seen start end i
+    → sights ≡ take (end - start) (drop start seen)
+    → now ≡ first ++ flat_map (vertex_line wide) (vertices_from 0 (take i points) seen)
+    → next ≡ now ++ vertex_line wide (row_of p sights)
     → next ≡ first ++ flat_map (vertex_line wide) (vertices_from 0 (take (i + 1) points) seen)
 one_more_line wide points seen start end i p sights first now next lt is_point in_order cut run sights_are so_far printed =
     printed
-    ∙ ap (λ (ss : List Seen). now ++ vertex_line wide (row_of p ss)) (sights_are ∙ sym (row_between seen start end i in_order cut run))
+    ∙ ap (λ (ss : List Seen). now ++ vertex_line wide (row_of p ss))
+    (sights_are ∙ sym (row_between seen start end i in_order cut run))
     ∙ ap (λ (text : List ℕ). text ++ vertex_line wide (row_of p (of_row i seen))) so_far
     ∙ flat_map_more (vertex_line wide) first (vertices_from 0 (take i points) seen) (row_of p (of_row i seen))
     ∙ ap (λ (rows : List VertexRow). first ++ flat_map (vertex_line wide) rows) (sym (one_more_row points seen i p lt is_point))
@@ -138,34 +162,44 @@ one_more_line wide points seen start end i p sights first now next lt is_point i
 abbrev pub AllOnce : List Point → List Seen → Type 0
 AllOnce points seen = list_all is_once (vertices_from 0 points seen) ≡ true
 
-pub once_more : (points : List Point) (seen : List Seen) (start end i : ℕ) (p : Point) (sights : List Seen) → i < length points → p ≡ get_or points i p → AllPairs IsNoEarlier seen → IsCut seen start i → IsRun seen start end i
-    → sights ≡ take (end - start) (drop start seen) → is_once (row_of p sights) ≡ true → AllOnce (take i points) seen → AllOnce (take (i + 1) points) seen
+pub once_more : (points : List Point) (seen : List Seen) (start end i : ℕ) (p : Point) (sights : List Seen) → i < length points
+    → p ≡ get_or points i p → AllPairs IsNoEarlier seen → IsCut seen start i → IsRun seen start end i
+    → sights ≡ take (end - start) (drop start seen) → is_once (row_of p sights) ≡ true → AllOnce (take i points) seen
+    → AllOnce (take (i + 1) points) seen
 once_more points seen start end i p sights lt is_point in_order cut run sights_are once so_far =
-    let here : is_once (row_of p (of_row i seen)) ≡ true = ap (λ (ss : List Seen). is_once (row_of p ss)) (row_between seen start end i in_order cut run ∙ sym sights_are) ∙ once in
+    let here : is_once (row_of p (of_row i seen)) ≡ true =
+    ap (λ (ss : List Seen). is_once (row_of p ss)) (row_between seen start end i in_order cut run ∙ sym sights_are) ∙ once in
     ap (λ (rows : List VertexRow). list_all is_once rows) (one_more_row points seen i p lt is_point)
     ∙ list_all-append is_once (vertices_from 0 (take i points) seen) (row_of p (of_row i seen) ∷ [])
     ∙ ap (λ (b : Bool). b && (is_once (row_of p (of_row i seen)) && true)) so_far
     ∙ ap (λ (b : Bool). b && true) here
 
-pub not_once : (points : List Point) (seen : List Seen) (start end i : ℕ) (p : Point) (sights : List Seen) → i < length points → p ≡ get_or points i p → AllPairs IsNoEarlier seen → IsCut seen start i → IsRun seen start end i
-    → sights ≡ take (end - start) (drop start seen) → is_once (row_of p sights) ≡ false → AllOnce (take i points) seen → is_wide (vertices_from 0 points seen) ≡ true
+pub not_once : (points : List Point) (seen : List Seen) (start end i : ℕ) (p : Point) (sights : List Seen) → i < length points
+    → p ≡ get_or points i p → AllPairs IsNoEarlier seen → IsCut seen start i → IsRun seen start end i
+    → sights ≡ take (end - start) (drop start seen) → is_once (row_of p sights) ≡ false → AllOnce (take i points) seen
+    → is_wide (vertices_from 0 points seen) ≡ true
 not_once points seen start end i p sights lt is_point in_order cut run sights_are other so_far =
-    let here : is_once (row_of p (of_row i seen)) ≡ false = ap (λ (ss : List Seen). is_once (row_of p ss)) (row_between seen start end i in_order cut run ∙ sym sights_are) ∙ other in
+    let here : is_once (row_of p (of_row i seen)) ≡ false =
+    ap (λ (ss : List Seen). is_once (row_of p ss)) (row_between seen start end i in_order cut run ∙ sym sights_are) ∙ other in
     let rest = vertices_from (0 + length (take (i + 1) points)) (drop (i + 1) points) seen in
     ap (λ (ps : List Point). is_wide (vertices_from 0 ps seen)) (sym (take-append-drop (i + 1) points))
-    ∙ ap is_wide (vertices_append 0 (take (i + 1) points) (drop (i + 1) points) seen ∙ ap (λ (rows : List VertexRow). rows ++ rest) (one_more_row points seen i p lt is_point))
+    ∙ ap is_wide
+    (vertices_append 0 (take (i + 1) points) (drop (i + 1) points) seen
+    ∙ ap (λ (rows : List VertexRow). rows ++ rest) (one_more_row points seen i p lt is_point))
     ∙ ap is_wide (append_assoc (vertices_from 0 (take i points) seen) (row_of p (of_row i seen) ∷ []) rest)
     ∙ ap not (list_all-append is_once (vertices_from 0 (take i points) seen) (row_of p (of_row i seen) ∷ rest))
     ∙ ap (λ (b : Bool). not (b && (is_once (row_of p (of_row i seen)) && list_all is_once rest))) so_far
     ∙ ap (λ (b : Bool). not (b && list_all is_once rest)) here
 
-pub all_once : (points : List Point) (seen : List Seen) (i : ℕ) → length points ≤ i → AllOnce (take i points) seen → is_wide (vertices_from 0 points seen) ≡ false
+pub all_once : (points : List Point) (seen : List Seen) (i : ℕ) → length points ≤ i → AllOnce (take i points) seen
+    → is_wide (vertices_from 0 points seen) ≡ false
 all_once points seen i le so_far =
     ap (λ (ps : List Point). is_wide (vertices_from 0 ps seen)) (sym (take_all i points le)) ∙ ap not so_far
 
 -- ---- the parts of a text
 
-vertices_count : (number : ℕ) (points : List Point) (seen : List Seen) → length (vertices_from number points seen) ≡ length points
+vertices_count : (number : ℕ) (points : List Point) (seen : List Seen)
+    → length (vertices_from number points seen) ≡ length points
 vertices_count number [] seen = refl
 vertices_count number (p ∷ points) seen = ap suc (vertices_count (number + 1) points seen)
 

@@ -1,5 +1,6 @@
 -- The lines of a printed scan, cut into tokens.
-use Rattle.std.proofs.Common.{◌≡◌, ℕ, zero, suc, ◌+◌, ◌<◌, ◌≤◌, ◌^◌, true, false, List, [], ◌∷◌, ◌++◌, length, get_or, All, decimal, ℤ, pos, negsuc, unsigned_abs, refl, ap, ◌∙◌, arith, append_assoc, length-append}
+use Rattle.std.proofs.Common.{◌≡◌, ℕ, zero, suc, ◌+◌, ◌<◌, ◌≤◌, ◌^◌, true, false, List, [], ◌∷◌, ◌++◌, length, get_or, All}
+use Rattle.std.proofs.Common.{decimal, ℤ, pos, negsuc, unsigned_abs, refl, ap, ◌∙◌, arith, append_assoc, length-append}
 use Rattle.std.specs.Fmt.{signed_decimal}
 use Rattle.std.proofs.lemmas.Bool.Decides.{nat_tests}
 use Rattle.std.proofs.lemmas.Fmt.{decimal_is_IsNumeral, decimal_nonempty}
@@ -41,7 +42,8 @@ number_word (negsuc n) small = record { some = omega arith; whole = minus_whole 
 abbrev pub token : ℕ → List ℕ → Token
 token place bytes = record { place = place; bytes = bytes }
 
-word_token : (place : ℕ) (word : List ℕ) (b : ℕ) (rest : List ℕ) → IsWord word → is_white_space b ≡ true → tokens_from place (word ++ b ∷ rest) ≡ token place word ∷ tokens_from (place + length word + 1) rest
+word_token : (place : ℕ) (word : List ℕ) (b : ℕ) (rest : List ℕ) → IsWord word → is_white_space b ≡ true
+    → tokens_from place (word ++ b ∷ rest) ≡ token place word ∷ tokens_from (place + length word + 1) rest
 word_token place word b rest is white = tokens_token place word b rest is.some is.whole white
 
 -- ---- coordinates
@@ -57,17 +59,25 @@ abbrev pub end_place : ℕ → Point → ℕ
 end_place place p = z_place place p + length (signed_decimal p.z) + 1
 
 abbrev pub point_tokens : ℕ → Point → List Token → List Token
-point_tokens place p more = token place (signed_decimal p.x) ∷ token (y_place place p) (signed_decimal p.y) ∷ token (z_place place p) (signed_decimal p.z) ∷ more
+point_tokens place p more =
+    token place (signed_decimal p.x) ∷ token (y_place place p) (signed_decimal p.y)
+    ∷ token (z_place place p) (signed_decimal p.z) ∷ more
 
-pub coordinates-append : (p : Point) (rest : List ℕ) → coordinates p ++ rest ≡ signed_decimal p.x ++ (space ∷ (signed_decimal p.y ++ (space ∷ (signed_decimal p.z ++ rest))))
+pub coordinates-append : (p : Point) (rest : List ℕ)
+    → coordinates p ++ rest ≡ signed_decimal p.x ++ (space ∷ (signed_decimal p.y ++ (space ∷ (signed_decimal p.z ++ rest))))
 coordinates-append p rest = simp append_assoc
 
-point_cut : (place : ℕ) (p : Point) (b : ℕ) (rest : List ℕ) → IsWithin DATA_LIMIT p → is_white_space b ≡ true → tokens_from place (coordinates p ++ b ∷ rest) ≡ point_tokens place p (tokens_from (end_place place p) rest)
+point_cut : (place : ℕ) (p : Point) (b : ℕ) (rest : List ℕ) → IsWithin DATA_LIMIT p → is_white_space b ≡ true
+    → tokens_from place (coordinates p ++ b ∷ rest) ≡ point_tokens place p (tokens_from (end_place place p) rest)
 point_cut place p b rest within white =
     ap (tokens_from place) (coordinates-append p (b ∷ rest))
-    ∙ word_token place (signed_decimal p.x) space (signed_decimal p.y ++ (space ∷ (signed_decimal p.z ++ b ∷ rest))) (number_word p.x within.x_within) refl
-    ∙ ap (λ (ts : List Token). token place (signed_decimal p.x) ∷ ts) (word_token (y_place place p) (signed_decimal p.y) space (signed_decimal p.z ++ b ∷ rest) (number_word p.y within.y_within) refl)
-    ∙ ap (λ (ts : List Token). token place (signed_decimal p.x) ∷ token (y_place place p) (signed_decimal p.y) ∷ ts) (word_token (z_place place p) (signed_decimal p.z) b rest (number_word p.z within.z_within) white)
+    ∙ word_token place (signed_decimal p.x) space (signed_decimal p.y ++ (space ∷ (signed_decimal p.z ++ b ∷ rest)))
+    (number_word p.x within.x_within) refl
+    ∙ ap (λ (ts : List Token). token place (signed_decimal p.x) ∷ ts)
+    (word_token (y_place place p) (signed_decimal p.y) space (signed_decimal p.z ++ b ∷ rest)
+    (number_word p.y within.y_within) refl)
+    ∙ ap (λ (ts : List Token). token place (signed_decimal p.x) ∷ token (y_place place p) (signed_decimal p.y) ∷ ts)
+    (word_token (z_place place p) (signed_decimal p.z) b rest (number_word p.z within.z_within) white)
 
 -- ---- numbers behind coordinates
 
@@ -88,7 +98,8 @@ end_white (n ∷ ns) = refl
 spaced_behind : (ns rest : List ℕ) → spaced ns ++ (line_feed ∷ rest) ≡ end_byte ns ∷ behind ns rest
 spaced_behind [] rest = refl
 spaced_behind (n ∷ ns) rest =
-    append_assoc (space ∷ decimal n) (spaced ns) (line_feed ∷ rest) ∙ ap (λ (text : List ℕ). space ∷ (decimal n ++ text)) (spaced_behind ns rest)
+    append_assoc (space ∷ decimal n) (spaced ns) (line_feed ∷ rest)
+    ∙ ap (λ (text : List ℕ). space ∷ (decimal n ++ text)) (spaced_behind ns rest)
 
 pub line-append : (p : Point) (ns rest : List ℕ) → line p ns ++ rest ≡ coordinates p ++ (end_byte ns ∷ behind ns rest)
 line-append p ns rest =
@@ -114,25 +125,34 @@ number_tokens place (n ∷ ns) = token place (decimal n) ∷ number_tokens (next
 abbrev pub Fit : List ℕ → Type 0
 Fit ns = All (λ n. n < 2 ^ 64) ns
 
-pub numbers_cut : (place : ℕ) (ns rest : List ℕ) → Fit ns → tokens_from place (behind ns rest) ≡ number_tokens place ns ++ tokens_from (numbers_end place ns) rest
+pub numbers_cut : (place : ℕ) (ns rest : List ℕ) → Fit ns
+    → tokens_from place (behind ns rest) ≡ number_tokens place ns ++ tokens_from (numbers_end place ns) rest
 numbers_cut place [] rest fit = refl
 numbers_cut place (n ∷ ns) rest fit =
-    word_token place (decimal n) (end_byte ns) (behind ns rest) (decimal_word n (All-head (λ n. n < 2 ^ 64) n ns fit)) (end_white ns)
-    ∙ ap (λ (ts : List Token). token place (decimal n) ∷ ts) (numbers_cut (next_place place n) ns rest (All-tail (λ n. n < 2 ^ 64) n ns fit))
+    word_token place (decimal n) (end_byte ns) (behind ns rest) (decimal_word n (All-head (λ n. n < 2 ^ 64) n ns fit))
+    (end_white ns)
+    ∙ ap (λ (ts : List Token). token place (decimal n) ∷ ts)
+    (numbers_cut (next_place place n) ns rest (All-tail (λ n. n < 2 ^ 64) n ns fit))
 
 pub line_cut : (place : ℕ) (p : Point) (ns rest : List ℕ) → IsWithin DATA_LIMIT p → Fit ns
-    → tokens_from place (line p ns ++ rest) ≡ point_tokens place p (number_tokens (end_place place p) ns ++ tokens_from (line_end place p ns) rest)
+    → tokens_from place (line p ns ++ rest)
+    ≡ point_tokens place p (number_tokens (end_place place p) ns ++ tokens_from (line_end place p ns) rest)
 line_cut place p ns rest within fit =
     ap (tokens_from place) (line-append p ns rest) ∙ point_cut place p (end_byte ns) (behind ns rest) within (end_white ns)
     ∙ ap (point_tokens place p) (numbers_cut (end_place place p) ns rest fit)
 
 numbers_length : (place : ℕ) (ns : List ℕ) → numbers_end place ns ≡ place + length (spaced ns)
 numbers_length place [] = omega arith
-numbers_length place (n ∷ ns) = omega (arith, numbers_length (next_place place n) ns, length-append (space ∷ decimal n) (spaced ns))
+numbers_length place (n ∷ ns) =
+    omega (arith, numbers_length (next_place place n) ns, length-append (space ∷ decimal n) (spaced ns))
 
 pub length-coordinates : (place : ℕ) (p : Point) → end_place place p ≡ place + length (coordinates p) + 1
 length-coordinates place p =
-    omega (arith, length-append (signed_decimal p.x) (space ∷ (signed_decimal p.y ++ (space ∷ signed_decimal p.z))), length-append (signed_decimal p.y) (space ∷ signed_decimal p.z))
+    omega (
+      arith,
+      length-append (signed_decimal p.x) (space ∷ (signed_decimal p.y ++ (space ∷ signed_decimal p.z))),
+      length-append (signed_decimal p.y) (space ∷ signed_decimal p.z),
+    )
 
 pub line_length : (place : ℕ) (p : Point) (ns : List ℕ) → line_end place p ns ≡ place + length (line p ns)
 line_length place p ns =

@@ -1,6 +1,7 @@
 -- What the rows of a scan show: each sight is of a point and a scanner that are there, and sights stand in the order of
 -- their points. Rows one behind another show their sights one behind another.
-use Rattle.std.proofs.Common.{◌≡◌, ℕ, suc, ◌+◌, ◌<◌, ◌≤◌, List, [], ◌∷◌, ◌++◌, length, map, get_or, All, AllPairs, refl, sym, ap, ◌∙◌, arith, append_assoc, length-append}
+use Rattle.std.proofs.Common.{◌≡◌, ℕ, suc, ◌+◌, ◌<◌, ◌≤◌, List, [], ◌∷◌, ◌++◌, length, map, get_or, All, AllPairs, refl, sym}
+use Rattle.std.proofs.Common.{ap, ◌∙◌, arith, append_assoc, length-append}
 use Rattle.std.proofs.lemmas.List.{append-nil, map-append, length-map}
 use Rattle.std.proofs.lemmas.List.Elements.{All-nil, All-head, All-tail, All-map, All-append}
 use Rattle.std.proofs.lemmas.List.Kept.{AllPairs-cons}
@@ -23,15 +24,19 @@ point_in row = row.point
 
 -- ---- facts of pairs
 
-pairs_of : {X : Type 0} (P : X → Type 0) (R : X → X → Type 0) (xs : List X) → ((x y : X) → P x → P y → R x y) → All P xs → AllPairs R xs
+pairs_of : {X : Type 0} (P : X → Type 0) (R : X → X → Type 0) (xs : List X) → ((x y : X) → P x → P y → R x y) → All P xs
+    → AllPairs R xs
 pairs_of P R xs both all i j d before inside = both (get_or xs i d) (get_or xs j d) (all i d (omega arith)) (all j d inside)
 
-pairs_append : {X : Type 0} (P Q : X → Type 0) (R : X → X → Type 0) (xs ys : List X) → ((x y : X) → P x → Q y → R x y) → All P xs → All Q ys → AllPairs R xs → AllPairs R ys → AllPairs R (xs ++ ys)
+pairs_append : {X : Type 0} (P Q : X → Type 0) (R : X → X → Type 0) (xs ys : List X) → ((x y : X) → P x → Q y → R x y)
+    → All P xs → All Q ys → AllPairs R xs → AllPairs R ys → AllPairs R (xs ++ ys)
 pairs_append P Q R [] ys both ps qs first second = second
 pairs_append P Q R (x ∷ xs) ys both ps qs first second =
     AllPairs-cons R x (xs ++ ys)
-    (All-append (R x) xs ys (λ k d inside. first 0 (suc k) d (omega arith) (omega arith)) (λ k d inside. both x (get_or ys k d) (All-head P x xs ps) (qs k d inside)))
-    (pairs_append P Q R xs ys both (All-tail P x xs ps) qs (λ i j d before inside. first (suc i) (suc j) d (omega arith) (omega arith)) second)
+    (All-append (R x) xs ys (λ k d inside. first 0 (suc k) d (omega arith) (omega arith))
+    (λ k d inside. both x (get_or ys k d) (All-head P x xs ps) (qs k d inside)))
+    (pairs_append P Q R xs ys both (All-tail P x xs ps) qs
+    (λ i j d before inside. first (suc i) (suc j) d (omega arith) (omega arith)) second)
 
 all_weaker : {X : Type 0} (P Q : X → Type 0) (xs : List X) → ((x : X) → P x → Q x) → All P xs → All Q xs
 all_weaker P Q xs weaker all k d inside = weaker (get_or xs k d) (all k d inside)
@@ -45,12 +50,19 @@ record IsOf (number weight : ℕ) (seen : Seen) : Type 0 where
 
 of_row : (number : ℕ) (row : VertexRow) → All (IsOf number row.weight) (row_seen number row)
 of_row number row =
-    All-map (IsOf number row.weight) (λ (k : ℕ). record { row = number; scanner = k; weight = row.weight }) row.seen_by (λ k d inside. record { number_is = refl; weight_is = refl })
+    All-map (IsOf number row.weight) (λ (k : ℕ). record { row = number; scanner = k; weight = row.weight }) row.seen_by
+    (λ k d inside. record { number_is = refl; weight_is = refl })
 
-row_there : (points scanners number : ℕ) (row : VertexRow) → number < points → IsVertexRow scanners row → All (IsSeen points scanners) (row_seen number row)
+row_there : (points scanners number : ℕ) (row : VertexRow) → number < points → IsVertexRow scanners row
+    → All (IsSeen points scanners) (row_seen number row)
 row_there points scanners number row there is =
     All-map (IsSeen points scanners) (λ (k : ℕ). record { row = number; scanner = k; weight = row.weight }) row.seen_by
-    (λ k d inside. record { row = there; scanner = is.scanners_there k d inside; least_weight = is.least_weight; most_weight = is.most_weight })
+    (λ k d inside. record {
+      row = there;
+      scanner = is.scanners_there k d inside;
+      least_weight = is.least_weight;
+      most_weight = is.most_weight;
+    })
 
 -- what is kept of the sights of rows that are numbered from a number on
 record AreSeen (number points scanners : ℕ) (seen : List Seen) : Type 0 where
@@ -65,7 +77,8 @@ no_earlier number weight x y of later = omega (arith, of.number_is, later)
 weighs_alike : (number weight : ℕ) (x y : Seen) → IsOf number weight x → number + 1 ≤ y.row → WeighsAlike x y
 weighs_alike number weight x y of later same = absurd (omega (arith, of.number_is, later, same))
 
-rows_seen : (number points scanners : ℕ) (rows : List VertexRow) → number + length rows ≤ points → All (IsVertexRow scanners) rows → AreSeen number points scanners (seen_from number rows)
+rows_seen : (number points scanners : ℕ) (rows : List VertexRow) → number + length rows ≤ points
+    → All (IsVertexRow scanners) rows → AreSeen number points scanners (seen_from number rows)
 rows_seen number points scanners [] fit are = record {
   from = All-nil (λ (s : Seen). number ≤ s.row);
   there = All-nil (IsSeen points scanners);
@@ -75,16 +88,29 @@ rows_seen number points scanners [] fit are = record {
 rows_seen number points scanners (row ∷ rows) fit are =
     let first = row_seen number row in
     let others = seen_from (number + 1) rows in
-    let later = rows_seen (number + 1) points scanners rows (omega (arith, fit)) (All-tail (IsVertexRow scanners) row rows are) in
+    let later =
+    rows_seen (number + 1) points scanners rows (omega (arith, fit)) (All-tail (IsVertexRow scanners) row rows are) in
     let of = of_row number row in
     record {
-      from = All-append (λ (s : Seen). number ≤ s.row) first others (all_weaker (IsOf number row.weight) (λ (s : Seen). number ≤ s.row) first (λ s is. omega (arith, is.number_is)) of)
-          (all_weaker (λ (s : Seen). number + 1 ≤ s.row) (λ (s : Seen). number ≤ s.row) others (λ s is. omega (arith, is)) later.from);
-      there = All-append (IsSeen points scanners) first others (row_there points scanners number row (omega (arith, fit)) (All-head (IsVertexRow scanners) row rows are)) later.there;
-      in_order = pairs_append (IsOf number row.weight) (λ (s : Seen). number + 1 ≤ s.row) IsNoEarlier first others (no_earlier number row.weight) of later.from
-          (pairs_of (IsOf number row.weight) IsNoEarlier first (λ x y one other. omega (arith, one.number_is, other.number_is)) of) later.in_order;
-      of_one_weight = pairs_append (IsOf number row.weight) (λ (s : Seen). number + 1 ≤ s.row) WeighsAlike first others (weighs_alike number row.weight) of later.from
-          (pairs_of (IsOf number row.weight) WeighsAlike first (λ x y one other same. one.weight_is ∙ sym other.weight_is) of) later.of_one_weight;
+      from =
+          All-append (λ (s : Seen). number ≤ s.row) first others
+          (all_weaker (IsOf number row.weight) (λ (s : Seen). number ≤ s.row) first (λ s is. omega (arith, is.number_is)) of)
+          (all_weaker (λ (s : Seen). number + 1 ≤ s.row) (λ (s : Seen). number ≤ s.row) others (λ s is. omega (arith, is))
+          later.from);
+      there =
+          All-append (IsSeen points scanners) first others
+          (row_there points scanners number row (omega (arith, fit)) (All-head (IsVertexRow scanners) row rows are))
+          later.there;
+      in_order =
+          pairs_append (IsOf number row.weight) (λ (s : Seen). number + 1 ≤ s.row) IsNoEarlier first others
+          (no_earlier number row.weight) of later.from
+          (pairs_of (IsOf number row.weight) IsNoEarlier first (λ x y one other. omega (arith, one.number_is, other.number_is))
+          of) later.in_order;
+      of_one_weight =
+          pairs_append (IsOf number row.weight) (λ (s : Seen). number + 1 ≤ s.row) WeighsAlike first others
+          (weighs_alike number row.weight) of later.from
+          (pairs_of (IsOf number row.weight) WeighsAlike first (λ x y one other same. one.weight_is ∙ sym other.weight_is) of)
+          later.of_one_weight;
     }
 
 -- as many sights as the rows have
@@ -106,7 +132,8 @@ length-seen_from number (row ∷ rows) =
 pub rows_are_shown : (rows : ScanRows) → IsScan rows → IsShown (shown_by rows)
 rows_are_shown rows is =
     let count : length rows.vertices ≡ length (map point_in rows.vertices) = sym (length-map rows.vertices point_in) in
-    let seen = rows_seen 0 (length (map point_in rows.vertices)) (length rows.scanners) rows.vertices (omega (arith, count)) is.vertices in
+    let seen =
+    rows_seen 0 (length (map point_in rows.vertices)) (length rows.scanners) rows.vertices (omega (arith, count)) is.vertices in
     record {
       points = All-map (IsWithin DATA_LIMIT) point_in rows.vertices (λ k d inside. (is.vertices k d inside).data_point);
       scanners = is.scanners;
@@ -134,30 +161,42 @@ scan_is_shown scan = record {
 -- ---- rows one behind another
 
 -- what rows and then others show
-pub seen_from-append : (number : ℕ) (rows others : List VertexRow) → seen_from number (rows ++ others) ≡ seen_from number rows ++ seen_from (number + length rows) others
+pub seen_from-append : (number : ℕ) (rows others : List VertexRow)
+    → seen_from number (rows ++ others) ≡ seen_from number rows ++ seen_from (number + length rows) others
 seen_from-append number [] others = ap (λ (n : ℕ). seen_from n others) (plus_zero number)
   where
     plus_zero : (n : ℕ) → n ≡ n + 0
     plus_zero n = omega arith
 seen_from-append number (row ∷ rows) others =
-    ap (λ (seen : List Seen). row_seen number row ++ seen) (seen_from-append (number + 1) rows others ∙ ap (λ (n : ℕ). seen_from (number + 1) rows ++ seen_from n others) (next number (length rows)))
+    ap (λ (seen : List Seen). row_seen number row ++ seen)
+    (seen_from-append (number + 1) rows others
+    ∙ ap (λ (n : ℕ). seen_from (number + 1) rows ++ seen_from n others) (next number (length rows)))
     ∙ sym (append_assoc (row_seen number row) (seen_from (number + 1) rows) (seen_from (number + length (row ∷ rows)) others))
   where
     next : (n k : ℕ) → n + 1 + k ≡ n + suc k
     next n k = omega arith
 
-pub both_shown : (before : Shown) (rows others : ScanRows) → shown_and (shown_and before rows) others ≡ shown_and before (rows_and rows others)
+pub both_shown : (before : Shown) (rows others : ScanRows)
+    → shown_and (shown_and before rows) others ≡ shown_and before (rows_and rows others)
 both_shown before rows others =
-    let points : (before.points ++ map point_in rows.vertices) ++ map point_in others.vertices ≡ before.points ++ map point_in (rows.vertices ++ others.vertices) =
-    append_assoc before.points (map point_in rows.vertices) (map point_in others.vertices) ∙ ap (λ (ps : List Point). before.points ++ ps) (sym (map-append point_in rows.vertices others.vertices)) in
-    let scanners : (before.scanners ++ rows.scanners) ++ others.scanners ≡ before.scanners ++ (rows.scanners ++ others.scanners) =
+    let points : (before.points ++ map point_in rows.vertices) ++ map point_in others.vertices
+    ≡ before.points ++ map point_in (rows.vertices ++ others.vertices) =
+    append_assoc before.points (map point_in rows.vertices) (map point_in others.vertices)
+    ∙ ap (λ (ps : List Point). before.points ++ ps) (sym (map-append point_in rows.vertices others.vertices)) in
+    let scanners : (before.scanners ++ rows.scanners) ++ others.scanners
+    ≡ before.scanners ++ (rows.scanners ++ others.scanners) =
     append_assoc before.scanners rows.scanners others.scanners in
     let number : length (before.points ++ map point_in rows.vertices) ≡ length before.points + length rows.vertices =
-    length-append before.points (map point_in rows.vertices) ∙ ap (λ (n : ℕ). length before.points + n) (length-map rows.vertices point_in) in
-    let seen : (before.seen ++ seen_from (length before.points) rows.vertices) ++ seen_from (length (before.points ++ map point_in rows.vertices)) others.vertices ≡ before.seen ++ seen_from (length before.points) (rows.vertices ++ others.vertices) =
-    append_assoc before.seen (seen_from (length before.points) rows.vertices) (seen_from (length (before.points ++ map point_in rows.vertices)) others.vertices)
+    length-append before.points (map point_in rows.vertices)
+    ∙ ap (λ (n : ℕ). length before.points + n) (length-map rows.vertices point_in) in
+    let seen : (before.seen ++ seen_from (length before.points) rows.vertices)
+    ++ seen_from (length (before.points ++ map point_in rows.vertices)) others.vertices
+    ≡ before.seen ++ seen_from (length before.points) (rows.vertices ++ others.vertices) =
+    append_assoc before.seen (seen_from (length before.points) rows.vertices)
+    (seen_from (length (before.points ++ map point_in rows.vertices)) others.vertices)
     ∙ ap (λ (n : ℕ). before.seen ++ (seen_from (length before.points) rows.vertices ++ seen_from n others.vertices)) number
-    ∙ ap (λ (ss : List Seen). before.seen ++ ss) (sym (seen_from-append (length before.points) rows.vertices others.vertices)) in
+    ∙ ap (λ (ss : List Seen). before.seen ++ ss)
+    (sym (seen_from-append (length before.points) rows.vertices others.vertices)) in
     rw (points, scanners, seen) refl
 
 -- nothing more

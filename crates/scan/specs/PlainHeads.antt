@@ -51,4 +51,5 @@ scanner_element scanners = record { name = codes "scanner"; count = scanners; pr
 
 -- the header of a printed scan, with the counts of its rows
 abbrev pub printed_head : Bool → ℕ → ℕ → Header
-printed_head wide vertices scanners = record { kind = Ascii; elements = vertex_element wide vertices ∷ scanner_element scanners ∷ [] }
+printed_head wide vertices scanners =
+    record { kind = Ascii; elements = vertex_element wide vertices ∷ scanner_element scanners ∷ [] }

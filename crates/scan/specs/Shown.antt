@@ -57,7 +57,8 @@ IsNoEarlier before seen = before.row ≤ seen.row
 abbrev pub WeighsAlike : Seen → Seen → Type 0
 WeighsAlike before seen = before.row ≡ seen.row → before.weight ≡ seen.weight
 
--- data points and scanners, no more than a scan may have; sights of these, in the order of their points, those of one point of one weight
+-- data points and scanners, no more than a scan may have; sights of these, in the order of their points, those of one point of
+-- one weight
 pub record IsShown (shown : Shown) : Type 0 where
   pub points : All (IsWithin DATA_LIMIT) shown.points
   pub scanners : All (IsWithin DATA_LIMIT) shown.scanners

@@ -1,11 +1,12 @@
 -- The facets to come, as computed, are those of the path that the laws of sights give.
 --
--- In a live cell on the sight, at most one side is an exit, so the first of four tests finds it (`exit_is`), and where the scanner lies
--- there is none. The neighbor there has one side that names the cell back, through which the sight comes in, as two cells name each
--- other across one facet alone (`comes_in`). So the next side computed is the next one of the path (`next_is`), and by induction the
--- lists are one (`within_is`). The list is long enough: along a path fewer and fewer live cells are higher at the scanner (`short`), so
--- a path is no longer than there are slots (`sides_are`).
-use Rattle.std.proofs.Common.{ℕ, zero, suc, ◌<◌, ◌≤◌, ◌+◌, ◌≡◌, refl, sym, ap, subst, ◌∙◌, arith, Bool, true, false, true≢false, Option, Some, None, List, [], ◌∷◌, length, is_some}
+-- In a live cell on the sight, at most one side is an exit, so the first of four tests finds it (`exit_is`), and where the
+-- scanner lies there is none. The neighbor there has one side that names the cell back, through which the sight comes in, as
+-- two cells name each other across one facet alone (`comes_in`). So the next side computed is the next one of the path
+-- (`next_is`), and by induction the lists are one (`within_is`). The list is long enough: along a path fewer and fewer live
+-- cells are higher at the scanner (`short`), so a path is no longer than there are slots (`sides_are`).
+use Rattle.std.proofs.Common.{ℕ, zero, suc, ◌<◌, ◌≤◌, ◌+◌, ◌≡◌, refl, sym, ap, subst, ◌∙◌, arith, Bool, true, false, true≢false}
+use Rattle.std.proofs.Common.{Option, Some, None, List, [], ◌∷◌, length, is_some}
 use Rattle.std.proofs.lemmas.Bool.{eqb-true}
 use Rattle.geo_sign.specs.declared.point.TheConstants.{DATA_LIMIT}
 use Rattle.geo_sign.specs.Point.{Point, IsWithin}
@@ -34,7 +35,8 @@ use Rattle.tetra_walk.proofs.Backs.{one_back}
 use Rattle.tetra_walk.proofs.Bridge.{linked, cells, listed, live}
 use Rattle.tetra_walk.proofs.Ends.{walks}
 use Rattle.sight.specs.Exits.{IsExit}
-use Rattle.sight.specs.Walks.{first_of, leaves, exit_of, is_some_of, number_first, side_naming, side_into, side_through, next_side, with_rest, sides_within, sides_from}
+use Rattle.sight.specs.Walks.{first_of, leaves, exit_of, is_some_of, number_first, side_naming, side_into, side_through}
+use Rattle.sight.specs.Walks.{next_side, with_rest, sides_within, sides_from}
 
 -- ---- what the laws need, at once
 pub record IsGiven (s : Store) (p : ℕ) (o : Point) : Type 0 where
@@ -43,14 +45,21 @@ pub record IsGiven (s : Store) (p : ℕ) (o : Point) : Type 0 where
   pub inserted : Has (vertices_of s) p
   pub data_point : IsWithin DATA_LIMIT o
 
-pub passed : (s : Store) (p : ℕ) (o : Point) → IsGiven s p o → (x : ℕ) → IsLive (links_of s.slots) x → IsPassed (vertices_of s) p (displaced o) ((links_of s.slots).at x)
-passed s p o g x l = sight_law (vertices_of s) g.store.vertices.boxed p g.inserted o g.data_point ((links_of s.slots).at x) (g.delaunay.cells x l)
+pub passed : (s : Store) (p : ℕ) (o : Point) → IsGiven s p o → (x : ℕ) → IsLive (links_of s.slots) x
+    → IsPassed (vertices_of s) p (displaced o) ((links_of s.slots).at x)
+passed s p o g x l =
+    sight_law (vertices_of s) g.store.vertices.boxed p g.inserted o g.data_point ((links_of s.slots).at x)
+    (g.delaunay.cells x l)
 
-pub paths : (s : Store) (p : ℕ) (o : Point) → IsGiven s p o → HasPaths (vertices_of s) (live_of s.slots) (links_of s.slots).at (links_of s.slots).next p (displaced o)
-paths s p o g = path_law (vertices_of s) g.store.vertices.boxed (live_of s.slots) (links_of s.slots).at (links_of s.slots).next (linked s g.store) (cells s g.delaunay) p g.inserted o g.data_point
+pub paths : (s : Store) (p : ℕ) (o : Point) → IsGiven s p o
+    → HasPaths (vertices_of s) (live_of s.slots) (links_of s.slots).at (links_of s.slots).next p (displaced o)
+paths s p o g =
+    path_law (vertices_of s) g.store.vertices.boxed (live_of s.slots) (links_of s.slots).at (links_of s.slots).next
+    (linked s g.store) (cells s g.delaunay) p g.inserted o g.data_point
 
 abbrev pub IsPathOf : Store → (p : ℕ) → Point → ℕ → List Side → Type 0
-IsPathOf s p o x cs = IsPath (vertices_of s) (live_of s.slots) (links_of s.slots).at (links_of s.slots).next p (displaced o) x cs
+IsPathOf s p o x cs =
+    IsPath (vertices_of s) (live_of s.slots) (links_of s.slots).at (links_of s.slots).next p (displaced o) x cs
 
 abbrev pub IsStepOf : Store → (p : ℕ) → Point → ℕ → Side → Type 0
 IsStepOf s p o x c = IsStep (vertices_of s) (live_of s.slots) (links_of s.slots).at (links_of s.slots).next p (displaced o) x c
@@ -86,23 +95,31 @@ first_none f k e l = by (f 0) (f 1) (f 2) (f 3) refl refl refl refl e
     by false false false true a b c d e = cc
     by false false false false a b c d e = all k a b c d l
 
-exit_is : (s : Store) (p : ℕ) (o : Point) → IsGiven s p o → (x k : ℕ) → IsLive (links_of s.slots) x → IsExit (vertices_of s) p (displaced o) ((links_of s.slots).at x) k → exit_of (vertices_of s) p (displaced o) ((links_of s.slots).at x) ≡ Some k
+exit_is : (s : Store) (p : ℕ) (o : Point) → IsGiven s p o → (x k : ℕ) → IsLive (links_of s.slots) x
+    → IsExit (vertices_of s) p (displaced o) ((links_of s.slots).at x) k
+    → exit_of (vertices_of s) p (displaced o) ((links_of s.slots).at x) ≡ Some k
 exit_is s p o g x k l h = by (exit_of (vertices_of s) p (displaced o) ((links_of s.slots).at x)) refl
   where
     f : ℕ → Bool
     f = leaves (vertices_of s) p (displaced o) ((links_of s.slots).at x)
 
-    by : (n : Option ℕ) → exit_of (vertices_of s) p (displaced o) ((links_of s.slots).at x) ≡ n → exit_of (vertices_of s) p (displaced o) ((links_of s.slots).at x) ≡ Some k
+    by : (n : Option ℕ) → exit_of (vertices_of s) p (displaced o) ((links_of s.slots).at x) ≡ n
+        → exit_of (vertices_of s) p (displaced o) ((links_of s.slots).at x) ≡ Some k
     by None e = absurd (true≢false (sym h.left ∙ first_none f k e h.side_in))
-    by (Some j) e = let z = first_some f j e in e ∙ ap (λ (n : ℕ). Some n) ((passed s p o g x l).one_exit j k z.0 h.side_in z.1 h.left)
+    by (Some j) e =
+        let z = first_some f j e in
+        e ∙ ap (λ (n : ℕ). Some n) ((passed s p o g x l).one_exit j k z.0 h.side_in z.1 h.left)
 
-exit_none : (s : Store) (p : ℕ) (o : Point) → IsGiven s p o → (x : ℕ) → IsLive (links_of s.slots) x → is_cell_of (vertices_of s) (displaced o) ((links_of s.slots).at x) ≡ true → exit_of (vertices_of s) p (displaced o) ((links_of s.slots).at x) ≡ None
+exit_none : (s : Store) (p : ℕ) (o : Point) → IsGiven s p o → (x : ℕ) → IsLive (links_of s.slots) x
+    → is_cell_of (vertices_of s) (displaced o) ((links_of s.slots).at x) ≡ true
+    → exit_of (vertices_of s) p (displaced o) ((links_of s.slots).at x) ≡ None
 exit_none s p o g x l h = by (exit_of (vertices_of s) p (displaced o) ((links_of s.slots).at x)) refl
   where
     f : ℕ → Bool
     f = leaves (vertices_of s) p (displaced o) ((links_of s.slots).at x)
 
-    by : (n : Option ℕ) → exit_of (vertices_of s) p (displaced o) ((links_of s.slots).at x) ≡ n → exit_of (vertices_of s) p (displaced o) ((links_of s.slots).at x) ≡ None
+    by : (n : Option ℕ) → exit_of (vertices_of s) p (displaced o) ((links_of s.slots).at x) ≡ n
+        → exit_of (vertices_of s) p (displaced o) ((links_of s.slots).at x) ≡ None
     by None e = e
     by (Some j) e = let z = first_some f j e in absurd ((passed s p o g x l).not_both j z.1 h)
 
@@ -114,17 +131,21 @@ is_named (Some y) x e = ap (λ (n : ℕ). Some n) (eqb-true y x e)
 named_is : (n : Option ℕ) (x : ℕ) → n ≡ Some x → is_some_of n x ≡ true
 named_is n x e = ap (λ (m : Option ℕ). is_some_of m x) e ∙ same_number x
 
-naming : (f : ℕ → Option ℕ) (x b : ℕ) → b < 4 → f b ≡ Some x → (number_first (is_some_of (f 0) x) (is_some_of (f 1) x) (is_some_of (f 2) x) < 4) × (f (number_first (is_some_of (f 0) x) (is_some_of (f 1) x) (is_some_of (f 2) x)) ≡ Some x)
+naming : (f : ℕ → Option ℕ) (x b : ℕ) → b < 4 → f b ≡ Some x
+    → (number_first (is_some_of (f 0) x) (is_some_of (f 1) x) (is_some_of (f 2) x) < 4)
+    × (f (number_first (is_some_of (f 0) x) (is_some_of (f 1) x) (is_some_of (f 2) x)) ≡ Some x)
 naming f x b l e = by (is_some_of (f 0) x) (is_some_of (f 1) x) (is_some_of (f 2) x) refl refl refl
   where
-    last : (b : ℕ) → b < 4 → f b ≡ Some x → is_some_of (f 0) x ≡ false → is_some_of (f 1) x ≡ false → is_some_of (f 2) x ≡ false → f 3 ≡ Some x
+    last : (b : ℕ) → b < 4 → f b ≡ Some x → is_some_of (f 0) x ≡ false → is_some_of (f 1) x ≡ false → is_some_of (f 2) x ≡ false
+        → f 3 ≡ Some x
     last zero l e i j k = absurd (true≢false (sym (named_is (f 0) x e) ∙ i))
     last (suc zero) l e i j k = absurd (true≢false (sym (named_is (f 1) x e) ∙ j))
     last (suc (suc zero)) l e i j k = absurd (true≢false (sym (named_is (f 2) x e) ∙ k))
     last (suc (suc (suc zero))) l e i j k = e
     last (suc (suc (suc (suc b)))) l e i j k = absurd (omega (arith, l))
 
-    by : (u v w : Bool) → is_some_of (f 0) x ≡ u → is_some_of (f 1) x ≡ v → is_some_of (f 2) x ≡ w → (number_first u v w < 4) × (f (number_first u v w) ≡ Some x)
+    by : (u v w : Bool) → is_some_of (f 0) x ≡ u → is_some_of (f 1) x ≡ v → is_some_of (f 2) x ≡ w
+        → (number_first u v w < 4) × (f (number_first u v w) ≡ Some x)
     by true v w i j k = (omega arith, is_named (f 0) x i)
     by false true w i j k = (omega arith, is_named (f 1) x j)
     by false false true i j k = (omega arith, is_named (f 2) x k)
@@ -132,8 +153,10 @@ naming f x b l e = by (is_some_of (f 0) x) (is_some_of (f 1) x) (is_some_of (f 2
 
 -- ---- a step
 -- where the sight goes out of x into y, it comes into y through the side that names x
-pub comes_in : (s : Store) (p : ℕ) (o : Point) → IsStore s → (x k y m : ℕ) → IsLive (links_of s.slots) x → IsExit (vertices_of s) p (displaced o) ((links_of s.slots).at x) k → (links_of s.slots).next x k ≡ Some y → m < 4 → (links_of s.slots).next y m ≡ Some x →
-    IsLive (links_of s.slots) y × (is_crossed (vertices_of s) p (displaced o) (facet_of ((links_of s.slots).at y) m) ≡ true)
+pub comes_in : (s : Store) (p : ℕ) (o : Point) → IsStore s → (x k y m : ℕ) → IsLive (links_of s.slots) x
+    → IsExit (vertices_of s) p (displaced o) ((links_of s.slots).at x) k → (links_of s.slots).next x k ≡ Some y → m < 4
+    → (links_of s.slots).next y m ≡ Some x
+    → IsLive (links_of s.slots) y × (is_crossed (vertices_of s) p (displaced o) (facet_of ((links_of s.slots).at y) m) ≡ true)
 comes_in s p o i x k y m l h e b n =
     let v = vertices_of s in let links = links_of s.slots in let q : RationalPoint = displaced o in
     let back : IsBack links x k y = i.linked.back x k y l h.side_in e in
@@ -145,32 +168,40 @@ some_same : (a b : ℕ) → Some a ≡ Some b → a ≡ b
 some_same a b e = cc
 
 -- the step of the path is that one
-pub step_is : (s : Store) (p : ℕ) (o : Point) → IsGiven s p o → (x k y m : ℕ) → IsLive (links_of s.slots) x → IsExit (vertices_of s) p (displaced o) ((links_of s.slots).at x) k → (links_of s.slots).next x k ≡ Some y → m < 4 → (links_of s.slots).next y m ≡ Some x →
-    (c : Side) → IsStepOf s p o x c → c ≡ record { at = y; side = m }
+pub step_is : (s : Store) (p : ℕ) (o : Point) → IsGiven s p o → (x k y m : ℕ) → IsLive (links_of s.slots) x
+    → IsExit (vertices_of s) p (displaced o) ((links_of s.slots).at x) k → (links_of s.slots).next x k ≡ Some y → m < 4
+    → (links_of s.slots).next y m ≡ Some x
+    → (c : Side) → IsStepOf s p o x c → c ≡ record { at = y; side = m }
 step_is s p o g x k y m l h e b n c t =
     let v = vertices_of s in let links = links_of s.slots in let q : RationalPoint = displaced o in
     let a : t.leaving ≡ k = (passed s p o g x l).one_exit t.leaving k t.leaving_below h.side_in t.left h.left in
     let at : c.at ≡ y = some_same c.at y (sym t.across ∙ ap (links.next x) a ∙ e) in
     let z = comes_in s p o g.store x k y m l h e b n in
     let f = facet_of (links.at x) t.leaving in
-    let here = crossed_is v p q (entered links.at c) (left_turned v p q f (entered links.at c) t.turned (left_of v p q f t.left)) in
-    let there : is_crossed v p q (facet_of (links.at y) c.side) ≡ true = subst (λ (u : ℕ). is_crossed v p q (facet_of (links.at u) c.side) ≡ true) at here in
+    let here =
+    crossed_is v p q (entered links.at c) (left_turned v p q f (entered links.at c) t.turned (left_of v p q f t.left)) in
+    let there : is_crossed v p q (facet_of (links.at y) c.side) ≡ true =
+    subst (λ (u : ℕ). is_crossed v p q (facet_of (links.at u) c.side) ≡ true) at here in
     same_side c (record { at = y; side = m }) at ((passed s p o g y z.0).one_entry c.side m t.side_below b there z.1)
 
-next_is : (s : Store) (p : ℕ) (o : Point) → IsGiven s p o → (x : ℕ) → IsLive (links_of s.slots) x → (c : Side) → IsStepOf s p o x c → next_side s p o x ≡ Some c
+next_is : (s : Store) (p : ℕ) (o : Point) → IsGiven s p o → (x : ℕ) → IsLive (links_of s.slots) x → (c : Side)
+    → IsStepOf s p o x c → next_side s p o x ≡ Some c
 next_is s p o g x l c t =
     let links = links_of s.slots in
-    let h : IsExit (vertices_of s) p (displaced o) (links.at x) t.leaving = record { side_in = t.leaving_below; left = t.left } in
+    let h : IsExit (vertices_of s) p (displaced o) (links.at x) t.leaving =
+    record { side_in = t.leaving_below; left = t.left } in
     let back : IsBack links x t.leaving c.at = g.store.linked.back x t.leaving c.at l t.leaving_below t.across in
     let z = naming (links.next c.at) x back.side back.in_range back.named in
     ap (side_through links x) (exit_is s p o g x t.leaving l h) ∙ ap (side_into links x) t.across
     ∙ ap (λ (d : Side). Some d) (sym (step_is s p o g x t.leaving c.at (side_naming links c.at x) l h t.across z.0 z.1 c t))
 
-next_none : (s : Store) (p : ℕ) (o : Point) → IsGiven s p o → (x : ℕ) → IsLive (links_of s.slots) x → is_cell_of (vertices_of s) (displaced o) ((links_of s.slots).at x) ≡ true → next_side s p o x ≡ None
+next_none : (s : Store) (p : ℕ) (o : Point) → IsGiven s p o → (x : ℕ) → IsLive (links_of s.slots) x
+    → is_cell_of (vertices_of s) (displaced o) ((links_of s.slots).at x) ≡ true → next_side s p o x ≡ None
 next_none s p o g x l h = ap (side_through (links_of s.slots) x) (exit_none s p o g x l h)
 
 -- ---- all of them
-within_is : (s : Store) (p : ℕ) (o : Point) → IsGiven s p o → (n : ℕ) (cs : List Side) (x : ℕ) → IsLive (links_of s.slots) x → IsPathOf s p o x cs → length cs ≤ n → sides_within s p o n x ≡ cs
+within_is : (s : Store) (p : ℕ) (o : Point) → IsGiven s p o → (n : ℕ) (cs : List Side) (x : ℕ) → IsLive (links_of s.slots) x
+    → IsPathOf s p o x cs → length cs ≤ n → sides_within s p o n x ≡ cs
 within_is s p o g zero [] x l h b = refl
 within_is s p o g zero (c ∷ cs) x l h b = absurd (omega (arith, b))
 within_is s p o g (suc n) [] x l h b = ap (λ (d : Option Side). with_rest d (sides_within s p o n)) (next_none s p o g x l h)
@@ -180,14 +211,19 @@ within_is s p o g (suc n) (c ∷ cs) x l h b =
     ∙ ap (λ (ds : List Side). c ∷ ds) (within_is s p o g n cs c.at (live s.slots c.at t.listed) h.1 (omega (arith, b)))
 
 abbrev higher : Store → Point → ℕ → ℕ
-higher s o x = count (λ z. is_higher (vertices_of s) (displaced o) ((links_of s.slots).at x) ((links_of s.slots).at z)) (live_of s.slots)
+higher s o x =
+    count (λ z. is_higher (vertices_of s) (displaced o) ((links_of s.slots).at x) ((links_of s.slots).at z)) (live_of s.slots)
 
-short : (s : Store) (p : ℕ) (o : Point) → IsGiven s p o → (cs : List Side) (x : ℕ) → IsLive (links_of s.slots) x → IsPathOf s p o x cs → length cs ≤ higher s o x
+short : (s : Store) (p : ℕ) (o : Point) → IsGiven s p o → (cs : List Side) (x : ℕ) → IsLive (links_of s.slots) x
+    → IsPathOf s p o x cs → length cs ≤ higher s o x
 short s p o g [] x l h = omega arith
 short s p o g (c ∷ cs) x l h =
     let t : IsStepOf s p o x c = h.0 in
-    let w : IsWalk (vertices_of s) (live_of s.slots) (links_of s.slots).at (links_of s.slots).next (displaced o) = walks s g.store g.delaunay (displaced o) (near_law o o g.data_point g.data_point).scanner_in_box in
-    let f = w.falls x t.leaving c.at (listed s.slots x l) t.leaving_below (left_of (vertices_of s) p (displaced o) (facet_of ((links_of s.slots).at x) t.leaving) t.left).ahead t.across in
+    let w : IsWalk (vertices_of s) (live_of s.slots) (links_of s.slots).at (links_of s.slots).next (displaced o) =
+    walks s g.store g.delaunay (displaced o) (near_law o o g.data_point g.data_point).scanner_in_box in
+    let f =
+    w.falls x t.leaving c.at (listed s.slots x l) t.leaving_below
+    (left_of (vertices_of s) p (displaced o) (facet_of ((links_of s.slots).at x) t.leaving) t.left).ahead t.across in
     let r = short s p o g cs c.at (live s.slots c.at t.listed) h.1 in
     omega (arith, f, r)
 
@@ -207,10 +243,13 @@ few_live slots (suc n) = by (is_some (slot_at slots n)) (few_live slots n)
     by true r = omega (arith, r)
     by false r = omega (arith, r)
 
-pub sides_are : (s : Store) (p : ℕ) (o : Point) → IsGiven s p o → (cs : List Side) (x : ℕ) → IsLive (links_of s.slots) x → IsPathOf s p o x cs → sides_from s p o x ≡ cs
+pub sides_are : (s : Store) (p : ℕ) (o : Point) → IsGiven s p o → (cs : List Side) (x : ℕ) → IsLive (links_of s.slots) x
+    → IsPathOf s p o x cs → sides_from s p o x ≡ cs
 unfolding sides_from
 sides_are s p o g cs x l h =
     let a = short s p o g cs x l h in
-    let b = counted_below (λ z. is_higher (vertices_of s) (displaced o) ((links_of s.slots).at x) ((links_of s.slots).at z)) (live_of s.slots) in
+    let b =
+    counted_below (λ z. is_higher (vertices_of s) (displaced o) ((links_of s.slots).at x) ((links_of s.slots).at z))
+    (live_of s.slots) in
     let c = few_live s.slots (length s.slots) in
     within_is s p o g (length s.slots) cs x l h (omega (arith, a, b, c))

@@ -1,6 +1,7 @@
--- A walk along a sight, step by step: the facets to come are those of the path from the cell reached, a step takes the first of them,
--- and what is kept of a walk is kept.
-use Rattle.std.proofs.Common.{ℕ, ◌<◌, ◌≡◌, inl, ⊎_elim, refl, sym, ap, subst, ◌∙◌, Bool, true, false, Some, None, List, [], ◌∷◌, slice_index, slice_index_or}
+-- A walk along a sight, step by step: the facets to come are those of the path from the cell reached, a step takes the first of
+-- them, and what is kept of a walk is kept.
+use Rattle.std.proofs.Common.{ℕ, ◌<◌, ◌≡◌, inl, ⊎_elim, refl, sym, ap, subst, ◌∙◌, Bool, true, false, Some, None, List, [], ◌∷◌}
+use Rattle.std.proofs.Common.{slice_index, slice_index_or}
 use Rattle.geo_sign.specs.Point.{Point}
 use Rattle.geo_sign.specs.Rational.{RationalPoint, displaced}
 use Rattle.geo_sign.specs.Sights.{is_crossed, is_towards, is_cell_of}
@@ -26,20 +27,27 @@ use Rattle.sight.proofs.Paths.{IsGiven, passed, paths, IsPathOf, IsStepOf, comes
 pub given : (s : Store) (p : ℕ) (o : Point) (x : ℕ) (v : List ℕ) (k : ℕ) → IsStore s → IsWalking s p o x v k → IsGiven s p o
 given s p o x v k i w = record { store = i; delaunay = w.delaunay; inserted = w.inserted; data_point = w.data_point }
 
-pub exit_at : (s : Store) (p : ℕ) (o : Point) (x : ℕ) (v : List ℕ) (k j : ℕ) → IsWalking s p o x v k → IsExit (vertices_of s) p (displaced o) (tetrahedron_from v) j → IsExit (vertices_of s) p (displaced o) ((links_of s.slots).at x) j
+pub exit_at : (s : Store) (p : ℕ) (o : Point) (x : ℕ) (v : List ℕ) (k j : ℕ) → IsWalking s p o x v k
+    → IsExit (vertices_of s) p (displaced o) (tetrahedron_from v) j
+    → IsExit (vertices_of s) p (displaced o) ((links_of s.slots).at x) j
 exit_at s p o x v k j w h = subst (λ (t : Tetrahedron). IsExit (vertices_of s) p (displaced o) t j) (sym w.loaded) h
 
-pub goes_on : (s : Store) (p : ℕ) (o : Point) (x : ℕ) (v : List ℕ) (k j : ℕ) → IsStore s → IsWalking s p o x v k → IsExit (vertices_of s) p (displaced o) (tetrahedron_from v) j → (links_of s.slots).next x j ≡ None → ⊥
+pub goes_on : (s : Store) (p : ℕ) (o : Point) (x : ℕ) (v : List ℕ) (k j : ℕ) → IsStore s → IsWalking s p o x v k
+    → IsExit (vertices_of s) p (displaced o) (tetrahedron_from v) j → (links_of s.slots).next x j ≡ None → ⊥
 goes_on s p o x v k j i w h e =
     let x_out = exit_at s p o x v k j w h in
     let z : (y : ℕ) × ((links_of s.slots).next x j ≡ Some y) × IsIn (live_of s.slots) y =
-    (walks s i w.delaunay (displaced o) (near_law o o w.data_point w.data_point).scanner_in_box).goes_on x j (listed s.slots x w.live) x_out.side_in (left_of (vertices_of s) p (displaced o) (facet_of ((links_of s.slots).at x) j) x_out.left).ahead in
+    (walks s i w.delaunay (displaced o) (near_law o o w.data_point w.data_point).scanner_in_box).goes_on x j
+    (listed s.slots x w.live) x_out.side_in
+    (left_of (vertices_of s) p (displaced o) (facet_of ((links_of s.slots).at x) j) x_out.left).ahead in
     let f : None ≡ Some z.0 = sym e ∙ z.1 in
     cc
 
 -- the crossing that is taken is the first to come
-pub taken : (s : Store) (p : ℕ) (o : Point) (x : ℕ) (v : List ℕ) (k j y m : ℕ) → IsStore s → IsWalking s p o x v k → IsExit (vertices_of s) p (displaced o) (tetrahedron_from v) j → (links_of s.slots).next x j ≡ Some y → m < 4 → (links_of s.slots).next y m ≡ Some x →
-    sides_from s p o x ≡ record { at = y; side = m } ∷ sides_from s p o y
+pub taken : (s : Store) (p : ℕ) (o : Point) (x : ℕ) (v : List ℕ) (k j y m : ℕ) → IsStore s → IsWalking s p o x v k
+    → IsExit (vertices_of s) p (displaced o) (tetrahedron_from v) j → (links_of s.slots).next x j ≡ Some y → m < 4
+    → (links_of s.slots).next y m ≡ Some x
+    → sides_from s p o x ≡ record { at = y; side = m } ∷ sides_from s p o y
 taken s p o x v k j y m i w h e b n = by path.0 path.1
   where
     g : IsGiven s p o
@@ -49,7 +57,10 @@ taken s p o x v k j y m i w h e b n = by path.0 path.1
     x_out = exit_at s p o x v k j w h
 
     path : (cs : List Side) × IsPathOf s p o x cs
-    path = (paths s p o g).some x (listed s.slots x w.live) (subst (λ (t : Tetrahedron). IsOnSight (vertices_of s) p (displaced o) t) (sym w.loaded) (on_sight (vertices_of s) p (displaced o) (tetrahedron_from v) k w.came))
+    path =
+        (paths s p o g).some x (listed s.slots x w.live)
+        (subst (λ (t : Tetrahedron). IsOnSight (vertices_of s) p (displaced o) t) (sym w.loaded)
+        (on_sight (vertices_of s) p (displaced o) (tetrahedron_from v) k w.came))
 
     by : (cs : List Side) → IsPathOf s p o x cs → sides_from s p o x ≡ record { at = y; side = m } ∷ sides_from s p o y
     by [] q = absurd ((passed s p o g x w.live).not_both j x_out.left q)
@@ -57,25 +68,34 @@ taken s p o x v k j y m i w h e b n = by path.0 path.1
         let t : IsStepOf s p o x c = q.0 in
         let d : c ≡ record { at = y; side = m } = step_is s p o g x j y m w.live x_out e b n c t in
         let rest : sides_from s p o c.at ≡ cs = sides_are s p o g cs c.at (live s.slots c.at t.listed) q.1 in
-        sides_are s p o g (c ∷ cs) x w.live q ∙ ap (λ (ds : List Side). c ∷ ds) (sym rest) ∙ ap (λ (z : Side). z ∷ sides_from s p o z.at) d
+        sides_are s p o g (c ∷ cs) x w.live q ∙ ap (λ (ds : List Side). c ∷ ds) (sym rest)
+        ∙ ap (λ (z : Side). z ∷ sides_from s p o z.at) d
 
-pub none_left : (s : Store) (p : ℕ) (o : Point) (x : ℕ) (v : List ℕ) (k : ℕ) → IsStore s → IsWalking s p o x v k → is_cell_of (vertices_of s) (displaced o) (tetrahedron_from v) ≡ true → sides_from s p o x ≡ []
-none_left s p o x v k i w h = sides_are s p o (given s p o x v k i w) [] x w.live (subst (λ (t : Tetrahedron). is_cell_of (vertices_of s) (displaced o) t ≡ true) (sym w.loaded) h)
+pub none_left : (s : Store) (p : ℕ) (o : Point) (x : ℕ) (v : List ℕ) (k : ℕ) → IsStore s → IsWalking s p o x v k
+    → is_cell_of (vertices_of s) (displaced o) (tetrahedron_from v) ≡ true → sides_from s p o x ≡ []
+none_left s p o x v k i w h =
+    sides_are s p o (given s p o x v k i w) [] x w.live
+    (subst (λ (t : Tetrahedron). is_cell_of (vertices_of s) (displaced o) t ≡ true) (sym w.loaded) h)
 
-pub not_end : (s : Store) (p : ℕ) (o : Point) (x : ℕ) (v : List ℕ) (k j : ℕ) → IsStore s → IsWalking s p o x v k → IsExit (vertices_of s) p (displaced o) (tetrahedron_from v) j → is_cell_of (vertices_of s) (displaced o) ((links_of s.slots).at x) ≡ false
+pub not_end : (s : Store) (p : ℕ) (o : Point) (x : ℕ) (v : List ℕ) (k j : ℕ) → IsStore s → IsWalking s p o x v k
+    → IsExit (vertices_of s) p (displaced o) (tetrahedron_from v) j
+    → is_cell_of (vertices_of s) (displaced o) ((links_of s.slots).at x) ≡ false
 not_end s p o x v k j i w h = by (is_cell_of (vertices_of s) (displaced o) ((links_of s.slots).at x)) refl
   where
-    by : (b : Bool) → is_cell_of (vertices_of s) (displaced o) ((links_of s.slots).at x) ≡ b → is_cell_of (vertices_of s) (displaced o) ((links_of s.slots).at x) ≡ false
+    by : (b : Bool) → is_cell_of (vertices_of s) (displaced o) ((links_of s.slots).at x) ≡ b
+        → is_cell_of (vertices_of s) (displaced o) ((links_of s.slots).at x) ≡ false
     by true e = absurd ((passed s p o (given s p o x v k i w) x w.live).not_both j (exit_at s p o x v k j w h).left e)
     by false e = e
 
 -- ---- the sight
-pub sight : (s : Store) (p : ℕ) (o : Point) (x k : ℕ) → IsGiven s p o → IsLive (links_of s.slots) x → is_towards (vertices_of s) p (displaced o) ((links_of s.slots).at x) ≡ true →
-    IsSight (record { store = s; vertex = p; scanner = o; at = x; entered = k; to_come = sides_from s p o x })
+pub sight : (s : Store) (p : ℕ) (o : Point) (x k : ℕ) → IsGiven s p o → IsLive (links_of s.slots) x
+    → is_towards (vertices_of s) p (displaced o) ((links_of s.slots).at x) ≡ true
+    → IsSight (record { store = s; vertex = p; scanner = o; at = x; entered = k; to_come = sides_from s p o x })
 sight s p o x k g l h =
     let laws = paths s p o g in
     let path : (cs : List Side) × IsPathOf s p o x cs = laws.some x (listed s.slots x l) (inl h) in
-    subst (λ (cs : List Side). IsSight (record { store = s; vertex = p; scanner = o; at = x; entered = k; to_come = cs })) (sym (sides_are s p o g path.0 x l path.1))
+    subst (λ (cs : List Side). IsSight (record { store = s; vertex = p; scanner = o; at = x; entered = k; to_come = cs }))
+    (sym (sides_are s p o g path.0 x l path.1))
     (record {
       live = l;
       towards = h;
@@ -86,13 +106,16 @@ sight s p o x k g l h =
     })
 
 -- ---- how a walk goes on
-pub distinct_at : (s : Store) (p : ℕ) (o : Point) (x : ℕ) (v : List ℕ) (k : ℕ) → IsStore s → IsWalking s p o x v k → (i j : ℕ) → i < 4 → j < 4 → slice_index v i ≡ slice_index v j → i ≡ j
+pub distinct_at : (s : Store) (p : ℕ) (o : Point) (x : ℕ) (v : List ℕ) (k : ℕ) → IsStore s → IsWalking s p o x v k → (i j : ℕ)
+    → i < 4 → j < 4 → slice_index v i ≡ slice_index v j → i ≡ j
 distinct_at s p o x v k h w i j l m e =
     h.linked.distinct x i j w.live l m
     (subst (λ (t : Tetrahedron). vertex_of t i ≡ vertex_of t j) (sym w.loaded) (at_index v i l ∙ e ∙ sym (at_index v j m)))
 
-pub walks_on : (s : Store) (p : ℕ) (o : Point) (x : ℕ) (v : List ℕ) (k j y m : ℕ) (d : Cell) → IsStore s → IsWalking s p o x v k → IsExit (vertices_of s) p (displaced o) (tetrahedron_from v) j → (links_of s.slots).next x j ≡ Some y → slot_at s.slots y ≡ Some d → m < 4 →
-    slice_index_or d.next m None ≡ Some x → IsWalking s p o y d.v m
+pub walks_on : (s : Store) (p : ℕ) (o : Point) (x : ℕ) (v : List ℕ) (k j y m : ℕ) (d : Cell) → IsStore s → IsWalking s p o x v k
+    → IsExit (vertices_of s) p (displaced o) (tetrahedron_from v) j → (links_of s.slots).next x j ≡ Some y
+    → slot_at s.slots y ≡ Some d → m < 4
+    → slice_index_or d.next m None ≡ Some x → IsWalking s p o y d.v m
 walks_on s p o x v k j y m d i w h e f b n =
     let z = comes_in s p o i x j y m w.live (exit_at s p o x v k j w h) e b (next_is_at s.slots y m d f ∙ n) in
     record {
@@ -101,13 +124,21 @@ walks_on s p o x v k j y m d i w h e f b n =
       data_point = w.data_point;
       live = z.0;
       loaded = at_is s.slots y d f;
-      came = inl (b, subst (λ (t : Tetrahedron). is_crossed (vertices_of s) p (displaced o) (facet_of t m) ≡ true) (at_is s.slots y d f) z.1);
+      came =
+          inl (
+            b,
+            subst (λ (t : Tetrahedron). is_crossed (vertices_of s) p (displaced o) (facet_of t m) ≡ true)
+                (at_is s.slots y d f) z.1,
+          );
     }
 
 -- the walk before and after a step
-pub is_taken : (s : Store) (p : ℕ) (o : Point) (x : ℕ) (v : List ℕ) (k j y m : ℕ) (d : Cell) → IsStore s → IsWalking s p o x v k → IsExit (vertices_of s) p (displaced o) (tetrahedron_from v) j → (links_of s.slots).next x j ≡ Some y → slot_at s.slots y ≡ Some d → m < 4 →
-    slice_index_or d.next m None ≡ Some x → (f : List ℕ) → facet_at f ≡ facet_of (tetrahedron_from d.v) m →
-    IsTaken (record { store = s; vertex = p; scanner = o; at = x; entered = k; to_come = sides_from s p o x }) (record { store = s; vertex = p; scanner = o; at = y; entered = m; to_come = sides_from s p o y })
+pub is_taken : (s : Store) (p : ℕ) (o : Point) (x : ℕ) (v : List ℕ) (k j y m : ℕ) (d : Cell) → IsStore s → IsWalking s p o x v k
+    → IsExit (vertices_of s) p (displaced o) (tetrahedron_from v) j → (links_of s.slots).next x j ≡ Some y
+    → slot_at s.slots y ≡ Some d → m < 4
+    → slice_index_or d.next m None ≡ Some x → (f : List ℕ) → facet_at f ≡ facet_of (tetrahedron_from d.v) m
+    → IsTaken (record { store = s; vertex = p; scanner = o; at = x; entered = k; to_come = sides_from s p o x })
+    (record { store = s; vertex = p; scanner = o; at = y; entered = m; to_come = sides_from s p o y })
     (record { facet = f; scanner_side = y; point_side = x })
 is_taken s p o x v k j y m d i w h e g b n f q =
     let back = next_is_at s.slots y m d g ∙ n in
@@ -123,18 +154,24 @@ is_taken s p o x v k j y m d i w h e g b n f q =
     }
 
 -- ---- a walk whose end is known
-pub ahead_there : (s : Store) (p : ℕ) (o : Point) (x : ℕ) (v : List ℕ) (k j e : ℕ) → IsStore s → IsWalking s p o x v k → IsEndCell s o e → ¬ (x ≡ e) → ((i : ℕ) → IsExit (vertices_of s) p (displaced o) (tetrahedron_from v) i → i ≡ j) →
-    IsExit (vertices_of s) p (displaced o) (tetrahedron_from v) j
+pub ahead_there : (s : Store) (p : ℕ) (o : Point) (x : ℕ) (v : List ℕ) (k j e : ℕ) → IsStore s → IsWalking s p o x v k
+    → IsEndCell s o e → ¬ (x ≡ e) → ((i : ℕ) → IsExit (vertices_of s) p (displaced o) (tetrahedron_from v) i → i ≡ j)
+    → IsExit (vertices_of s) p (displaced o) (tetrahedron_from v) j
 ahead_there s p o x v k j e h w end n only =
     let q : RationalPoint = displaced o in let t = tetrahedron_from v in
-    let pass : IsPassed (vertices_of s) p q t = subst (λ (r : Tetrahedron). IsPassed (vertices_of s) p q r) w.loaded (passed s p o (given s p o x v k h w) x w.live) in
+    let pass : IsPassed (vertices_of s) p q t =
+    subst (λ (r : Tetrahedron). IsPassed (vertices_of s) p q r) w.loaded (passed s p o (given s p o x v k h w) x w.live) in
     ⊎_elim
     (λ (z : (i : ℕ) × (i < 4) × (is_crossed (vertices_of s) p q (turned (facet_of t i)) ≡ true)).
-    let y : IsExit (vertices_of s) p q t z.0 = record { side_in = z.1; left = z.2 } in subst (λ (i : ℕ). IsExit (vertices_of s) p q t i) (only z.0 y) y)
+    let y : IsExit (vertices_of s) p q t z.0 = record { side_in = z.1; left = z.2 } in
+    subst (λ (i : ℕ). IsExit (vertices_of s) p q t i) (only z.0 y) y)
     (λ (z : is_cell_of (vertices_of s) q t ≡ true).
-    absurd (n (one_scanner_cell s h w.delaunay o w.data_point x e w.live end.live (subst (λ (r : Tetrahedron). is_cell_of (vertices_of s) q r ≡ true) (sym w.loaded) z) end.is)))
+    absurd (n (one_scanner_cell s h w.delaunay o w.data_point x e w.live end.live
+    (subst (λ (r : Tetrahedron). is_cell_of (vertices_of s) q r ≡ true) (sym w.loaded) z) end.is)))
     (pass.exit_or_end (on_sight (vertices_of s) p q t k w.came))
 
-pub end_here : (s : Store) (p : ℕ) (o : Point) (x : ℕ) (v : List ℕ) (k e : ℕ) → IsWalking s p o x v k → IsEndCell s o e → x ≡ e → is_cell_of (vertices_of s) (displaced o) (tetrahedron_from v) ≡ true
+pub end_here : (s : Store) (p : ℕ) (o : Point) (x : ℕ) (v : List ℕ) (k e : ℕ) → IsWalking s p o x v k → IsEndCell s o e → x ≡ e
+    → is_cell_of (vertices_of s) (displaced o) (tetrahedron_from v) ≡ true
 end_here s p o x v k e w end i =
-    subst (λ (r : Tetrahedron). is_cell_of (vertices_of s) (displaced o) r ≡ true) (ap (links_of s.slots).at (sym i) ∙ w.loaded) end.is
+    subst (λ (r : Tetrahedron). is_cell_of (vertices_of s) (displaced o) r ≡ true)
+    (ap (links_of s.slots).at (sym i) ∙ w.loaded) end.is

@@ -13,7 +13,8 @@
 --   IsEndCell s o e             the cell e is the scanner's
 --   IsWalking s p o x v k       what is kept of each walk
 --
--- The list to come follows from the store, the sight and the cell reached, so it is no field of a walk: `sides_from` is that list.
+-- The list to come follows from the store, the sight and the cell reached, so it is no field of a walk: `sides_from` is that
+-- list.
 -- What a reader has to believe of it is `IsSight` alone, which leaves one list: the crossed facets, each once, in their order.
 use Rattle.std.specs.Prelude.{ℕ, zero, suc, ◌≡◌, ◌<◌, ◌==◌, Bool, true, false, List, [], ◌∷◌, Option, Some, None, length}
 use Rattle.geo_sign.specs.declared.point.TheConstants.{DATA_LIMIT}
@@ -73,7 +74,8 @@ number_first false false false = 3
 
 -- the side of y that names x
 abbrev pub side_naming : Links → (y x : ℕ) → ℕ
-side_naming links y x = number_first (is_some_of (links.next y 0) x) (is_some_of (links.next y 1) x) (is_some_of (links.next y 2) x)
+side_naming links y x =
+    number_first (is_some_of (links.next y 0) x) (is_some_of (links.next y 1) x) (is_some_of (links.next y 2) x)
 
 -- the side of the neighbor, if there is one, that names x
 abbrev pub side_into : Links → ℕ → Option ℕ → Option Side
@@ -110,15 +112,20 @@ pub record IsSight (w : Walk) : Type 0 where
   pub live : IsLive (links_of w.store.slots) w.at
   pub towards : is_towards (vertices_of w.store) w.vertex (displaced w.scanner) ((links_of w.store.slots).at w.at) ≡ true
   -- each facet is between the cell reached and the next one, and the last cell is the scanner's
-  pub path : IsPath (vertices_of w.store) (live_of w.store.slots) (links_of w.store.slots).at (links_of w.store.slots).next w.vertex (displaced w.scanner) w.at w.to_come
-  pub crossed : (c : Side) → IsIn w.to_come c → IsLive (links_of w.store.slots) c.at × (c.side < 4) × (is_crossed (vertices_of w.store) w.vertex (displaced w.scanner) (entered (links_of w.store.slots).at c) ≡ true)
+  pub path : IsPath (vertices_of w.store) (live_of w.store.slots) (links_of w.store.slots).at (links_of w.store.slots).next
+      w.vertex (displaced w.scanner) w.at w.to_come
+  pub crossed : (c : Side) → IsIn w.to_come c
+      → IsLive (links_of w.store.slots) c.at × (c.side < 4)
+      × (is_crossed (vertices_of w.store) w.vertex (displaced w.scanner) (entered (links_of w.store.slots).at c) ≡ true)
   -- each facet stands in the list once or not at all, as the sight crosses it or not
-  pub counted : (c : Side) → IsLive (links_of w.store.slots) c.at → c.side < 4 → count (is_that c) w.to_come ≡ one_if (is_crossed (vertices_of w.store) w.vertex (displaced w.scanner) (entered (links_of w.store.slots).at c))
+  pub counted : (c : Side) → IsLive (links_of w.store.slots) c.at → c.side < 4
+      → count (is_that c) w.to_come
+      ≡ one_if (is_crossed (vertices_of w.store) w.vertex (displaced w.scanner) (entered (links_of w.store.slots).at c))
   -- each is nearer to the vertex than each later one
   pub nearing : AreNearing (vertices_of w.store) (links_of w.store.slots).at w.vertex (displaced w.scanner) w.to_come
 
--- a step from w to v: the cell that is entered is the scanner side, and the facet is its own; the cell left is the point side, and is
--- across that facet
+-- a step from w to v: the cell that is entered is the scanner side, and the facet is its own; the cell left is the point side,
+-- and is across that facet
 pub record IsTaken (w v : Walk) (c : Crossing) : Type 0 where
   pub same : (v.store ≡ w.store) × (v.vertex ≡ w.vertex) × (v.scanner ≡ w.scanner)
   pub first : w.to_come ≡ record { at = v.at; side = v.entered } ∷ v.to_come

@@ -1,5 +1,6 @@
 -- Counts of directed edges, and what the two lists of pairs say of them.
-use Rattle.std.proofs.Common.{ℕ, ◌≡◌, ◌+◌, ◌<◌, ◌≤◌, ◌^◌, ◌==◌, refl, ap, sym, ◌∙◌, arith, Bool, true, false, List, [], ◌∷◌, length, get_or, take, inl, inr}
+use Rattle.std.proofs.Common.{ℕ, ◌≡◌, ◌+◌, ◌<◌, ◌≤◌, ◌^◌, ◌==◌, refl, ap, sym, ◌∙◌, arith, Bool, true, false, List, [], ◌∷◌}
+use Rattle.std.proofs.Common.{length, get_or, take, inl, inr}
 use Rattle.std.specs.List.{All}
 use Rattle.std.specs.List.Sorted.{IsPermutation}
 use Rattle.std.proofs.lemmas.Bool.{cases_lt}
@@ -14,22 +15,31 @@ use Rattle.solid_slice.proofs.Counts.{one_if}
 use Rattle.solid_slice.proofs.FaceEdges.{edge_within, face_among_more}
 
 -- one face more
-pub edge_count_more : (u v : ℕ) (faces : List (List ℕ)) (i : ℕ) (d : List ℕ) → i < length faces → edge_count u v (take (i + 1) faces) ≡ edge_count u v (take i faces) + one_if (has_edge u v (get_or faces i d))
+pub edge_count_more : (u v : ℕ) (faces : List (List ℕ)) (i : ℕ) (d : List ℕ) → i < length faces
+    → edge_count u v (take (i + 1) faces) ≡ edge_count u v (take i faces) + one_if (has_edge u v (get_or faces i d))
 edge_count_more u v faces i d l = sum_by_more (λ f. one_if (has_edge u v f)) faces i d l
 
 -- an edge that has a vertex beyond all does not occur
-pub edge_count_past : (u v n : ℕ) (faces : List (List ℕ)) → All (IsFace n) faces → ((u < n) × (v < n) → ⊥) → edge_count u v faces ≡ 0
+pub edge_count_past : (u v n : ℕ) (faces : List (List ℕ)) → All (IsFace n) faces → ((u < n) × (v < n) → ⊥)
+    → edge_count u v faces ≡ 0
 edge_count_past u v n [] o past = refl
 edge_count_past u v n (f ∷ faces) o past =
-    omega (arith, sum_by-cons (λ g. one_if (has_edge u v g)) f faces, none (has_edge u v f) refl, edge_count_past u v n faces (All-tail (IsFace n) f faces o) past)
+    omega (
+      arith,
+      sum_by-cons (λ g. one_if (has_edge u v g)) f faces,
+      none (has_edge u v f) refl,
+      edge_count_past u v n faces (All-tail (IsFace n) f faces o) past,
+    )
   where
     none : (b : Bool) → has_edge u v f ≡ b → one_if (has_edge u v f) ≡ 0
     none true e = absurd (past (edge_within n u v f (o 0 f (omega arith)) e))
     none false e = ap one_if e
 
-module _ (faces : List (List ℕ)) (there back : List Pair) (each : All (IsFace (2 ^ 32)) faces) (pairs : IsPairOf faces there back) where
+module _ (faces : List (List ℕ)) (there back : List Pair) (each : All (IsFace (2 ^ 32)) faces)
+    (pairs : IsPairOf faces there back) where
   -- a pair whose number the two lists have equally often is balanced
-  balanced_at : (u v : ℕ) → u < v → (v < 2 ^ 32 → key_count (key_of u v) there ≡ key_count (key_of u v) back) → edge_count u v faces ≡ edge_count v u faces
+  balanced_at : (u v : ℕ) → u < v → (v < 2 ^ 32 → key_count (key_of u v) there ≡ key_count (key_of u v) back)
+      → edge_count u v faces ≡ edge_count v u faces
   balanced_at u v l same =
       elim (cases_lt v (2 ^ 32)) [
         | inl m ↦ sym (pairs.there_count u v l m) ∙ (same m ∙ pairs.back_count u v l m)
@@ -45,12 +55,15 @@ module _ (faces : List (List ℕ)) (there back : List Pair) (each : All (IsFace 
         | inl l ↦ balanced_at u v l (λ _. same (key_of u v))
         | inr l ↦ elim (cases_lt v u) [
           | inl m ↦ sym (balanced_at v u m (λ _. same (key_of v u)))
-          | inr m ↦ let e : u ≡ v = omega arith in ap (λ (w : ℕ). edge_count u w faces) (sym e) ∙ ap (λ (w : ℕ). edge_count w u faces) e
+          | inr m ↦
+              let e : u ≡ v = omega arith in
+              ap (λ (w : ℕ). edge_count u w faces) (sym e) ∙ ap (λ (w : ℕ). edge_count w u faces) e
         ]
       ]
 
   -- the first difference is the smallest pair that is not balanced, and m and n are its counts
-  pub unbalanced : (p : Pair) (m n : ℕ) → p.second < 2 ^ 32 → p.first < p.second → IsFirstDifference there back p → m ≡ key_count (key_of_pair p) there → n ≡ key_count (key_of_pair p) back → IsUnbalanced faces p.first p.second m n
+  pub unbalanced : (p : Pair) (m n : ℕ) → p.second < 2 ^ 32 → p.first < p.second → IsFirstDifference there back p
+      → m ≡ key_count (key_of_pair p) there → n ≡ key_count (key_of_pair p) back → IsUnbalanced faces p.first p.second m n
   unbalanced p m n small rising d em en =
       record {
         rising = rising;
@@ -62,7 +75,9 @@ module _ (faces : List (List ℕ)) (there back : List Pair) (each : All (IsFace 
               | inl l ↦ before a b l first
               | inr l ↦ elim (cases_lt b a) [
                 | inl m ↦ sym (before b a m (turned a b m first))
-                | inr m ↦ let e : a ≡ b = omega arith in ap (λ (w : ℕ). edge_count a w faces) (sym e) ∙ ap (λ (w : ℕ). edge_count w a faces) e
+                | inr m ↦
+                    let e : a ≡ b = omega arith in
+                    ap (λ (w : ℕ). edge_count a w faces) (sym e) ∙ ap (λ (w : ℕ). edge_count w a faces) e
               ]
             ];
       }
@@ -79,19 +94,40 @@ module _ (faces : List (List ℕ)) (there back : List Pair) (each : All (IsFace 
       before a b l first = balanced_at a b l (λ m. d.same (key_of a b) (smaller a b m first))
 
 -- one face more
-pub pairs_more : (faces : List (List ℕ)) (i : ℕ) (there back there' back' : List Pair) (face : List ℕ) → i < length faces → face ≡ get_or faces i [] → IsPairOf (take i faces) there back → HasGained (λ u v. has_edge u v face) there there' → HasGained (λ u v. has_edge v u face) back back' → IsPairOf (take (i + 1) faces) there' back'
+pub pairs_more : (faces : List (List ℕ)) (i : ℕ) (there back there' back' : List Pair) (face : List ℕ) → i < length faces
+    → face ≡ get_or faces i [] → IsPairOf (take i faces) there back → HasGained (λ u v. has_edge u v face) there there'
+    → HasGained (λ u v. has_edge v u face) back back' → IsPairOf (take (i + 1) faces) there' back'
 pairs_more faces i there back there' back' face l e pairs gained gained' =
     record {
-      there_count = λ u v a b. omega (arith, gained u v a b, pairs.there_count u v a b, edge_count_more u v faces i [] l, ap (λ (f : List ℕ). one_if (has_edge u v f)) e);
-      back_count = λ u v a b. omega (arith, gained' u v a b, pairs.back_count u v a b, edge_count_more v u faces i [] l, ap (λ (f : List ℕ). one_if (has_edge v u f)) e);
+      there_count =
+          λ u v a b. omega (
+            arith,
+            gained u v a b,
+            pairs.there_count u v a b,
+            edge_count_more u v faces i [] l,
+            ap (λ (f : List ℕ). one_if (has_edge u v f)) e,
+          );
+      back_count =
+          λ u v a b. omega (
+            arith,
+            gained' u v a b,
+            pairs.back_count u v a b,
+            edge_count_more v u faces i [] l,
+            ap (λ (f : List ℕ). one_if (has_edge v u f)) e,
+          );
     }
 
 -- sorting keeps the counts
-pub pairs_moved : (faces : List (List ℕ)) (there back there' back' : List Pair) → IsPairOf faces there back → IsPermutation there there' → IsPermutation back back' → IsPairOf faces there' back'
+pub pairs_moved : (faces : List (List ℕ)) (there back there' back' : List Pair) → IsPairOf faces there back
+    → IsPermutation there there' → IsPermutation back back' → IsPairOf faces there' back'
 pairs_moved faces there back there' back' pairs moved moved' =
     record {
-      there_count = λ u v a b. sum_by-IsPermutation (λ p. one_if (key_of_pair p == key_of u v)) there there' moved ∙ pairs.there_count u v a b;
-      back_count = λ u v a b. sum_by-IsPermutation (λ p. one_if (key_of_pair p == key_of u v)) back back' moved' ∙ pairs.back_count u v a b;
+      there_count =
+          λ u v a b. sum_by-IsPermutation (λ p. one_if (key_of_pair p == key_of u v)) there there' moved
+          ∙ pairs.there_count u v a b;
+      back_count =
+          λ u v a b. sum_by-IsPermutation (λ p. one_if (key_of_pair p == key_of u v)) back back' moved'
+          ∙ pairs.back_count u v a b;
     }
 
 pub each_among : (n : ℕ) (faces : List (List ℕ)) → n < 2 ^ 32 → All (IsFace n) faces → All (IsFace (2 ^ 32)) faces

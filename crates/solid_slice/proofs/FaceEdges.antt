@@ -1,5 +1,6 @@
 -- The edges of one face: which one goes up and which down, by any test of its vertices.
-use Rattle.std.proofs.Common.{ℕ, ◌≡◌, ◌<◌, ◌≤◌, ◌^◌, ◌==◌, ◌&&◌, ◌||◌, ◌⊎◌, refl, ap, sym, ◌∙◌, arith, Bool, true, false, not, List, [], ◌∷◌, inl, inr}
+use Rattle.std.proofs.Common.{ℕ, ◌≡◌, ◌<◌, ◌≤◌, ◌^◌, ◌==◌, ◌&&◌, ◌||◌, ◌⊎◌, refl, ap, sym, ◌∙◌, arith, Bool, true, false, not}
+use Rattle.std.proofs.Common.{List, [], ◌∷◌, inl, inr}
 use Rattle.std.specs.List.{list_any}
 use Rattle.std.proofs.lemmas.Bool.{false≢true, eqb-true}
 use Rattle.std.proofs.lemmas.Bool.Decides.{nat_tests}
@@ -51,11 +52,15 @@ one_of : (a b c u v : ℕ) → has_edge u v (a ∷ b ∷ c ∷ []) ≡ true → 
 one_of a b c u v e =
     elim (one_true (is_edge u v a b) (is_edge u v b c || is_edge u v c a) e) [
       | inl p ↦ inl (edge_parts u v a b p)
-      | inr p ↦ elim (one_true (is_edge u v b c) (is_edge u v c a) p) [ inl q ↦ inr (inl (edge_parts u v b c q)) | inr q ↦ inr (inr (edge_parts u v c a q)) ]
+      | inr p ↦ elim (one_true (is_edge u v b c) (is_edge u v c a) p) [
+        | inl q ↦ inr (inl (edge_parts u v b c q))
+        | inr q ↦ inr (inr (edge_parts u v c a q))
+      ]
     ]
 
 -- Of a face's edges one alone goes from a vertex that fails the test to one that passes.
-pub same_edge : (test : ℕ → Bool) (face : List ℕ) (s t u v : ℕ) → has_edge s t face ≡ true → has_edge u v face ≡ true → test s ≡ false → test t ≡ true → test u ≡ false → test v ≡ true → (s ≡ u) × (t ≡ v)
+pub same_edge : (test : ℕ → Bool) (face : List ℕ) (s t u v : ℕ) → has_edge s t face ≡ true → has_edge u v face ≡ true
+    → test s ≡ false → test t ≡ true → test u ≡ false → test v ≡ true → (s ≡ u) × (t ≡ v)
 same_edge test [] s t u v e f _ _ _ _ = absurd (false≢true e)
 same_edge test (a ∷ []) s t u v e f _ _ _ _ = absurd (false≢true e)
 same_edge test (a ∷ b ∷ []) s t u v e f _ _ _ _ = absurd (false≢true e)
@@ -77,7 +82,8 @@ abbrev Passes : (ℕ → Bool) → (a b c : ℕ) → Type 0
 Passes test a b c = (test a || (test b || (test c || false))) ≡ true
 
 -- The ends of a face's edge are vertices of the face.
-pub ends_in : (test : ℕ → Bool) (face : List ℕ) (u v : ℕ) → has_edge u v face ≡ true → (test u ≡ true → list_any test face ≡ true) × (test v ≡ true → list_any test face ≡ true)
+pub ends_in : (test : ℕ → Bool) (face : List ℕ) (u v : ℕ) → has_edge u v face ≡ true
+    → (test u ≡ true → list_any test face ≡ true) × (test v ≡ true → list_any test face ≡ true)
 ends_in test [] u v e = absurd (false≢true e)
 ends_in test (a ∷ []) u v e = absurd (false≢true e)
 ends_in test (a ∷ b ∷ []) u v e = absurd (false≢true e)
@@ -102,7 +108,9 @@ abbrev Down : (ℕ → Bool) → (a b c : ℕ) → Type 0
 Down test a b c = (u : ℕ) × (v : ℕ) × (has_edge u v (a ∷ b ∷ c ∷ []) ≡ true) × (test u ≡ true) × (test v ≡ false)
 
 -- A face with vertices of both kinds has an edge from one that passes to one that fails.
-pub down_edge_of : (test : ℕ → Bool) (face : List ℕ) (n : ℕ) → IsFace n face → (list_any test face && list_any (λ v. not (test v)) face) ≡ true → (u : ℕ) × (v : ℕ) × (has_edge u v face ≡ true) × (test u ≡ true) × (test v ≡ false)
+pub down_edge_of : (test : ℕ → Bool) (face : List ℕ) (n : ℕ) → IsFace n face
+    → (list_any test face && list_any (λ v. not (test v)) face) ≡ true
+    → (u : ℕ) × (v : ℕ) × (has_edge u v face ≡ true) × (test u ≡ true) × (test v ≡ false)
 down_edge_of test [] n o e = absurd o
 down_edge_of test (a ∷ []) n o e = absurd o
 down_edge_of test (a ∷ b ∷ []) n o e = absurd o
@@ -113,15 +121,32 @@ down_edge_of test (a ∷ b ∷ c ∷ []) n o e = by (test a) (test b) (test c) r
     first p q = (a, b, or_left (is_edge a b a b) (is_edge a b b c || is_edge a b c a) (edge_itself a b), p, q)
 
     second : test b ≡ true → test c ≡ false → Down test a b c
-    second p q = (b, c, or_right (is_edge b c a b) (is_edge b c b c || is_edge b c c a) (or_left (is_edge b c b c) (is_edge b c c a) (edge_itself b c)), p, q)
+    second p q = (
+      b,
+      c,
+      or_right (is_edge b c a b) (is_edge b c b c || is_edge b c c a)
+          (or_left (is_edge b c b c) (is_edge b c c a) (edge_itself b c)),
+      p,
+      q,
+    )
 
     third : test c ≡ true → test a ≡ false → Down test a b c
-    third p q = (c, a, or_right (is_edge c a a b) (is_edge c a b c || is_edge c a c a) (or_right (is_edge c a b c) (is_edge c a c a) (edge_itself c a)), p, q)
+    third p q = (
+      c,
+      a,
+      or_right (is_edge c a a b) (is_edge c a b c || is_edge c a c a)
+          (or_right (is_edge c a b c) (is_edge c a c a) (edge_itself c a)),
+      p,
+      q,
+    )
 
-    none : (p q r : Bool) → test a ≡ p → test b ≡ q → test c ≡ r → ((p || (q || (r || false))) && (not p || (not q || (not r || false)))) ≡ false → Down test a b c
+    none : (p q r : Bool) → test a ≡ p → test b ≡ q → test c ≡ r
+        → ((p || (q || (r || false))) && (not p || (not q || (not r || false)))) ≡ false → Down test a b c
     none p q r f g h same = absurd (false≢true (sym same ∙ (same_test p q r f g h ∙ e)))
       where
-        same_test : (p q r : Bool) → test a ≡ p → test b ≡ q → test c ≡ r → ((p || (q || (r || false))) && (not p || (not q || (not r || false)))) ≡ (list_any test (a ∷ b ∷ c ∷ []) && list_any (λ v. not (test v)) (a ∷ b ∷ c ∷ []))
+        same_test : (p q r : Bool) → test a ≡ p → test b ≡ q → test c ≡ r
+            → ((p || (q || (r || false))) && (not p || (not q || (not r || false))))
+            ≡ (list_any test (a ∷ b ∷ c ∷ []) && list_any (λ v. not (test v)) (a ∷ b ∷ c ∷ []))
         same_test p q r f g h = cc
 
     by : (p q r : Bool) → test a ≡ p → test b ≡ q → test c ≡ r → Down test a b c

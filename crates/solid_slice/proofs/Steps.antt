@@ -1,5 +1,6 @@
 -- The numbers of a step, as the code computes them.
-use Rattle.std.proofs.Common.{ℕ, ◌≡◌, ◌+◌, ◌*◌, ◌<◌, ◌≤◌, refl, ap, sym, ◌∙◌, subst, arith, true, false, List, length, get_or, ℤ, pos, ◌+ℤ◌, ◌-ℤ◌, ◌*ℤ◌, unsigned_abs}
+use Rattle.std.proofs.Common.{ℕ, ◌≡◌, ◌+◌, ◌*◌, ◌<◌, ◌≤◌, refl, ap, sym, ◌∙◌, subst, arith, true, false, List, length, get_or}
+use Rattle.std.proofs.Common.{ℤ, pos, ◌+ℤ◌, ◌-ℤ◌, ◌*ℤ◌, unsigned_abs}
 use Rattle.std.specs.List.{All}
 use Rattle.std.specs.Int.Signed.{lt_z}
 use Rattle.std.proofs.lemmas.Int.{ints}
@@ -10,7 +11,8 @@ use Rattle.geo_sign.proofs.Bounds.{Held, kept, held, held_kept, held_sub, held_a
 use Rattle.mesh_ply.specs.Meshes.{point_at}
 use Rattle.solid_slice.specs.Cuts.{is_above}
 
-pub boxed_at : (points : List Point) (i : ℕ) (p : Point) → All (IsWithin 8388608) points → i < length points → p ≡ get_or points i p → IsWithin 8388608 p
+pub boxed_at : (points : List Point) (i : ℕ) (p : Point) → All (IsWithin 8388608) points → i < length points
+    → p ≡ get_or points i p → IsWithin 8388608 p
 boxed_at points i p boxed l e = subst (λ (q : Point). IsWithin 8388608 q) (sym e) (boxed i p l)
 
 -- a coordinate, read as 32 bits and stored as 64
@@ -20,20 +22,28 @@ held_coordinate r s z e f l =
     held_kept w64 (record { is = e ∙ small.is; within = l }) tt
 
 -- the height is between those of the edge's ends
-pub height_within : (h a b : ℤ) → lt_z h a ≡ false → lt_z h b ≡ true → unsigned_abs a ≤ 8388608 → unsigned_abs b ≤ 8388608 → unsigned_abs h ≤ 8388608
+pub height_within : (h a b : ℤ) → lt_z h a ≡ false → lt_z h b ≡ true → unsigned_abs a ≤ 8388608 → unsigned_abs b ≤ 8388608
+    → unsigned_abs h ≤ 8388608
 height_within h a b e f l m = grind (arith, ints)
 
-pub held_rise : {t u v w : ℤ} → Held 8388608 t v → Held 8388608 u w → Held (2 * (8388608 + 8388608)) (kept w64 (pos 2 *ℤ kept w64 (t -ℤ u))) (pos 2 *ℤ (v -ℤ w))
+pub held_rise : {t u v w : ℤ} → Held 8388608 t v → Held 8388608 u w
+    → Held (2 * (8388608 + 8388608)) (kept w64 (pos 2 *ℤ kept w64 (t -ℤ u))) (pos 2 *ℤ (v -ℤ w))
 held_rise p q = held_kept w64 (held_mul (held 2 (pos 2) (omega arith)) (held_kept w64 (held_sub p q) tt)) tt
 
-pub held_climb : {t u h w : ℤ} → Held 8388608 t h → Held 8388608 u w → Held (2 * 8388608 + 1 + 2 * 8388608) (kept w64 (kept w64 (pos 2 *ℤ t) +ℤ pos 1) -ℤ kept w64 (pos 2 *ℤ u)) ((pos 2 *ℤ h +ℤ pos 1) -ℤ pos 2 *ℤ w)
+pub held_climb : {t u h w : ℤ} → Held 8388608 t h → Held 8388608 u w
+    → Held (2 * 8388608 + 1 + 2 * 8388608) (kept w64 (kept w64 (pos 2 *ℤ t) +ℤ pos 1) -ℤ kept w64 (pos 2 *ℤ u))
+    ((pos 2 *ℤ h +ℤ pos 1) -ℤ pos 2 *ℤ w)
 held_climb p q =
-    held_sub (held_kept w64 (held_add (held_kept w64 (held_mul (held 2 (pos 2) (omega arith)) p) tt) (held 1 (pos 1) (omega arith))) tt) (held_kept w64 (held_mul (held 2 (pos 2) (omega arith)) q) tt)
+    held_sub (held_kept w64
+    (held_add (held_kept w64 (held_mul (held 2 (pos 2) (omega arith)) p) tt) (held 1 (pos 1) (omega arith))) tt)
+    (held_kept w64 (held_mul (held 2 (pos 2) (omega arith)) q) tt)
 
-pub along_is : {f t d c f' t' d' c' r : ℤ} → r ≡ f *ℤ d +ℤ (t -ℤ f) *ℤ c → f ≡ f' → t ≡ t' → d ≡ d' → c ≡ c' → r ≡ f' *ℤ d' +ℤ (t' -ℤ f') *ℤ c'
+pub along_is : {f t d c f' t' d' c' r : ℤ} → r ≡ f *ℤ d +ℤ (t -ℤ f) *ℤ c → f ≡ f' → t ≡ t' → d ≡ d' → c ≡ c'
+    → r ≡ f' *ℤ d' +ℤ (t' -ℤ f') *ℤ c'
 along_is e p q r s = cc
 
-module _ (points : List Point) (boxed : All (IsWithin 8388608) points) (i : ℕ) (l : i < length points) (p : Point) (is : p ≡ get_or points i p) (r s : ℤ) (stored : r ≡ kept w32 s) where
+module _ (points : List Point) (boxed : All (IsWithin 8388608) points) (i : ℕ) (l : i < length points) (p : Point)
+    (is : p ≡ get_or points i p) (r s : ℤ) (stored : r ≡ kept w32 s) where
   here : p ≡ point_at points i
   here = is ∙ get_or_default points i p origin l
 
@@ -46,6 +56,10 @@ module _ (points : List Point) (boxed : All (IsWithin 8388608) points) (i : ℕ)
   pub held_z : s ≡ p.z → Held 8388608 (kept w64 r) (point_at points i).z
   held_z e = held_coordinate r s (point_at points i).z stored (e ∙ ap (λ (q : Point). q.z) here) (boxed i origin l).z_within
 
-pub held_height : (points : List Point) (boxed : All (IsWithin 8388608) points) (i j : ℕ) → i < length points → j < length points → (h r : ℤ) → is_above points h i ≡ false → is_above points h j ≡ true → r ≡ kept w32 h → Held 8388608 (kept w64 r) h
+pub held_height : (points : List Point) (boxed : All (IsWithin 8388608) points) (i j : ℕ) → i < length points
+    → j < length points → (h r : ℤ) → is_above points h i ≡ false → is_above points h j ≡ true → r ≡ kept w32 h
+    → Held 8388608 (kept w64 r) h
 held_height points boxed i j l m h r low high stored =
-    held_coordinate r h h stored refl (height_within h (point_at points i).z (point_at points j).z low high (boxed i origin l).z_within (boxed j origin m).z_within)
+    held_coordinate r h h stored refl
+    (height_within h (point_at points i).z (point_at points j).z low high (boxed i origin l).z_within
+    (boxed j origin m).z_within)

@@ -1,5 +1,6 @@
 -- How many steps the loops have together: no more than there are faces, since each face stands in them once at most.
-use Rattle.std.proofs.Common.{ℕ, zero, suc, ◌≡◌, ◌+◌, ◌<◌, ◌≤◌, ◌==◌, refl, ap, arith, Bool, true, false, not, cond, List, [], ◌∷◌, length, get_or, map, filter, ℤ}
+use Rattle.std.proofs.Common.{ℕ, zero, suc, ◌≡◌, ◌+◌, ◌<◌, ◌≤◌, ◌==◌, refl, ap, arith, Bool, true, false, not, cond, List, []}
+use Rattle.std.proofs.Common.{◌∷◌, length, get_or, map, filter, ℤ}
 use Rattle.std.specs.List.{All, count_by, sum_by, concat}
 use Rattle.std.proofs.lemmas.Bool.{eqb-false}
 use Rattle.std.proofs.lemmas.List.{length-append, length-map}
@@ -54,21 +55,31 @@ few_numbers (suc n) xs once below =
 
 length_concat : (xss : List (List ℕ)) → length (concat xss) ≡ sum_by (λ xs. length xs) xss
 length_concat [] = refl
-length_concat (xs ∷ xss) = omega (arith, length-append xs (concat xss), sum_by-cons (λ (ys : List ℕ). length ys) xs xss, length_concat xss)
+length_concat (xs ∷ xss) =
+    omega (arith, length-append xs (concat xss), sum_by-cons (λ (ys : List ℕ). length ys) xs xss, length_concat xss)
 
-lengths_same : (rings : List (List Step)) → sum_by (λ ring. length ring) (map (map the_face) rings) ≡ sum_by (λ ring. length ring) rings
+lengths_same : (rings : List (List Step))
+    → sum_by (λ ring. length ring) (map (map the_face) rings) ≡ sum_by (λ ring. length ring) rings
 lengths_same [] = refl
 lengths_same (ring ∷ rings) =
-    omega (arith, sum_by-cons (λ (ys : List ℕ). length ys) (map the_face ring) (map (map the_face) rings), sum_by-cons (λ (ys : List Step). length ys) ring rings, lengths_same rings, length-map ring the_face)
+    omega (
+      arith,
+      sum_by-cons (λ (ys : List ℕ). length ys) (map the_face ring) (map (map the_face) rings),
+      sum_by-cons (λ (ys : List Step). length ys) ring rings,
+      lengths_same rings,
+      length-map ring the_face,
+    )
 
 -- each face stands in the loops once at most
-pub few_steps : (points : List Point) (faces : List (List ℕ)) (h : ℤ) (rings : List (List Step)) → AreLoops points faces h (map (map the_face) rings) → sum_by (λ ring. length ring) rings ≤ length faces
+pub few_steps : (points : List Point) (faces : List (List ℕ)) (h : ℤ) (rings : List (List Step))
+    → AreLoops points faces h (map (map the_face) rings) → sum_by (λ ring. length ring) rings ≤ length faces
 few_steps points faces h rings loops =
     let all = concat (map (map the_face) rings) in
     let fits = few_numbers (length faces) all (λ f. omega (arith, loops.once f, one (is_cut_at points faces h f)))
     (λ k d l.
     let f = get_or all k d in
-    let here : 1 ≤ count_by (λ g. g == f) all = omega (arith, get_or-le-sum_by (λ g. one_if (g == f)) all k d l, hit_yes f f refl) in
+    let here : 1 ≤ count_by (λ g. g == f) all =
+    omega (arith, get_or-le-sum_by (λ g. one_if (g == f)) all k d l, hit_yes f f refl) in
     cut_within points faces h f (cut_from (is_cut_at points faces h f) (omega (arith, here, loops.once f)))) in
     omega (arith, fits, length_concat (map (map the_face) rings), lengths_same rings)
   where

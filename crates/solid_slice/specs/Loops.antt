@@ -4,7 +4,8 @@
 --   IsLoop points faces h ring    the ring's faces, each the next of the one before, round the ring, the smallest first
 --   the_face s, ring_faces r      the faces of a ring's steps
 --   AreLoops points faces h rings each cut face in exactly one ring, once, and the rings by rising first faces
-use Rattle.std.specs.Prelude.{ℕ, ◌≡◌, ◌+◌, ◌-◌, ◌<◌, ◌≤◌, ◌==◌, List, [], length, take, slice_index, slice_index_or, map, All, count_by, if◌then◌else◌, ℤ}
+use Rattle.std.specs.Prelude.{ℕ, ◌≡◌, ◌+◌, ◌-◌, ◌<◌, ◌≤◌, ◌==◌, List, [], length, take, slice_index, slice_index_or, map, All}
+use Rattle.std.specs.Prelude.{count_by, if◌then◌else◌, ℤ}
 use Rattle.std.specs.List.{concat}
 use Rattle.geo_sign.specs.Point.{Point}
 use Rattle.solid_slice.specs.Edges.{edge_count}
@@ -38,4 +39,5 @@ ring_faces r = map the_face r.steps.items
 pub record AreLoops (points : List Point) (faces : List (List ℕ)) (h : ℤ) (rings : List (List ℕ)) : Type 0 where
   pub each : All (IsLoop points faces h) rings
   pub once : (f : ℕ) → count_by (λ g. g == f) (concat rings) ≡ (if is_cut_at points faces h f then 1 else 0)
-  pub in_order : (j k : ℕ) → j < k → k < length rings → slice_index (slice_index_or rings j []) 0 < slice_index (slice_index_or rings k []) 0
+  pub in_order : (j k : ℕ) → j < k → k < length rings
+      → slice_index (slice_index_or rings j []) 0 < slice_index (slice_index_or rings k []) 0

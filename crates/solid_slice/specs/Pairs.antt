@@ -22,7 +22,8 @@ key_count k pairs = count_by (λ p. key_of_pair p == k) pairs
 
 -- each pair u, v once more where the test gives true
 abbrev pub HasGained : (hits : (u v : ℕ) → Bool) → (pairs more : List Pair) → Type 0
-HasGained hits pairs more = (u v : ℕ) → u < v → v < 2 ^ 32 → key_count (key_of u v) more ≡ key_count (key_of u v) pairs + (if hits u v then 1 else 0)
+HasGained hits pairs more =
+    (u v : ℕ) → u < v → v < 2 ^ 32 → key_count (key_of u v) more ≡ key_count (key_of u v) pairs + (if hits u v then 1 else 0)
 
 -- each pair u, v as often as faces have the edge from u to v, and as often as they have that back
 pub record IsPairOf (faces : List (List ℕ)) (there back : List Pair) : Type 0 where

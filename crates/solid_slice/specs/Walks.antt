@@ -20,7 +20,8 @@ abbrev pub visits : List Bool → ℕ → ℕ
 visits visited f = if is_visited visited f then 1 else 0
 
 -- faces that are not cut count as visited, and so does each face whose next face was visited
-pub record IsBetweenLoops (points : List Point) (faces : List (List ℕ)) (h : ℤ) (next : List ℕ) (visited : List Bool) : Type 0 where
+pub record IsBetweenLoops (points : List Point) (faces : List (List ℕ)) (h : ℤ) (next : List ℕ)
+    (visited : List Bool) : Type 0 where
   pub size : length visited ≡ length faces
   pub uncut : (f : ℕ) → is_cut_at points faces h f ≡ false → is_visited visited f ≡ true
   pub whole : (f : ℕ) → is_visited visited (slice_index next f) ≡ true → is_visited visited f ≡ true

@@ -1,5 +1,6 @@
 -- Rows of a certificate: those of amounts that are not 0, and what rows state.
-use Rattle.std.proofs.Common.{ℕ, zero, suc, ◌≡◌, ◌≢◌, ◌+◌, ◌<◌, ◌++◌, not, refl, ap, sym, subst, ◌∙◌, arith, Bool, true, false, cond, List, [], ◌∷◌, length, get_or, take, map, filter, eqb, AllPairs}
+use Rattle.std.proofs.Common.{ℕ, zero, suc, ◌≡◌, ◌≢◌, ◌+◌, ◌<◌, ◌++◌, not, refl, ap, sym, subst, ◌∙◌, arith, Bool, true, false}
+use Rattle.std.proofs.Common.{cond, List, [], ◌∷◌, length, get_or, take, map, filter, eqb, AllPairs}
 use Rattle.std.proofs.lemmas.Bool.{eq-eqb, ne_eqb, eqb-true, false_from_ne_true}
 use Rattle.std.proofs.lemmas.List.{take_more, map-append, get_or-map, length-map, same_lists}
 use Rattle.geo_sign.specs.Cells.{IsBefore}
@@ -11,7 +12,8 @@ filter-append : {X : Type 0} (p : X → Bool) (xs ys : List X) → filter p (xs 
 filter-append p [] ys = refl
 filter-append {X = X} p (x ∷ xs) ys = by (p x) (filter-append p xs ys)
   where
-    by : (b : Bool) → filter p (xs ++ ys) ≡ filter p xs ++ filter p ys → cond b (x ∷ filter p (xs ++ ys)) (filter p (xs ++ ys)) ≡ cond b (x ∷ filter p xs) (filter p xs) ++ filter p ys
+    by : (b : Bool) → filter p (xs ++ ys) ≡ filter p xs ++ filter p ys
+        → cond b (x ∷ filter p (xs ++ ys)) (filter p (xs ++ ys)) ≡ cond b (x ∷ filter p xs) (filter p xs) ++ filter p ys
     by true e = ap (λ (zs : List X). x ∷ zs) e
     by false e = e
 
@@ -27,51 +29,66 @@ pub filter_more_no : (test : List ℕ → Bool) (rows : List (List ℕ)) (i : �
     → filter test (take (i + 1) rows) ≡ filter test (take i rows)
 filter_more_no test rows i within fails =
     ap (filter test) (take_more rows i [] within) ∙ filter-append test (take i rows) (get_or rows i [] ∷ [])
-    ∙ ap (λ (b : Bool). filter test (take i rows) ++ cond b (get_or rows i [] ∷ []) []) fails ∙ append-none (filter test (take i rows))
+    ∙ ap (λ (b : Bool). filter test (take i rows) ++ cond b (get_or rows i [] ∷ []) []) fails
+    ∙ append-none (filter test (take i rows))
   where
     append-none : (xs : List (List ℕ)) → xs ++ [] ≡ xs
     append-none [] = refl
     append-none (x ∷ xs) = ap (λ (zs : List (List ℕ)). x ∷ zs) (append-none xs)
 
 -- the test of a row is the flag at its place
-pub flag_is : (test : List ℕ → Bool) (rows : List (List ℕ)) (flags : List Bool) (i : ℕ) (flag : Bool) → map test rows ≡ flags → i < length rows → get_or flags i false ≡ flag → test (get_or rows i []) ≡ flag
-flag_is test rows flags i flag same within is = sym (get_or-map test rows i [] false within) ∙ ap (λ (list : List Bool). get_or list i false) same ∙ is
+pub flag_is : (test : List ℕ → Bool) (rows : List (List ℕ)) (flags : List Bool) (i : ℕ) (flag : Bool) → map test rows ≡ flags
+    → i < length rows → get_or flags i false ≡ flag → test (get_or rows i []) ≡ flag
+flag_is test rows flags i flag same within is =
+    sym (get_or-map test rows i [] false within) ∙ ap (λ (list : List Bool). get_or list i false) same ∙ is
 
 -- the amount of a row is the one at its place
-amount_is : (on : List ℕ → ℕ) (rows : List (List ℕ)) (amounts : List ℕ) (i : ℕ) → map on rows ≡ amounts → i < length rows → on (get_or rows i []) ≡ get_or amounts i 0
+amount_is : (on : List ℕ → ℕ) (rows : List (List ℕ)) (amounts : List ℕ) (i : ℕ) → map on rows ≡ amounts → i < length rows
+    → on (get_or rows i []) ≡ get_or amounts i 0
 amount_is on rows amounts i same within = sym (get_or-map on rows i [] 0 within) ∙ ap (λ (list : List ℕ). get_or list i 0) same
 
 -- a row more, of an amount that is not 0
-pub listed_more_yes : {Row : Type 0} (make : List ℕ → ℕ → Row) (rows : List (List ℕ)) (amounts : List ℕ) (on : List ℕ → ℕ) (i : ℕ) → map on rows ≡ amounts → i < length rows → get_or amounts i 0 ≢ 0
+pub listed_more_yes : {Row : Type 0} (make : List ℕ → ℕ → Row) (rows : List (List ℕ)) (amounts : List ℕ) (on : List ℕ → ℕ)
+    (i : ℕ) → map on rows ≡ amounts → i < length rows → get_or amounts i 0 ≢ 0
     → listed make (take (i + 1) rows) on ≡ listed make (take i rows) on ++ make (get_or rows i []) (get_or amounts i 0) ∷ []
 listed_more_yes {Row} make rows amounts on i same within some =
     let is : on (get_or rows i []) ≡ get_or amounts i 0 = amount_is on rows amounts i same within in
-    let passes : not (eqb (on (get_or rows i [])) 0) ≡ true = ap not (ne_eqb (on (get_or rows i [])) 0 (λ none. some (sym is ∙ none))) in
-    ap (map (λ (key : List ℕ). make key (on key))) (filter_more_yes (λ (key : List ℕ). not (eqb (on key) 0)) rows i within passes)
-    ∙ map-append (λ (key : List ℕ). make key (on key)) (filter (λ (key : List ℕ). not (eqb (on key) 0)) (take i rows)) (get_or rows i [] ∷ [])
+    let passes : not (eqb (on (get_or rows i [])) 0) ≡ true =
+    ap not (ne_eqb (on (get_or rows i [])) 0 (λ none. some (sym is ∙ none))) in
+    ap (map (λ (key : List ℕ). make key (on key)))
+    (filter_more_yes (λ (key : List ℕ). not (eqb (on key) 0)) rows i within passes)
+    ∙ map-append (λ (key : List ℕ). make key (on key)) (filter (λ (key : List ℕ). not (eqb (on key) 0)) (take i rows))
+    (get_or rows i [] ∷ [])
     ∙ ap (λ (n : ℕ). listed make (take i rows) on ++ make (get_or rows i []) n ∷ []) is
 
 -- no row more, where the amount is 0
-pub listed_more_no : {Row : Type 0} (make : List ℕ → ℕ → Row) (rows : List (List ℕ)) (amounts : List ℕ) (on : List ℕ → ℕ) (i : ℕ) → map on rows ≡ amounts → i < length rows → get_or amounts i 0 ≡ 0
+pub listed_more_no : {Row : Type 0} (make : List ℕ → ℕ → Row) (rows : List (List ℕ)) (amounts : List ℕ) (on : List ℕ → ℕ)
+    (i : ℕ) → map on rows ≡ amounts → i < length rows → get_or amounts i 0 ≡ 0
     → listed make (take (i + 1) rows) on ≡ listed make (take i rows) on
 listed_more_no make rows amounts on i same within none =
-    let fails : not (eqb (on (get_or rows i [])) 0) ≡ false = ap not (eq-eqb (on (get_or rows i [])) 0 (amount_is on rows amounts i same within ∙ none)) in
+    let fails : not (eqb (on (get_or rows i [])) 0) ≡ false =
+    ap not (eq-eqb (on (get_or rows i [])) 0 (amount_is on rows amounts i same within ∙ none)) in
     ap (map (λ (key : List ℕ). make key (on key))) (filter_more_no (λ (key : List ℕ). not (eqb (on key) 0)) rows i within fails)
 
 -- the rows of a list, by the amount of its first element
 listed_first : {Row : Type 0} → (List ℕ → ℕ → Row) → List ℕ → ℕ → List Row → List Row
 listed_first make row amount rows = cond (not (eqb amount 0)) (make row amount ∷ rows) rows
 
-listed-cons : {Row : Type 0} (make : List ℕ → ℕ → Row) (row : List ℕ) (rows : List (List ℕ)) (on : List ℕ → ℕ) → listed make (row ∷ rows) on ≡ listed_first make row (on row) (listed make rows on)
+listed-cons : {Row : Type 0} (make : List ℕ → ℕ → Row) (row : List ℕ) (rows : List (List ℕ)) (on : List ℕ → ℕ)
+    → listed make (row ∷ rows) on ≡ listed_first make row (on row) (listed make rows on)
 unfolding listed_first
 listed-cons {Row} make row rows on = by (not (eqb (on row) 0)) (filter (λ (key : List ℕ). not (eqb (on key) 0)) rows)
   where
-    by : (b : Bool) (keys : List (List ℕ)) → map (λ (key : List ℕ). make key (on key)) (cond b (row ∷ keys) keys) ≡ cond b (make row (on row) ∷ map (λ (key : List ℕ). make key (on key)) keys) (map (λ (key : List ℕ). make key (on key)) keys)
+    by : (b : Bool) (keys : List (List ℕ))
+        → map (λ (key : List ℕ). make key (on key)) (cond b (row ∷ keys) keys)
+        ≡ cond b (make row (on row) ∷ map (λ (key : List ℕ). make key (on key)) keys)
+        (map (λ (key : List ℕ). make key (on key)) keys)
     by true keys = refl
     by false keys = refl
 
 -- amounts that agree on rows make the same rows
-pub listed_same : {Row : Type 0} (make : List ℕ → ℕ → Row) (rows : List (List ℕ)) (on at : List ℕ → ℕ) → map on rows ≡ map at rows → listed make rows on ≡ listed make rows at
+pub listed_same : {Row : Type 0} (make : List ℕ → ℕ → Row) (rows : List (List ℕ)) (on at : List ℕ → ℕ)
+    → map on rows ≡ map at rows → listed make rows on ≡ listed make rows at
 listed_same make [] on at same = refl
 listed_same {Row} make (row ∷ rows) on at same =
     let first : on row ≡ at row = cc in
@@ -88,17 +105,21 @@ pub record Makes {Row : Type 0} (make : List ℕ → ℕ → Row) (about : Row �
 
 -- rows about another key come before those of a key in vain
 stated_past : {Row : Type 0} (make : List ℕ → ℕ → Row) (about : Row → List ℕ) (amount : Row → ℕ) → Makes make about amount
-    → (row key : List ℕ) (n : ℕ) (rows : List Row) → is_equal row key ≡ false → stated about amount (listed_first make row n rows) key ≡ stated about amount rows key
+    → (row key : List ℕ) (n : ℕ) (rows : List Row) → is_equal row key ≡ false
+    → stated about amount (listed_first make row n rows) key ≡ stated about amount rows key
 unfolding listed_first
 stated_past {Row} make about amount makes row key n rows other = by (not (eqb n 0))
   where
     by : (b : Bool) → stated about amount (cond b (make row n ∷ rows) rows) key ≡ stated about amount rows key
-    by true = ap (λ (t : Bool). cond t (amount (make row n)) (stated about amount rows key)) (ap (λ (k : List ℕ). is_equal k key) (makes.about_is row n) ∙ other)
+    by true =
+        ap (λ (t : Bool). cond t (amount (make row n)) (stated about amount rows key))
+        (ap (λ (k : List ℕ). is_equal k key) (makes.about_is row n) ∙ other)
     by false = refl
 
 -- a key that no row is about
 stated_none : {Row : Type 0} (make : List ℕ → ℕ → Row) (about : Row → List ℕ) (amount : Row → ℕ) → Makes make about amount
-    → (rows : List (List ℕ)) (on : List ℕ → ℕ) (key : List ℕ) → ((j : ℕ) → j < length rows → is_equal (get_or rows j []) key ≡ false) → stated about amount (listed make rows on) key ≡ 0
+    → (rows : List (List ℕ)) (on : List ℕ → ℕ) (key : List ℕ)
+    → ((j : ℕ) → j < length rows → is_equal (get_or rows j []) key ≡ false) → stated about amount (listed make rows on) key ≡ 0
 stated_none make about amount makes [] on key other = refl
 stated_none make about amount makes (row ∷ rows) on key other =
     ap (λ (list : List _). stated about amount list key) (listed-cons make row rows on)
@@ -107,7 +128,8 @@ stated_none make about amount makes (row ∷ rows) on key other =
 
 -- the first key
 stated_first : {Row : Type 0} (make : List ℕ → ℕ → Row) (about : Row → List ℕ) (amount : Row → ℕ) → Makes make about amount
-    → (key : List ℕ) (n : ℕ) (rows : List Row) → stated about amount rows key ≡ 0 → stated about amount (listed_first make key n rows) key ≡ n
+    → (key : List ℕ) (n : ℕ) (rows : List Row) → stated about amount rows key ≡ 0
+    → stated about amount (listed_first make key n rows) key ≡ n
 unfolding listed_first
 stated_first {Row} make about amount makes key n rows none = by (not (eqb n 0)) refl
   where
@@ -117,31 +139,41 @@ stated_first {Row} make about amount makes key n rows none = by (not (eqb n 0)) 
 
     by : (b : Bool) → not (eqb n 0) ≡ b → stated about amount (cond b (make key n ∷ rows) rows) key ≡ n
     by true e =
-        ap (λ (t : Bool). cond t (amount (make key n)) (stated about amount rows key)) (ap (λ (k : List ℕ). is_equal k key) (makes.about_is key n) ∙ is_equal_itself key)
+        ap (λ (t : Bool). cond t (amount (make key n)) (stated about amount rows key))
+        (ap (λ (k : List ℕ). is_equal k key) (makes.about_is key n) ∙ is_equal_itself key)
         ∙ makes.amount_is key n
     by false e = none ∙ sym (eqb-true n 0 (not_false (eqb n 0) e))
 
 differs : (row other : List ℕ) → IsBefore row other → is_equal row other ≡ false
-differs row other before = false_from_ne_true (is_equal row other) (λ h. not_before_itself other (subst (λ (r : List ℕ). IsBefore r other) (is_equal_means row other h) before))
+differs row other before =
+    false_from_ne_true (is_equal row other)
+    (λ h. not_before_itself other (subst (λ (r : List ℕ). IsBefore r other) (is_equal_means row other h) before))
 
 differs_back : (row other : List ℕ) → IsBefore row other → is_equal other row ≡ false
-differs_back row other before = false_from_ne_true (is_equal other row) (λ h. not_before_itself other (subst (λ (r : List ℕ). IsBefore r other) (sym (is_equal_means other row h)) before))
+differs_back row other before =
+    false_from_ne_true (is_equal other row)
+    (λ h. not_before_itself other (subst (λ (r : List ℕ). IsBefore r other) (sym (is_equal_means other row h)) before))
 
 stated_at : {Row : Type 0} (make : List ℕ → ℕ → Row) (about : Row → List ℕ) (amount : Row → ℕ) → Makes make about amount
-    → (rows : List (List ℕ)) (on : List ℕ → ℕ) → AllPairs IsBefore rows → (k : ℕ) → k < length rows → stated about amount (listed make rows on) (get_or rows k []) ≡ on (get_or rows k [])
+    → (rows : List (List ℕ)) (on : List ℕ → ℕ) → AllPairs IsBefore rows → (k : ℕ) → k < length rows
+    → stated about amount (listed make rows on) (get_or rows k []) ≡ on (get_or rows k [])
 stated_at make about amount makes [] on rising k within = absurd (omega arith)
 stated_at make about amount makes (row ∷ rows) on rising zero within =
     ap (λ (list : List _). stated about amount list row) (listed-cons make row rows on)
     ∙ stated_first make about amount makes row (on row) (listed make rows on)
-    (stated_none make about amount makes rows on row (λ j l. differs_back row (get_or rows j []) (rising 0 (suc j) [] (omega arith) (omega arith))))
+    (stated_none make about amount makes rows on row
+    (λ j l. differs_back row (get_or rows j []) (rising 0 (suc j) [] (omega arith) (omega arith))))
 stated_at make about amount makes (row ∷ rows) on rising (suc k) within =
     ap (λ (list : List _). stated about amount list (get_or rows k [])) (listed-cons make row rows on)
-    ∙ stated_past make about amount makes row (get_or rows k []) (on row) (listed make rows on) (differs row (get_or rows k []) (rising 0 (suc k) [] (omega arith) (omega arith)))
-    ∙ stated_at make about amount makes rows on (λ i j d l m. rising (suc i) (suc j) d (omega arith) (omega arith)) k (omega arith)
+    ∙ stated_past make about amount makes row (get_or rows k []) (on row) (listed make rows on)
+    (differs row (get_or rows k []) (rising 0 (suc k) [] (omega arith) (omega arith)))
+    ∙ stated_at make about amount makes rows on (λ i j d l m. rising (suc i) (suc j) d (omega arith) (omega arith)) k
+    (omega arith)
 
 -- the rows of amounts of rising keys state these amounts
 pub map_stated : {Row : Type 0} (make : List ℕ → ℕ → Row) (about : Row → List ℕ) (amount : Row → ℕ) → Makes make about amount
-    → (rows : List (List ℕ)) (on : List ℕ → ℕ) → AllPairs IsBefore rows → map (stated about amount (listed make rows on)) rows ≡ map on rows
+    → (rows : List (List ℕ)) (on : List ℕ → ℕ) → AllPairs IsBefore rows
+    → map (stated about amount (listed make rows on)) rows ≡ map on rows
 map_stated make about amount makes rows on rising =
     let said : List ℕ → ℕ = stated about amount (listed make rows on) in
     same_lists (map said rows) (map on rows) (length-map rows said ∙ sym (length-map rows on))

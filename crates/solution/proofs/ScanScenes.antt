@@ -1,5 +1,5 @@
--- What holds of the points and the sights of a scan: the points are distinct data points, and each sight is of one of them, from a
--- scanner that is there.
+-- What holds of the points and the sights of a scan: the points are distinct data points, and each sight is of one of them,
+-- from a scanner that is there.
 use Rattle.std.proofs.Common.{ℕ, ◌≡◌, ◌≢◌, ◌+◌, ◌<◌, ◌≤◌, ⊎_elim, arith, sym, subst, List, length, get_or, All, AllPairs}
 use Rattle.std.proofs.lemmas.Bool.{cases_lt}
 use Rattle.std.proofs.lemmas.List.{get_or-map}
@@ -15,14 +15,17 @@ use Rattle.solution.proofs.SightLists.{no_sight, seen_at, index_below, sight_cou
 pub points_within : (scan : Shown) → IsShown scan → All (IsWithin DATA_LIMIT) (points_of scan)
 points_within scan is = keep (IsWithin DATA_LIMIT) scan.points is.points
 
-apart : (list : List Point) → AllPairs (λ p q. p ≢ q) list → (j k : ℕ) → j < length list → k < length list → get_or list j origin ≡ get_or list k origin → j ≡ k
+apart : (list : List Point) → AllPairs (λ p q. p ≢ q) list → (j k : ℕ) → j < length list → k < length list
+    → get_or list j origin ≡ get_or list k origin → j ≡ k
 apart list pairs j k l m h =
     ⊎_elim (λ (a : j < k). absurd (pairs j k origin a m h))
     (λ (a : k ≤ j).
-    ⊎_elim (λ (b : k < j). absurd (pairs k j origin b l (sym h))) (λ (b : j ≤ k). let e : j ≡ k = omega (arith, a, b) in e) (cases_lt k j))
+    ⊎_elim (λ (b : k < j). absurd (pairs k j origin b l (sym h))) (λ (b : j ≤ k). let e : j ≡ k = omega (arith, a, b) in e)
+    (cases_lt k j))
     (cases_lt j k)
 
-pub points_apart : (scan : Shown) (j k : ℕ) → j < length (points_of scan) → k < length (points_of scan) → get_or (points_of scan) j origin ≡ get_or (points_of scan) k origin → j ≡ k
+pub points_apart : (scan : Shown) (j k : ℕ) → j < length (points_of scan) → k < length (points_of scan)
+    → get_or (points_of scan) j origin ≡ get_or (points_of scan) k origin → j ≡ k
 points_apart scan = apart (points_of scan) (distinct scan.points)
 
 -- ---- sights
@@ -38,4 +41,8 @@ sights_are scan is i d l =
     let m : i < length scan.seen = omega (arith, l, sight_count scan) in
     let seen = seen_at scan is i m in
     subst (IsSightOf (points_of scan) scan.scanners) (sym (get_or-map (sight_of scan) scan.seen i no_sight d m))
-    (record { data_vertex = omega arith; vertex = omega (arith, index_below scan (get_or scan.seen i no_sight).row seen.row); scanner = seen.scanner })
+    (record {
+      data_vertex = omega arith;
+      vertex = omega (arith, index_below scan (get_or scan.seen i no_sight).row seen.row);
+      scanner = seen.scanner;
+    })

@@ -23,23 +23,27 @@ no_sight = record { row = 0; scanner = 0; weight = 0 }
 -- ---- indices of points
 
 -- a row's index is that of its point
-pub index_below : (scan : Shown) (row : ℕ) → row < length scan.points → index_among (points_of scan) (point_at scan row) < length (points_of scan)
+pub index_below : (scan : Shown) (row : ℕ) → row < length scan.points
+    → index_among (points_of scan) (point_at scan row) < length (points_of scan)
 index_below scan row l = (each_stands scan.points row origin l).0
 
-index_at : (scan : Shown) (of_row : List ℕ) (row : ℕ) → of_row ≡ map (index_among (points_of scan)) scan.points → row < length scan.points
+index_at : (scan : Shown) (of_row : List ℕ) (row : ℕ) → of_row ≡ map (index_among (points_of scan)) scan.points
+    → row < length scan.points
     → get_or of_row row 0 ≡ index_among (points_of scan) (point_at scan row)
 index_at scan of_row row indices l =
     ap (λ (list : List ℕ). get_or list row 0) indices ∙ get_or-map (index_among (points_of scan)) scan.points row origin 0 l
 
 -- there is an index for each row
-pub index_count : (scan : Shown) (of_row : List ℕ) → of_row ≡ map (index_among (points_of scan)) scan.points → length of_row ≡ length scan.points
+pub index_count : (scan : Shown) (of_row : List ℕ) → of_row ≡ map (index_among (points_of scan)) scan.points
+    → length of_row ≡ length scan.points
 index_count scan of_row indices = ap length indices ∙ length-map scan.points (index_among (points_of scan))
 
 -- there are no more points than rows
 pub few_points : (scan : Scan) → length (points_of (shown_of scan)) ≤ point_limit
 few_points scan = omega (arith, few scan.points.items, scan.points_fit)
 
-pub few_indices : (scan : Scan) (of_row : List ℕ) (row : ℕ) → of_row ≡ map (index_among (points_of (shown_of scan))) scan.points.items → row < length scan.points.items
+pub few_indices : (scan : Scan) (of_row : List ℕ) (row : ℕ)
+    → of_row ≡ map (index_among (points_of (shown_of scan))) scan.points.items → row < length scan.points.items
     → get_or of_row row 0 < point_limit
 few_indices scan of_row row indices l =
     omega (arith, index_at (shown_of scan) of_row row indices l, index_below (shown_of scan) row l, few_points scan)
@@ -47,20 +51,30 @@ few_indices scan of_row row indices l =
 -- ---- sights
 
 -- the sight at an index
-pub seen_at : (scan : Shown) → IsShown scan → (i : ℕ) → i < length scan.seen → IsSeen (length scan.points) (length scan.scanners) (get_or scan.seen i no_sight)
+pub seen_at : (scan : Shown) → IsShown scan → (i : ℕ) → i < length scan.seen
+    → IsSeen (length scan.points) (length scan.scanners) (get_or scan.seen i no_sight)
 seen_at scan is i l = is.seen i no_sight l
 
 -- a sight more, by a list that has the indices of all rows' points
-pub sights_more : (scan : Shown) (of_row : List ℕ) (i weight : ℕ) → of_row ≡ map (index_among (points_of scan)) scan.points → i < length scan.seen → (get_or scan.seen i no_sight).row < length scan.points
+pub sights_more : (scan : Shown) (of_row : List ℕ) (i weight : ℕ) → of_row ≡ map (index_among (points_of scan)) scan.points
+    → i < length scan.seen → (get_or scan.seen i no_sight).row < length scan.points
     → weight ≡ (get_or scan.seen i no_sight).weight
     → map (sight_of scan) (take (i + 1) scan.seen)
-    ≡ map (sight_of scan) (take i scan.seen) ++ (record { vertex = 8 + get_or of_row (get_or scan.seen i no_sight).row 0; scanner = (get_or scan.seen i no_sight).scanner; weight = weight }) ∷ []
+    ≡ map (sight_of scan) (take i scan.seen)
+    ++ (record {
+      vertex = 8 + get_or of_row (get_or scan.seen i no_sight).row 0;
+      scanner = (get_or scan.seen i no_sight).scanner;
+      weight = weight;
+    }) ∷ []
 sights_more scan of_row i weight indices within row same =
     let seen : Seen = get_or scan.seen i no_sight in
     ap (map (sight_of scan)) (take_more scan.seen i no_sight within)
     ∙ map-append (sight_of scan) (take i scan.seen) (seen ∷ [])
-    ∙ ap (λ (n : ℕ). map (sight_of scan) (take i scan.seen) ++ (record { vertex = 8 + n; scanner = seen.scanner; weight = seen.weight }) ∷ []) (sym (index_at scan of_row seen.row indices row))
-    ∙ ap (λ (n : ℕ). map (sight_of scan) (take i scan.seen) ++ (record { vertex = 8 + get_or of_row seen.row 0; scanner = seen.scanner; weight = n }) ∷ []) (sym same)
+    ∙ ap (λ (n : ℕ). map (sight_of scan) (take i scan.seen)
+    ++ (record { vertex = 8 + n; scanner = seen.scanner; weight = seen.weight }) ∷ [])
+    (sym (index_at scan of_row seen.row indices row))
+    ∙ ap (λ (n : ℕ). map (sight_of scan) (take i scan.seen)
+    ++ (record { vertex = 8 + get_or of_row seen.row 0; scanner = seen.scanner; weight = n }) ∷ []) (sym same)
 
 pub sight_count : (scan : Shown) → length (sights_of scan) ≡ length scan.seen
 sight_count scan = length-map scan.seen (sight_of scan)
@@ -73,14 +87,16 @@ sight_list scan is =
       weighed = λ k d m.
           let n : k < length scan.seen = omega (arith, m, sight_count scan) in
           let seen = seen_at scan is k n in
-          subst IsWeighed (sym (get_or-map (sight_of scan) scan.seen k no_sight d n)) (record { at_least = seen.least_weight; at_most = seen.most_weight });
+          subst IsWeighed (sym (get_or-map (sight_of scan) scan.seen k no_sight d n))
+          (record { at_least = seen.least_weight; at_most = seen.most_weight });
     }
 
 pub few_sights : (scan : Scan) → IsSightList (sights_of (shown_of scan))
 few_sights scan = sight_list (shown_of scan) (scan_is_shown scan)
 
 -- the corners and the points are the vertices
-pub few_vertices : (scan : Scan) (settings : Settings) → (scene_of_scan (shown_of scan) settings).vertices.count ≤ 8 + point_limit
+pub few_vertices : (scan : Scan) (settings : Settings)
+    → (scene_of_scan (shown_of scan) settings).vertices.count ≤ 8 + point_limit
 few_vertices scan settings = omega (arith, few_points scan)
 
 -- what holds of the scene over lists that are the scan's holds of its scene

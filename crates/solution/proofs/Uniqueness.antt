@@ -1,5 +1,6 @@
 -- Two solutions of one scan are the same but for their flows.
-use Rattle.std.proofs.Common.{ℕ, suc, ◌≡◌, ◌&&◌, ◌++◌, not, refl, ap, sym, subst, ◌∙◌, arith, Bool, true, false, cond, List, [], ◌∷◌, filter, Contains}
+use Rattle.std.proofs.Common.{ℕ, suc, ◌≡◌, ◌&&◌, ◌++◌, not, refl, ap, sym, subst, ◌∙◌, arith, Bool, true, false, cond, List, []}
+use Rattle.std.proofs.Common.{◌∷◌, filter, Contains}
 use Rattle.cert_text.specs.Certificates.{Counts}
 use Rattle.geo_sign.specs.Vertices.{corners}
 use Rattle.mesh_ply.specs.Meshes.{mesh_of}
@@ -20,20 +21,27 @@ same_bools false true f g = g refl
 same_bools false false f g = refl
 
 -- tests that agree on a list keep the same of it
-pub filter_same : (p q : List ℕ → Bool) (rows : List (List ℕ)) → ((row : List ℕ) → Contains rows row → p row ≡ q row) → filter p rows ≡ filter q rows
+pub filter_same : (p q : List ℕ → Bool) (rows : List (List ℕ)) → ((row : List ℕ) → Contains rows row → p row ≡ q row)
+    → filter p rows ≡ filter q rows
 filter_same p q [] same = refl
 filter_same p q (row ∷ rows) same =
     ap (λ (b : Bool). cond b (row ∷ filter p rows) (filter p rows)) (same row (0, omega arith, refl))
-    ∙ ap (λ (rest : List (List ℕ)). cond (q row) (row ∷ rest) rest) (filter_same p q rows (λ other h. same other (suc h.0, omega (arith, h.1), h.2)))
+    ∙ ap (λ (rest : List (List ℕ)). cond (q row) (row ∷ rest) rest)
+    (filter_same p q rows (λ other h. same other (suc h.0, omega (arith, h.1), h.2)))
 
 -- two least insides agree on all cells
-agree : (s : Scene) (complex : Complex) (inside other : List ℕ → Bool) → IsLeastInside s complex inside → IsLeastInside s complex other → (row : List ℕ) → Contains complex.cells row → inside row ≡ other row
-agree s complex inside other a b row there = same_bools (inside row) (other row) (a.within other b.least_cost row there) (b.within inside a.least_cost row there)
+agree : (s : Scene) (complex : Complex) (inside other : List ℕ → Bool) → IsLeastInside s complex inside
+    → IsLeastInside s complex other → (row : List ℕ) → Contains complex.cells row → inside row ≡ other row
+agree s complex inside other a b row there =
+    same_bools (inside row) (other row) (a.within other b.least_cost row there) (b.within inside a.least_cost row there)
 
-same_cost : (s : Scene) (complex : Complex) (inside other : List ℕ → Bool) → IsLeastInside s complex inside → IsLeastInside s complex other → cost s complex inside ≡ cost s complex other
-same_cost s complex inside other a b = omega (arith, a.least_cost.least other b.least_cost.admissible, b.least_cost.least inside a.least_cost.admissible)
+same_cost : (s : Scene) (complex : Complex) (inside other : List ℕ → Bool) → IsLeastInside s complex inside
+    → IsLeastInside s complex other → cost s complex inside ≡ cost s complex other
+same_cost s complex inside other a b =
+    omega (arith, a.least_cost.least other b.least_cost.admissible, b.least_cost.least inside a.least_cost.admissible)
 
-same_cut : (s : Scene) (complex : Complex) (inside other : List ℕ → Bool) → IsComplexOf s complex → IsLeastInside s complex inside → IsLeastInside s complex other
+same_cut : (s : Scene) (complex : Complex) (inside other : List ℕ → Bool) → IsComplexOf s complex
+    → IsLeastInside s complex inside → IsLeastInside s complex other
     → cut_facets s.vertices complex inside ≡ cut_facets s.vertices complex other
 same_cut s complex inside other is a b =
     filter_same (is_cut s.vertices complex.cells inside) (is_cut s.vertices complex.cells other) complex.facets
@@ -41,19 +49,64 @@ same_cut s complex inside other is a b =
     let j : IsJoined s complex.cells f = joined s complex.cells f (is.facets_are.only f there) in
     let own : inside (cell_of s.vertices complex.cells (facet_at f)) ≡ other (cell_of s.vertices complex.cells (facet_at f)) =
     agree s complex inside other a b (cell_of s.vertices complex.cells (facet_at f)) (index_has complex.cells _ j.own) in
-    let across : inside (cell_of s.vertices complex.cells (turned (facet_at f))) ≡ other (cell_of s.vertices complex.cells (turned (facet_at f))) =
-    agree s complex inside other a b (cell_of s.vertices complex.cells (turned (facet_at f))) (index_has complex.cells _ j.across) in
+    let across : inside (cell_of s.vertices complex.cells (turned (facet_at f)))
+    ≡ other (cell_of s.vertices complex.cells (turned (facet_at f))) =
+    agree s complex inside other a b (cell_of s.vertices complex.cells (turned (facet_at f)))
+    (index_has complex.cells _ j.across) in
     ap (λ (t : Bool). not t && inside (cell_of s.vertices complex.cells (turned (facet_at f)))) own
     ∙ ap (λ (t : Bool). not (other (cell_of s.vertices complex.cells (facet_at f))) && t) across)
 
-same_counts : (a b : Counts) → a.points ≡ b.points → a.scanners ≡ b.scanners → a.sights ≡ b.sights → a.vote ≡ b.vote → a.smooth ≡ b.smooth → a.cost ≡ b.cost → a ≡ b
+same_counts : (a b : Counts) → a.points ≡ b.points → a.scanners ≡ b.scanners → a.sights ≡ b.sights → a.vote ≡ b.vote
+    → a.smooth ≡ b.smooth → a.cost ≡ b.cost → a ≡ b
 same_counts a b p q r s t u =
-    ap (λ (n : ℕ). record { points = n; scanners = a.scanners; sights = a.sights; vote = a.vote; smooth = a.smooth; cost = a.cost }) p
-    ∙ ap (λ (n : ℕ). record { points = b.points; scanners = n; sights = a.sights; vote = a.vote; smooth = a.smooth; cost = a.cost }) q
-    ∙ ap (λ (n : ℕ). record { points = b.points; scanners = b.scanners; sights = n; vote = a.vote; smooth = a.smooth; cost = a.cost }) r
-    ∙ ap (λ (n : ℕ). record { points = b.points; scanners = b.scanners; sights = b.sights; vote = n; smooth = a.smooth; cost = a.cost }) s
-    ∙ ap (λ (n : ℕ). record { points = b.points; scanners = b.scanners; sights = b.sights; vote = b.vote; smooth = n; cost = a.cost }) t
-    ∙ ap (λ (n : ℕ). record { points = b.points; scanners = b.scanners; sights = b.sights; vote = b.vote; smooth = b.smooth; cost = n }) u
+    ap (λ (n : ℕ). record {
+      points = n;
+      scanners = a.scanners;
+      sights = a.sights;
+      vote = a.vote;
+      smooth = a.smooth;
+      cost = a.cost;
+    }) p
+    ∙ ap (λ (n : ℕ). record {
+      points = b.points;
+      scanners = n;
+      sights = a.sights;
+      vote = a.vote;
+      smooth = a.smooth;
+      cost = a.cost;
+    }) q
+    ∙ ap (λ (n : ℕ). record {
+      points = b.points;
+      scanners = b.scanners;
+      sights = n;
+      vote = a.vote;
+      smooth = a.smooth;
+      cost = a.cost;
+    }) r
+    ∙ ap (λ (n : ℕ). record {
+      points = b.points;
+      scanners = b.scanners;
+      sights = b.sights;
+      vote = n;
+      smooth = a.smooth;
+      cost = a.cost;
+    }) s
+    ∙ ap (λ (n : ℕ). record {
+      points = b.points;
+      scanners = b.scanners;
+      sights = b.sights;
+      vote = b.vote;
+      smooth = n;
+      cost = a.cost;
+    }) t
+    ∙ ap (λ (n : ℕ). record {
+      points = b.points;
+      scanners = b.scanners;
+      sights = b.sights;
+      vote = b.vote;
+      smooth = b.smooth;
+      cost = n;
+    }) u
 
 pub solution_law : SolutionLaw
 solution_law scan settings mesh other_mesh claim other a b =
@@ -61,14 +114,19 @@ solution_law scan settings mesh other_mesh claim other a b =
     let complexes : b.complex ≡ a.complex = one_complex s b.complex a.complex b.complex_is a.complex_is in
     let least : IsLeastInside s a.complex b.inside = subst (λ (c : Complex). IsLeastInside s c b.inside) complexes b.least in
     let cut : cut_facets s.vertices a.complex a.inside ≡ cut_facets s.vertices b.complex b.inside =
-    same_cut s a.complex a.inside b.inside a.complex_is a.least least ∙ ap (λ (c : Complex). cut_facets s.vertices c b.inside) (sym complexes) in
-    let costs : cost s a.complex a.inside ≡ cost s b.complex b.inside = same_cost s a.complex a.inside b.inside a.least least ∙ ap (λ (c : Complex). cost s c b.inside) (sym complexes) in
+    same_cut s a.complex a.inside b.inside a.complex_is a.least least
+    ∙ ap (λ (c : Complex). cut_facets s.vertices c b.inside) (sym complexes) in
+    let costs : cost s a.complex a.inside ≡ cost s b.complex b.inside =
+    same_cost s a.complex a.inside b.inside a.least least ∙ ap (λ (c : Complex). cost s c b.inside) (sym complexes) in
     let cells : filter a.inside a.complex.cells ≡ filter b.inside b.complex.cells =
-    filter_same a.inside b.inside a.complex.cells (agree s a.complex a.inside b.inside a.least least) ∙ ap (λ (c : Complex). filter b.inside c.cells) (sym complexes) in
+    filter_same a.inside b.inside a.complex.cells (agree s a.complex a.inside b.inside a.least least)
+    ∙ ap (λ (c : Complex). filter b.inside c.cells) (sym complexes) in
     record {
       mesh_is = a.mesh_is ∙ ap (mesh_of (corners ++ points_of scan)) cut ∙ sym b.mesh_is;
       counts_are = same_counts claim.counts other.counts
-          (a.counts.points ∙ sym b.counts.points) (a.counts.scanners ∙ sym b.counts.scanners) (a.counts.sights ∙ sym b.counts.sights)
-          (a.counts.vote ∙ sym b.counts.vote) (a.counts.smooth ∙ sym b.counts.smooth) (a.certificate.cost_is ∙ costs ∙ sym b.certificate.cost_is);
+          (a.counts.points ∙ sym b.counts.points) (a.counts.scanners ∙ sym b.counts.scanners)
+          (a.counts.sights ∙ sym b.counts.sights)
+          (a.counts.vote ∙ sym b.counts.vote) (a.counts.smooth ∙ sym b.counts.smooth)
+          (a.certificate.cost_is ∙ costs ∙ sym b.certificate.cost_is);
       inside_is = a.certificate.inside_is ∙ cells ∙ sym b.certificate.inside_is;
     }

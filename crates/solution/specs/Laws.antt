@@ -14,8 +14,8 @@ use Rattle.visibility.specs.Complexes.{Complex}
 use Rattle.visibility.specs.Cuts.{cost, IsLeastCost}
 use Rattle.visibility.specs.Votes.{IsComplexOf}
 
--- one mesh, the same counts, weights and cost, and the same inside cells; the stamp, which says which file was read, is no part of a
--- solution
+-- one mesh, the same counts, weights and cost, and the same inside cells; the stamp, which says which file was read, is no part
+-- of a solution
 pub record IsSame (mesh : Surface) (claim : Claim) (other_mesh : Surface) (other : Claim) : Type 0 where
   pub mesh_is : mesh ≡ other_mesh
   pub counts_are : claim.counts ≡ other.counts
@@ -30,5 +30,6 @@ SolutionLaw =
 -- since each sight has exactly one cell behind it
 abbrev pub LeastCostLaw : Type 0
 LeastCostLaw =
-    (scan : Shown) (settings : Settings) (complex : Complex) (inside : List ℕ → Bool) → IsShown scan → IsComplexOf (scene_of_scan scan settings) complex
+    (scan : Shown) (settings : Settings) (complex : Complex) (inside : List ℕ → Bool) → IsShown scan
+    → IsComplexOf (scene_of_scan scan settings) complex
     → IsLeastCost (scene_of_scan scan settings) complex inside → cost (scene_of_scan scan settings) complex inside < 2 ^ 47

@@ -24,7 +24,8 @@ point_at scan row = slice_index_or scan.points row origin
 
 -- a sight of the row's point from its scanner, of its weight: the first point is vertex 8, after the box's eight corners
 abbrev pub sight_of : Shown → Seen → Sight
-sight_of scan seen = record { vertex = 8 + index_among (points_of scan) (point_at scan seen.row); scanner = seen.scanner; weight = seen.weight }
+sight_of scan seen =
+    record { vertex = 8 + index_among (points_of scan) (point_at scan seen.row); scanner = seen.scanner; weight = seen.weight }
 
 -- the sights, row by row, and within a row in the order of its scanners: equal ones stand as often as they were seen
 abbrev pub sights_of : Shown → List Sight

@@ -39,7 +39,8 @@ sink_at claim = stated (λ (row : SinkRow). row.cell) (λ (row : SinkRow). row.a
 
 -- a row for each of these cells or facets whose amount is not 0
 abbrev pub listed : {Row : Type 0} → (List ℕ → ℕ → Row) → List (List ℕ) → (List ℕ → ℕ) → List Row
-listed make keys amounts = map (λ (key : List ℕ). make key (amounts key)) (filter (λ (key : List ℕ). not (amounts key == 0)) keys)
+listed make keys amounts =
+    map (λ (key : List ℕ). make key (amounts key)) (filter (λ (key : List ℕ). not (amounts key == 0)) keys)
 
 abbrev pub flow_row : List ℕ → ℕ → FlowRow
 flow_row facet amount = record { facet = facet; amount = amount }

@@ -1,7 +1,9 @@
--- The mesh is closed. The sides between outside and inside cells are a list as the law of closed cuts takes it: each once, and none of
--- an inside cell with a corner, since no fixed cell is inside. A facet has the same edges from its least number on. Renumbering
--- keeps it.
-use Rattle.std.proofs.Common.{ℕ, ◌+◌, ◌<◌, ◌≤◌, ◌≡◌, ◌≢◌, refl, sym, ap, ap₂, subst, ◌∙◌, inl, inr, arith, Bool, true, false, ◌||◌, nat_lt, not, zero, suc, Option, Some, List, [], ◌∷◌, ◌^◌, length, get_or, map, AllPairs, Contains}
+-- The mesh is closed. The sides between outside and inside cells are a list as the law of closed cuts takes it: each once, and
+-- none of an inside cell with a corner, since no fixed cell is inside. A facet has the same edges from its least number on.
+-- Renumbering keeps it.
+use Rattle.std.proofs.Common.{ℕ, ◌+◌, ◌<◌, ◌≤◌, ◌≡◌, ◌≢◌, refl, sym, ap, ap₂, subst, ◌∙◌, inl, inr, arith, Bool, true, false}
+use Rattle.std.proofs.Common.{◌||◌, nat_lt, not, zero, suc, Option, Some, List, [], ◌∷◌, ◌^◌, length, get_or, map, AllPairs}
+use Rattle.std.proofs.Common.{Contains}
 use Rattle.std.specs.List.Sorted.{IsPermutation}
 use Rattle.std.proofs.lemmas.Bool.{ltb-false, or_parts}
 use Rattle.std.proofs.lemmas.List.{get_or-map, length-map}
@@ -70,7 +72,10 @@ none_low t k h l =
     by (suc (suc zero)) l a b c d = c
     by (suc (suc (suc k))) l a b c d = d
 
-module _ (s : Scene) (slots : List (Option Cell)) (cells : AreCellsOf s slots) (few : s.vertices.count ≤ 2 ^ 32) (complex : Complex) (all : IsComplexOf s complex) (inside : List ℕ → Bool) (none : IsAdmissible s complex inside) (outside : List Bool) (flags : AreOutside slots inside outside) (sides : List Side) (moved : IsPermutation (all_cut outside slots) sides) where
+module _ (s : Scene) (slots : List (Option Cell)) (cells : AreCellsOf s slots) (few : s.vertices.count ≤ 2 ^ 32)
+    (complex : Complex) (all : IsComplexOf s complex) (inside : List ℕ → Bool) (none : IsAdmissible s complex inside)
+    (outside : List Bool) (flags : AreOutside slots inside outside) (sides : List Side)
+    (moved : IsPermutation (all_cut outside slots) sides) where
   abbrev cell : ℕ → Tetrahedron
   cell = (links_of slots).at
 
@@ -85,7 +90,9 @@ module _ (s : Scene) (slots : List (Option Cell)) (cells : AreCellsOf s slots) (
       let lx = live slots x i in
       let c = cuts.row_in s slots cells few complex all x lx in
       let free = cuts.free s slots cells few complex all inside none (row_of slots x) c h in
-      none_low (cell x) k (or_parts (has_corner (cell x)) (has_scanner s.vertices s.scanners (cell x)) (sym (cell_count_law s slots cells x lx).fixed ∙ free)).0 l
+      none_low (cell x) k
+      (or_parts (has_corner (cell x)) (has_scanner s.vertices s.scanners (cell x))
+      (sym (cell_count_law s slots cells x lx).fixed ∙ free)).0 l
 
   side_at : (x : Side) → Contains sides x → IsSideAt slots outside x × (flag_at outside x.id ≡ true)
   side_at = cuts.side_at s slots cells few complex all inside none outside flags sides moved
@@ -109,8 +116,12 @@ module _ (s : Scene) (slots : List (Option Cell)) (cells : AreCellsOf s slots) (
         listed = listed slots x.id q.live;
         in_range = q.in_range;
         out = cuts.outside_at s slots cells few complex all inside none outside flags sides moved x.id q.live a.1;
-        across =
-            (q.other, q.next, cuts.inside_is s slots cells few complex all inside none outside flags sides moved q.other (live slots q.other b.listed) q.free);
+        across = (
+          q.other,
+          q.next,
+          cuts.inside_is s slots cells few complex all inside none outside flags sides moved q.other
+              (live slots q.other b.listed) q.free,
+        );
       })
 
   all_there : (r : laws.Side) (y : ℕ) → IsIn (live_of slots) r.at → r.side < 4 → inside_at r.at ≡ false
@@ -156,7 +167,8 @@ module _ (s : Scene) (slots : List (Option Cell)) (cells : AreCellsOf s slots) (
   same_edges u w (x ∷ xs) h =
       let f : DirectedFacet = facet_of (cell x.id) x.side in
       let e : edges_of u w (facet_at x.facet) ≡ edges_of u w f =
-      ap (λ (r : List ℕ). edges_of u w (facet_at r)) (h x (here x xs)) ∙ edges_rotated u w f (least_first f) (least_rotated f) in
+      ap (λ (r : List ℕ). edges_of u w (facet_at r)) (h x (here x xs))
+      ∙ edges_rotated u w f (least_first f) (least_rotated f) in
       sum_by-cons (edges_of u w) (facet_at x.facet) (map facet_at (map facet_of_side xs))
       ∙ ap₂ (λ (m n : ℕ). m + n) e (same_edges u w xs (λ y c. h y (there x y xs c)))
       ∙ sym (sum_by-cons (edges_of u w) f (facets_at cell (map named xs)))
@@ -199,5 +211,6 @@ mesh_closed n points faces list closed i j =
     let e = faces_renamed number n faces face in
     ap (edge_count i j) e
     ∙ renumbered number n (map facet_at faces)
-    (λ f c. (let p = map_has facet_at faces f (rows.listed (map facet_at faces) f c) in subst (IsBelow n) p.is (face_below n p.from (face p.from p.listed)))) closed i j
+    (λ f c. (let p = map_has facet_at faces f (rows.listed (map facet_at faces) f c) in
+    subst (IsBelow n) p.is (face_below n p.from (face p.from p.listed)))) closed i j
     ∙ sym (ap (edge_count j i) e)

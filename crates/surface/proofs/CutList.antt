@@ -1,7 +1,9 @@
--- The sorted facets of the sides between outside and inside cells are the facets that labels cut. Both lists rise, so it is enough that
--- they have the same members. A side's facet has a capacity, since an inside cell is not fixed; and the two cells of a facet that is
--- cut are live cells, of which the one is across the side of the other that has the facet.
-use Rattle.std.proofs.Common.{ℕ, zero, suc, ◌<◌, ◌≤◌, ◌^◌, ◌≡◌, refl, sym, ap, subst, ◌∙◌, inl, inr, ⊎_elim, arith, Bool, true, false, true≢false, not, cond, Option, Some, List, [], ◌∷◌, length, get_or, map, filter, AllPairs, Contains}
+-- The sorted facets of the sides between outside and inside cells are the facets that labels cut. Both lists rise, so it is
+-- enough that they have the same members. A side's facet has a capacity, since an inside cell is not fixed; and the two cells
+-- of a facet that is cut are live cells, of which the one is across the side of the other that has the facet.
+use Rattle.std.proofs.Common.{ℕ, zero, suc, ◌<◌, ◌≤◌, ◌^◌, ◌≡◌, refl, sym, ap, subst, ◌∙◌, inl, inr, ⊎_elim, arith, Bool, true}
+use Rattle.std.proofs.Common.{false, true≢false, not, cond, Option, Some, List, [], ◌∷◌, length, get_or, map, filter, AllPairs}
+use Rattle.std.proofs.Common.{Contains}
 use Rattle.std.specs.List.Sorted.{IsPermutation, IsNonDecreasingBy}
 use Rattle.std.proofs.lemmas.Bool.{and_parts, and_from}
 use Rattle.std.proofs.lemmas.List.{get_or-map, get_or_default, length-map}
@@ -67,7 +69,8 @@ in_filter {X = X} p (y ∷ xs) x h t = by (p y) refl h (λ c. in_filter p xs x c
     by false e (zero, l, i) r = absurd (true≢false (sym t ∙ sym (ap p i) ∙ e))
     by false e (suc k, l, i) r = r (k, omega (arith, l), i)
 
-module _ (s : Scene) (slots : List (Option Cell)) (cells : AreCellsOf s slots) (few : s.vertices.count ≤ 2 ^ 32) (complex : Complex) (all : IsComplexOf s complex) where
+module _ (s : Scene) (slots : List (Option Cell)) (cells : AreCellsOf s slots) (few : s.vertices.count ≤ 2 ^ 32)
+    (complex : Complex) (all : IsComplexOf s complex) where
   abbrev cell : ℕ → Tetrahedron
   cell = (links_of slots).at
 
@@ -112,8 +115,10 @@ module _ (s : Scene) (slots : List (Option Cell)) (cells : AreCellsOf s slots) (
       → Contains complex.cells (cell_of s.vertices complex.cells f)
       × (has_facet s.vertices (cell_of s.vertices complex.cells f) f ≡ true)
   first_in f h =
-      let l = first_within (λ row. has_facet s.vertices row f) complex.cells h in
-      (Contains-get_or complex.cells (cell_index s.vertices complex.cells f) [] l, passes_at_first (λ row. has_facet s.vertices row f) complex.cells [] l)
+      let l = first_within (λ row. has_facet s.vertices row f) complex.cells h in (
+        Contains-get_or complex.cells (cell_index s.vertices complex.cells f) [] l,
+        passes_at_first (λ row. has_facet s.vertices row f) complex.cells [] l,
+      )
 
   cell_is : (row : List ℕ) (f : DirectedFacet) → Contains complex.cells row → has_facet s.vertices row f ≡ true
       → cell_of s.vertices complex.cells f ≡ row
@@ -152,7 +157,8 @@ module _ (s : Scene) (slots : List (Option Cell)) (cells : AreCellsOf s slots) (
         by true e = absurd (true≢false (sym h ∙ none.none_fixed row c e))
         by false e = e
 
-    module _ (outside : List Bool) (flags : AreOutside slots inside outside) (sides : List Side) (moved : IsPermutation (all_cut outside slots) sides) where
+    module _ (outside : List Bool) (flags : AreOutside slots inside outside) (sides : List Side)
+        (moved : IsPermutation (all_cut outside slots) sides) where
       pub side_at : (x : Side) → Contains sides x → IsSideAt slots outside x × (flag_at outside x.id ≡ true)
       side_at x h =
           cut_is slots outside x
@@ -205,8 +211,10 @@ module _ (s : Scene) (slots : List (Option Cell)) (cells : AreCellsOf s slots) (
             free = ap (is_fixed s.vertices s.scanners) second ∙ free (row_of slots p.other) cy within;
           } in
           subst (Contains (cut_facets s.vertices complex inside)) (sym p.is)
-          (in_filter (is_cut s.vertices complex.cells inside) complex.facets (numbers_of f) (all.facets_are.all (numbers_of f) cap)
-          (and_from (not (inside (cell_of s.vertices complex.cells f))) (inside (cell_of s.vertices complex.cells (turned f))) (ap (λ (row : List ℕ). not (inside row)) first ∙ out) (ap inside second ∙ within)))
+          (in_filter (is_cut s.vertices complex.cells inside) complex.facets (numbers_of f)
+          (all.facets_are.all (numbers_of f) cap)
+          (and_from (not (inside (cell_of s.vertices complex.cells f))) (inside (cell_of s.vertices complex.cells (turned f)))
+          (ap (λ (row : List ℕ). not (inside row)) first ∙ out) (ap inside second ∙ within)))
 
       to_cut : (f : List ℕ) → Contains (map facet_of_side sides) f → Contains (cut_facets s.vertices complex inside) f
       to_cut f h =
@@ -282,7 +290,8 @@ cut_is_list s complex all inside =
     record {
       each =
           λ k d l. is_face s.vertices.count (get_or cut k d)
-          (facets_are_ordered s complex all (get_or cut k d) (filter_in test complex.facets (get_or cut k d) (Contains-get_or cut k d l)).0);
+          (facets_are_ordered s complex all (get_or cut k d)
+          (filter_in test complex.facets (get_or cut k d) (Contains-get_or cut k d l)).0);
       rising =
           λ i j d l m. same_before (get_or cut i d) (get_or cut j d)
           (AllPairs-filter IsBefore test complex.facets all.facets_are.rising i j d l m);

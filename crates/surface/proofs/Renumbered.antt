@@ -1,7 +1,8 @@
--- Closed facets stay closed when their vertices are renumbered, even if two get one number. What a function of two vertices gives along
--- all edges is a sum over all pairs of vertices, each as often as there is such an edge. For closed facets the sum over all edges is
--- thus that over all reverses. The function that counts the edges whose new numbers are i and j is one.
-use Rattle.std.proofs.Common.{ℕ, zero, suc, ◌+◌, ◌*◌, ◌<◌, ◌≤◌, ◌≡◌, ◌≢◌, refl, sym, ap, ap₂, ◌∙◌, ⊎_elim, arith, Bool, true, false, ◌&&◌, eqb, List, [], ◌∷◌, ◌++◌, map}
+-- Closed facets stay closed when their vertices are renumbered, even if two get one number. What a function of two vertices
+-- gives along all edges is a sum over all pairs of vertices, each as often as there is such an edge. For closed facets the sum
+-- over all edges is thus that over all reverses. The function that counts the edges whose new numbers are i and j is one.
+use Rattle.std.proofs.Common.{ℕ, zero, suc, ◌+◌, ◌*◌, ◌<◌, ◌≤◌, ◌≡◌, ◌≢◌, refl, sym, ap, ap₂, ◌∙◌, ⊎_elim, arith, Bool, true}
+use Rattle.std.proofs.Common.{false, ◌&&◌, eqb, List, [], ◌∷◌, ◌++◌, map}
 use Rattle.std.specs.List.{sum_by}
 use Rattle.std.proofs.lemmas.Bool.{cases_eq, eqb-true, eq-eqb, false_from_ne_true}
 use Rattle.std.proofs.lemmas.List.Sums.{sum_by-cons}
@@ -150,7 +151,8 @@ even_weights g n facets h even =
     weights g n facets h
     ∙ sum_same (λ u. total (λ w. g u w * total (edges_of u w) facets) (below n))
     (λ u. total (λ w. g u w * total (edges_of w u) facets) (below n)) (below n)
-    (λ u c. sum_same (λ w. g u w * total (edges_of u w) facets) (λ w. g u w * total (edges_of w u) facets) (below n) (λ w d. ap (λ (m : ℕ). g u w * m) (even u w)))
+    (λ u c. sum_same (λ w. g u w * total (edges_of u w) facets) (λ w. g u w * total (edges_of w u) facets) (below n)
+    (λ w d. ap (λ (m : ℕ). g u w * m) (even u w)))
     ∙ exchanged (λ u w. g u w * total (edges_of w u) facets) (below n) (below n)
     ∙ sym (weights (λ u w. g w u) n facets h)
 
@@ -172,7 +174,8 @@ back : (number : ℕ → ℕ) (i j : ℕ) (f : DirectedFacet)
     → weight (λ a b. one_edge i j (number b) (number a)) f ≡ edges_of j i (renamed number f)
 unfolding weight
 back number i j f =
-    ap₂ (λ (x y : ℕ). x + y) (ap₂ (λ (x y : ℕ). x + y) (flip i j (number f.b) (number f.a)) (flip i j (number f.c) (number f.b)))
+    ap₂ (λ (x y : ℕ). x + y)
+    (ap₂ (λ (x y : ℕ). x + y) (flip i j (number f.b) (number f.a)) (flip i j (number f.c) (number f.b)))
     (flip i j (number f.a) (number f.c))
 
 pub renumbered : (number : ℕ → ℕ) (n : ℕ) (facets : List DirectedFacet) → ((f : DirectedFacet) → IsIn facets f → IsBelow n f)

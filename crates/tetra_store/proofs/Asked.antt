@@ -1,7 +1,8 @@
 -- What a fan and its cells are before they are replaced.
 --
--- Each vertex of the fan is one of a cell that is taken out, so it is in, and its number fits. Each facet of the fan is a facet of such
--- a cell, so its three vertices are distinct, and the cell across names that cell back, so it is live and has the facet turned round.
+-- Each vertex of the fan is one of a cell that is taken out, so it is in, and its number fits. Each facet of the fan is a facet
+-- of such a cell, so its three vertices are distinct, and the cell across names that cell back, so it is live and has the facet
+-- turned round.
 use Rattle.std.proofs.Common.{ℕ, ◌≡◌, ◌<◌, ◌≤◌, ◌^◌, List, length, Some, sym, ◌∙◌, inl, inr, subst, arith}
 use Rattle.std.specs.List.{Contains}
 use Rattle.geo_sign.specs.Tetrahedron.{vertex_of, facet_of}
@@ -12,7 +13,8 @@ use Rattle.tetra_store.specs.Store.{Store, IsStore, vertices_of}
 use Rattle.geo_sign.specs.Edges.{over, edge_start, edge_end, HasVertex}
 use Rattle.tetra_store.specs.Fan.{fan_facet, fan_outer, CanReplace}
 use Rattle.tetra_store.specs.Steps.{CanGrow}
-use Rattle.tetra_store.proofs.Facets.{IsApart, apart_rotated, facet_apart, start_apart, start_end, start_in, rotated_turned, rotated_sym, in_rotated, in_of, end_in, over_in, three_or_below}
+use Rattle.tetra_store.proofs.Facets.{IsApart, apart_rotated, facet_apart, start_apart, start_end, start_in, rotated_turned}
+use Rattle.tetra_store.proofs.Facets.{rotated_sym, in_rotated, in_of, end_in, over_in, three_or_below}
 use Rattle.tetra_store.proofs.Backs.{has_of, distinct_at}
 use Rattle.tetra_store.proofs.Observed.{slot_in}
 
@@ -24,15 +26,21 @@ module _ (s : Store) (old : List ℕ) (fan : List Facet) (p : ℕ) (store : IsSt
   fan_vertex i u l h =
       let m = can.rim.rim i l in
       has_of store.linked m.cell u (can.live m.cell m.listed)
-      (in_of ((links_of s.slots).at m.cell) m.side u (in_rotated (fan_facet fan i) (facet_of ((links_of s.slots).at m.cell) m.side) u (rotated_sym (facet_of ((links_of s.slots).at m.cell) m.side) (fan_facet fan i) m.rotated) h))
+      (in_of ((links_of s.slots).at m.cell) m.side u
+      (in_rotated (fan_facet fan i) (facet_of ((links_of s.slots).at m.cell) m.side) u
+      (rotated_sym (facet_of ((links_of s.slots).at m.cell) m.side) (fan_facet fan i) m.rotated) h))
 
-  outer_back : (i y : ℕ) (l : i < length fan) → fan_outer fan i ≡ Some y → IsBack (links_of s.slots) (can.rim.rim i l).cell (can.rim.rim i l).side y
-  outer_back i y l e = let m = can.rim.rim i l in store.linked.back m.cell m.side y (can.live m.cell m.listed) m.in_range (m.neighbor ∙ e)
+  outer_back : (i y : ℕ) (l : i < length fan) → fan_outer fan i ≡ Some y
+      → IsBack (links_of s.slots) (can.rim.rim i l).cell (can.rim.rim i l).side y
+  outer_back i y l e =
+      let m = can.rim.rim i l in
+      store.linked.back m.cell m.side y (can.live m.cell m.listed) m.in_range (m.neighbor ∙ e)
 
   rim_apart : (i : ℕ) → i < length fan → IsApart (fan_facet fan i)
   rim_apart i l =
       let m = can.rim.rim i l in
-      apart_rotated (facet_of ((links_of s.slots).at m.cell) m.side) (fan_facet fan i) m.rotated (facet_apart ((links_of s.slots).at m.cell) (distinct_at store.linked m.cell (can.live m.cell m.listed)) m.side)
+      apart_rotated (facet_of ((links_of s.slots).at m.cell) m.side) (fan_facet fan i) m.rotated
+      (facet_apart ((links_of s.slots).at m.cell) (distinct_at store.linked m.cell (can.live m.cell m.listed)) m.side)
 
   pub can_grow : (capacity : ℕ) → length s.slots ≤ capacity → capacity < 2 ^ 32 → CanGrow (links_of s.slots) fan
   can_grow capacity slots few = record {
@@ -45,7 +53,9 @@ module _ (s : Store) (old : List ℕ) (fan : List Facet) (p : ℕ) (store : IsSt
           record {
             side = b.side;
             side_in = b.in_range;
-            turned = rotated_turned (fan_facet fan i) (facet_of ((links_of s.slots).at m.cell) m.side) (facet_of ((links_of s.slots).at y) b.side)
+            turned =
+                rotated_turned (fan_facet fan i) (facet_of ((links_of s.slots).at m.cell) m.side)
+                (facet_of ((links_of s.slots).at y) b.side)
                 (rotated_sym (facet_of ((links_of s.slots).at m.cell) m.side) (fan_facet fan i) m.rotated) b.turned;
           };
     };
@@ -62,8 +72,14 @@ module _ (s : Store) (old : List ℕ) (fan : List Facet) (p : ℕ) (store : IsSt
 
   pub over_below : (i k : ℕ) → i < length fan → k < 4 → vertex_of (over (fan_facet fan i) p) k < length s.kept
   over_below i k l m = elim (three_or_below k m) [
-    | inl t ↦ let h = (fan_vertex i (vertex_of (over (fan_facet fan i) p) k) l (over_in (fan_facet fan i) p k t)).0 in let e = store.keeps in omega arith
-    | inr t ↦ let h = can.below in let e = store.keeps in subst (λ (z : ℕ). vertex_of (over (fan_facet fan i) p) z < length s.kept) (sym t) (omega arith)
+    | inl t ↦
+        let h = (fan_vertex i (vertex_of (over (fan_facet fan i) p) k) l (over_in (fan_facet fan i) p k t)).0 in
+        let e = store.keeps in
+        omega arith
+    | inr t ↦
+        let h = can.below in
+        let e = store.keeps in
+        subst (λ (z : ℕ). vertex_of (over (fan_facet fan i) p) z < length s.kept) (sym t) (omega arith)
   ]
 
   pub old_below : (id k : ℕ) → Contains old id → k < 4 → vertex_of ((links_of s.slots).at id) k < length s.kept

@@ -1,9 +1,11 @@
 -- The six cells of the box are the Delaunay cells of its corners, however many vertices there are that are not in.
 --
--- The sign of a power of corners is that of a test over their numbers, whatever the number of vertices is (`decided`). So it is enough
--- to compute: that no corner is in conflict with any of the six, and that each four of corners in positive order, of 4,096 ordered fours,
--- are one of the six or have a corner in conflict.
-use Rattle.std.proofs.Common.{ℕ, zero, suc, ◌≡◌, ◌≢◌, ◌<◌, ◌≤◌, Bool, true, false, not, cond, ◌&&◌, ◌||◌, ◌==◌, bit_and, ℤ, pos, neg_ℤ, ◌<ℤ◌, ◌≤ℤ◌, int_lt, unsigned_abs, List, length, get_or, refl, sym, ap, ◌∙◌, inl, inr, subst, arith, slice_index}
+-- The sign of a power of corners is that of a test over their numbers, whatever the number of vertices is (`decided`). So it is
+-- enough to compute: that no corner is in conflict with any of the six, and that each four of corners in positive order, of
+-- 4,096 ordered fours, are one of the six or have a corner in conflict.
+use Rattle.std.proofs.Common.{ℕ, zero, suc, ◌≡◌, ◌≢◌, ◌<◌, ◌≤◌, Bool, true, false, not, cond, ◌&&◌, ◌||◌, ◌==◌, bit_and, ℤ, pos}
+use Rattle.std.proofs.Common.{neg_ℤ, ◌<ℤ◌, ◌≤ℤ◌, int_lt, unsigned_abs, List, length, get_or, refl, sym, ap, ◌∙◌, inl, inr}
+use Rattle.std.proofs.Common.{subst, arith, slice_index}
 use Rattle.std.proofs.lemmas.Bool.{cases_lt, false≢true}
 use Rattle.std.proofs.lemmas.Int.{ints}
 use Rattle.geo_sign.specs.Point.{Point, origin, corner_point, IsWithin}
@@ -60,7 +62,11 @@ wall_within true = omega (arith, ints)
 wall_within false = omega (arith, ints)
 
 corner_within : (k : ℕ) → IsWithin BOX_LIMIT (corner_point k)
-corner_within k = record { x_within = wall_within (bit_and k 1 == 0); y_within = wall_within (bit_and k 2 == 0); z_within = wall_within (bit_and k 4 == 0) }
+corner_within k = record {
+  x_within = wall_within (bit_and k 1 == 0);
+  y_within = wall_within (bit_and k 2 == 0);
+  z_within = wall_within (bit_and k 4 == 0);
+}
 
 abbrev numbered : ℕ → ℕ × Point
 numbered k = (k, corner_point k)
@@ -68,18 +74,24 @@ numbered k = (k, corner_point k)
 -- whether p is in conflict with the cell a b c d, all of them corners
 conflict_test : (a b c d p : ℕ) → Bool
 conflict_test a b c d p =
-    is_below_zero (first_sign (sign_of (plain_power (corner_point a) (corner_point b) (corner_point c) (corner_point d) (corner_point p))) (deciding_term (numbered a) (numbered b) (numbered c) (numbered d) (numbered p)).sign)
+    is_below_zero
+    (first_sign (sign_of (plain_power (corner_point a) (corner_point b) (corner_point c) (corner_point d) (corner_point p)))
+    (deciding_term (numbered a) (numbered b) (numbered c) (numbered d) (numbered p)).sign)
 
 abbrev differ : ℕ → ℕ → Bool
 differ a b = not (a == b)
 
 five_differ : (a b c d p : ℕ) → Bool
-five_differ a b c d p = differ a b && (differ a c && (differ a d && (differ a p && (differ b c && (differ b d && (differ b p && (differ c d && (differ c p && differ d p))))))))
+five_differ a b c d p =
+    differ a b && (differ a c
+    && (differ a d
+    && (differ a p && (differ b c && (differ b d && (differ b p && (differ c d && (differ c p && differ d p))))))))
 
 differs : (a b : ℕ) → differ a b ≡ true → a ≢ b
 differs a b h e = not_true (a == b) h (subst (λ (z : ℕ). (a == z) ≡ true) e (eq_refl a))
 
-five_apart : (a b c d p : ℕ) → five_differ a b c d p ≡ true → AreApart (numbered a) (numbered b) (numbered c) (numbered d) (numbered p)
+five_apart : (a b c d p : ℕ) → five_differ a b c d p ≡ true
+    → AreApart (numbered a) (numbered b) (numbered c) (numbered d) (numbered p)
 unfolding five_differ
 five_apart a b c d p h =
     let r1 = and_right (differ a b) _ h in
@@ -103,11 +115,13 @@ five_apart a b c d p h =
       d_p = differs d p (and_right (differ c p) (differ d p) r8);
     }
 
-module _ (points : List Point) (flags : List Bool) (wide : 8 ≤ length points) (corners : (k : ℕ) → k < 8 → get_or points k origin ≡ corner_point k) where
+module _ (points : List Point) (flags : List Bool) (wide : 8 ≤ length points)
+    (corners : (k : ℕ) → k < 8 → get_or points k origin ≡ corner_point k) where
   abbrev v : Vertices
   v = vertices_at points flags
 
-  corner_power : (a b c d p : ℕ) → a < 8 → b < 8 → c < 8 → d < 8 → p < 8 → power_of v a b c d p ≡ tied_power (length points) (numbered a) (numbered b) (numbered c) (numbered d) (numbered p)
+  corner_power : (a b c d p : ℕ) → a < 8 → b < 8 → c < 8 → d < 8 → p < 8
+      → power_of v a b c d p ≡ tied_power (length points) (numbered a) (numbered b) (numbered c) (numbered d) (numbered p)
   corner_power a b c d p la lb lc ld lp =
       let n = length points in
       ap (λ (z : Point). tied_power n (a, z) (b, v.at b) (c, v.at c) (d, v.at d) (p, v.at p)) (corners a la)
@@ -116,7 +130,8 @@ module _ (points : List Point) (flags : List Bool) (wide : 8 ≤ length points) 
       ∙ (ap (λ (z : Point). tied_power n (numbered a) (numbered b) (numbered c) (d, z) (p, v.at p)) (corners d ld)
       ∙ ap (λ (z : Point). tied_power n (numbered a) (numbered b) (numbered c) (numbered d) (p, z)) (corners p lp))))
 
-  corner_orient : (a b c d : ℕ) → a < 8 → b < 8 → c < 8 → d < 8 → orientation_of v a b c d ≡ corner_orientation (tetrahedron a b c d)
+  corner_orient : (a b c d : ℕ) → a < 8 → b < 8 → c < 8 → d < 8
+      → orientation_of v a b c d ≡ corner_orientation (tetrahedron a b c d)
   corner_orient a b c d la lb lc ld =
       ap (λ (z : Point). orientation z (v.at b) (v.at c) (v.at d)) (corners a la)
       ∙ (ap (λ (z : Point). orientation (corner_point a) z (v.at c) (v.at d)) (corners b lb)
@@ -124,14 +139,30 @@ module _ (points : List Point) (flags : List Bool) (wide : 8 ≤ length points) 
       ∙ ap (λ (z : Point). orientation (corner_point a) (corner_point b) (corner_point c) z) (corners d ld)))
 
   -- the sign of the power of a corner at four others
-  corner_sign : (a b c d p : ℕ) → a < 8 → b < 8 → c < 8 → d < 8 → p < 8 → five_differ a b c d p ≡ true → pos 0 <ℤ corner_orientation (tetrahedron a b c d) →
-      ((conflict_test a b c d p ≡ true) → power_of v a b c d p <ℤ pos 0) × ((conflict_test a b c d p ≡ false) → pos 0 ≤ℤ power_of v a b c d p)
+  corner_sign : (a b c d p : ℕ) → a < 8 → b < 8 → c < 8 → d < 8 → p < 8 → five_differ a b c d p ≡ true
+      → pos 0 <ℤ corner_orientation (tetrahedron a b c d)
+      → ((conflict_test a b c d p ≡ true) → power_of v a b c d p <ℤ pos 0)
+      × ((conflict_test a b c d p ≡ false) → pos 0 ≤ℤ power_of v a b c d p)
   unfolding conflict_test
   corner_sign a b c d p la lb lc ld lp apart o =
       let n = length points in
-      let kept : AreKept (corner_point a) (corner_point b) (corner_point c) (corner_point d) (corner_point p) = record { a_kept = corner_within a; b_kept = corner_within b; c_kept = corner_within c; d_kept = corner_within d; p_kept = corner_within p } in
-      let below : AreBelow n (numbered a) (numbered b) (numbered c) (numbered d) (numbered p) = record { a_below = omega arith; b_below = omega arith; c_below = omega arith; d_below = omega arith; p_below = omega arith } in
-      let r = decided (numbered a) (numbered b) (numbered c) (numbered d) (numbered p) (conflict_test a b c d p) (five_apart a b c d p apart) kept o refl n below in
+      let kept : AreKept (corner_point a) (corner_point b) (corner_point c) (corner_point d) (corner_point p) = record {
+        a_kept = corner_within a;
+        b_kept = corner_within b;
+        c_kept = corner_within c;
+        d_kept = corner_within d;
+        p_kept = corner_within p;
+      } in
+      let below : AreBelow n (numbered a) (numbered b) (numbered c) (numbered d) (numbered p) = record {
+        a_below = omega arith;
+        b_below = omega arith;
+        c_below = omega arith;
+        d_below = omega arith;
+        p_below = omega arith;
+      } in
+      let r =
+      decided (numbered a) (numbered b) (numbered c) (numbered d) (numbered p) (conflict_test a b c d p)
+      (five_apart a b c d p apart) kept o refl n below in
       let e = corner_power a b c d p la lb lc ld lp in (
         λ t. subst (λ (z : ℤ). z <ℤ pos 0) (sym e) (r.0.0 t),
         λ t. subst (λ (z : ℤ). pos 0 ≤ℤ z) (sym e) (let h = r.1.0 t in omega (arith, ints)),
@@ -142,7 +173,8 @@ module _ (points : List Point) (flags : List Bool) (wide : 8 ≤ length points) 
   clear_test : (i u : ℕ) → Bool
   clear_test i u =
       let t = box_tetrahedron i in
-      (u == t.a) || ((u == t.b) || ((u == t.c) || ((u == t.d) || (five_differ t.a t.b t.c t.d u && not (conflict_test t.a t.b t.c t.d u)))))
+      (u == t.a) || ((u == t.b)
+      || ((u == t.c) || ((u == t.d) || (five_differ t.a t.b t.c t.d u && not (conflict_test t.a t.b t.c t.d u)))))
 
   clear_all : all_of 6 (λ i. all_of 8 (clear_test i)) ≡ true
   unfolding all_of clear_test five_differ conflict_test orientation power
@@ -152,7 +184,8 @@ module _ (points : List Point) (flags : List Bool) (wide : 8 ≤ length points) 
   not_false true h = absurd (false≢true h)
   not_false false h = refl
 
-  box_clear : (i u : ℕ) → i < 6 → u < 8 → pos 0 ≤ℤ power_of v (box_tetrahedron i).a (box_tetrahedron i).b (box_tetrahedron i).c (box_tetrahedron i).d u
+  box_clear : (i u : ℕ) → i < 6 → u < 8
+      → pos 0 ≤ℤ power_of v (box_tetrahedron i).a (box_tetrahedron i).b (box_tetrahedron i).c (box_tetrahedron i).d u
   unfolding clear_test
   box_clear i u l m =
       let t = box_tetrahedron i in
@@ -167,8 +200,11 @@ module _ (points : List Point) (flags : List Bool) (wide : 8 ≤ length points) 
               | inl e ↦ own_fourth v t.a t.b t.c t.d u (eq_of u t.d e)
               | inr h4 ↦
                   let apart = and_left (five_differ t.a t.b t.c t.d u) (not (conflict_test t.a t.b t.c t.d u)) h4 in
-                  let no = not_false (conflict_test t.a t.b t.c t.d u) (and_right (five_differ t.a t.b t.c t.d u) (not (conflict_test t.a t.b t.c t.d u)) h4) in
-                  (corner_sign t.a t.b t.c t.d u (box_below i 0 l (omega arith)) (box_below i 1 l (omega arith)) (box_below i 2 l (omega arith)) (box_below i 3 l (omega arith)) m apart (box_positive i l)).1 no
+                  let no =
+                  not_false (conflict_test t.a t.b t.c t.d u)
+                  (and_right (five_differ t.a t.b t.c t.d u) (not (conflict_test t.a t.b t.c t.d u)) h4) in
+                  (corner_sign t.a t.b t.c t.d u (box_below i 0 l (omega arith)) (box_below i 1 l (omega arith))
+                  (box_below i 2 l (omega arith)) (box_below i 3 l (omega arith)) m apart (box_positive i l)).1 no
             ]
           ]
         ]
@@ -181,7 +217,9 @@ module _ (points : List Point) (flags : List Bool) (wide : 8 ≤ length points) 
 
   of_is : (i u : ℕ) → of_test i u ≡ true → IsVertexOf (box_tetrahedron i) u
   unfolding of_test
-  of_is i u h = let r = some_at 4 (λ k. vertex_of (box_tetrahedron i) k == u) h in at_place (box_tetrahedron i) r.0 u (eq_of (vertex_of (box_tetrahedron i) r.0) u r.2)
+  of_is i u h =
+      let r = some_at 4 (λ k. vertex_of (box_tetrahedron i) k == u) h in
+      at_place (box_tetrahedron i) r.0 u (eq_of (vertex_of (box_tetrahedron i) r.0) u r.2)
 
   six_test : (a b c d i : ℕ) → Bool
   six_test a b c d i = of_test i a && (of_test i b && (of_test i c && of_test i d))
@@ -202,13 +240,19 @@ module _ (points : List Point) (flags : List Bool) (wide : 8 ≤ length points) 
   positive_test : (z : ℤ) → pos 0 <ℤ z → int_lt (pos 0) z ≡ true
   positive_test z h = grind (arith, ints)
 
-  others : (a b c d : ℕ) → a < 8 → b < 8 → c < 8 → d < 8 → IsCell v a b c d → ((u : ℕ) → u < 8 → Has v u) →
-      (i : ℕ) × (i < 6) × IsVertexOf (box_tetrahedron i) a × IsVertexOf (box_tetrahedron i) b × IsVertexOf (box_tetrahedron i) c × IsVertexOf (box_tetrahedron i) d
+  others : (a b c d : ℕ) → a < 8 → b < 8 → c < 8 → d < 8 → IsCell v a b c d → ((u : ℕ) → u < 8 → Has v u)
+      → (i : ℕ) × (i < 6) × IsVertexOf (box_tetrahedron i) a × IsVertexOf (box_tetrahedron i) b
+      × IsVertexOf (box_tetrahedron i) c × IsVertexOf (box_tetrahedron i) d
   unfolding four_test six_test met_test
   others a b c d la lb lc ld cell inside =
-      let o : pos 0 <ℤ corner_orientation (tetrahedron a b c d) = subst (λ (z : ℤ). pos 0 <ℤ z) (corner_orient a b c d la lb lc ld) cell.positive in
+      let o : pos 0 <ℤ corner_orientation (tetrahedron a b c d) =
+      subst (λ (z : ℤ). pos 0 <ℤ z) (corner_orient a b c d la lb lc ld) cell.positive in
       let p = positive_test (corner_orientation (tetrahedron a b c d)) o in
-      let t = all_at 8 (four_test a b c) (all_at 8 (λ z. all_of 8 (four_test a b z)) (all_at 8 (λ y. all_of 8 (λ z. all_of 8 (four_test a y z))) (all_at 8 (λ x. all_of 8 (λ y. all_of 8 (λ z. all_of 8 (four_test x y z)))) four_all a la) b lb) c lc) d ld in
+      let t =
+      all_at 8 (four_test a b c)
+      (all_at 8 (λ z. all_of 8 (four_test a b z))
+      (all_at 8 (λ y. all_of 8 (λ z. all_of 8 (four_test a y z)))
+      (all_at 8 (λ x. all_of 8 (λ y. all_of 8 (λ z. all_of 8 (four_test x y z)))) four_all a la) b lb) c lc) d ld in
       elim (or_cases (not (is_positive a b c d)) (some_of 6 (six_test a b c d) || some_of 8 (met_test a b c d)) t) [
         | inl n ↦ absurd (not_true (is_positive a b c d) n p)
         | inr r ↦ elim (or_cases (some_of 6 (six_test a b c d)) (some_of 8 (met_test a b c d)) r) [
@@ -225,20 +269,25 @@ module _ (points : List Point) (flags : List Bool) (wide : 8 ≤ length points) 
               )
           | inr m ↦
               let u = some_at 8 (met_test a b c d) m in
-              let low = (corner_sign a b c d u.0 la lb lc ld u.1 (and_left (five_differ a b c d u.0) (conflict_test a b c d u.0) u.2) o).0 (and_right (five_differ a b c d u.0) (conflict_test a b c d u.0) u.2) in
+              let low =
+              (corner_sign a b c d u.0 la lb lc ld u.1 (and_left (five_differ a b c d u.0) (conflict_test a b c d u.0) u.2) o).0
+              (and_right (five_differ a b c d u.0) (conflict_test a b c d u.0) u.2) in
               let high = cell.clear u.0 (inside u.0 u.1) in
               absurd (omega (arith, ints))
         ]
       ]
 
-  pub box_delaunay : (links : Links) (ids : List ℕ) → AreBoxCells links ids → ((u : ℕ) → u < 8 → Has v u) → ((u : ℕ) → Has v u → u < 8) → IsDelaunay v links
+  pub box_delaunay : (links : Links) (ids : List ℕ) → AreBoxCells links ids → ((u : ℕ) → u < 8 → Has v u)
+      → ((u : ℕ) → Has v u → u < 8) → IsDelaunay v links
   box_delaunay links ids box inside only = record {
     cells = λ x live.
         let i = box.only x live in
         let t = box_tetrahedron i.0 in
         let has : (k : ℕ) → k < 4 → Has v (vertex_of t k) = λ k l. inside (vertex_of t k) (box_below i.0 k i.1 l) in
         let o : pos 0 <ℤ orientation_of v t.a t.b t.c t.d =
-        subst (λ (z : ℤ). pos 0 <ℤ z) (sym (corner_orient t.a t.b t.c t.d (box_below i.0 0 i.1 (omega arith)) (box_below i.0 1 i.1 (omega arith)) (box_below i.0 2 i.1 (omega arith)) (box_below i.0 3 i.1 (omega arith)))) (box_positive i.0 i.1) in
+        subst (λ (z : ℤ). pos 0 <ℤ z)
+        (sym (corner_orient t.a t.b t.c t.d (box_below i.0 0 i.1 (omega arith)) (box_below i.0 1 i.1 (omega arith))
+        (box_below i.0 2 i.1 (omega arith)) (box_below i.0 3 i.1 (omega arith)))) (box_positive i.0 i.1) in
         let cell : IsCell v t.a t.b t.c t.d = record {
           has_a = has 0 (omega arith);
           has_b = has 1 (omega arith);
@@ -247,7 +296,8 @@ module _ (points : List Point) (flags : List Bool) (wide : 8 ≤ length points) 
           positive = o;
           clear = λ u h. box_clear i.0 u i.1 (only u h);
         } in
-        subst (λ (z : ℕ). IsCell v (links.at z).a (links.at z).b (links.at z).c (links.at z).d) i.2 (subst (λ (z : Tetrahedron). IsCell v z.a z.b z.c z.d) (sym (box.at i.0 i.1)) cell);
+        subst (λ (z : ℕ). IsCell v (links.at z).a (links.at z).b (links.at z).c (links.at z).d) i.2
+        (subst (λ (z : Tetrahedron). IsCell v z.a z.b z.c z.d) (sym (box.at i.0 i.1)) cell);
     all = λ a b c d cell.
         let r = others a b c d (only a cell.has_a) (only b cell.has_b) (only c cell.has_c) (only d cell.has_d) cell inside in
         let at = sym (box.at r.0 r.1) in

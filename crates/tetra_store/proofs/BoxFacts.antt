@@ -1,5 +1,7 @@
 -- The six cells of the box are linked cells over its corners.
-use Rattle.std.proofs.Common.{ℕ, zero, suc, ◌≡◌, ◌<◌, Bool, true, false, not, ◌&&◌, ◌||◌, ◌==◌, nat_lt, ℤ, pos, ◌<ℤ◌, int_lt, if◌then◌else◌, List, [], ◌∷◌, Option, Some, None, refl, sym, ap, ◌∙◌, ◌⊎◌, inl, inr, subst, arith, slice_index, slice_index_or}
+use Rattle.std.proofs.Common.{ℕ, zero, suc, ◌≡◌, ◌<◌, Bool, true, false, not, ◌&&◌, ◌||◌, ◌==◌, nat_lt, ℤ, pos, ◌<ℤ◌, int_lt}
+use Rattle.std.proofs.Common.{if◌then◌else◌, List, [], ◌∷◌, Option, Some, None, refl, sym, ap, ◌∙◌, ◌⊎◌, inl, inr, subst, arith}
+use Rattle.std.proofs.Common.{slice_index, slice_index_or}
 use Rattle.std.proofs.lemmas.Bool.{false≢true}
 use Rattle.geo_sign.specs.Point.{Point, corner_point}
 use Rattle.geo_sign.specs.Orientation.{orientation}
@@ -10,11 +12,15 @@ use Rattle.tetra_store.specs.Links.{Links, IsLive, IsBack, IsLinked}
 use Rattle.tetra_store.specs.Box.{box_tetrahedron, box_number, box_keeper, across_in, AreBoxCells}
 use Rattle.geo_sign.specs.Edges.{HasVertex}
 use Rattle.tetra_store.proofs.Facets.{in_of, place_of, at_place}
-use Rattle.tetra_store.proofs.Reflect.{every, every_at, and_left, and_right, or_cases, implied, same, same_is, lt_of, eq_of, eq_refl, above_of, rotated_test, rotated_yes, turned_test, turned_of, wall_test, wall_of, wall_yes}
+use Rattle.tetra_store.proofs.Reflect.{every, every_at, and_left, and_right, or_cases, implied, same, same_is, lt_of, eq_of}
+use Rattle.tetra_store.proofs.Reflect.{eq_refl, above_of, rotated_test, rotated_yes, turned_test, turned_of, wall_test, wall_of}
+use Rattle.tetra_store.proofs.Reflect.{wall_yes}
 
 -- the side across which the cell across names the cell back
 abbrev box_backs : List (List ℕ)
-box_backs = (3 ∷ 0 ∷ 0 ∷ 0 ∷ []) ∷ (2 ∷ 3 ∷ 0 ∷ 0 ∷ []) ∷ (3 ∷ 0 ∷ 0 ∷ 1 ∷ []) ∷ (2 ∷ 0 ∷ 0 ∷ 0 ∷ []) ∷ (0 ∷ 2 ∷ 0 ∷ 0 ∷ []) ∷ (0 ∷ 0 ∷ 1 ∷ 0 ∷ []) ∷ []
+box_backs =
+    (3 ∷ 0 ∷ 0 ∷ 0 ∷ []) ∷ (2 ∷ 3 ∷ 0 ∷ 0 ∷ []) ∷ (3 ∷ 0 ∷ 0 ∷ 1 ∷ []) ∷ (2 ∷ 0 ∷ 0 ∷ 0 ∷ []) ∷ (0 ∷ 2 ∷ 0 ∷ 0 ∷ [])
+    ∷ (0 ∷ 0 ∷ 1 ∷ 0 ∷ []) ∷ []
 
 abbrev box_back : (i k : ℕ) → ℕ
 box_back i k = slice_index (slice_index_or box_backs i []) k
@@ -31,14 +37,18 @@ abbrev below_test : ℕ → ℕ → Bool
 below_test i k = nat_lt (vertex_of (box_tetrahedron i) k) 8
 
 pub box_below : (i k : ℕ) → i < 6 → k < 4 → vertex_of (box_tetrahedron i) k < 8
-box_below i k l m = lt_of (vertex_of (box_tetrahedron i) k) 8 (every_at 4 (below_test i) (every_at 6 (λ j. every 4 (below_test j)) refl i l) k m)
+box_below i k l m =
+    lt_of (vertex_of (box_tetrahedron i) k) 8
+    (every_at 4 (below_test i) (every_at 6 (λ j. every 4 (below_test j)) refl i l) k m)
 
 abbrev apart_test : ℕ → ℕ → ℕ → Bool
 apart_test i j k = not (vertex_of (box_tetrahedron i) j == vertex_of (box_tetrahedron i) k) || (j == k)
 
 box_distinct : (i j k : ℕ) → i < 6 → j < 4 → k < 4 → vertex_of (box_tetrahedron i) j ≡ vertex_of (box_tetrahedron i) k → j ≡ k
 box_distinct i j k l m n e =
-    let t = every_at 4 (apart_test i j) (every_at 4 (λ a. every 4 (apart_test i a)) (every_at 6 (λ b. every 4 (λ a. every 4 (apart_test b a))) refl i l) j m) k n in
+    let t =
+    every_at 4 (apart_test i j)
+    (every_at 4 (λ a. every 4 (apart_test i a)) (every_at 6 (λ b. every 4 (λ a. every 4 (apart_test b a))) refl i l) j m) k n in
     eq_of j k (implied (vertex_of (box_tetrahedron i) j == vertex_of (box_tetrahedron i) k) (j == k) t
     (subst (λ (z : ℕ). (vertex_of (box_tetrahedron i) j == z) ≡ true) e (eq_refl (vertex_of (box_tetrahedron i) j))))
 
@@ -57,7 +67,11 @@ box_positive i l = above_of (corner_orientation (box_tetrahedron i)) (every_at 6
 
 abbrev back_test : ℕ → ℕ → Bool
 back_test i k =
-    (box_number i k == 6) || (nat_lt (box_number i k) 6 && (nat_lt (box_back i k) 4 && (turned_test (facet_of (box_tetrahedron i) k) (facet_of (box_tetrahedron (box_number i k)) (box_back i k)) && (box_number (box_number i k) (box_back i k) == i))))
+    (box_number i k == 6)
+    || (nat_lt (box_number i k) 6
+    && (nat_lt (box_back i k) 4
+    && (turned_test (facet_of (box_tetrahedron i) k) (facet_of (box_tetrahedron (box_number i k)) (box_back i k))
+    && (box_number (box_number i k) (box_back i k) == i))))
 
 record IsBoxBack (i k : ℕ) : Type 0 where
   cell_in : box_number i k < 6
@@ -79,7 +93,9 @@ box_backed i k l m =
           inr (record {
             cell_in = lt_of n 6 (and_left (nat_lt n 6) (nat_lt b 4 && (tt' && (box_number n b == i))) r);
             side_in = lt_of b 4 (and_left (nat_lt b 4) (tt' && (box_number n b == i)) r2);
-            turned = turned_of (facet_of (box_tetrahedron i) k) (facet_of (box_tetrahedron n) b) (and_left tt' (box_number n b == i) r3);
+            turned =
+                turned_of (facet_of (box_tetrahedron i) k) (facet_of (box_tetrahedron n) b)
+                (and_left tt' (box_number n b == i) r3);
             named = eq_of (box_number n b) i (and_right tt' (box_number n b == i) r3);
           })
     ]
@@ -88,18 +104,27 @@ abbrev walled_test : ℕ → ℕ → Bool
 walled_test i k = same (box_number i k == 6) (wall_test (facet_of (box_tetrahedron i) k))
 
 box_walled : (i k : ℕ) → i < 6 → k < 4 → (box_number i k == 6) ≡ wall_test (facet_of (box_tetrahedron i) k)
-box_walled i k l m = same_is (box_number i k == 6) (wall_test (facet_of (box_tetrahedron i) k)) (every_at 4 (walled_test i) (every_at 6 (λ j. every 4 (walled_test j)) refl i l) k m)
+box_walled i k l m =
+    same_is (box_number i k == 6) (wall_test (facet_of (box_tetrahedron i) k))
+    (every_at 4 (walled_test i) (every_at 6 (λ j. every 4 (walled_test j)) refl i l) k m)
 
 abbrev common_test : ℕ → ℕ → ℕ → ℕ → Bool
 common_test i j k m = not (rotated_test (facet_of (box_tetrahedron i) k) (facet_of (box_tetrahedron j) m)) || (i == j)
 
-box_common : (i j k m : ℕ) → i < 6 → j < 6 → k < 4 → m < 4 → IsRotated (facet_of (box_tetrahedron i) k) (facet_of (box_tetrahedron j) m) → i ≡ j
+box_common : (i j k m : ℕ) → i < 6 → j < 6 → k < 4 → m < 4
+    → IsRotated (facet_of (box_tetrahedron i) k) (facet_of (box_tetrahedron j) m) → i ≡ j
 box_common i j k m li lj lk lm h =
-    let t = every_at 4 (common_test i j k) (every_at 4 (λ c. every 4 (common_test i j c)) (every_at 6 (λ b. every 4 (λ c. every 4 (common_test i b c))) (every_at 6 (λ a. every 6 (λ b. every 4 (λ c. every 4 (common_test a b c)))) refl i li) j lj) k lk) m lm in
-    eq_of i j (implied (rotated_test (facet_of (box_tetrahedron i) k) (facet_of (box_tetrahedron j) m)) (i == j) t (rotated_yes (facet_of (box_tetrahedron i) k) (facet_of (box_tetrahedron j) m) h))
+    let t =
+    every_at 4 (common_test i j k)
+    (every_at 4 (λ c. every 4 (common_test i j c))
+    (every_at 6 (λ b. every 4 (λ c. every 4 (common_test i b c)))
+    (every_at 6 (λ a. every 6 (λ b. every 4 (λ c. every 4 (common_test a b c)))) refl i li) j lj) k lk) m lm in
+    eq_of i j (implied (rotated_test (facet_of (box_tetrahedron i) k) (facet_of (box_tetrahedron j) m)) (i == j) t
+    (rotated_yes (facet_of (box_tetrahedron i) k) (facet_of (box_tetrahedron j) m) h))
 
 abbrev keeper_test : ℕ → Bool
-keeper_test u = nat_lt (box_keeper u) 6 && (nat_lt (keeper_side u) 4 && (vertex_of (box_tetrahedron (box_keeper u)) (keeper_side u) == u))
+keeper_test u =
+    nat_lt (box_keeper u) 6 && (nat_lt (keeper_side u) 4 && (vertex_of (box_tetrahedron (box_keeper u)) (keeper_side u) == u))
 
 pub box_keeps : (u : ℕ) → u < 8 → (box_keeper u < 6) × IsVertexOf (box_tetrahedron (box_keeper u)) u
 box_keeps u l =
@@ -107,8 +132,11 @@ box_keeps u l =
     let a = nat_lt (box_keeper u) 6 in
     let b = nat_lt (keeper_side u) 4 in
     let c = vertex_of (box_tetrahedron (box_keeper u)) (keeper_side u) == u in
-    let r = and_right a (b && c) t in
-    (lt_of (box_keeper u) 6 (and_left a (b && c) t), at_place (box_tetrahedron (box_keeper u)) (keeper_side u) u (eq_of (vertex_of (box_tetrahedron (box_keeper u)) (keeper_side u)) u (and_right b c r)))
+    let r = and_right a (b && c) t in (
+      lt_of (box_keeper u) 6 (and_left a (b && c) t),
+      at_place (box_tetrahedron (box_keeper u)) (keeper_side u) u
+          (eq_of (vertex_of (box_tetrahedron (box_keeper u)) (keeper_side u)) u (and_right b c r)),
+    )
 
 -- ---- the cells are linked
 
@@ -123,11 +151,15 @@ across_none : (b : Bool) (x : ℕ) → (if b then None else Some x) ≡ (let o :
 across_none true x h = refl
 across_none false x h = absurd cc
 
-module _ (v : Vertices) (links : Links) (ids : List ℕ) (box : AreBoxCells links ids) (corners : (k : ℕ) → k < 8 → v.at k ≡ corner_point k) (inside : (k : ℕ) → k < 8 → Has v k) where
+module _ (v : Vertices) (links : Links) (ids : List ℕ) (box : AreBoxCells links ids)
+    (corners : (k : ℕ) → k < 8 → v.at k ≡ corner_point k) (inside : (k : ℕ) → k < 8 → Has v k) where
   facet_below : (i k u : ℕ) → i < 6 → HasVertex (facet_of (box_tetrahedron i) k) u → u < 8
-  facet_below i k u l h = let o = place_of (box_tetrahedron i) u (in_of (box_tetrahedron i) k u h) in subst (λ (z : ℕ). z < 8) o.2 (box_below i o.0 l o.1)
+  facet_below i k u l h =
+      let o = place_of (box_tetrahedron i) u (in_of (box_tetrahedron i) k u h) in
+      subst (λ (z : ℕ). z < 8) o.2 (box_below i o.0 l o.1)
 
-  positive_at : (i : ℕ) → i < 6 → pos 0 <ℤ orientation_of v (box_tetrahedron i).a (box_tetrahedron i).b (box_tetrahedron i).c (box_tetrahedron i).d
+  positive_at : (i : ℕ) → i < 6
+      → pos 0 <ℤ orientation_of v (box_tetrahedron i).a (box_tetrahedron i).b (box_tetrahedron i).c (box_tetrahedron i).d
   positive_at i l =
       let t = box_tetrahedron i in
       let a = corners t.a (box_below i 0 l (omega arith)) in
@@ -137,7 +169,8 @@ module _ (v : Vertices) (links : Links) (ids : List ℕ) (box : AreBoxCells link
       subst (λ (z : Point). pos 0 <ℤ orientation z (v.at t.b) (v.at t.c) (v.at t.d)) (sym a)
       (subst (λ (z : Point). pos 0 <ℤ orientation (corner_point t.a) z (v.at t.c) (v.at t.d)) (sym b)
       (subst (λ (z : Point). pos 0 <ℤ orientation (corner_point t.a) (corner_point t.b) z (v.at t.d)) (sym c)
-      (subst (λ (z : Point). pos 0 <ℤ orientation (corner_point t.a) (corner_point t.b) (corner_point t.c) z) (sym d) (box_positive i l))))
+      (subst (λ (z : Point). pos 0 <ℤ orientation (corner_point t.a) (corner_point t.b) (corner_point t.c) z) (sym d)
+      (box_positive i l))))
 
   back_at : (i k y : ℕ) → i < 6 → k < 4 → links.next (slice_index ids i) k ≡ Some y → IsBack links (slice_index ids i) k y
   back_at i k y l m e =
@@ -151,8 +184,11 @@ module _ (v : Vertices) (links : Links) (ids : List ℕ) (box : AreBoxCells link
               live = box.live n h.cell_in;
               side = b;
               in_range = h.side_in;
-              turned = subst (λ (t : Tetrahedron). IsTurned (facet_of t k) (facet_of (links.at (slice_index ids n)) b)) (sym (box.at i l))
-                  (subst (λ (t : Tetrahedron). IsTurned (facet_of (box_tetrahedron i) k) (facet_of t b)) (sym (box.at n h.cell_in)) h.turned);
+              turned =
+                  subst (λ (t : Tetrahedron). IsTurned (facet_of t k) (facet_of (links.at (slice_index ids n)) b))
+                  (sym (box.at i l))
+                  (subst (λ (t : Tetrahedron). IsTurned (facet_of (box_tetrahedron i) k) (facet_of t b))
+                  (sym (box.at n h.cell_in)) h.turned);
               named = box.next n b h.cell_in h.side_in ∙ named n b i h.named l;
             })
       ]
@@ -171,24 +207,31 @@ module _ (v : Vertices) (links : Links) (ids : List ℕ) (box : AreBoxCells link
 
       named : (n b i : ℕ) → box_number n b ≡ i → i < 6 → across_in ids n b ≡ Some (slice_index ids i)
       named n b i e l =
-          named_if (box_number n b == 6) (slice_index ids (box_number n b)) (subst (λ (z : ℕ). (z == 6) ≡ false) (sym e) (below_six i l)) ∙ ap (λ (z : ℕ). Some (slice_index ids z)) e
+          named_if (box_number n b == 6) (slice_index ids (box_number n b))
+          (subst (λ (z : ℕ). (z == 6) ≡ false) (sym e) (below_six i l)) ∙ ap (λ (z : ℕ). Some (slice_index ids z)) e
 
   wall_at : (i k : ℕ) → i < 6 → k < 4 → links.next (slice_index ids i) k ≡ None → IsWall v (facet_of (box_tetrahedron i) k)
   wall_at i k l m e =
       let six = across_none (box_number i k == 6) (slice_index ids (box_number i k)) (sym (box.next i k l m) ∙ e) in
       let f = facet_of (box_tetrahedron i) k in
-      wall_of v corners f (facet_below i k f.a l (inl refl)) (facet_below i k f.b l (inr (inl refl))) (facet_below i k f.c l (inr (inr refl))) (sym (box_walled i k l m) ∙ six)
+      wall_of v corners f (facet_below i k f.a l (inl refl)) (facet_below i k f.b l (inr (inl refl)))
+      (facet_below i k f.c l (inr (inr refl))) (sym (box_walled i k l m) ∙ six)
 
   inner_at : (i k : ℕ) → i < 6 → k < 4 → IsWall v (facet_of (box_tetrahedron i) k) → links.next (slice_index ids i) k ≡ None
-  inner_at i k l m w = box.next i k l m ∙ across_if (box_number i k == 6) (slice_index ids (box_number i k)) (box_walled i k l m ∙ wall_yes v corners (facet_of (box_tetrahedron i) k) w)
+  inner_at i k l m w =
+      box.next i k l m ∙ across_if (box_number i k == 6) (slice_index ids (box_number i k))
+      (box_walled i k l m ∙ wall_yes v corners (facet_of (box_tetrahedron i) k) w)
 
   -- what holds of each of the six holds of each
-  each : (P : ℕ → Tetrahedron → Type 0) → ((i : ℕ) → i < 6 → P (slice_index ids i) (box_tetrahedron i)) → (x : ℕ) → IsLive links x → P x (links.at x)
+  each : (P : ℕ → Tetrahedron → Type 0) → ((i : ℕ) → i < 6 → P (slice_index ids i) (box_tetrahedron i)) → (x : ℕ)
+      → IsLive links x → P x (links.at x)
   each P h x live =
       let i = box.only x live in
-      subst (λ (z : ℕ). P z (links.at z)) i.2 (subst (λ (t : Tetrahedron). P (slice_index ids i.0) t) (sym (box.at i.0 i.1)) (h i.0 i.1))
+      subst (λ (z : ℕ). P z (links.at z)) i.2
+      (subst (λ (t : Tetrahedron). P (slice_index ids i.0) t) (sym (box.at i.0 i.1)) (h i.0 i.1))
 
-  common : (x y j k : ℕ) → IsLive links x → IsLive links y → j < 4 → k < 4 → IsRotated (facet_of (links.at x) j) (facet_of (links.at y) k) → x ≡ y
+  common : (x y j k : ℕ) → IsLive links x → IsLive links y → j < 4 → k < 4
+      → IsRotated (facet_of (links.at x) j) (facet_of (links.at y) k) → x ≡ y
   common x y j k lx ly lj lk h =
       let i = box.only x lx in
       let m = box.only y ly in
@@ -200,10 +243,14 @@ module _ (v : Vertices) (links : Links) (ids : List ℕ) (box : AreBoxCells link
 
   pub box_linked : IsLinked v links
   box_linked = record {
-    has = λ x k live m. each (λ z t. Has v (vertex_of t k)) (λ i l. inside (vertex_of (box_tetrahedron i) k) (box_below i k l m)) x live;
+    has =
+        λ x k live m.
+        each (λ z t. Has v (vertex_of t k)) (λ i l. inside (vertex_of (box_tetrahedron i) k) (box_below i k l m)) x live;
     distinct = λ x j k live m n. each (λ z t. vertex_of t j ≡ vertex_of t k → j ≡ k) (λ i l. box_distinct i j k l m n) x live;
     positive = λ x live. each (λ z t. pos 0 <ℤ orientation_of v t.a t.b t.c t.d) positive_at x live;
-    back = λ x k y live m e. let i = box.only x live in subst (λ (z : ℕ). IsBack links z k y) i.2 (back_at i.0 k y i.1 m (subst (λ (z : ℕ). links.next z k ≡ Some y) (sym i.2) e));
+    back = λ x k y live m e. let i = box.only x live in
+        subst (λ (z : ℕ). IsBack links z k y) i.2
+        (back_at i.0 k y i.1 m (subst (λ (z : ℕ). links.next z k ≡ Some y) (sym i.2) e));
     walls = λ x k live m e. each (λ z t. links.next z k ≡ None → IsWall v (facet_of t k)) (λ i l. wall_at i k l m) x live e;
     inner = λ x k live m w. each (λ z t. IsWall v (facet_of t k) → links.next z k ≡ None) (λ i l. inner_at i k l m) x live w;
     apart = common;

@@ -1,5 +1,7 @@
 -- The store of the box keeps what a store keeps.
-use Rattle.std.proofs.Common.{ℕ, zero, suc, ◌≡◌, ◌<◌, ◌≤◌, ◌+◌, ◌-◌, Bool, true, false, not, cond, ◌||◌, ◌==◌, nat_lt, pos, neg_ℤ, unsigned_abs, List, ◌++◌, length, get_or, Option, refl, sym, ap, ◌∙◌, inl, inr, subst, arith, slice_index, slice_index_or, length-append}
+use Rattle.std.proofs.Common.{ℕ, zero, suc, ◌≡◌, ◌<◌, ◌≤◌, ◌+◌, ◌-◌, Bool, true, false, not, cond, ◌||◌, ◌==◌, nat_lt, pos}
+use Rattle.std.proofs.Common.{neg_ℤ, unsigned_abs, List, ◌++◌, length, get_or, Option, refl, sym, ap, ◌∙◌, inl, inr, subst}
+use Rattle.std.proofs.Common.{arith, slice_index, slice_index_or, length-append}
 use Rattle.std.proofs.lemmas.Bool.{cases_lt}
 use borrow.Author.Tests.{ltb-true}
 use Rattle.std.proofs.lemmas.Int.{ints}
@@ -40,14 +42,16 @@ count_all points = length-append corners points
 
 -- ---- apart
 
-side_same : (a b : Bool) → cond a (neg_ℤ (pos BOX_LIMIT)) (pos BOX_LIMIT) ≡ cond b (neg_ℤ (pos BOX_LIMIT)) (pos BOX_LIMIT) → same a b ≡ true
+side_same : (a b : Bool) → cond a (neg_ℤ (pos BOX_LIMIT)) (pos BOX_LIMIT) ≡ cond b (neg_ℤ (pos BOX_LIMIT)) (pos BOX_LIMIT)
+    → same a b ≡ true
 side_same true true h = refl
 side_same true false h = absurd (omega (arith, ints))
 side_same false true h = absurd (omega (arith, ints))
 side_same false false h = refl
 
 abbrev bits_test : ℕ → ℕ → Bool
-bits_test a b = not (same (low 1 a) (low 1 b)) || (not (same (low 2 a) (low 2 b)) || (not (same (low 4 a) (low 4 b)) || (a == b)))
+bits_test a b =
+    not (same (low 1 a) (low 1 b)) || (not (same (low 2 a) (low 2 b)) || (not (same (low 4 a) (low 4 b)) || (a == b)))
 
 corners_apart : (a b : ℕ) → a < 8 → b < 8 → corner_point a ≡ corner_point b → a ≡ b
 corners_apart a b l m e =
@@ -55,7 +59,8 @@ corners_apart a b l m e =
     let x = side_same (low 1 a) (low 1 b) (ap (λ (p : Point). p.x) e) in
     let y = side_same (low 2 a) (low 2 b) (ap (λ (p : Point). p.y) e) in
     let z = side_same (low 4 a) (low 4 b) (ap (λ (p : Point). p.z) e) in
-    let t1 = implied (same (low 1 a) (low 1 b)) (not (same (low 2 a) (low 2 b)) || (not (same (low 4 a) (low 4 b)) || (a == b))) t x in
+    let t1 =
+    implied (same (low 1 a) (low 1 b)) (not (same (low 2 a) (low 2 b)) || (not (same (low 4 a) (low 4 b)) || (a == b))) t x in
     let t2 = implied (same (low 2 a) (low 2 b)) (not (same (low 4 a) (low 4 b)) || (a == b)) t1 y in
     eq_of a b (implied (same (low 4 a) (low 4 b)) (a == b) t2 z)
 
@@ -71,7 +76,8 @@ not_data a p w e =
     omega arith
 
 module _ (points : List Point) (data_points : (k : ℕ) → k < length points → IsWithin DATA_LIMIT (get_or points k origin))
-    (distinct : (j k : ℕ) → j < length points → k < length points → get_or points j origin ≡ get_or points k origin → j ≡ k) (few : length points ≤ VERTEX_LIMIT)
+    (distinct : (j k : ℕ) → j < length points → k < length points → get_or points j origin ≡ get_or points k origin → j ≡ k)
+    (few : length points ≤ VERTEX_LIMIT)
     (flags : List Bool) (flags_are : (u : ℕ) → slice_index_or flags u false ≡ nat_lt u 8) where
   abbrev all : List Point
   all = corners ++ points
@@ -91,7 +97,11 @@ module _ (points : List Point) (data_points : (k : ℕ) → k < length points �
         ]
         | inr mu ↦ elim (cases_lt w 8) [
           | inl lw ↦ absurd (not_data w (get_or all u origin) (within_at u mu l) (sym (corner_first points w lw) ∙ sym e))
-          | inr mw ↦ let s = distinct (u - 8) (w - 8) (omega arith) (omega arith) (sym (point_after points u mu) ∙ (e ∙ point_after points w mw)) in omega arith
+          | inr mw ↦
+              let s =
+              distinct (u - 8) (w - 8) (omega arith) (omega arith)
+              (sym (point_after points u mu) ∙ (e ∙ point_after points w mw)) in
+              omega arith
         ]
       ]
 
@@ -116,17 +126,21 @@ module _ (points : List Point) (data_points : (k : ℕ) → k < length points �
   corner_only : (u : ℕ) → Has (vertices_at all flags) u → u < 8
   corner_only u h = ltb-true u 8 (sym (flags_are u) ∙ h.1)
 
-  module _ (slots : List (Option Cell)) (ids kept : List ℕ) (box : AreBoxCells (links_of slots) ids) (keeps : (u : ℕ) → u < 8 → slice_index kept u ≡ slice_index ids (box_keeper u)) where
-    kept_at : (u : ℕ) → Has (vertices_at all flags) u → IsLive (links_of slots) (slice_index kept u) × IsVertexOf ((links_of slots).at (slice_index kept u)) u
+  module _ (slots : List (Option Cell)) (ids kept : List ℕ) (box : AreBoxCells (links_of slots) ids)
+      (keeps : (u : ℕ) → u < 8 → slice_index kept u ≡ slice_index ids (box_keeper u)) where
+    kept_at : (u : ℕ) → Has (vertices_at all flags) u
+        → IsLive (links_of slots) (slice_index kept u) × IsVertexOf ((links_of slots).at (slice_index kept u)) u
     kept_at u h =
         let l = corner_only u h in
         let k = box_keeps u l in
         let e = sym (keeps u l) in (
           subst (λ (z : ℕ). IsLive (links_of slots) z) e (box.live (box_keeper u) k.0),
-          subst (λ (z : ℕ). IsVertexOf ((links_of slots).at z) u) e (subst (λ (t : Tetrahedron). IsVertexOf t u) (sym (box.at (box_keeper u) k.0)) k.1),
+          subst (λ (z : ℕ). IsVertexOf ((links_of slots).at z) u) e
+              (subst (λ (t : Tetrahedron). IsVertexOf t u) (sym (box.at (box_keeper u) k.0)) k.1),
         )
 
-    pub box_store : (spare : ℕ) → length flags ≡ length all → length kept ≡ length all → IsStore (record { points = all; inserted = flags; slots = slots; kept = kept; spare = spare })
+    pub box_store : (spare : ℕ) → length flags ≡ length all → length kept ≡ length all
+        → IsStore (record { points = all; inserted = flags; slots = slots; kept = kept; spare = spare })
     box_store spare f k = record {
       flags = f;
       keeps = k;
@@ -136,4 +150,6 @@ module _ (points : List Point) (data_points : (k : ℕ) → k < length points �
     }
 
     pub box_is_delaunay : IsDelaunay (vertices_at all flags) (links_of slots)
-    box_is_delaunay = box_delaunay all flags (let n = count_all points in omega arith) box_vertices.boxed.corner_at (links_of slots) ids box corner_has corner_only
+    box_is_delaunay =
+        box_delaunay all flags (let n = count_all points in omega arith) box_vertices.boxed.corner_at (links_of slots) ids box
+        corner_has corner_only

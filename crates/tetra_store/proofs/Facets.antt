@@ -152,20 +152,24 @@ others_in t j (suc (suc (suc (suc k)))) l m = absurd (omega arith)
 pub same_side : (t : Tetrahedron) → IsDistinct t → (j k : ℕ) → j < 4 → k < 4 → IsRotated (facet_of t j) (facet_of t k) → j ≡ k
 same_side t d j k l m r = elim (others_in t j k l m) [
   | inl e ↦ e
-  | inr h ↦ absurd (opposite_out t d j l (in_rotated (facet_of t k) (facet_of t j) (vertex_of t j) (rotated_sym (facet_of t j) (facet_of t k) r) h))
+  | inr h ↦
+      absurd (opposite_out t d j l
+      (in_rotated (facet_of t k) (facet_of t j) (vertex_of t j) (rotated_sym (facet_of t j) (facet_of t k) r) h))
 ]
 
 -- ---- cells over a facet with p
 
 -- side e of the cell over f has f's edge e in the other direction, and p
-pub side_over : (f : DirectedFacet) (p e : ℕ) → e < 3 → IsRotated (facet (edge_end f e) (edge_start f e) p) (facet_of (over f p) e)
+pub side_over : (f : DirectedFacet) (p e : ℕ) → e < 3
+    → IsRotated (facet (edge_end f e) (edge_start f e) p) (facet_of (over f p) e)
 side_over f p zero l = inr (inl refl)
 side_over f p (suc zero) l = inl refl
 side_over f p (suc (suc zero)) l = inr (inl refl)
 side_over f p (suc (suc (suc e))) l = absurd (omega arith)
 
 pub side_has : (f : DirectedFacet) (p e : ℕ) → e < 3 → HasVertex (facet_of (over f p) e) p
-side_has f p e l = in_rotated (facet (edge_end f e) (edge_start f e) p) (facet_of (over f p) e) p (side_over f p e l) (inr (inr refl))
+side_has f p e l =
+    in_rotated (facet (edge_end f e) (edge_start f e) p) (facet_of (over f p) e) p (side_over f p e l) (inr (inr refl))
 
 -- facets with p whose other vertices are not p have the same edge
 pub same_edge : (u w x y p : ℕ) → u ≢ p → w ≢ p → IsRotated (facet u w p) (facet x y p) → (u ≡ x) × (w ≡ y)
@@ -184,11 +188,13 @@ end_in f (suc zero) = inl refl
 end_in f (suc (suc e)) = inr (inl refl)
 
 -- an edge and its reverse make sides that are the reverse of each other
-pub edges_turned : (f g : DirectedFacet) (p e d : ℕ) → e < 3 → d < 3 → edge_start g d ≡ edge_end f e → edge_end g d ≡ edge_start f e → IsTurned (facet_of (over f p) e) (facet_of (over g p) d)
+pub edges_turned : (f g : DirectedFacet) (p e d : ℕ) → e < 3 → d < 3 → edge_start g d ≡ edge_end f e
+    → edge_end g d ≡ edge_start f e → IsTurned (facet_of (over f p) e) (facet_of (over g p) d)
 edges_turned f g p e d l m s t =
     let x : IsTurned (facet (edge_end f e) (edge_start f e) p) (facet (edge_end g d) (edge_start g d) p) =
     subst (λ (a : ℕ). IsTurned (facet (edge_end f e) (edge_start f e) p) (facet a (edge_start g d) p)) (sym t)
-    (subst (λ (b : ℕ). IsTurned (facet (edge_end f e) (edge_start f e) p) (facet (edge_start f e) b p)) (sym s) (inr (inr refl))) in
+    (subst (λ (b : ℕ). IsTurned (facet (edge_end f e) (edge_start f e) p) (facet (edge_start f e) b p)) (sym s)
+    (inr (inr refl))) in
     turned_rotated (facet_of (over f p) e) (facet (edge_end g d) (edge_start g d) p) (facet_of (over g p) d)
     (rotated_turned (facet_of (over f p) e) (facet (edge_end f e) (edge_start f e) p) (facet (edge_end g d) (edge_start g d) p)
     (rotated_sym (facet (edge_end f e) (edge_start f e) p) (facet_of (over f p) e) (side_over f p e l)) x)
@@ -225,8 +231,12 @@ facet_apart t d (suc (suc (suc k))) = record {
 
 pub apart_rotated : (f g : DirectedFacet) → IsRotated f g → IsApart f → IsApart g
 apart_rotated f g (inl e) h = subst (λ (t : DirectedFacet). IsApart t) (sym e) h
-apart_rotated f g (inr (inl e)) h = subst (λ (t : DirectedFacet). IsApart t) (sym e) (let r : IsApart (one f) = record { a_b = h.b_c; b_c = h.c_a; c_a = h.a_b } in r)
-apart_rotated f g (inr (inr e)) h = subst (λ (t : DirectedFacet). IsApart t) (sym e) (let r : IsApart (two f) = record { a_b = h.c_a; b_c = h.a_b; c_a = h.b_c } in r)
+apart_rotated f g (inr (inl e)) h =
+    subst (λ (t : DirectedFacet). IsApart t) (sym e)
+    (let r : IsApart (one f) = record { a_b = h.b_c; b_c = h.c_a; c_a = h.a_b } in r)
+apart_rotated f g (inr (inr e)) h =
+    subst (λ (t : DirectedFacet). IsApart t) (sym e)
+    (let r : IsApart (two f) = record { a_b = h.c_a; b_c = h.a_b; c_a = h.b_c } in r)
 
 pub over_distinct : (f : DirectedFacet) (p : ℕ) → IsApart f → (HasVertex f p → ⊥) → IsDistinct (over f p)
 over_distinct f p h out zero zero l m e = refl

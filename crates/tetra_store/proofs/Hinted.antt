@@ -1,8 +1,8 @@
 -- Joining edges once more, in another order.
 --
--- Where a hint was wrong, the edges before it are joined, and the rest are not. Joining all of them in any order then gives what it
--- would have given at once: which numbers are live and what the cells' vertices are did not change, every side of a cell that some edge
--- names is written anew, and no other side was written.
+-- Where a hint was wrong, the edges before it are joined, and the rest are not. Joining all of them in any order then gives
+-- what it would have given at once: which numbers are live and what the cells' vertices are did not change, every side of a
+-- cell that some edge names is written anew, and no other side was written.
 use Rattle.std.proofs.Common.{ℕ, List, length, ◌∙◌, arith}
 use Rattle.std.specs.List.Sorted.{IsPermutation}
 use Rattle.std.proofs.lemmas.List.Sorted.{Contains-permutation}
@@ -11,7 +11,8 @@ use Rattle.tetra_store.specs.Links.{Links}
 use Rattle.tetra_store.specs.Steps.{AreJoined, CanJoin}
 
 pub AreJoined_first : (a b : Links) (edges : List Edge) (n : ℕ) → AreJoined a b edges n → AreJoined a b edges 0
-AreJoined_first a b edges n h = record { live = h.live; same = h.same; joined = λ m x l e k. absurd (omega arith); others = h.others }
+AreJoined_first a b edges n h =
+    record { live = h.live; same = h.same; joined = λ m x l e k. absurd (omega arith); others = h.others }
 
 pub can_again : (a m : Links) (edges xs : List Edge) → AreJoined a m edges 0 → CanJoin a xs → CanJoin m xs
 can_again a m edges xs h can = record {
@@ -22,7 +23,8 @@ can_again a m edges xs h can = record {
   side_in = can.side_in;
 }
 
-pub AreJoined_again : (a m b : Links) (edges xs : List Edge) → AreJoined a m edges 0 → IsPermutation edges xs → AreJoined m b xs (length xs) → AreJoined a b xs (length xs)
+pub AreJoined_again : (a m b : Links) (edges xs : List Edge) → AreJoined a m edges 0 → IsPermutation edges xs
+    → AreJoined m b xs (length xs) → AreJoined a b xs (length xs)
 AreJoined_again a m b edges xs h moved g = record {
   live = λ x. g.live x ∙ h.live x;
   same = λ x. g.same x ∙ h.same x;

@@ -1,8 +1,9 @@
 -- Steps of keeping cells.
 --
--- What is said of the kept cells is said of each vertex alone: it keeps what it kept, or a cell that has it. So a later write to the
--- same vertex does no harm, and the writes are followed one after another.
-use Rattle.std.proofs.Common.{ℕ, zero, suc, true, false, eqb, ◌≡◌, ◌≢◌, ◌<◌, ◌+◌, List, [], ◌∷◌, length, Option, Some, refl, sym, ap, ◌∙◌, ◌⊎◌, inl, inr, subst, arith, slice_index, slice_index_or}
+-- What is said of the kept cells is said of each vertex alone: it keeps what it kept, or a cell that has it. So a later write
+-- to the same vertex does no harm, and the writes are followed one after another.
+use Rattle.std.proofs.Common.{ℕ, zero, suc, true, false, eqb, ◌≡◌, ◌≢◌, ◌<◌, ◌+◌, List, [], ◌∷◌, length, Option, Some, refl}
+use Rattle.std.proofs.Common.{sym, ap, ◌∙◌, ◌⊎◌, inl, inr, subst, arith, slice_index, slice_index_or}
 use Rattle.std.proofs.Math.ListN.{set, length-set}
 use Rattle.std.specs.List.{Contains}
 use Rattle.std.proofs.lemmas.Bool.{cases_eq, cases_lt, eqb-true, eq-eqb}
@@ -24,24 +25,35 @@ vertex_index xs (suc (suc zero)) l = refl
 vertex_index xs (suc (suc (suc zero))) l = refl
 vertex_index xs (suc (suc (suc (suc k)))) l = absurd (omega arith)
 
-read_at : (fan : List Facet) (i k : ℕ) (d : Facet) → i < length fan → slice_index (slice_index_or fan i d).v k ≡ slice_index (slice_index_or fan i no_facet).v k
+read_at : (fan : List Facet) (i k : ℕ) (d : Facet) → i < length fan
+    → slice_index (slice_index_or fan i d).v k ≡ slice_index (slice_index_or fan i no_facet).v k
 read_at fan i k d l = ap (λ (f : Facet). slice_index f.v k) (get_or_default fan i d no_facet l)
 
 -- the four numbers that are read of a fan facet, and p
-pub over_read : (fan : List Facet) (i p : ℕ) (d e f : Facet) → i < length fan → tetrahedron_from (slice_index (slice_index_or fan i d).v 0 ∷ slice_index (slice_index_or fan i e).v 1 ∷ slice_index (slice_index_or fan i f).v 2 ∷ p ∷ []) ≡ over (fan_facet fan i) p
+pub over_read : (fan : List Facet) (i p : ℕ) (d e f : Facet) → i < length fan
+    → tetrahedron_from
+    (slice_index (slice_index_or fan i d).v 0 ∷ slice_index (slice_index_or fan i e).v 1
+    ∷ slice_index (slice_index_or fan i f).v 2 ∷ p ∷ []) ≡ over (fan_facet fan i) p
 over_read fan i p d e f l =
-    ap (λ (z : ℕ). tetrahedron z (slice_index (slice_index_or fan i e).v 1) (slice_index (slice_index_or fan i f).v 2) p) (read_at fan i 0 d l)
-    ∙ (ap (λ (z : ℕ). tetrahedron (slice_index (slice_index_or fan i no_facet).v 0) z (slice_index (slice_index_or fan i f).v 2) p) (read_at fan i 1 e l)
-    ∙ ap (λ (z : ℕ). tetrahedron (slice_index (slice_index_or fan i no_facet).v 0) (slice_index (slice_index_or fan i no_facet).v 1) z p) (read_at fan i 2 f l))
+    ap (λ (z : ℕ). tetrahedron z (slice_index (slice_index_or fan i e).v 1) (slice_index (slice_index_or fan i f).v 2) p)
+    (read_at fan i 0 d l)
+    ∙ (ap (λ (z : ℕ). tetrahedron (slice_index (slice_index_or fan i no_facet).v 0) z (slice_index (slice_index_or fan i f).v 2)
+    p) (read_at fan i 1 e l)
+    ∙ ap (λ (z : ℕ). tetrahedron (slice_index (slice_index_or fan i no_facet).v 0)
+    (slice_index (slice_index_or fan i no_facet).v 1) z p) (read_at fan i 2 f l))
 
 pub AreKeptNew_none : (kept : List ℕ) (fan : List Facet) (ids : List ℕ) (p : ℕ) → AreKeptNew kept kept fan ids p 0
 AreKeptNew_none kept fan ids p = record { count = refl; each = λ u. inl refl; done = λ i k l m. absurd (omega arith) }
 
-carried : (mid new : List ℕ) (fan : List Facet) (ids : List ℕ) (p i u : ℕ) → i < length fan → (slice_index new u ≡ slice_index mid u) ⊎ ((slice_index new u ≡ slice_index ids i) × IsVertexOf (over (fan_facet fan i) p) u) → IsKeptNew mid fan ids p u → IsKeptNew new fan ids p u
+carried : (mid new : List ℕ) (fan : List Facet) (ids : List ℕ) (p i u : ℕ) → i < length fan
+    → (slice_index new u ≡ slice_index mid u)
+    ⊎ ((slice_index new u ≡ slice_index ids i) × IsVertexOf (over (fan_facet fan i) p) u) → IsKeptNew mid fan ids p u
+    → IsKeptNew new fan ids p u
 carried mid new fan ids p i u l (inl e) h = record { facet = h.facet; facet_in = h.facet_in; is = e ∙ h.is; has = h.has }
 carried mid new fan ids p i u l (inr e) h = record { facet = i; facet_in = l; is = e.0; has = e.1 }
 
-pub AreKeptNew_keep : (old mid new : List ℕ) (fan : List Facet) (ids : List ℕ) (p i : ℕ) → AreKeptNew old mid fan ids p i → i < length fan → IsKeptAt mid new (over (fan_facet fan i) p) (slice_index ids i) 4 → AreKeptNew old new fan ids p (i + 1)
+pub AreKeptNew_keep : (old mid new : List ℕ) (fan : List Facet) (ids : List ℕ) (p i : ℕ) → AreKeptNew old mid fan ids p i
+    → i < length fan → IsKeptAt mid new (over (fan_facet fan i) p) (slice_index ids i) 4 → AreKeptNew old new fan ids p (i + 1)
 AreKeptNew_keep old mid new fan ids p i h l at = record {
   count = at.count ∙ h.count;
   each = λ u. elim (at.each u) [
@@ -52,29 +64,42 @@ AreKeptNew_keep old mid new fan ids p i h l at = record {
     ]
   ];
   done = λ j k m n. elim (cases_lt j i) [
-    | inl less ↦ carried mid new fan ids p i (vertex_of (over (fan_facet fan j) p) k) l (at.each (vertex_of (over (fan_facet fan j) p) k)) (h.done j k less n)
+    | inl less ↦
+        carried mid new fan ids p i (vertex_of (over (fan_facet fan j) p) k) l
+        (at.each (vertex_of (over (fan_facet fan j) p) k)) (h.done j k less n)
     | inr more ↦
         let s : i ≡ j = omega arith in
-        subst (λ (t : ℕ). IsKeptNew new fan ids p (vertex_of (over (fan_facet fan t) p) k)) s (record { facet = i; facet_in = l; is = at.done k n n; has = at_place (over (fan_facet fan i) p) k (vertex_of (over (fan_facet fan i) p) k) refl })
+        subst (λ (t : ℕ). IsKeptNew new fan ids p (vertex_of (over (fan_facet fan t) p) k)) s
+        (record {
+          facet = i;
+          facet_in = l;
+          is = at.done k n n;
+          has = at_place (over (fan_facet fan i) p) k (vertex_of (over (fan_facet fan i) p) k) refl;
+        })
   ];
 }
 
 -- ---- mending
 
 -- the vertices that are read of a cell
-pub cell_vertices : (slots : List (Option Cell)) (id : ℕ) (c : Cell) (v : List ℕ) → slot_at slots id ≡ Some c → v ≡ c.v → (k : ℕ) → k < 4 → vertex_of ((links_of slots).at id) k ≡ slice_index v k
+pub cell_vertices : (slots : List (Option Cell)) (id : ℕ) (c : Cell) (v : List ℕ) → slot_at slots id ≡ Some c → v ≡ c.v
+    → (k : ℕ) → k < 4 → vertex_of ((links_of slots).at id) k ≡ slice_index v k
 cell_vertices slots id c v e d k l =
-    ap (λ (o : Option Cell). vertex_of (vertices_in o) k) e ∙ (ap (λ (xs : List ℕ). vertex_of (tetrahedron_from xs) k) (sym d) ∙ vertex_index v k l)
+    ap (λ (o : Option Cell). vertex_of (vertices_in o) k) e
+    ∙ (ap (λ (xs : List ℕ). vertex_of (tetrahedron_from xs) k) (sym d) ∙ vertex_index v k l)
 
 pub mended_none : (links : Links) (old kept : List ℕ) (id : ℕ) → IsMendedAt links old kept kept id 0
 mended_none links old kept id = record { count = refl; each = λ u. inl refl; done = λ k l m. absurd (omega arith) }
 
 -- a vertex that still keeps the cell kept it
-pub was_kept : (links : Links) (old kept new : List ℕ) (u id : ℕ) → (slice_index new u ≡ slice_index kept u) ⊎ IsOutsideWith links old u (slice_index new u) → Contains old id → slice_index new u ≡ id → slice_index kept u ≡ id
+pub was_kept : (links : Links) (old kept new : List ℕ) (u id : ℕ)
+    → (slice_index new u ≡ slice_index kept u) ⊎ IsOutsideWith links old u (slice_index new u) → Contains old id
+    → slice_index new u ≡ id → slice_index kept u ≡ id
 was_kept links old kept new u id (inl e) h is = sym e ∙ is
 was_kept links old kept new u id (inr o) h is = absurd (o.outside (subst (λ (z : ℕ). Contains old z) (sym is) h))
 
-pub mended_skip : (links : Links) (old kept mid : List ℕ) (id k : ℕ) → IsMendedAt links old kept mid id k → slice_index mid (vertex_of (links.at id) k) ≢ id → IsMendedAt links old kept mid id (k + 1)
+pub mended_skip : (links : Links) (old kept mid : List ℕ) (id k : ℕ) → IsMendedAt links old kept mid id k
+    → slice_index mid (vertex_of (links.at id) k) ≢ id → IsMendedAt links old kept mid id (k + 1)
 mended_skip links old kept mid id k h not = record {
   count = h.count;
   each = h.each;
@@ -85,17 +110,22 @@ mended_skip links old kept mid id k h not = record {
 }
 
 -- what is written, and what is not
-pub written_cases : (mid : List ℕ) (u w x : ℕ) → u < length mid → ((x ≡ u) × (slice_index (set mid u w) x ≡ w)) ⊎ ((x ≢ u) × (slice_index (set mid u w) x ≡ slice_index mid x))
+pub written_cases : (mid : List ℕ) (u w x : ℕ) → u < length mid
+    → ((x ≡ u) × (slice_index (set mid u w) x ≡ w)) ⊎ ((x ≢ u) × (slice_index (set mid u w) x ≡ slice_index mid x))
 written_cases mid u w x l = elim (cases_eq x u) [
   | inl e ↦ inl (e, subst (λ (z : ℕ). slice_index (set mid u w) z ≡ w) (sym e) (get_or-set_same mid u w 0 l))
   | inr n ↦ inr (n, get_or-set_other mid u x w 0 n)
 ]
 
-pub mended_write : (links : Links) (old kept mid : List ℕ) (id k u w : ℕ) → IsMendedAt links old kept mid id k → Contains old id → k < 4 → u ≡ vertex_of (links.at id) k → u < length mid → IsOutsideWith links old u w → IsMendedAt links old kept (set mid u w) id (k + 1)
+pub mended_write : (links : Links) (old kept mid : List ℕ) (id k u w : ℕ) → IsMendedAt links old kept mid id k → Contains old id
+    → k < 4 → u ≡ vertex_of (links.at id) k → u < length mid → IsOutsideWith links old u w
+    → IsMendedAt links old kept (set mid u w) id (k + 1)
 mended_write links old kept mid id k u w h listed l is in_range o = record {
   count = length-set mid u w ∙ h.count;
   each = λ x. elim (written_cases mid u w x in_range) [
-    | inl e ↦ inr (subst (λ (z : ℕ). IsOutsideWith links old x z) (sym e.1) (subst (λ (z : ℕ). IsOutsideWith links old z w) (sym e.0) o))
+    | inl e ↦
+        inr (subst (λ (z : ℕ). IsOutsideWith links old x z) (sym e.1)
+        (subst (λ (z : ℕ). IsOutsideWith links old z w) (sym e.0) o))
     | inr e ↦ elim (h.each x) [
       | inl d ↦ inl (e.1 ∙ d)
       | inr d ↦ inr (subst (λ (z : ℕ). IsOutsideWith links old x z) (sym e.1) d)
@@ -113,7 +143,8 @@ mended_write links old kept mid id k u w h listed l is in_range o = record {
 pub AreMended_none : (links : Links) (old kept : List ℕ) → AreMended links old kept kept 0
 AreMended_none links old kept = record { count = refl; each = λ u. inl refl; done = λ j k l m n. absurd (omega arith) }
 
-pub AreMended_cell : (links : Links) (old kept mid new : List ℕ) (i : ℕ) → AreMended links old kept mid i → i < length old → IsMendedAt links old mid new (slice_index old i) 4 → AreMended links old kept new (i + 1)
+pub AreMended_cell : (links : Links) (old kept mid new : List ℕ) (i : ℕ) → AreMended links old kept mid i → i < length old
+    → IsMendedAt links old mid new (slice_index old i) 4 → AreMended links old kept new (i + 1)
 AreMended_cell links old kept mid new i h l at = record {
   count = at.count ∙ h.count;
   each = λ u. elim (at.each u) [
@@ -124,20 +155,25 @@ AreMended_cell links old kept mid new i h l at = record {
     ]
   ];
   done = λ j k m n o. elim (cases_lt j i) [
-    | inr more ↦ let s : i ≡ j = omega arith in subst (λ (t : ℕ). slice_index new (vertex_of (links.at (slice_index old t)) k) ≢ slice_index old t) s (at.done k o o)
+    | inr more ↦
+        let s : i ≡ j = omega arith in
+        subst (λ (t : ℕ). slice_index new (vertex_of (links.at (slice_index old t)) k) ≢ slice_index old t) s (at.done k o o)
     | inl less ↦ elim (at.each (vertex_of (links.at (slice_index old j)) k)) [
       | inl e ↦ λ same. h.done j k less n o (sym e ∙ same)
-      | inr d ↦ λ same. d.outside (subst (λ (z : ℕ). Contains old z) (sym same) (j, n, get_or_default old j (slice_index old j) 0 n))
+      | inr d ↦
+          λ same. d.outside (subst (λ (z : ℕ). Contains old z) (sym same) (j, n, get_or_default old j (slice_index old j) 0 n))
     ]
   ];
 }
 
 -- ---- what a test of a kept cell says
 
-pub keeps_it : (kept : List ℕ) (u d x id : ℕ) → u < length kept → x ≡ slice_index_or kept u d → true ≡ eqb x id → slice_index kept u ≡ id
+pub keeps_it : (kept : List ℕ) (u d x id : ℕ) → u < length kept → x ≡ slice_index_or kept u d → true ≡ eqb x id
+    → slice_index kept u ≡ id
 keeps_it kept u d x id l s e = get_or_default kept u 0 d l ∙ (sym s ∙ eqb-true x id (sym e))
 
-pub keeps_other : (kept : List ℕ) (u d x id : ℕ) → u < length kept → x ≡ slice_index_or kept u d → false ≡ eqb x id → slice_index kept u ≢ id
+pub keeps_other : (kept : List ℕ) (u d x id : ℕ) → u < length kept → x ≡ slice_index_or kept u d → false ≡ eqb x id
+    → slice_index kept u ≢ id
 keeps_other kept u d x id l s e same =
     let yes : eqb x id ≡ true = eq-eqb x id (s ∙ (get_or_default kept u d 0 l ∙ same)) in
     let no : false ≡ true = e ∙ yes in

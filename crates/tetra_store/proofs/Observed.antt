@@ -12,16 +12,19 @@ use Rattle.tetra_store.specs.Links.{slot_at, links_of, Links, IsLive, IsLinked, 
 use Rattle.tetra_store.specs.Store.{Store, IsStore}
 use Rattle.tetra_store.proofs.Facets.{both_turned}
 
-pub only_at : (v : Vertices) (links : Links) (id k other : ℕ) → IsLinked v links → IsLive links id → k < 4 → links.next id k ≡ Some other → IsOnlyAcross links id k other
+pub only_at : (v : Vertices) (links : Links) (id k other : ℕ) → IsLinked v links → IsLive links id → k < 4
+    → links.next id k ≡ Some other → IsOnlyAcross links id k other
 only_at v links id k other linked live l e =
     let back = linked.back id k other live l e in record {
       back = back;
       only = λ z m z_live m_in t.
           linked.apart z other m back.side z_live back.live m_in back.in_range
-          (both_turned (facet_of (links.at id) k) (facet_of (links.at z) m) (facet_of (links.at other) back.side) t back.turned);
+          (both_turned (facet_of (links.at id) k) (facet_of (links.at z) m) (facet_of (links.at other) back.side) t
+          back.turned);
     }
 
-pub only_across : (v : Vertices) (links : Links) (id k : ℕ) → IsLinked v links → IsLive links id → k < 4 → (o : Option ℕ) → o ≡ links.next id k → IfSome o (λ other. IsOnlyAcross links id k other)
+pub only_across : (v : Vertices) (links : Links) (id k : ℕ) → IsLinked v links → IsLive links id → k < 4 → (o : Option ℕ)
+    → o ≡ links.next id k → IfSome o (λ other. IsOnlyAcross links id k other)
 only_across v links id k linked live l None e = tt
 only_across v links id k linked live l (Some other) e = only_at v links id k other linked live l (sym e)
 
@@ -29,7 +32,8 @@ pub store_now : (s t : Store) → s ≡ t → IsStore s → IsStore t
 store_now s t e h = subst (λ (u : Store). IsStore u) e h
 
 -- what `cells` lists: each live number with its cell, and nothing else
-pub listed_cells : (slots : List (Option Cell)) (id : ℕ) (c : Cell) → Contains (entries_from 0 slots) (id, c) ↔ (slot_at slots id ≡ Some c)
+pub listed_cells : (slots : List (Option Cell)) (id : ℕ) (c : Cell) → Contains (entries_from 0 slots) (id, c)
+    ↔ (slot_at slots id ≡ Some c)
 listed_cells slots id c = Contains-entries (record { slots = slots; vacant_key = 0; capacity = 0 }) id c
 
 -- a live number is one of the slots

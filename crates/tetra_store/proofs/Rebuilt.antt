@@ -1,5 +1,6 @@
 -- Links are kept where cells are taken out and cells over their rim are put in.
-use Rattle.std.proofs.Common.{ℕ, zero, suc, ◌≡◌, ◌≢◌, ◌<◌, ◌≤◌, ◌<ℤ◌, pos, Bool, List, [], ◌∷◌, length, Some, refl, sym, ◌∙◌, ◌⊎◌, inl, inr, subst, arith, slice_index}
+use Rattle.std.proofs.Common.{ℕ, zero, suc, ◌≡◌, ◌≢◌, ◌<◌, ◌≤◌, ◌<ℤ◌, pos, Bool, List, [], ◌∷◌, length, Some, refl, sym, ◌∙◌}
+use Rattle.std.proofs.Common.{◌⊎◌, inl, inr, subst, arith, slice_index}
 use Rattle.std.specs.List.{Contains}
 use Rattle.std.proofs.lemmas.Bool.{cases_eq}
 use Rattle.geo_sign.specs.Point.{Point}
@@ -25,11 +26,13 @@ pub record IsRebuilt (a b : Links) (old : List ℕ) (fan : List Facet) (p : ℕ)
   pub kept : (x k : ℕ) → IsLive a x → ¬ Contains old x → k < 4 → (b.next x k ≡ a.next x k) ⊎ IsRenamed a b fan ids x k
   pub inner : (i e : ℕ) → i < length fan → e < 3 → IsMated b fan ids i e
 
-pub record IsRebuilding (points : List Point) (flags flags' : List Bool) (a b : Links) (old : List ℕ) (fan : List Facet) (p : ℕ) (ids : List ℕ) : Type 0 where
+pub record IsRebuilding (points : List Point) (flags flags' : List Bool) (a b : Links) (old : List ℕ) (fan : List Facet) (p : ℕ)
+    (ids : List ℕ) : Type 0 where
   pub linked : IsLinked (vertices_at points flags) a
   pub rim : IsFan a old fan
   pub edges : AreEdges fan
-  pub before : (i : ℕ) → i < length fan → pos 0 <ℤ orientation_of (vertices_at points flags) (fan_facet fan i).a (fan_facet fan i).b (fan_facet fan i).c p
+  pub before : (i : ℕ) → i < length fan
+      → pos 0 <ℤ orientation_of (vertices_at points flags) (fan_facet fan i).a (fan_facet fan i).b (fan_facet fan i).c p
   pub above : 8 ≤ p
   pub new : ¬ Has (vertices_at points flags) p
   pub in_now : Has (vertices_at points flags') p
@@ -43,21 +46,31 @@ pub wall_rotated : (v : Vertices) (f g : geo.DirectedFacet) → IsRotated f g �
 wall_rotated v f g (inl e) w = subst (λ (t : geo.DirectedFacet). IsWall v t) (sym e) w
 wall_rotated v f g (inr (inl e)) w = subst (λ (t : geo.DirectedFacet). IsWall v t) (sym e) (around w.agree)
   where
-    around : (((v.at f.a).x ≡ (v.at f.b).x) × ((v.at f.a).x ≡ (v.at f.c).x)) ⊎ ((((v.at f.a).y ≡ (v.at f.b).y) × ((v.at f.a).y ≡ (v.at f.c).y)) ⊎ (((v.at f.a).z ≡ (v.at f.b).z) × ((v.at f.a).z ≡ (v.at f.c).z))) → IsWall v (facet f.b f.c f.a)
+    around : (((v.at f.a).x ≡ (v.at f.b).x) × ((v.at f.a).x ≡ (v.at f.c).x))
+        ⊎ ((((v.at f.a).y ≡ (v.at f.b).y) × ((v.at f.a).y ≡ (v.at f.c).y))
+        ⊎ (((v.at f.a).z ≡ (v.at f.b).z) × ((v.at f.a).z ≡ (v.at f.c).z))) → IsWall v (facet f.b f.c f.a)
     around (inl h) = record { first = w.second; second = w.third; third = w.first; agree = inl (sym h.0 ∙ h.1, sym h.0) }
-    around (inr (inl h)) = record { first = w.second; second = w.third; third = w.first; agree = inr (inl (sym h.0 ∙ h.1, sym h.0)) }
-    around (inr (inr h)) = record { first = w.second; second = w.third; third = w.first; agree = inr (inr (sym h.0 ∙ h.1, sym h.0)) }
+    around (inr (inl h)) =
+        record { first = w.second; second = w.third; third = w.first; agree = inr (inl (sym h.0 ∙ h.1, sym h.0)) }
+    around (inr (inr h)) =
+        record { first = w.second; second = w.third; third = w.first; agree = inr (inr (sym h.0 ∙ h.1, sym h.0)) }
 wall_rotated v f g (inr (inr e)) w = subst (λ (t : geo.DirectedFacet). IsWall v t) (sym e) (around w.agree)
   where
-    around : (((v.at f.a).x ≡ (v.at f.b).x) × ((v.at f.a).x ≡ (v.at f.c).x)) ⊎ ((((v.at f.a).y ≡ (v.at f.b).y) × ((v.at f.a).y ≡ (v.at f.c).y)) ⊎ (((v.at f.a).z ≡ (v.at f.b).z) × ((v.at f.a).z ≡ (v.at f.c).z))) → IsWall v (facet f.c f.a f.b)
+    around : (((v.at f.a).x ≡ (v.at f.b).x) × ((v.at f.a).x ≡ (v.at f.c).x))
+        ⊎ ((((v.at f.a).y ≡ (v.at f.b).y) × ((v.at f.a).y ≡ (v.at f.c).y))
+        ⊎ (((v.at f.a).z ≡ (v.at f.b).z) × ((v.at f.a).z ≡ (v.at f.c).z))) → IsWall v (facet f.c f.a f.b)
     around (inl h) = record { first = w.third; second = w.first; third = w.second; agree = inl (sym h.1, sym h.1 ∙ h.0) }
-    around (inr (inl h)) = record { first = w.third; second = w.first; third = w.second; agree = inr (inl (sym h.1, sym h.1 ∙ h.0)) }
-    around (inr (inr h)) = record { first = w.third; second = w.first; third = w.second; agree = inr (inr (sym h.1, sym h.1 ∙ h.0)) }
+    around (inr (inl h)) =
+        record { first = w.third; second = w.first; third = w.second; agree = inr (inl (sym h.1, sym h.1 ∙ h.0)) }
+    around (inr (inr h)) =
+        record { first = w.third; second = w.first; third = w.second; agree = inr (inr (sym h.1, sym h.1 ∙ h.0)) }
 
 pub wall_back : (v : Vertices) (f : geo.DirectedFacet) → IsWall v f → IsWall v (facet f.a f.c f.b)
 wall_back v f w = around w.agree
   where
-    around : (((v.at f.a).x ≡ (v.at f.b).x) × ((v.at f.a).x ≡ (v.at f.c).x)) ⊎ ((((v.at f.a).y ≡ (v.at f.b).y) × ((v.at f.a).y ≡ (v.at f.c).y)) ⊎ (((v.at f.a).z ≡ (v.at f.b).z) × ((v.at f.a).z ≡ (v.at f.c).z))) → IsWall v (facet f.a f.c f.b)
+    around : (((v.at f.a).x ≡ (v.at f.b).x) × ((v.at f.a).x ≡ (v.at f.c).x))
+        ⊎ ((((v.at f.a).y ≡ (v.at f.b).y) × ((v.at f.a).y ≡ (v.at f.c).y))
+        ⊎ (((v.at f.a).z ≡ (v.at f.b).z) × ((v.at f.a).z ≡ (v.at f.c).z))) → IsWall v (facet f.a f.c f.b)
     around (inl h) = record { first = w.first; second = w.third; third = w.second; agree = inl (h.1, h.0) }
     around (inr (inl h)) = record { first = w.first; second = w.third; third = w.second; agree = inr (inl (h.1, h.0)) }
     around (inr (inr h)) = record { first = w.first; second = w.third; third = w.second; agree = inr (inr (h.1, h.0)) }
@@ -73,7 +86,8 @@ wall_below v f u w (inr (inl e)) = let h = w.second in omega arith
 wall_below v f u w (inr (inr e)) = let h = w.third in omega arith
 
 -- which are inserted does not matter to a wall
-pub wall_same : (points : List Point) (f f' : List Bool) (g : geo.DirectedFacet) → IsWall (vertices_at points f) g → IsWall (vertices_at points f') g
+pub wall_same : (points : List Point) (f f' : List Bool) (g : geo.DirectedFacet) → IsWall (vertices_at points f) g
+    → IsWall (vertices_at points f') g
 wall_same points f f' g w = record { first = w.first; second = w.second; third = w.third; agree = w.agree }
 
 -- ---- membership

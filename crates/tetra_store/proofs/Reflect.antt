@@ -1,5 +1,6 @@
 -- Tests of small tables that are computed, and what they say.
-use Rattle.std.proofs.Common.{ℕ, zero, suc, ◌≡◌, ◌<◌, Bool, true, false, not, cond, ◌&&◌, ◌||◌, ◌==◌, nat_lt, bit_and, ℤ, pos, neg_ℤ, ◌<ℤ◌, int_lt, refl, sym, ap, ◌∙◌, ◌⊎◌, inl, inr, subst, arith}
+use Rattle.std.proofs.Common.{ℕ, zero, suc, ◌≡◌, ◌<◌, Bool, true, false, not, cond, ◌&&◌, ◌||◌, ◌==◌, nat_lt, bit_and, ℤ, pos}
+use Rattle.std.proofs.Common.{neg_ℤ, ◌<ℤ◌, int_lt, refl, sym, ap, ◌∙◌, ◌⊎◌, inl, inr, subst, arith}
 use Rattle.std.proofs.lemmas.Bool.{cases_lt, eqb-true, eq-eqb, false≢true}
 use borrow.Author.Tests.{ltb-true}
 use Rattle.std.proofs.lemmas.Int.{ints}
@@ -113,9 +114,11 @@ pub rotated_yes : (f g : geo.DirectedFacet) → IsRotated f g → rotated_test f
 rotated_yes f g (inl e) = or_left (is_facet g f.a f.b f.c) (is_facet g f.b f.c f.a || is_facet g f.c f.a f.b)
     (subst (λ (t : geo.DirectedFacet). is_facet t f.a f.b f.c ≡ true) (sym e) (facet_yes f.a f.b f.c))
 rotated_yes f g (inr (inl e)) = or_right (is_facet g f.a f.b f.c) (is_facet g f.b f.c f.a || is_facet g f.c f.a f.b)
-    (or_left (is_facet g f.b f.c f.a) (is_facet g f.c f.a f.b) (subst (λ (t : geo.DirectedFacet). is_facet t f.b f.c f.a ≡ true) (sym e) (facet_yes f.b f.c f.a)))
+    (or_left (is_facet g f.b f.c f.a) (is_facet g f.c f.a f.b)
+    (subst (λ (t : geo.DirectedFacet). is_facet t f.b f.c f.a ≡ true) (sym e) (facet_yes f.b f.c f.a)))
 rotated_yes f g (inr (inr e)) = or_right (is_facet g f.a f.b f.c) (is_facet g f.b f.c f.a || is_facet g f.c f.a f.b)
-    (or_right (is_facet g f.b f.c f.a) (is_facet g f.c f.a f.b) (subst (λ (t : geo.DirectedFacet). is_facet t f.c f.a f.b ≡ true) (sym e) (facet_yes f.c f.a f.b)))
+    (or_right (is_facet g f.b f.c f.a) (is_facet g f.c f.a f.b)
+    (subst (λ (t : geo.DirectedFacet). is_facet t f.c f.a f.b ≡ true) (sym e) (facet_yes f.c f.a f.b)))
 
 -- ---- walls
 
@@ -141,39 +144,61 @@ wall_test f = agree_test 1 f || (agree_test 2 f || agree_test 4 f)
 abbrev AreCorners : Vertices → Type 0
 AreCorners v = (k : ℕ) → k < 8 → v.at k ≡ corner_point k
 
-agree_yes : (v : Vertices) → AreCorners v → (bit : ℕ) (f : geo.DirectedFacet) → f.a < 8 → f.b < 8 → f.c < 8 → (x : Point → ℤ) → ((k : ℕ) → x (corner_point k) ≡ side_of (low bit k)) →
-    agree_test bit f ≡ true → (x (v.at f.a) ≡ x (v.at f.b)) × (x (v.at f.a) ≡ x (v.at f.c))
+agree_yes : (v : Vertices) → AreCorners v → (bit : ℕ) (f : geo.DirectedFacet) → f.a < 8 → f.b < 8 → f.c < 8 → (x : Point → ℤ)
+    → ((k : ℕ) → x (corner_point k) ≡ side_of (low bit k))
+    → agree_test bit f ≡ true → (x (v.at f.a) ≡ x (v.at f.b)) × (x (v.at f.a) ≡ x (v.at f.c))
 agree_yes v h bit f a b c x is t =
-    let p = same_is (low bit f.a) (low bit f.b) (and_left (same (low bit f.a) (low bit f.b)) (same (low bit f.a) (low bit f.c)) t) in
-    let q = same_is (low bit f.a) (low bit f.c) (and_right (same (low bit f.a) (low bit f.b)) (same (low bit f.a) (low bit f.c)) t) in
+    let p =
+    same_is (low bit f.a) (low bit f.b) (and_left (same (low bit f.a) (low bit f.b)) (same (low bit f.a) (low bit f.c)) t) in
+    let q =
+    same_is (low bit f.a) (low bit f.c) (and_right (same (low bit f.a) (low bit f.b)) (same (low bit f.a) (low bit f.c)) t) in
     let at_a : x (v.at f.a) ≡ side_of (low bit f.a) = ap x (h f.a a) ∙ is f.a in
     let at_b : x (v.at f.b) ≡ side_of (low bit f.b) = ap x (h f.b b) ∙ is f.b in
     let at_c : x (v.at f.c) ≡ side_of (low bit f.c) = ap x (h f.c c) ∙ is f.c in
     (at_a ∙ (ap side_of p ∙ sym at_b), at_a ∙ (ap side_of q ∙ sym at_c))
 
-agree_no : (v : Vertices) → AreCorners v → (bit : ℕ) (f : geo.DirectedFacet) → f.a < 8 → f.b < 8 → f.c < 8 → (x : Point → ℤ) → ((k : ℕ) → x (corner_point k) ≡ side_of (low bit k)) →
-    (x (v.at f.a) ≡ x (v.at f.b)) × (x (v.at f.a) ≡ x (v.at f.c)) → agree_test bit f ≡ true
+agree_no : (v : Vertices) → AreCorners v → (bit : ℕ) (f : geo.DirectedFacet) → f.a < 8 → f.b < 8 → f.c < 8 → (x : Point → ℤ)
+    → ((k : ℕ) → x (corner_point k) ≡ side_of (low bit k))
+    → (x (v.at f.a) ≡ x (v.at f.b)) × (x (v.at f.a) ≡ x (v.at f.c)) → agree_test bit f ≡ true
 agree_no v h bit f a b c x is t =
     let at_a : x (v.at f.a) ≡ side_of (low bit f.a) = ap x (h f.a a) ∙ is f.a in
     let at_b : x (v.at f.b) ≡ side_of (low bit f.b) = ap x (h f.b b) ∙ is f.b in
     let at_c : x (v.at f.c) ≡ side_of (low bit f.c) = ap x (h f.c c) ∙ is f.c in
     and_both (same (low bit f.a) (low bit f.b)) (same (low bit f.a) (low bit f.c))
-    (side_same (low bit f.a) (low bit f.b) (sym at_a ∙ (t.0 ∙ at_b))) (side_same (low bit f.a) (low bit f.c) (sym at_a ∙ (t.1 ∙ at_c)))
+    (side_same (low bit f.a) (low bit f.b) (sym at_a ∙ (t.0 ∙ at_b)))
+    (side_same (low bit f.a) (low bit f.c) (sym at_a ∙ (t.1 ∙ at_c)))
 
-pub wall_of : (v : Vertices) → AreCorners v → (f : geo.DirectedFacet) → f.a < 8 → f.b < 8 → f.c < 8 → wall_test f ≡ true → IsWall v f
+pub wall_of : (v : Vertices) → AreCorners v → (f : geo.DirectedFacet) → f.a < 8 → f.b < 8 → f.c < 8 → wall_test f ≡ true
+    → IsWall v f
 wall_of v h f a b c t = elim (or_cases (agree_test 1 f) (agree_test 2 f || agree_test 4 f) t) [
-  | inl x ↦ record { first = a; second = b; third = c; agree = inl (agree_yes v h 1 f a b c (λ (p : Point). p.x) (λ k. refl) x) }
+  | inl x ↦
+      record { first = a; second = b; third = c; agree = inl (agree_yes v h 1 f a b c (λ (p : Point). p.x) (λ k. refl) x) }
   | inr r ↦ elim (or_cases (agree_test 2 f) (agree_test 4 f) r) [
-    | inl x ↦ record { first = a; second = b; third = c; agree = inr (inl (agree_yes v h 2 f a b c (λ (p : Point). p.y) (λ k. refl) x)) }
-    | inr x ↦ record { first = a; second = b; third = c; agree = inr (inr (agree_yes v h 4 f a b c (λ (p : Point). p.z) (λ k. refl) x)) }
+    | inl x ↦ record {
+      first = a;
+      second = b;
+      third = c;
+      agree = inr (inl (agree_yes v h 2 f a b c (λ (p : Point). p.y) (λ k. refl) x));
+    }
+    | inr x ↦ record {
+      first = a;
+      second = b;
+      third = c;
+      agree = inr (inr (agree_yes v h 4 f a b c (λ (p : Point). p.z) (λ k. refl) x));
+    }
   ]
 ]
 
 pub wall_yes : (v : Vertices) → AreCorners v → (f : geo.DirectedFacet) → IsWall v f → wall_test f ≡ true
 wall_yes v h f w = elim w.agree [
-  | inl e ↦ or_left (agree_test 1 f) (agree_test 2 f || agree_test 4 f) (agree_no v h 1 f w.first w.second w.third (λ (p : Point). p.x) (λ k. refl) e)
+  | inl e ↦
+      or_left (agree_test 1 f) (agree_test 2 f || agree_test 4 f)
+      (agree_no v h 1 f w.first w.second w.third (λ (p : Point). p.x) (λ k. refl) e)
   | inr r ↦ or_right (agree_test 1 f) (agree_test 2 f || agree_test 4 f) (elim r [
-    | inl e ↦ or_left (agree_test 2 f) (agree_test 4 f) (agree_no v h 2 f w.first w.second w.third (λ (p : Point). p.y) (λ k. refl) e)
-    | inr e ↦ or_right (agree_test 2 f) (agree_test 4 f) (agree_no v h 4 f w.first w.second w.third (λ (p : Point). p.z) (λ k. refl) e)
+    | inl e ↦
+        or_left (agree_test 2 f) (agree_test 4 f) (agree_no v h 2 f w.first w.second w.third (λ (p : Point). p.y) (λ k. refl) e)
+    | inr e ↦
+        or_right (agree_test 2 f) (agree_test 4 f)
+        (agree_no v h 4 f w.first w.second w.third (λ (p : Point). p.z) (λ k. refl) e)
   ])
 ]

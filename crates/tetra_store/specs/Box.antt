@@ -5,16 +5,21 @@
 --   across_in ids i k             the number of the cell across side k of cell i
 --   AreBoxCells links ids         the cells are these six, linked
 --   box_keeper u                  one of the six that has corner u
-use Rattle.std.specs.Prelude.{ℕ, ◌≡◌, ◌≢◌, ◌<◌, ◌≤◌, ◌+◌, ◌*◌, ◌==◌, ◌⊎◌, if◌then◌else◌, List, [], ◌∷◌, Option, Some, None, slice_index, slice_index_or}
+use Rattle.std.specs.Prelude.{ℕ, ◌≡◌, ◌≢◌, ◌<◌, ◌≤◌, ◌+◌, ◌*◌, ◌==◌, ◌⊎◌, if◌then◌else◌, List, [], ◌∷◌, Option, Some, None}
+use Rattle.std.specs.Prelude.{slice_index, slice_index_or}
 use Rattle.geo_sign.specs.Tetrahedron.{Tetrahedron}
 use Rattle.tetra_store.specs.declared.link.Cell.{Cell}
 use Rattle.tetra_store.specs.Links.{Links, tetrahedron_from, IsLive}
 
 abbrev pub box_rows : List (List ℕ)
-box_rows = (0 ∷ 1 ∷ 2 ∷ 4 ∷ []) ∷ (1 ∷ 2 ∷ 4 ∷ 3 ∷ []) ∷ (1 ∷ 3 ∷ 4 ∷ 5 ∷ []) ∷ (2 ∷ 3 ∷ 6 ∷ 4 ∷ []) ∷ (3 ∷ 4 ∷ 5 ∷ 6 ∷ []) ∷ (3 ∷ 5 ∷ 7 ∷ 6 ∷ []) ∷ []
+box_rows =
+    (0 ∷ 1 ∷ 2 ∷ 4 ∷ []) ∷ (1 ∷ 2 ∷ 4 ∷ 3 ∷ []) ∷ (1 ∷ 3 ∷ 4 ∷ 5 ∷ []) ∷ (2 ∷ 3 ∷ 6 ∷ 4 ∷ []) ∷ (3 ∷ 4 ∷ 5 ∷ 6 ∷ [])
+    ∷ (3 ∷ 5 ∷ 7 ∷ 6 ∷ []) ∷ []
 
 abbrev pub box_across : List (List ℕ)
-box_across = (1 ∷ 6 ∷ 6 ∷ 6 ∷ []) ∷ (3 ∷ 2 ∷ 6 ∷ 0 ∷ []) ∷ (4 ∷ 6 ∷ 6 ∷ 1 ∷ []) ∷ (4 ∷ 6 ∷ 1 ∷ 6 ∷ []) ∷ (6 ∷ 5 ∷ 3 ∷ 2 ∷ []) ∷ (6 ∷ 6 ∷ 4 ∷ 6 ∷ []) ∷ []
+box_across =
+    (1 ∷ 6 ∷ 6 ∷ 6 ∷ []) ∷ (3 ∷ 2 ∷ 6 ∷ 0 ∷ []) ∷ (4 ∷ 6 ∷ 6 ∷ 1 ∷ []) ∷ (4 ∷ 6 ∷ 1 ∷ 6 ∷ []) ∷ (6 ∷ 5 ∷ 3 ∷ 2 ∷ [])
+    ∷ (6 ∷ 6 ∷ 4 ∷ 6 ∷ []) ∷ []
 
 abbrev pub box_keepers : List ℕ
 box_keepers = 0 ∷ 0 ∷ 0 ∷ 1 ∷ 0 ∷ 2 ∷ 3 ∷ 5 ∷ []

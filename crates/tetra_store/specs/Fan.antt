@@ -8,7 +8,8 @@
 --   CanReplace s old fan p              what `replace` asks
 --   IsOver links fan p id               a live cell over a fan facet, with p
 --   IsReplaced s t old fan p            what `replace` does
-use Rattle.std.specs.Prelude.{ℕ, ◌≡◌, ◌<◌, ◌≤◌, ◌+◌, ◌⊎◌, ◌<ℤ◌, pos, true, false, List, [], Option, Some, None, length, slice_index, slice_index_or, slice_set, Contains}
+use Rattle.std.specs.Prelude.{ℕ, ◌≡◌, ◌<◌, ◌≤◌, ◌+◌, ◌⊎◌, ◌<ℤ◌, pos, true, false, List, [], Option, Some, None, length}
+use Rattle.std.specs.Prelude.{slice_index, slice_index_or, slice_set, Contains}
 use Rattle.geo_sign.specs.Tetrahedron as geo
 use Rattle.geo_sign.specs.Tetrahedron.{facet_of, facet_at, IsRotated}
 use Rattle.geo_sign.specs.Edges.{edge_start, edge_end, over}
@@ -46,7 +47,8 @@ pub record IsRim (links : Links) (old : List ℕ) (f : geo.DirectedFacet) (outer
 -- The fan holds exactly the directed facets of old whose neighbor is not in old, each once, and with each that neighbor.
 pub record IsFan (links : Links) (old : List ℕ) (fan : List Facet) : Type 0 where
   pub rim : (i : ℕ) → i < length fan → IsRim links old (fan_facet fan i) (fan_outer fan i)
-  pub all : (id k : ℕ) → Contains old id → k < 4 → IsOutside old (links.next id k) → (i : ℕ) × (i < length fan) × IsRotated (facet_of (links.at id) k) (fan_facet fan i)
+  pub all : (id k : ℕ) → Contains old id → k < 4 → IsOutside old (links.next id k)
+      → (i : ℕ) × (i < length fan) × IsRotated (facet_of (links.at id) k) (fan_facet fan i)
   pub once : (i j : ℕ) → i < length fan → j < length fan → IsRotated (fan_facet fan i) (fan_facet fan j) → i ≡ j
 
 -- a directed edge of the fan, from u to w
@@ -61,7 +63,9 @@ pub record HasEdge (fan : List Facet) (u w : ℕ) : Type 0 where
 -- Each directed edge of the fan is in one facet alone, and so is its reverse.
 pub record AreEdges (fan : List Facet) : Type 0 where
   pub turned : (i e : ℕ) → i < length fan → e < 3 → HasEdge fan (edge_end (fan_facet fan i) e) (edge_start (fan_facet fan i) e)
-  pub once : (i e j d : ℕ) → i < length fan → e < 3 → j < length fan → d < 3 → edge_start (fan_facet fan i) e ≡ edge_start (fan_facet fan j) d → edge_end (fan_facet fan i) e ≡ edge_end (fan_facet fan j) d → i ≡ j
+  pub once : (i e j d : ℕ) → i < length fan → e < 3 → j < length fan → d < 3
+      → edge_start (fan_facet fan i) e ≡ edge_start (fan_facet fan j) d
+      → edge_end (fan_facet fan i) e ≡ edge_end (fan_facet fan j) d → i ≡ j
 
 -- u is a vertex of a fan facet
 pub record IsInFan (fan : List Facet) (u : ℕ) : Type 0 where
@@ -85,7 +89,8 @@ pub record CanReplace (s : Store) (old : List ℕ) (fan : List Facet) (p : ℕ) 
   pub distinct : (j k : ℕ) → j < length old → k < length old → slice_index old j ≡ slice_index old k → j ≡ k
   pub some_facet : 0 < length fan
   pub rim : IsFan (links_of s.slots) old fan
-  pub before : (i : ℕ) → i < length fan → pos 0 <ℤ orientation_of (vertices_of s) (fan_facet fan i).a (fan_facet fan i).b (fan_facet fan i).c p
+  pub before : (i : ℕ) → i < length fan
+      → pos 0 <ℤ orientation_of (vertices_of s) (fan_facet fan i).a (fan_facet fan i).b (fan_facet fan i).c p
   pub edges : AreEdges fan
   pub below : p < length s.points
   pub out : slice_index_or s.inserted p false ≡ false
@@ -98,12 +103,15 @@ pub record IsOver (links : Links) (fan : List Facet) (p id : ℕ) : Type 0 where
   pub facet_in : facet < length fan
   pub is : links.at id ≡ over (fan_facet fan facet) p
 
--- The cells old are out, and there is one over each fan facet, with p. All other cells keep their numbers and vertices, all vertices
--- their places, and all but p whether they are inserted.
+-- The cells old are out, and there is one over each fan facet, with p. All other cells keep their numbers and vertices, all
+-- vertices their places, and all but p whether they are inserted.
 pub record IsReplaced (s t : Store) (old : List ℕ) (fan : List Facet) (p : ℕ) : Type 0 where
   pub points : t.points ≡ s.points
   pub inserted : t.inserted ≡ slice_set s.inserted p true
-  pub stays : (id : ℕ) → IsLive (links_of s.slots) id → ¬ Contains old id → IsLive (links_of t.slots) id × ((links_of t.slots).at id ≡ (links_of s.slots).at id)
-  pub comes : (i : ℕ) → i < length fan → (id : ℕ) × IsLive (links_of t.slots) id × ((links_of t.slots).at id ≡ over (fan_facet fan i) p)
-  pub only : (id : ℕ) → IsLive (links_of t.slots) id → (IsLive (links_of s.slots) id × (¬ Contains old id)) ⊎ IsOver (links_of t.slots) fan p id
+  pub stays : (id : ℕ) → IsLive (links_of s.slots) id → ¬ Contains old id
+      → IsLive (links_of t.slots) id × ((links_of t.slots).at id ≡ (links_of s.slots).at id)
+  pub comes : (i : ℕ) → i < length fan
+      → (id : ℕ) × IsLive (links_of t.slots) id × ((links_of t.slots).at id ≡ over (fan_facet fan i) p)
+  pub only : (id : ℕ) → IsLive (links_of t.slots) id
+      → (IsLive (links_of s.slots) id × (¬ Contains old id)) ⊎ IsOver (links_of t.slots) fan p id
   pub spare : s.spare ≤ t.spare + length fan

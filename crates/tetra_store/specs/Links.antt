@@ -8,7 +8,8 @@
 --   IsBack links id k z       the live cell z names the cell id back, across the facet of its side k turned round
 --   IsOnlyAcross links id k z no other live cell has that turned facet
 --   IsLinked vertices links   what is kept of them
-use Rattle.std.specs.Prelude.{ℕ, ◌≡◌, ◌<◌, ◌<ℤ◌, pos, Bool, true, List, Option, Some, None, is_some, slice_index, slice_index_or}
+use Rattle.std.specs.Prelude.{ℕ, ◌≡◌, ◌<◌, ◌<ℤ◌, pos, Bool, true, List, Option, Some, None, is_some, slice_index}
+use Rattle.std.specs.Prelude.{slice_index_or}
 use Rattle.geo_sign.specs.Tetrahedron.{Tetrahedron, tetrahedron, vertex_of, facet_of, IsRotated, IsTurned}
 use Rattle.geo_sign.specs.Vertices.{Vertices, Has, orientation_of, IsWall}
 use Rattle.tetra_store.specs.declared.link.Cell.{Cell}
@@ -35,7 +36,11 @@ next_in None k = None
 next_in (Some c) k = slice_index_or c.next k None
 
 abbrev pub links_of : List (Option Cell) → Links
-links_of slots = record { is_live = λ id. is_some (slot_at slots id); at = λ id. vertices_in (slot_at slots id); next = λ id k. next_in (slot_at slots id) k }
+links_of slots = record {
+  is_live = λ id. is_some (slot_at slots id);
+  at = λ id. vertices_in (slot_at slots id);
+  next = λ id k. next_in (slot_at slots id) k;
+}
 
 abbrev pub IsLive : Links → ℕ → Type 0
 IsLive links id = links.is_live id ≡ true
@@ -53,13 +58,15 @@ pub record IsOnlyAcross (links : Links) (id k other : ℕ) : Type 0 where
   pub back : IsBack links id k other
   pub only : (z m : ℕ) → IsLive links z → m < 4 → IsTurned (facet_of (links.at id) k) (facet_of (links.at z) m) → z ≡ other
 
--- Each cell is written positively over distinct vertices that are in. Neighbors name each other across the same facet in the two
--- directions. A facet has no neighbor exactly on a wall. No two cells have a directed facet in common.
+-- Each cell is written positively over distinct vertices that are in. Neighbors name each other across the same facet in the
+-- two directions. A facet has no neighbor exactly on a wall. No two cells have a directed facet in common.
 pub record IsLinked (v : Vertices) (links : Links) : Type 0 where
   pub has : (id k : ℕ) → IsLive links id → k < 4 → Has v (vertex_of (links.at id) k)
   pub distinct : (id j k : ℕ) → IsLive links id → j < 4 → k < 4 → vertex_of (links.at id) j ≡ vertex_of (links.at id) k → j ≡ k
-  pub positive : (id : ℕ) → IsLive links id → pos 0 <ℤ orientation_of v (links.at id).a (links.at id).b (links.at id).c (links.at id).d
+  pub positive : (id : ℕ) → IsLive links id
+      → pos 0 <ℤ orientation_of v (links.at id).a (links.at id).b (links.at id).c (links.at id).d
   pub back : (id k other : ℕ) → IsLive links id → k < 4 → links.next id k ≡ Some other → IsBack links id k other
   pub walls : (id k : ℕ) → IsLive links id → k < 4 → links.next id k ≡ None → IsWall v (facet_of (links.at id) k)
   pub inner : (id k : ℕ) → IsLive links id → k < 4 → IsWall v (facet_of (links.at id) k) → links.next id k ≡ None
-  pub apart : (x y j k : ℕ) → IsLive links x → IsLive links y → j < 4 → k < 4 → IsRotated (facet_of (links.at x) j) (facet_of (links.at y) k) → x ≡ y
+  pub apart : (x y j k : ℕ) → IsLive links x → IsLive links y → j < 4 → k < 4
+      → IsRotated (facet_of (links.at x) j) (facet_of (links.at y) k) → x ≡ y

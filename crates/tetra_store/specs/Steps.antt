@@ -11,7 +11,8 @@
 --   AreKeptNew old new fan ids p n     the kept cells of the fan's vertices and of p are those over the fan
 --   AreMended links old kept kept' n   the kept cells that were among old are others
 --   AreOut old slots slots' n          the cells old are out
-use Rattle.std.specs.Prelude.{ℕ, ◌≡◌, ◌≢◌, ◌<◌, ◌≤◌, ◌+◌, ◌*◌, ◌^◌, ◌⊎◌, List, [], ◌∷◌, Option, Some, None, length, slice_index, slice_index_or, Contains}
+use Rattle.std.specs.Prelude.{ℕ, ◌≡◌, ◌≢◌, ◌<◌, ◌≤◌, ◌+◌, ◌*◌, ◌^◌, ◌⊎◌, List, [], ◌∷◌, Option, Some, None, length, slice_index}
+use Rattle.std.specs.Prelude.{slice_index_or, Contains}
 use Rattle.geo_sign.specs.Tetrahedron as geo
 use Rattle.geo_sign.specs.Tetrahedron.{vertex_of, facet_of, IsRotated, IsTurned}
 use Rattle.tetra_store.specs.declared.link.Cell.{Cell}
@@ -32,7 +33,10 @@ pub record IsWritten (a b : Links) (id k other : ℕ) : Type 0 where
 -- ---- cells put in
 
 abbrev pub new_cell : List Facet → (p i : ℕ) → Cell
-new_cell fan p i = record { v = (fan_facet fan i).a ∷ (fan_facet fan i).b ∷ (fan_facet fan i).c ∷ p ∷ []; next = None ∷ None ∷ None ∷ fan_outer fan i ∷ [] }
+new_cell fan p i = record {
+  v = (fan_facet fan i).a ∷ (fan_facet fan i).b ∷ (fan_facet fan i).c ∷ p ∷ [];
+  next = None ∷ None ∷ None ∷ fan_outer fan i ∷ [];
+}
 
 -- the cells cell 0, cell 1 and so on are in at ids, and nothing else has changed
 pub record ArePut (old new : List (Option Cell)) (cell : ℕ → Cell) (ids : List ℕ) : Type 0 where
@@ -100,7 +104,8 @@ pub record IsFanEdge (fan : List Facet) (ids : List ℕ) (x : Edge) : Type 0 whe
   pub side_is : x.side ≡ opposite
 
 abbrev pub edge_of : List Facet → List ℕ → (i e : ℕ) → Edge
-edge_of fan ids i e = record { start = edge_start (fan_facet fan i) e; end = edge_end (fan_facet fan i) e; cell = slice_index ids i; side = e }
+edge_of fan ids i e =
+    record { start = edge_start (fan_facet fan i) e; end = edge_end (fan_facet fan i) e; cell = slice_index ids i; side = e }
 
 -- the edges of the first n facets, one facet after another
 pub record AreFanEdges (fan : List Facet) (ids : List ℕ) (edges : List Edge) (n : ℕ) : Type 0 where
@@ -128,7 +133,8 @@ pub record AreJoined (a b : Links) (edges : List Edge) (n : ℕ) : Type 0 where
 -- what is asked of edges that are to be joined
 pub record CanJoin (a : Links) (edges : List Edge) : Type 0 where
   pub pairs : ArePairs edges
-  pub once : (x y : Edge) → Contains edges x → Contains edges y → x.cell ≡ y.cell → x.side ≡ y.side → (x.start ≡ y.start) × (x.end ≡ y.end)
+  pub once : (x y : Edge) → Contains edges x → Contains edges y → x.cell ≡ y.cell → x.side ≡ y.side
+      → (x.start ≡ y.start) × (x.end ≡ y.end)
   pub live : (x : Edge) → Contains edges x → IsLive a x.cell
   pub small : (x : Edge) → Contains edges x → x.cell + 1 < 2 ^ 32
   pub side_in : (x : Edge) → Contains edges x → x.side < 4
@@ -142,7 +148,8 @@ pub record CanGrow (a : Links) (fan : List Facet) : Type 0 where
   pub once : (i j : ℕ) → i < length fan → j < length fan → IsRotated (fan_facet fan i) (fan_facet fan j) → i ≡ j
   pub edges : AreEdges fan
   pub fits : (i e : ℕ) → i < length fan → (edge_start (fan_facet fan i) e < 2 ^ 32) × (edge_end (fan_facet fan i) e < 2 ^ 32)
-  pub apart : (i e d : ℕ) → i < length fan → e < 3 → d < 3 → edge_start (fan_facet fan i) e ≡ edge_start (fan_facet fan i) d → e ≡ d
+  pub apart : (i e d : ℕ) → i < length fan → e < 3 → d < 3 → edge_start (fan_facet fan i) e ≡ edge_start (fan_facet fan i) d
+      → e ≡ d
   pub ends : (i e : ℕ) → i < length fan → edge_start (fan_facet fan i) e ≢ edge_end (fan_facet fan i) e
 
 pub record IsMated (b : Links) (fan : List Facet) (ids : List ℕ) (i e : ℕ) : Type 0 where
@@ -202,7 +209,8 @@ pub record IsMendedAt (links : Links) (old kept new : List ℕ) (id n : ℕ) : T
 pub record AreMended (links : Links) (old kept new : List ℕ) (n : ℕ) : Type 0 where
   pub count : length new ≡ length kept
   pub each : (u : ℕ) → (slice_index new u ≡ slice_index kept u) ⊎ IsOutsideWith links old u (slice_index new u)
-  pub done : (j k : ℕ) → j < n → j < length old → k < 4 → slice_index new (vertex_of (links.at (slice_index old j)) k) ≢ slice_index old j
+  pub done : (j k : ℕ) → j < n → j < length old → k < 4
+      → slice_index new (vertex_of (links.at (slice_index old j)) k) ≢ slice_index old j
 
 -- ---- cells taken out
 

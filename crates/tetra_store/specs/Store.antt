@@ -8,7 +8,8 @@
 --   IsStore s                        what is true of each store
 --   room_of capacity count ..        how many cells fit
 --   store_from points ..             what a store is seen as, from its parts
-use Rattle.std.specs.Prelude.{ℕ, ◌≡◌, ◌≤◌, ◌+◌, ◌-◌, ◌/◌, Bool, false, List, Option, length, get_or, slice_index, slice_index_or, min, if◌then◌else◌, nat_lt}
+use Rattle.std.specs.Prelude.{ℕ, ◌≡◌, ◌≤◌, ◌+◌, ◌-◌, ◌/◌, Bool, false, List, Option, length, get_or, slice_index}
+use Rattle.std.specs.Prelude.{slice_index_or, min, if◌then◌else◌, nat_lt}
 use Rattle.geo_sign.specs.Point.{Point, origin}
 use Rattle.geo_sign.specs.Tie.{height}
 use Rattle.geo_sign.specs.Boxes.{IsBoxed}
@@ -19,8 +20,8 @@ use Rattle.tetra_store.specs.declared.link.Cell.{Cell}
 use Rattle.geo_sign.specs.Writings.{IsVertexOf}
 use Rattle.tetra_store.specs.Links.{links_of, IsLive, IsLinked}
 
--- the point of each vertex, which are inserted, the cell at each number, a cell of each inserted vertex, and how many cells more fit
--- with no memory taken
+-- the point of each vertex, which are inserted, the cell at each number, a cell of each inserted vertex, and how many cells
+-- more fit with no memory taken
 pub record Store : Type 0 where
   pub points : List Point
   pub inserted : List Bool
@@ -48,7 +49,9 @@ pub record AreVertices (points : List Point) (inserted : List Bool) : Type 0 whe
 
 -- the kept cell of each inserted vertex is live and has it
 abbrev pub AreKept : Store → Type 0
-AreKept s = (u : ℕ) → Has (vertices_of s) u → IsLive (links_of s.slots) (slice_index s.kept u) × IsVertexOf ((links_of s.slots).at (slice_index s.kept u)) u
+AreKept s =
+    (u : ℕ) → Has (vertices_of s) u
+    → IsLive (links_of s.slots) (slice_index s.kept u) × IsVertexOf ((links_of s.slots).at (slice_index s.kept u)) u
 
 pub record IsStore (s : Store) : Type 0 where
   pub flags : length s.inserted ≡ length s.points
@@ -57,12 +60,18 @@ pub record IsStore (s : Store) : Type 0 where
   pub linked : IsLinked (vertices_of s) (links_of s.slots)
   pub kept_cells : AreKept s
 
--- how many cells fit: those for which the slab has room, at numbers below the one that stands for none, and the two lists that are
--- filled when cells are put in, with one number and three edges a cell
+-- how many cells fit: those for which the slab has room, at numbers below the one that stands for none, and the two lists that
+-- are filled when cells are put in, with one number and three edges a cell
 abbrev pub room_of : (capacity count ids edges : ℕ) → ℕ
 room_of capacity count ids edges = if nat_lt capacity 4294967296 then min (capacity - count) (min ids (edges / 3)) else 0
 
 -- what a store is seen as, from its parts
 abbrev pub store_from : List Point → List Bool → Slab Cell → List ℕ → (ids edges : ℕ) → Store
 store_from points inserted cells kept ids edges =
-    record { points = points; inserted = inserted; slots = cells.slots; kept = kept; spare = room_of cells.capacity (slab_len cells) ids edges }
+    record {
+      points = points;
+      inserted = inserted;
+      slots = cells.slots;
+      kept = kept;
+      spare = room_of cells.capacity (slab_len cells) ids edges;
+    }

@@ -1,8 +1,9 @@
 -- Two cells name each other across one facet alone.
 --
--- Let x name y across its side k, and y name x across its side m. The store keeps that some side b of y has the facet of k turned
--- round. If m were another side, the vertex u of y opposite to b would be on the facet of m, which is a facet of x turned round, so u
--- would be a vertex of x. But u is strictly before facet b of y, so strictly behind facet k of x, and no vertex of x is.
+-- Let x name y across its side k, and y name x across its side m. The store keeps that some side b of y has the facet of k
+-- turned round. If m were another side, the vertex u of y opposite to b would be on the facet of m, which is a facet of x
+-- turned round, so u would be a vertex of x. But u is strictly before facet b of y, so strictly behind facet k of x, and no
+-- vertex of x is.
 use Rattle.std.proofs.Common.{ℕ, zero, suc, ◌<◌, ◌≡◌, ◌≢◌, ◌⊎◌, inl, inr, ⊎_elim, refl, sym, ap, subst, arith, Some, pos, ◌<ℤ◌}
 use Rattle.std.proofs.lemmas.Int.{ints}
 use Rattle.geo_sign.specs.Rational.{rational}
@@ -59,7 +60,9 @@ own t (suc (suc zero)) = inr (inr (inl refl))
 own t (suc (suc (suc k))) = inr (inr (inr refl))
 
 -- a side of y that names x faces the side of x that names y
-pub one_back : (v : Vertices) (links : Links) → IsLinked v links → (x k y m : ℕ) → IsLive links x → k < 4 → links.next x k ≡ Some y → IsLive links y → m < 4 → links.next y m ≡ Some x → IsTurned (facet_of (links.at x) k) (facet_of (links.at y) m)
+pub one_back : (v : Vertices) (links : Links) → IsLinked v links → (x k y m : ℕ) → IsLive links x → k < 4
+    → links.next x k ≡ Some y → IsLive links y → m < 4 → links.next y m ≡ Some x
+    → IsTurned (facet_of (links.at x) k) (facet_of (links.at y) m)
 one_back v links l x k y m i hk e j hm f = by h
   where
     t : Tetrahedron
@@ -90,7 +93,8 @@ one_back v links l x k y m i hk e j hm f = by h
         ⊎_elim
         (λ (q : u ≡ vertex_of t k).
         let o = opposite v t k in let p = l.positive x i in
-        let z : side_of v (facet_of t k) (rational (v.at u)) ≡ side_of v (facet_of t k) (rational (v.at (vertex_of t k))) = ap (λ (w : ℕ). side_of v (facet_of t k) (rational (v.at w))) q in
+        let z : side_of v (facet_of t k) (rational (v.at u)) ≡ side_of v (facet_of t k) (rational (v.at (vertex_of t k))) =
+        ap (λ (w : ℕ). side_of v (facet_of t k) (rational (v.at w))) q in
         absurd (omega (arith, ints, s, below, o, p, z)))
         (λ (q : HasVertex (facet_of t k) u). let z = on_facet v (facet_of t k) u q in absurd (omega (arith, ints, s, below, z)))
         (opposite_or_on t k u own_u)
@@ -100,5 +104,6 @@ one_back v links l x k y m i hk e j hm f = by h
     by (inr n) =
         ⊎_elim
         (λ (q : u ≡ vertex_of r m). absurd (n (sym (l.distinct y b.side m j b.in_range hm q))))
-        (λ (q : HasVertex (facet_of r m) u). absurd (none (of_facet t d.side u (turned_has (facet_of r m) (facet_of t d.side) u d.turned q))))
+        (λ (q : HasVertex (facet_of r m) u).
+        absurd (none (of_facet t d.side u (turned_has (facet_of r m) (facet_of t d.side) u d.turned q))))
         (opposite_or_on r m u (own r b.side))

@@ -1,7 +1,8 @@
--- A store in the words of the laws of cells: its live numbers are the names, its links the neighbours. A live number is a slot that
--- is taken; it is below the number of slots, so the list that runs down from there has it. What the store keeps of its links then
--- says what the laws ask of linked cells, name by name, and linked cells that are Delaunay are all cells, each once.
-use Rattle.std.proofs.Common.{ℕ, zero, suc, ◌<◌, ◌≤◌, ◌≡◌, ◌⊎◌, inl, inr, ⊎_elim, refl, sym, ap, subst, ◌∙◌, arith, Bool, true, false, true≢false, Option, None, List, length, is_some}
+-- A store in the words of the laws of cells: its live numbers are the names, its links the neighbours. A live number is a slot
+-- that is taken; it is below the number of slots, so the list that runs down from there has it. What the store keeps of its
+-- links then says what the laws ask of linked cells, name by name, and linked cells that are Delaunay are all cells, each once.
+use Rattle.std.proofs.Common.{ℕ, zero, suc, ◌<◌, ◌≤◌, ◌≡◌, ◌⊎◌, inl, inr, ⊎_elim, refl, sym, ap, subst, ◌∙◌, arith, Bool, true}
+use Rattle.std.proofs.Common.{false, true≢false, Option, None, List, length, is_some}
 use Rattle.std.proofs.lemmas.List.{get_or_past}
 use Rattle.cell_laws.specs.Links as laws
 use Rattle.cell_laws.specs.LinkLaws.{AreAllCells}
@@ -27,7 +28,8 @@ in_below slots zero id l e = absurd (omega (arith, l))
 in_below slots (suc n) id l e =
     let h : (id < n) ⊎ (n ≡ id) = search (arith, l) in
     ⊎_elim (λ (m : id < n). tail_in (is_some (slot_at slots n)) n id (live_below slots n) (in_below slots n id m e))
-    (λ (m : n ≡ id). subst (λ (x : ℕ). IsIn (live_below slots (suc n)) x) m (head_in (is_some (slot_at slots n)) n (live_below slots n) (ap (λ (x : ℕ). is_some (slot_at slots x)) m ∙ e)))
+    (λ (m : n ≡ id). subst (λ (x : ℕ). IsIn (live_below slots (suc n)) x) m
+    (head_in (is_some (slot_at slots n)) n (live_below slots n) (ap (λ (x : ℕ). is_some (slot_at slots x)) m ∙ e)))
     h
 
 of_number : (b : Bool) (n id : ℕ) (rest : List ℕ) → IsIn (with_number b n rest) id → ((n ≡ id) × (b ≡ true)) ⊎ IsIn rest id
@@ -61,7 +63,8 @@ pub live : (slots : List (Option Cell)) (id : ℕ) → IsIn (live_of slots) id �
 live slots id h = below_in slots (length slots) id h
 
 -- ---- the links
-pub linked : (s : Store) → IsStore s → laws.IsLinked (vertices_of s) (live_of s.slots) (links_of s.slots).at (links_of s.slots).next
+pub linked : (s : Store) → IsStore s
+    → laws.IsLinked (vertices_of s) (live_of s.slots) (links_of s.slots).at (links_of s.slots).next
 linked s k =
     let l = k.linked in
     record {
@@ -72,7 +75,8 @@ linked s k =
       apart = λ x y i j h g m n r. l.apart x y i j (live s.slots x h) (live s.slots y g) m n r;
     }
 
-pub cells : (s : Store) → IsDelaunay (vertices_of s) (links_of s.slots) → AreCells (vertices_of s) (live_of s.slots) (links_of s.slots).at
+pub cells : (s : Store) → IsDelaunay (vertices_of s) (links_of s.slots)
+    → AreCells (vertices_of s) (live_of s.slots) (links_of s.slots).at
 cells s d = λ x h. d.cells x (live s.slots x h)
 
 -- there is a cell: corner 0 has a kept one
@@ -81,10 +85,13 @@ first_listed s k =
     let z = k.kept_cells 0 (k.vertices.boxed.corner_in 0 (omega arith)) in
     (_, listed s.slots _ z.0)
 
-pub listing : (s : Store) → IsStore s → IsDelaunay (vertices_of s) (links_of s.slots) → IsListing (vertices_of s) (live_of s.slots) (links_of s.slots).at
+pub listing : (s : Store) → IsStore s → IsDelaunay (vertices_of s) (links_of s.slots)
+    → IsListing (vertices_of s) (live_of s.slots) (links_of s.slots).at
 listing s k d =
     let z = first_listed s k in
-    linked_law (vertices_of s) k.vertices.boxed (live_of s.slots) (links_of s.slots).at (links_of s.slots).next (linked s k) (cells s d) z.0 z.1
+    linked_law (vertices_of s) k.vertices.boxed (live_of s.slots) (links_of s.slots).at (links_of s.slots).next (linked s k)
+    (cells s d) z.0 z.1
 
-pub all_cells : (s : Store) → IsStore s → IsDelaunay (vertices_of s) (links_of s.slots) → AreAllCells (vertices_of s) (live_of s.slots) (links_of s.slots).at (links_of s.slots).next
+pub all_cells : (s : Store) → IsStore s → IsDelaunay (vertices_of s) (links_of s.slots)
+    → AreAllCells (vertices_of s) (live_of s.slots) (links_of s.slots).at (links_of s.slots).next
 all_cells s k d = record { boxed = k.vertices.boxed; linked = linked s k; cells = cells s d; listing = listing s k d }

@@ -9,12 +9,16 @@ use Rattle.geo_sign.specs.declared.sign.Sign.{Sign}
 use Rattle.geo_sign.specs.NearPlaces.{towards_place, behind_place}
 use Rattle.cell_laws.proofs.Scanners.{near_law}
 
-pub towards_side : (a b c p s : Point) → IsWithin BOX_LIMIT a → IsWithin BOX_LIMIT b → IsWithin BOX_LIMIT c → IsWithin DATA_LIMIT p → IsWithin DATA_LIMIT s →
-    (g h : Sign) → g ≡ sign_of (orientation a b c p) → h ≡ sign_of (side a b c (displaced s)) → first_sign g h ≡ sign_of (side a b c (towards_place p s))
+pub towards_side : (a b c p s : Point) → IsWithin BOX_LIMIT a → IsWithin BOX_LIMIT b → IsWithin BOX_LIMIT c
+    → IsWithin DATA_LIMIT p → IsWithin DATA_LIMIT s
+    → (g h : Sign) → g ≡ sign_of (orientation a b c p) → h ≡ sign_of (side a b c (displaced s))
+    → first_sign g h ≡ sign_of (side a b c (towards_place p s))
 towards_side a b c p s i j k m n g h e f =
     ap₂ (λ (x y : Sign). first_sign x y) e f ∙ sym ((near_law p s m n).towards_sign a b c i j k)
 
-pub behind_side : (a b c p s : Point) → IsWithin BOX_LIMIT a → IsWithin BOX_LIMIT b → IsWithin BOX_LIMIT c → IsWithin DATA_LIMIT p → IsWithin DATA_LIMIT s →
-    (g h : Sign) → g ≡ sign_of (orientation a b c p) → h ≡ sign_of (side a b c (displaced s)) → first_sign g (opposite_sign h) ≡ sign_of (side a b c (behind_place p s))
+pub behind_side : (a b c p s : Point) → IsWithin BOX_LIMIT a → IsWithin BOX_LIMIT b → IsWithin BOX_LIMIT c
+    → IsWithin DATA_LIMIT p → IsWithin DATA_LIMIT s
+    → (g h : Sign) → g ≡ sign_of (orientation a b c p) → h ≡ sign_of (side a b c (displaced s))
+    → first_sign g (opposite_sign h) ≡ sign_of (side a b c (behind_place p s))
 behind_side a b c p s i j k m n g h e f =
     ap₂ (λ (x y : Sign). first_sign x (opposite_sign y)) e f ∙ sym ((near_law p s m n).behind_sign a b c i j k)

@@ -1,5 +1,6 @@
 -- Places in lists of rows, and sums over lists as sums over indices.
-use Rattle.std.proofs.Common.{ℕ, zero, suc, ◌+◌, ◌<◌, ◌≤◌, ◌≡◌, refl, ap, sym, subst, ◌∙◌, arith, Bool, true, false, ⊎_elim, List, [], ◌∷◌, length, get_or, map, take, eqb, AllPairs, Contains}
+use Rattle.std.proofs.Common.{ℕ, zero, suc, ◌+◌, ◌<◌, ◌≤◌, ◌≡◌, refl, ap, sym, subst, ◌∙◌, arith, Bool, true, false, ⊎_elim}
+use Rattle.std.proofs.Common.{List, [], ◌∷◌, length, get_or, map, take, eqb, AllPairs, Contains}
 use Rattle.std.specs.Bool.{Decides}
 use Rattle.std.specs.List.{Any, position_or_len, sum_by}
 use Rattle.std.proofs.Math.Nat.{lt_of_not-le}
@@ -19,7 +20,8 @@ use Rattle.visibility.specs.Listings.{AreOnce}
 -- no row is before itself
 pub not_before_itself : (xs : List ℕ) → IsBefore xs xs → ⊥
 not_before_itself [] h = h
-not_before_itself (x ∷ xs) h = ⊎_elim (λ (l : x < x). absurd (omega arith)) (λ (p : (x ≡ x) × IsBefore xs xs). not_before_itself xs p.1) h
+not_before_itself (x ∷ xs) h =
+    ⊎_elim (λ (l : x < x). absurd (omega arith)) (λ (p : (x ≡ x) × IsBefore xs xs). not_before_itself xs p.1) h
 
 -- the test of equal rows
 pub is_equal_itself : (xs : List ℕ) → is_equal xs xs ≡ true
@@ -41,10 +43,12 @@ same_bools false false f g = refl
 
 -- rising rows stand once
 pub once_rising : (rows : List (List ℕ)) → AllPairs IsBefore rows → AreOnce rows
-once_rising rows r i j d l m e = not_before_itself (get_or rows j d) (subst (λ (u : List ℕ). IsBefore u (get_or rows j d)) e (r i j d l m))
+once_rising rows r i j d l m e =
+    not_before_itself (get_or rows j d) (subst (λ (u : List ℕ). IsBefore u (get_or rows j d)) e (r i j d l m))
 
 -- rows that stand once, at two indices
-pub same_index : (rows : List (List ℕ)) (i j : ℕ) → AreOnce rows → i < length rows → j < length rows → get_or rows i [] ≡ get_or rows j [] → i ≡ j
+pub same_index : (rows : List (List ℕ)) (i j : ℕ) → AreOnce rows → i < length rows → j < length rows
+    → get_or rows i [] ≡ get_or rows j [] → i ≡ j
 same_index rows i j r li lj e =
     let first : ¬ (i < j) = λ l. r i j [] l lj e in
     let second : ¬ (j < i) = λ l. r j i [] l li (sym e) in
@@ -65,10 +69,12 @@ once_permuted xs ys p h =
         (λ h. subst (λ (x : List ℕ). is_equal x b ≡ true) (is_equal_means b a h) (is_equal_itself b))
 
 -- indices of rows that stand once are equal where the rows are
-pub index_test : (rows : List (List ℕ)) (i j : ℕ) → AreOnce rows → i < length rows → j < length rows → eqb i j ≡ is_equal (get_or rows i []) (get_or rows j [])
+pub index_test : (rows : List (List ℕ)) (i j : ℕ) → AreOnce rows → i < length rows → j < length rows
+    → eqb i j ≡ is_equal (get_or rows i []) (get_or rows j [])
 index_test rows i j r li lj =
     same_bools (eqb i j) (is_equal (get_or rows i []) (get_or rows j []))
-    (λ h. subst (λ (k : ℕ). is_equal (get_or rows i []) (get_or rows k []) ≡ true) (eqb-true i j h) (is_equal_itself (get_or rows i [])))
+    (λ h. subst (λ (k : ℕ). is_equal (get_or rows i []) (get_or rows k []) ≡ true) (eqb-true i j h)
+    (is_equal_itself (get_or rows i [])))
     (λ h. eq-eqb i j (same_index rows i j r li lj (is_equal_means (get_or rows i []) (get_or rows j []) h)))
 
 -- the first index where a test holds is within the list, where it holds somewhere
@@ -84,22 +90,27 @@ first_within p xs h =
 pub row_index_at : (rows : List (List ℕ)) (k : ℕ) → AreOnce rows → k < length rows → row_index rows (get_or rows k []) ≡ k
 row_index_at rows k r l =
     position_or_len_is (λ other. is_equal other (get_or rows k [])) rows k [] (omega arith)
-    (λ i m. false_from_ne_true (is_equal (get_or rows i []) (get_or rows k [])) (λ h. r i k [] m l (is_equal_means (get_or rows i []) (get_or rows k []) h)))
+    (λ i m. false_from_ne_true (is_equal (get_or rows i []) (get_or rows k []))
+    (λ h. r i k [] m l (is_equal_means (get_or rows i []) (get_or rows k []) h)))
     (λ m. is_equal_itself (get_or rows k []))
 
 -- what stands at the indices of rows that stand once, as a function of the rows
-pub map_of_indices : {X : Type 0} (rows : List (List ℕ)) (xs : List X) (d : X) → AreOnce rows → length xs ≡ length rows → map (λ row. get_or xs (row_index rows row) d) rows ≡ xs
+pub map_of_indices : {X : Type 0} (rows : List (List ℕ)) (xs : List X) (d : X) → AreOnce rows → length xs ≡ length rows
+    → map (λ row. get_or xs (row_index rows row) d) rows ≡ xs
 map_of_indices {X} rows xs d r e =
     let f : List ℕ → X = λ row. get_or xs (row_index rows row) d in
     same_lists (map f rows) xs (length-map rows f ∙ sym e)
     (λ k c l. let m : k < length rows = omega (arith, l, length-map rows f) in
-    get_or-map f rows k [] c m ∙ ap (λ (n : ℕ). get_or xs n d) (row_index_at rows k r m) ∙ get_or_default xs k d c (omega arith))
+    get_or-map f rows k [] c m ∙ ap (λ (n : ℕ). get_or xs n d) (row_index_at rows k r m)
+    ∙ get_or_default xs k d c (omega arith))
 
-taken : {X : Type 0} (f : X → ℕ) (xs : List X) (d : X) (n : ℕ) → n ≤ length xs → sum_by f (take n xs) ≡ sum_below n (λ j. f (get_or xs j d))
+taken : {X : Type 0} (f : X → ℕ) (xs : List X) (d : X) (n : ℕ) → n ≤ length xs
+    → sum_by f (take n xs) ≡ sum_below n (λ j. f (get_or xs j d))
 taken f xs d zero l = refl
 taken f xs d (suc n) l =
     let e : n + 1 ≡ suc n = omega arith in
-    ap (λ (i : ℕ). sum_by f (take i xs)) (sym e) ∙ sum_by_more f xs n d (omega arith) ∙ ap (λ (i : ℕ). i + f (get_or xs n d)) (taken f xs d n (omega arith))
+    ap (λ (i : ℕ). sum_by f (take i xs)) (sym e) ∙ sum_by_more f xs n d (omega arith)
+    ∙ ap (λ (i : ℕ). i + f (get_or xs n d)) (taken f xs d n (omega arith))
 
 -- a sum over a list is a sum over its indices
 pub sum_by-below : {X : Type 0} (f : X → ℕ) (xs : List X) (d : X) → sum_by f xs ≡ sum_below (length xs) (λ j. f (get_or xs j d))

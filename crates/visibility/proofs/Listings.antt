@@ -1,7 +1,7 @@
 -- Lists of cells and facets in any order.
 --
--- A listing is the rising lists in another order, so it has the same members, each once. The two cells of a facet that has a capacity
--- are the same ones, so such a facet has a capacity over both.
+-- A listing is the rising lists in another order, so it has the same members, each once. The two cells of a facet that has a
+-- capacity are the same ones, so such a facet has a capacity over both.
 use Rattle.std.proofs.Common.{ℕ, refl, ap, sym, ◌∙◌, List, Contains}
 use Rattle.std.proofs.lemmas.List.Sorted.{IsPermutation-refl, IsPermutation-sym, Contains-permutation}
 use Rattle.flow_net.specs.declared.Voted.{Voted}
@@ -18,11 +18,22 @@ use Rattle.visibility.proofs.Indices.{once_rising, once_permuted}
 -- ---- the rising lists are a listing
 pub rising_listing : (s : Scene) (complex : Complex) → IsComplexOf s complex → IsListingOf s complex
 rising_listing s complex o =
-    record { complex = complex; complex_is = o; cells_are = IsPermutation-refl complex.cells; facets_are = IsPermutation-refl complex.facets; same_cell = λ f h. refl }
+    record {
+      complex = complex;
+      complex_is = o;
+      cells_are = IsPermutation-refl complex.cells;
+      facets_are = IsPermutation-refl complex.facets;
+      same_cell = λ f h. refl;
+    }
 
 pub in_any_order : (s : Scene) (voted : Voted) → IsNetworkOf s voted → IsNetworkInAnyOrder s voted
 in_any_order s voted n =
-    record { listing = rising_listing s (complex_of voted) n.complex_is; fixed_is = n.fixed_is; sink_is = n.sink_is; arcs_are = n.arcs_are }
+    record {
+      listing = rising_listing s (complex_of voted) n.complex_is;
+      fixed_is = n.fixed_is;
+      sink_is = n.sink_is;
+      arcs_are = n.arcs_are;
+    }
 
 pub rising_is_listed : (s : Scene) → RisingIsListed s
 rising_is_listed s = record { complex = rising_listing s; network = in_any_order s }
@@ -30,22 +41,28 @@ rising_is_listed s = record { complex = rising_listing s; network = in_any_order
 -- ---- each once, and nothing else
 module _ (s : Scene) (listing : Complex) (h : IsListingOf s listing) where
   pub cells_once : AreOnce listing.cells
-  cells_once = once_permuted h.complex.cells listing.cells h.cells_are (once_rising h.complex.cells h.complex_is.cells_are.rising)
+  cells_once =
+      once_permuted h.complex.cells listing.cells h.cells_are (once_rising h.complex.cells h.complex_is.cells_are.rising)
 
   pub facets_once : AreOnce listing.facets
-  facets_once = once_permuted h.complex.facets listing.facets h.facets_are (once_rising h.complex.facets h.complex_is.facets_are.rising)
+  facets_once =
+      once_permuted h.complex.facets listing.facets h.facets_are (once_rising h.complex.facets h.complex_is.facets_are.rising)
 
   pub cell_back : (row : List ℕ) → Contains listing.cells row → Contains h.complex.cells row
-  cell_back row i = Contains-permutation listing.cells h.complex.cells row (IsPermutation-sym h.complex.cells listing.cells h.cells_are) i
+  cell_back row i =
+      Contains-permutation listing.cells h.complex.cells row (IsPermutation-sym h.complex.cells listing.cells h.cells_are) i
 
   pub facet_back : (f : List ℕ) → Contains listing.facets f → Contains h.complex.facets f
-  facet_back f i = Contains-permutation listing.facets h.complex.facets f (IsPermutation-sym h.complex.facets listing.facets h.facets_are) i
+  facet_back f i =
+      Contains-permutation listing.facets h.complex.facets f (IsPermutation-sym h.complex.facets listing.facets h.facets_are) i
 
   pub rising_cell : (row : List ℕ) → Contains listing.cells row → IsRisingCell s.vertices row
   rising_cell row i = h.complex_is.cells_are.cells row (cell_back row i)
 
   has_to : (f : DirectedFacet) → HasFacet s.vertices h.complex.cells f → HasFacet s.vertices listing.cells f
-  has_to f i = let c = Contains-permutation h.complex.cells listing.cells i.1 h.cells_are (i.0, i.2, i.3) in (c.0, i.1, c.1, c.2, i.4)
+  has_to f i =
+      let c = Contains-permutation h.complex.cells listing.cells i.1 h.cells_are (i.0, i.2, i.3) in
+      (c.0, i.1, c.1, c.2, i.4)
 
   has_back : (f : DirectedFacet) → HasFacet s.vertices listing.cells f → HasFacet s.vertices h.complex.cells f
   has_back f i = let c = cell_back i.1 (i.0, i.2, i.3) in (c.0, i.1, c.1, c.2, i.4)
@@ -76,7 +93,11 @@ module _ (s : Scene) (listing : Complex) (h : IsListingOf s listing) where
   each_once =
       record {
         cells_once = cells_once;
-        cells = λ row. (rising_cell row, λ k. Contains-permutation h.complex.cells listing.cells row h.cells_are (h.complex_is.cells_are.all row k));
+        cells =
+            λ row. (
+              rising_cell row,
+              λ k. Contains-permutation h.complex.cells listing.cells row h.cells_are (h.complex_is.cells_are.all row k),
+            );
         facets_once = facets_once;
         facets = λ f. (has_capacity f, facet_listed f);
       }

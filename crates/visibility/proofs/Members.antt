@@ -1,7 +1,9 @@
 -- Functions that are equal on the members of a list: the same maps, sums and first indices.
-use Rattle.std.proofs.Common.{ℕ, suc, ◌+◌, ◌<◌, ◌≤◌, ◌≡◌, refl, ap₂, sym, ◌∙◌, arith, Bool, not, List, [], ◌∷◌, length, get_or, map, Contains}
+use Rattle.std.proofs.Common.{ℕ, suc, ◌+◌, ◌<◌, ◌≤◌, ◌≡◌, refl, ap₂, sym, ◌∙◌, arith, Bool, not, List, [], ◌∷◌, length, get_or}
+use Rattle.std.proofs.Common.{map, Contains}
 use Rattle.std.specs.List.{position_or_len, sum_by}
-use Rattle.std.proofs.lemmas.List.Sums.{sum_by-cons, position_or_len_is, fails_before_first, passes_at_first, prefix_len-le-length}
+use Rattle.std.proofs.lemmas.List.Sums.{sum_by-cons, position_or_len_is, fails_before_first, passes_at_first}
+use Rattle.std.proofs.lemmas.List.Sums.{prefix_len-le-length}
 use Rattle.visibility.proofs.Indices.{index_has}
 
 -- equal at each argument
@@ -20,9 +22,12 @@ same_map f g (x ∷ xs) h = ap₂ (λ y ys. y ∷ ys) (h x (head_in x xs)) (same
 
 pub same_sum : {X : Type 0} (f g : X → ℕ) (xs : List X) → ((x : X) → Contains xs x → f x ≡ g x) → sum_by f xs ≡ sum_by g xs
 same_sum f g [] h = refl
-same_sum f g (x ∷ xs) h = sum_by-cons f x xs ∙ ap₂ (λ m n. m + n) (h x (head_in x xs)) (same_sum f g xs (λ y c. h y (tail_in x y xs c))) ∙ sym (sum_by-cons g x xs)
+same_sum f g (x ∷ xs) h =
+    sum_by-cons f x xs ∙ ap₂ (λ m n. m + n) (h x (head_in x xs)) (same_sum f g xs (λ y c. h y (tail_in x y xs c)))
+    ∙ sym (sum_by-cons g x xs)
 
-pub same_position : (p q : List ℕ → Bool) (rows : List (List ℕ)) → ((row : List ℕ) → Contains rows row → p row ≡ q row) → position_or_len p rows ≡ position_or_len q rows
+pub same_position : (p q : List ℕ → Bool) (rows : List (List ℕ)) → ((row : List ℕ) → Contains rows row → p row ≡ q row)
+    → position_or_len p rows ≡ position_or_len q rows
 same_position p q rows h =
     let within : position_or_len q rows ≤ length rows = prefix_len-le-length (λ row. not (q row)) rows in
     position_or_len_is p rows (position_or_len q rows) [] within

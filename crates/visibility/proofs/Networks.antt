@@ -25,14 +25,19 @@ node_count s voted n = ap length n.fixed_is ∙ length-map voted.cells (is_fixed
 pub arc_count : (s : Scene) (voted : Voted) → IsNetworkInAnyOrder s voted → length voted.net.arcs ≡ length voted.facets
 arc_count s voted n = ap length n.arcs_are ∙ length-map voted.facets (arc_of s (complex_of voted))
 
-pub fixed_at : (s : Scene) (voted : Voted) (k : ℕ) → IsNetworkInAnyOrder s voted → k < length voted.cells → flag_at voted.net.fixed k ≡ is_fixed s.vertices s.scanners (get_or voted.cells k [])
-fixed_at s voted k n l = ap (λ (flags : List Bool). flag_at flags k) n.fixed_is ∙ get_or-map (is_fixed s.vertices s.scanners) voted.cells k [] _ l
+pub fixed_at : (s : Scene) (voted : Voted) (k : ℕ) → IsNetworkInAnyOrder s voted → k < length voted.cells
+    → flag_at voted.net.fixed k ≡ is_fixed s.vertices s.scanners (get_or voted.cells k [])
+fixed_at s voted k n l =
+    ap (λ (flags : List Bool). flag_at flags k) n.fixed_is ∙ get_or-map (is_fixed s.vertices s.scanners) voted.cells k [] _ l
 
-pub sink_at : (s : Scene) (voted : Voted) (k : ℕ) → IsNetworkInAnyOrder s voted → k < length voted.cells → get_or voted.net.sink k 0 ≡ sink s (get_or voted.cells k [])
+pub sink_at : (s : Scene) (voted : Voted) (k : ℕ) → IsNetworkInAnyOrder s voted → k < length voted.cells
+    → get_or voted.net.sink k 0 ≡ sink s (get_or voted.cells k [])
 sink_at s voted k n l = ap (λ (sinks : List ℕ). get_or sinks k 0) n.sink_is ∙ get_or-map (sink s) voted.cells k [] _ l
 
-pub arc_is : (s : Scene) (voted : Voted) (j : ℕ) → IsNetworkInAnyOrder s voted → j < length voted.facets → arc_at voted.net.arcs j ≡ arc_of s (complex_of voted) (get_or voted.facets j [])
-arc_is s voted j n l = ap (λ (arcs : List Arc). arc_at arcs j) n.arcs_are ∙ get_or-map (arc_of s (complex_of voted)) voted.facets j [] no_arc l
+pub arc_is : (s : Scene) (voted : Voted) (j : ℕ) → IsNetworkInAnyOrder s voted → j < length voted.facets
+    → arc_at voted.net.arcs j ≡ arc_of s (complex_of voted) (get_or voted.facets j [])
+arc_is s voted j n l =
+    ap (λ (arcs : List Arc). arc_at arcs j) n.arcs_are ∙ get_or-map (arc_of s (complex_of voted)) voted.facets j [] no_arc l
 
 -- the two cells of a facet that has a capacity are in the list
 pub record IsJoined (s : Scene) (cells : List (List ℕ)) (f : List ℕ) : Type 0 where
@@ -46,5 +51,8 @@ joined s cells f h =
       across = first_within (λ row. has_facet s.vertices row (turned (facet_at f))) cells h.across;
     }
 
-pub joined_at : (s : Scene) (voted : Voted) (j : ℕ) → IsNetworkInAnyOrder s voted → j < length voted.facets → IsJoined s voted.cells (get_or voted.facets j [])
-joined_at s voted j n l = joined s voted.cells (get_or voted.facets j []) (has_capacity s (complex_of voted) n.listing (get_or voted.facets j []) (index_has voted.facets j l))
+pub joined_at : (s : Scene) (voted : Voted) (j : ℕ) → IsNetworkInAnyOrder s voted → j < length voted.facets
+    → IsJoined s voted.cells (get_or voted.facets j [])
+joined_at s voted j n l =
+    joined s voted.cells (get_or voted.facets j [])
+    (has_capacity s (complex_of voted) n.listing (get_or voted.facets j []) (index_has voted.facets j l))

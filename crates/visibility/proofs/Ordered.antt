@@ -1,5 +1,6 @@
 -- How facets that have a capacity are written, and that there is one list of them.
-use Rattle.std.proofs.Common.{ℕ, ◌<◌, ◌≡◌, ◌≢◌, ap, subst, ◌∙◌, arith, Bool, true, false, cond, inl, inr, ⊎_elim, List, [], ◌∷◌, Contains, pos, int_lt}
+use Rattle.std.proofs.Common.{ℕ, ◌<◌, ◌≡◌, ◌≢◌, ap, subst, ◌∙◌, arith, Bool, true, false, cond, inl, inr, ⊎_elim, List, [], ◌∷◌}
+use Rattle.std.proofs.Common.{Contains, pos, int_lt}
 use Rattle.geo_sign.specs.Tetrahedron.{Tetrahedron, tetrahedron, facet_at, numbers_of}
 use Rattle.geo_sign.specs.Vertices.{Vertices, orientation_of}
 use Rattle.geo_sign.specs.Cells.{IsRisingCell, FormCell, IsCell, written}
@@ -32,32 +33,80 @@ shape v (a ∷ b ∷ c ∷ d ∷ e ∷ rest) h = elim h [ ]
 shape v (a ∷ b ∷ c ∷ d ∷ []) h = by (int_lt (pos 0) (orientation_of v a b c d)) (form_below v a b c d h.3)
   where
     by : (positive : Bool) → d < v.count → IsRisingShape v.count (cond positive (tetrahedron a b c d) (tetrahedron a b d c))
-    by true l = record { a_b = h.0; b_c = h.1; b_d = omega (arith, h.1, h.2); c_d = omega (arith, h.2); c_below = omega (arith, h.2); d_below = l }
-    by false l = record { a_b = h.0; b_c = omega (arith, h.1, h.2); b_d = h.1; c_d = omega (arith, h.2); c_below = l; d_below = omega (arith, h.2) }
+    by true l = record {
+      a_b = h.0;
+      b_c = h.1;
+      b_d = omega (arith, h.1, h.2);
+      c_d = omega (arith, h.2);
+      c_below = omega (arith, h.2);
+      d_below = l;
+    }
+    by false l = record {
+      a_b = h.0;
+      b_c = omega (arith, h.1, h.2);
+      b_d = h.1;
+      c_d = omega (arith, h.2);
+      c_below = l;
+      d_below = omega (arith, h.2);
+    }
 
-ordered_one : (n : ℕ) (t : Tetrahedron) (f : List ℕ) → f ≡ numbers_of (facet_at f) → IsRisingShape n t → OneOf t (facet_at f) → IsOrdered n f
+ordered_one : (n : ℕ) (t : Tetrahedron) (f : List ℕ) → f ≡ numbers_of (facet_at f) → IsRisingShape n t → OneOf t (facet_at f)
+    → IsOrdered n f
 ordered_one n t f three s (inl p) =
-    record { three = three; first_second = omega (arith, s.b_d); first_third = omega (arith, s.b_c); apart = omega (arith, s.c_d); second_below = omega (arith, s.d_below); third_below = omega (arith, s.c_below) }
+    record {
+      three = three;
+      first_second = omega (arith, s.b_d);
+      first_third = omega (arith, s.b_c);
+      apart = omega (arith, s.c_d);
+      second_below = omega (arith, s.d_below);
+      third_below = omega (arith, s.c_below);
+    }
 ordered_one n t f three s (inr (inl p)) =
-    record { three = three; first_second = omega (arith, s.a_b, s.b_c); first_third = omega (arith, s.a_b, s.b_d); apart = omega (arith, s.c_d); second_below = omega (arith, s.c_below); third_below = omega (arith, s.d_below) }
+    record {
+      three = three;
+      first_second = omega (arith, s.a_b, s.b_c);
+      first_third = omega (arith, s.a_b, s.b_d);
+      apart = omega (arith, s.c_d);
+      second_below = omega (arith, s.c_below);
+      third_below = omega (arith, s.d_below);
+    }
 ordered_one n t f three s (inr (inr (inl p))) =
-    record { three = three; first_second = omega (arith, s.a_b, s.b_d); first_third = omega (arith, s.a_b); apart = omega (arith, s.b_d); second_below = omega (arith, s.d_below); third_below = omega (arith, s.b_d, s.d_below) }
+    record {
+      three = three;
+      first_second = omega (arith, s.a_b, s.b_d);
+      first_third = omega (arith, s.a_b);
+      apart = omega (arith, s.b_d);
+      second_below = omega (arith, s.d_below);
+      third_below = omega (arith, s.b_d, s.d_below);
+    }
 ordered_one n t f three s (inr (inr (inr p))) =
-    record { three = three; first_second = omega (arith, s.a_b); first_third = omega (arith, s.a_b, s.b_c); apart = omega (arith, s.b_c); second_below = omega (arith, s.b_c, s.c_below); third_below = omega (arith, s.c_below) }
+    record {
+      three = three;
+      first_second = omega (arith, s.a_b);
+      first_third = omega (arith, s.a_b, s.b_c);
+      apart = omega (arith, s.b_c);
+      second_below = omega (arith, s.b_c, s.c_below);
+      third_below = omega (arith, s.c_below);
+    }
 
 pub facets_are_ordered : FacetsAreOrdered
 facets_are_ordered = λ s complex o f has.
     let h : HasCapacity s complex.cells f = o.facets_are.only f has in
     let row : List ℕ = h.own.1 in
     let listed : Contains complex.cells row = (h.own.0, h.own.2, h.own.3) in
-    ordered_one s.vertices.count (written s.vertices row) f h.three (shape s.vertices row (o.cells_are.cells row listed)) (one_of (written s.vertices row) (facet_at f) h.own.4)
+    ordered_one s.vertices.count (written s.vertices row) f h.three (shape s.vertices row (o.cells_are.cells row listed))
+    (one_of (written s.vertices row) (facet_at f) h.own.4)
 
-one_list : (s : Scene) (cells facets others : List (List ℕ)) → IsFacetList s cells facets → IsFacetList s cells others → facets ≡ others
-one_list s cells facets others h k = rising_law facets others h.rising k.rising (λ f. (λ a. k.all f (h.only f a), λ b. h.all f (k.only f b)))
+one_list : (s : Scene) (cells facets others : List (List ℕ)) → IsFacetList s cells facets → IsFacetList s cells others
+    → facets ≡ others
+one_list s cells facets others h k =
+    rising_law facets others h.rising k.rising (λ f. (λ a. k.all f (h.only f a), λ b. h.all f (k.only f b)))
 
 pub one_complex : OneComplex
 one_complex = λ s complex other h k.
     let cells : complex.cells ≡ other.cells = cell_list_law s.vertices complex.cells other.cells h.cells_are k.cells_are in
-    let facets : complex.facets ≡ other.facets = one_list s other.cells complex.facets other.facets (subst (λ (rows : List (List ℕ)). IsFacetList s rows complex.facets) cells h.facets_are) k.facets_are in
+    let facets : complex.facets ≡ other.facets =
+    one_list s other.cells complex.facets other.facets
+    (subst (λ (rows : List (List ℕ)). IsFacetList s rows complex.facets) cells h.facets_are) k.facets_are in
     ap (λ (rows : List (List ℕ)). let c : Complex = record { cells = rows; facets = complex.facets } in c) cells
     ∙ ap (λ (rows : List (List ℕ)). let c : Complex = record { cells = other.cells; facets = rows } in c) facets

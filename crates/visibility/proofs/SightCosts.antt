@@ -1,7 +1,9 @@
--- The least cost is at most the vote times the weights of all sights, where each sight has at most one cell behind it. To have all
--- cells outside is admissible and costs their sinks alone. A sink is a vote for each unit of weight of the sights that the cell is
--- behind, so in all sinks together each sight's weight stands as often as it has a cell behind it, which is at most once.
-use Rattle.std.proofs.Common.{ℕ, suc, ◌+◌, ◌*◌, ◌≤◌, ◌≡◌, refl, ap, arith, Bool, true, false, cond, List, [], ◌∷◌, Contains, count_by}
+-- The least cost is at most the vote times the weights of all sights, where each sight has at most one cell behind it. To have
+-- all cells outside is admissible and costs their sinks alone. A sink is a vote for each unit of weight of the sights that the
+-- cell is behind, so in all sinks together each sight's weight stands as often as it has a cell behind it, which is at most
+-- once.
+use Rattle.std.proofs.Common.{ℕ, suc, ◌+◌, ◌*◌, ◌≤◌, ◌≡◌, refl, ap, arith, Bool, true, false, cond, List, [], ◌∷◌, Contains}
+use Rattle.std.proofs.Common.{count_by}
 use Rattle.std.specs.List.{sum_by}
 use Rattle.std.proofs.Math.Nat.{mul-add, mul-le-mul_left}
 use Rattle.std.proofs.lemmas.List.Sums.{sum_by-cons, sum_by-le}
@@ -37,14 +39,16 @@ times_sum n f (x ∷ xs) =
     omega (arith, sum_by-cons (λ y. n * f y) x xs, e, d, s)
 
 -- an amount for each that passes
-amount_times : {X : Type 0} (p : X → Bool) (amount : ℕ) (xs : List X) → sum_by (λ x. cond (p x) amount 0) xs ≡ amount * count_by p xs
+amount_times : {X : Type 0} (p : X → Bool) (amount : ℕ) (xs : List X)
+    → sum_by (λ x. cond (p x) amount 0) xs ≡ amount * count_by p xs
 amount_times p amount [] = none amount
   where
     none : (n : ℕ) → 0 ≡ n * 0
     none n = omega arith
 amount_times p amount (x ∷ xs) =
     let e = amount_times p amount xs in
-    let d : amount * (cond (p x) 1 0 + count_by p xs) ≡ amount * cond (p x) 1 0 + amount * count_by p xs = mul-add amount (cond (p x) 1 0) (count_by p xs) in
+    let d : amount * (cond (p x) 1 0 + count_by p xs) ≡ amount * cond (p x) 1 0 + amount * count_by p xs =
+    mul-add amount (cond (p x) 1 0) (count_by p xs) in
     let s = ap (λ (k : ℕ). amount * k) (sum_by-cons (λ y. cond (p y) 1 0) x xs) in
     omega (arith, sum_by-cons (λ y. cond (p y) amount 0) x xs, e, d, s, one (p x))
   where
@@ -56,12 +60,16 @@ at_most_once : (amount n : ℕ) → n ≤ 1 → amount * n ≤ amount
 at_most_once amount n h = let m : amount * n ≤ amount * 1 = mul-le-mul_left amount h in omega (arith, m)
 
 -- where each y passes for at most one x, the weights for all x together are no more than all weights
-few_pairs : {X : Type 0} (p : X → Sight → Bool) (xs : List X) (ys : List Sight) → ((y : Sight) → Contains ys y → count_by (λ x. p x y) xs ≤ 1) → sum_by (λ x. weight_where (p x) ys) xs ≤ sum_by (λ y. y.weight) ys
+few_pairs : {X : Type 0} (p : X → Sight → Bool) (xs : List X) (ys : List Sight)
+    → ((y : Sight) → Contains ys y → count_by (λ x. p x y) xs ≤ 1)
+    → sum_by (λ x. weight_where (p x) ys) xs ≤ sum_by (λ y. y.weight) ys
 few_pairs p xs [] h = omega (arith, sum_by-le (λ x. 0) 0 xs (λ k d l. omega arith))
 few_pairs {X = X} p xs (y ∷ ys) h =
     let n = few_pairs p xs ys (λ z c. h z (let l = c.1 in (suc c.0, omega (arith, l), c.2))) in
-    let s : sum_by (λ x. weight_where (p x) (y ∷ ys)) xs ≡ sum_by (λ x. cond (p x y) y.weight 0) xs + sum_by (λ x. weight_where (p x) ys) xs =
-    sum_plus (λ x. cond (p x y) y.weight 0) (λ x. weight_where (p x) ys) (λ x. weight_where (p x) (y ∷ ys)) xs (λ x. weight_where-cons (p x) y ys) in
+    let s : sum_by (λ x. weight_where (p x) (y ∷ ys)) xs
+    ≡ sum_by (λ x. cond (p x y) y.weight 0) xs + sum_by (λ x. weight_where (p x) ys) xs =
+    sum_plus (λ x. cond (p x y) y.weight 0) (λ x. weight_where (p x) ys) (λ x. weight_where (p x) (y ∷ ys)) xs
+    (λ x. weight_where-cons (p x) y ys) in
     let o = at_most_once y.weight (count_by (λ x. p x y) xs) (h y (0, omega arith, refl)) in
     omega (arith, n, s, o, amount_times (λ x. p x y) y.weight xs, sum_by-cons (λ (z : Sight). z.weight) y ys)
 
@@ -71,13 +79,17 @@ all_weights sights h =
     omega (arith, n, h.few)
 
 -- ---- all cells outside
-all_outside : (s : Scene) (complex : Complex) → HasOneBehind s complex.cells → IsSightList s.sights → cost s complex (λ _. false) ≤ 140185593446400
+all_outside : (s : Scene) (complex : Complex) → HasOneBehind s complex.cells → IsSightList s.sights
+    → cost s complex (λ _. false) ≤ 140185593446400
 unfolding sink sights_before
 all_outside s complex one few =
     let facets = sum_by-le (facet_cost s complex.cells (λ _. false)) 0 complex.facets (λ k d l. omega arith) in
     let cells = times_sum s.settings.vote (sights_before s) complex.cells in
-    let pairs : sum_by (sights_before s) complex.cells ≤ sum_by (λ (sight : Sight). sight.weight) s.sights = few_pairs behind complex.cells s.sights one in
-    let votes = few_votes s.settings.vote (sum_by (sights_before s) complex.cells) s.settings.vote_at_most (omega (arith, pairs, all_weights s.sights few)) in
+    let pairs : sum_by (sights_before s) complex.cells ≤ sum_by (λ (sight : Sight). sight.weight) s.sights =
+    few_pairs behind complex.cells s.sights one in
+    let votes =
+    few_votes s.settings.vote (sum_by (sights_before s) complex.cells) s.settings.vote_at_most
+    (omega (arith, pairs, all_weights s.sights few)) in
     omega (arith, facets, cells, votes)
   where
     behind : List ℕ → Sight → Bool

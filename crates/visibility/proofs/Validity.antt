@@ -1,11 +1,14 @@
 -- The network of a scene is valid.
-use Rattle.std.proofs.Common.{ℕ, ◌<◌, ◌≤◌, ◌^◌, ◌≡◌, ◌≢◌, refl, ap, sym, subst, ◌∙◌, arith, Bool, true, false, cond, ◌&&◌, ◌||◌, ◌⊎◌, inl, inr, ⊎_elim, List, [], ◌∷◌, length, get_or, map, eqb, Some, None, Option, Contains, pos, int_lt}
+use Rattle.std.proofs.Common.{ℕ, ◌<◌, ◌≤◌, ◌^◌, ◌≡◌, ◌≢◌, refl, ap, sym, subst, ◌∙◌, arith, Bool, true, false, cond, ◌&&◌, ◌||◌}
+use Rattle.std.proofs.Common.{◌⊎◌, inl, inr, ⊎_elim, List, [], ◌∷◌, length, get_or, map, eqb, Some, None, Option, Contains, pos}
+use Rattle.std.proofs.Common.{int_lt}
 use Rattle.std.proofs.lemmas.Bool.{and_parts, and_from, or_cases, eqb-true, eq-eqb, false_from_ne_true}
 use Rattle.std.proofs.lemmas.List.{get_or-map, length-map}
 use Rattle.std.proofs.lemmas.List.Sums.{position_or_len_is, passes_at_first}
 use Rattle.flow_net.specs.Nets.{arc_at, flag_at, no_arc, IsReverse, IsValidArc, IsValidNet}
 use Rattle.flow_net.specs.declared.Arc.{Arc}
-use Rattle.geo_sign.specs.Tetrahedron.{Tetrahedron, DirectedFacet, tetrahedron, facet, facet_of, facet_at, numbers_of, turned, is_same_facet, is_among}
+use Rattle.geo_sign.specs.Tetrahedron.{Tetrahedron, DirectedFacet, tetrahedron, facet, facet_of, facet_at, numbers_of, turned}
+use Rattle.geo_sign.specs.Tetrahedron.{is_same_facet, is_among}
 use Rattle.geo_sign.specs.Vertices.{Vertices, orientation_of}
 use Rattle.geo_sign.specs.Cells.{IsRisingCell, written}
 use Rattle.visibility.specs.Scenes.{Scene}
@@ -32,7 +35,9 @@ same_facets f g h =
     ap (λ (n : ℕ). facet n f.b f.c) p.0 ∙ ap (λ (n : ℕ). facet g.a n f.c) p.1 ∙ ap (λ (n : ℕ). facet g.a g.b n) p.2
 
 pub is_same_itself : (f : DirectedFacet) → is_same_facet f f ≡ true
-is_same_itself f = and_from (eqb f.a f.a && eqb f.b f.b) (eqb f.c f.c) (and_from (eqb f.a f.a) (eqb f.b f.b) (eq-eqb f.a f.a refl) (eq-eqb f.b f.b refl)) (eq-eqb f.c f.c refl)
+is_same_itself f =
+    and_from (eqb f.a f.a && eqb f.b f.b) (eqb f.c f.c)
+    (and_from (eqb f.a f.a) (eqb f.b f.b) (eq-eqb f.a f.a refl) (eq-eqb f.b f.b refl)) (eq-eqb f.c f.c refl)
 
 -- four numbers of which no two are equal
 pub record AreApart (t : Tetrahedron) : Type 0 where
@@ -46,7 +51,9 @@ pub record AreApart (t : Tetrahedron) : Type 0 where
 -- which of the four directed facets it is
 abbrev pub OneOf : Tetrahedron → DirectedFacet → Type 0
 OneOf t f =
-    ((t.b ≡ f.a) × (t.d ≡ f.b) × (t.c ≡ f.c)) ⊎ (((t.a ≡ f.a) × (t.c ≡ f.b) × (t.d ≡ f.c)) ⊎ (((t.a ≡ f.a) × (t.d ≡ f.b) × (t.b ≡ f.c)) ⊎ ((t.a ≡ f.a) × (t.b ≡ f.b) × (t.c ≡ f.c))))
+    ((t.b ≡ f.a) × (t.d ≡ f.b) × (t.c ≡ f.c))
+    ⊎ (((t.a ≡ f.a) × (t.c ≡ f.b) × (t.d ≡ f.c))
+    ⊎ (((t.a ≡ f.a) × (t.d ≡ f.b) × (t.b ≡ f.c)) ⊎ ((t.a ≡ f.a) × (t.b ≡ f.b) × (t.c ≡ f.c))))
 
 pub one_of : (t : Tetrahedron) (f : DirectedFacet) → is_among t f ≡ true → OneOf t f
 one_of t f h =
@@ -54,7 +61,9 @@ one_of t f h =
     let second : Bool = is_same_facet (facet_of t 1) f in
     let third : Bool = is_same_facet (facet_of t 2) f in
     let last : Bool = is_same_facet (facet_of t 3) f in
-    ⊎_elim (λ p. ⊎_elim (λ q. ⊎_elim (λ r. inl (same_means (facet_of t 0) f r)) (λ r. inr (inl (same_means (facet_of t 1) f r))) (or_cases first second q)) (λ q. inr (inr (inl (same_means (facet_of t 2) f q)))) (or_cases (first || second) third p))
+    ⊎_elim (λ p. ⊎_elim
+    (λ q. ⊎_elim (λ r. inl (same_means (facet_of t 0) f r)) (λ r. inr (inl (same_means (facet_of t 1) f r)))
+    (or_cases first second q)) (λ q. inr (inr (inl (same_means (facet_of t 2) f q)))) (or_cases (first || second) third p))
     (λ p. inr (inr (inr (same_means (facet_of t 3) f p))))
     (or_cases (first || second || third) last h)
 
@@ -88,25 +97,47 @@ written_apart v (a ∷ b ∷ c ∷ d ∷ e ∷ rest) h = elim h [ ]
 written_apart v (a ∷ b ∷ c ∷ d ∷ []) h = by (int_lt (pos 0) (orientation_of v a b c d))
   where
     by : (positive : Bool) → AreApart (cond positive (tetrahedron a b c d) (tetrahedron a b d c))
-    by true = record { a_b = omega (arith, h.0); a_c = omega (arith, h.0, h.1); a_d = omega (arith, h.0, h.1, h.2); b_c = omega (arith, h.1); b_d = omega (arith, h.1, h.2); c_d = omega (arith, h.2) }
-    by false = record { a_b = omega (arith, h.0); a_c = omega (arith, h.0, h.1, h.2); a_d = omega (arith, h.0, h.1); b_c = omega (arith, h.1, h.2); b_d = omega (arith, h.1); c_d = omega (arith, h.2) }
+    by true = record {
+      a_b = omega (arith, h.0);
+      a_c = omega (arith, h.0, h.1);
+      a_d = omega (arith, h.0, h.1, h.2);
+      b_c = omega (arith, h.1);
+      b_d = omega (arith, h.1, h.2);
+      c_d = omega (arith, h.2);
+    }
+    by false = record {
+      a_b = omega (arith, h.0);
+      a_c = omega (arith, h.0, h.1, h.2);
+      a_d = omega (arith, h.0, h.1);
+      b_c = omega (arith, h.1, h.2);
+      b_d = omega (arith, h.1);
+      c_d = omega (arith, h.2);
+    }
 
 -- a facet and the one turned round belong to two cells
-cells_differ : (s : Scene) (complex : Complex) (f : List ℕ) → IsListingOf s complex → IsJoined s complex.cells f → cell_index s.vertices complex.cells (facet_at f) ≢ cell_index s.vertices complex.cells (turned (facet_at f))
+cells_differ : (s : Scene) (complex : Complex) (f : List ℕ) → IsListingOf s complex → IsJoined s complex.cells f
+    → cell_index s.vertices complex.cells (facet_at f) ≢ cell_index s.vertices complex.cells (turned (facet_at f))
 cells_differ s complex f o p e =
     let own : ℕ = cell_index s.vertices complex.cells (facet_at f) in
     let row : List ℕ = get_or complex.cells own [] in
-    let apart : AreApart (written s.vertices row) = written_apart s.vertices row (rising_cell s complex o row (index_has complex.cells own p.own)) in
-    let first : is_among (written s.vertices row) (facet_at f) ≡ true = passes_at_first (λ r. has_facet s.vertices r (facet_at f)) complex.cells [] p.own in
+    let apart : AreApart (written s.vertices row) =
+    written_apart s.vertices row (rising_cell s complex o row (index_has complex.cells own p.own)) in
+    let first : is_among (written s.vertices row) (facet_at f) ≡ true =
+    passes_at_first (λ r. has_facet s.vertices r (facet_at f)) complex.cells [] p.own in
     let second : is_among (written s.vertices row) (turned (facet_at f)) ≡ true =
-    subst (λ (k : ℕ). has_facet s.vertices (get_or complex.cells k []) (turned (facet_at f)) ≡ true) (sym e) (passes_at_first (λ r. has_facet s.vertices r (turned (facet_at f))) complex.cells [] p.across) in
-    not_both (written s.vertices row) (facet_at f) apart (one_of (written s.vertices row) (facet_at f) first) (one_of (written s.vertices row) (turned (facet_at f)) second)
+    subst (λ (k : ℕ). has_facet s.vertices (get_or complex.cells k []) (turned (facet_at f)) ≡ true) (sym e)
+    (passes_at_first (λ r. has_facet s.vertices r (turned (facet_at f))) complex.cells [] p.across) in
+    not_both (written s.vertices row) (facet_at f) apart (one_of (written s.vertices row) (facet_at f) first)
+    (one_of (written s.vertices row) (turned (facet_at f)) second)
 
 -- the index of a facet that is listed
-facet_index_at : (facets : List (List ℕ)) (j : ℕ) → AreOnce facets → ((k : ℕ) → k < length facets → get_or facets k [] ≡ numbers_of (facet_at (get_or facets k []))) → j < length facets → facet_index facets (facet_at (get_or facets j [])) ≡ j
+facet_index_at : (facets : List (List ℕ)) (j : ℕ) → AreOnce facets
+    → ((k : ℕ) → k < length facets → get_or facets k [] ≡ numbers_of (facet_at (get_or facets k []))) → j < length facets
+    → facet_index facets (facet_at (get_or facets j [])) ≡ j
 facet_index_at facets j r three l =
     position_or_len_is (λ numbers. is_same_facet (facet_at numbers) (facet_at (get_or facets j []))) facets j [] (omega arith)
-    (λ k m. false_from_ne_true (is_same_facet (facet_at (get_or facets k [])) (facet_at (get_or facets j []))) (λ h. clash k m (same_facets (facet_at (get_or facets k [])) (facet_at (get_or facets j [])) h)))
+    (λ k m. false_from_ne_true (is_same_facet (facet_at (get_or facets k [])) (facet_at (get_or facets j [])))
+    (λ h. clash k m (same_facets (facet_at (get_or facets k [])) (facet_at (get_or facets j [])) h)))
     (λ m. is_same_itself (facet_at (get_or facets j [])))
   where
     clash : (k : ℕ) → k < j → facet_at (get_or facets k []) ≡ facet_at (get_or facets j []) → ⊥
@@ -114,7 +145,8 @@ facet_index_at facets j r three l =
         let same : get_or facets k [] ≡ get_or facets j [] = three k (omega arith) ∙ ap numbers_of e ∙ sym (three j l) in
         r k j [] m l same
 
-three_at : (s : Scene) (complex : Complex) → IsListingOf s complex → (k : ℕ) → k < length complex.facets → get_or complex.facets k [] ≡ numbers_of (facet_at (get_or complex.facets k []))
+three_at : (s : Scene) (complex : Complex) → IsListingOf s complex → (k : ℕ) → k < length complex.facets
+    → get_or complex.facets k [] ≡ numbers_of (facet_at (get_or complex.facets k []))
 three_at s complex o k l = (has_capacity s complex o (get_or complex.facets k []) (index_has complex.facets k l)).three
 
 -- the facet turned round, where it is listed
@@ -124,56 +156,77 @@ record IsPaired (facets : List (List ℕ)) (f : DirectedFacet) : Type 0 where
   is : facet_at (get_or facets at []) ≡ f
   index : facet_index facets f ≡ at
 
-paired : (s : Scene) (complex : Complex) (f : List ℕ) → IsListingOf s complex → HasCapacity s complex.cells f → is_fixed s.vertices s.scanners (cell_of s.vertices complex.cells (facet_at f)) ≡ false → IsPaired complex.facets (turned (facet_at f))
+paired : (s : Scene) (complex : Complex) (f : List ℕ) → IsListingOf s complex → HasCapacity s complex.cells f
+    → is_fixed s.vertices s.scanners (cell_of s.vertices complex.cells (facet_at f)) ≡ false
+    → IsPaired complex.facets (turned (facet_at f))
 paired s complex f o h own =
     let g : List ℕ = numbers_of (turned (facet_at f)) in
-    let there : Contains complex.facets g = facet_listed s complex o g (record { three = refl; own = h.across; across = h.own; free = own }) in
+    let there : Contains complex.facets g =
+    facet_listed s complex o g (record { three = refl; own = h.across; across = h.own; free = own }) in
     let here : get_or complex.facets there.0 [] ≡ g = at_index complex.facets g there in
     record {
       at = there.0;
       in_range = there.1;
       is = ap facet_at here;
-      index = ap (λ (r : List ℕ). facet_index complex.facets (facet_at r)) (sym here) ∙ facet_index_at complex.facets there.0 (facets_once s complex o) (three_at s complex o) there.1;
+      index =
+          ap (λ (r : List ℕ). facet_index complex.facets (facet_at r)) (sym here)
+          ∙ facet_index_at complex.facets there.0 (facets_once s complex o) (three_at s complex o) there.1;
     }
 
 abbrev arcs_of : Scene → Complex → List Arc
 arcs_of s complex = map (arc_of s complex) complex.facets
 
-arc_there : (s : Scene) (complex : Complex) (j : ℕ) → j < length complex.facets → arc_at (arcs_of s complex) j ≡ arc_of s complex (get_or complex.facets j [])
+arc_there : (s : Scene) (complex : Complex) (j : ℕ) → j < length complex.facets
+    → arc_at (arcs_of s complex) j ≡ arc_of s complex (get_or complex.facets j [])
 arc_there s complex j l = get_or-map (arc_of s complex) complex.facets j [] no_arc l
 
 -- the arc of a facet, with its reverse as a choice
 abbrev arc_with : Scene → Complex → DirectedFacet → Option ℕ → Arc
-arc_with s complex f pair = record { from = cell_index s.vertices complex.cells f; to = cell_index s.vertices complex.cells (turned f); cap = capacity s f; pair = pair }
+arc_with s complex f pair = record {
+  from = cell_index s.vertices complex.cells f;
+  to = cell_index s.vertices complex.cells (turned f);
+  cap = capacity s f;
+  pair = pair;
+}
 
-pub flag_there : (s : Scene) (complex : Complex) (f : DirectedFacet) → cell_index s.vertices complex.cells f < length complex.cells
-    → flag_at (map (is_fixed s.vertices s.scanners) complex.cells) (cell_index s.vertices complex.cells f) ≡ is_fixed s.vertices s.scanners (cell_of s.vertices complex.cells f)
-flag_there s complex f l = get_or-map (is_fixed s.vertices s.scanners) complex.cells (cell_index s.vertices complex.cells f) [] false l
+pub flag_there : (s : Scene) (complex : Complex) (f : DirectedFacet)
+    → cell_index s.vertices complex.cells f < length complex.cells
+    → flag_at (map (is_fixed s.vertices s.scanners) complex.cells) (cell_index s.vertices complex.cells f)
+    ≡ is_fixed s.vertices s.scanners (cell_of s.vertices complex.cells f)
+flag_there s complex f l =
+    get_or-map (is_fixed s.vertices s.scanners) complex.cells (cell_index s.vertices complex.cells f) [] false l
 
-turned_back : (s : Scene) (complex : Complex) (j : ℕ) (f : DirectedFacet) (g : List ℕ) (pair : Option ℕ) → facet_at g ≡ turned f → is_fixed s.vertices s.scanners (cell_of s.vertices complex.cells (turned f)) ≡ false → facet_index complex.facets f ≡ j
+turned_back : (s : Scene) (complex : Complex) (j : ℕ) (f : DirectedFacet) (g : List ℕ) (pair : Option ℕ) → facet_at g ≡ turned f
+    → is_fixed s.vertices s.scanners (cell_of s.vertices complex.cells (turned f)) ≡ false → facet_index complex.facets f ≡ j
     → IsReverse (arc_with s complex f pair) j (arc_of s complex g)
 unfolding arc_of
 turned_back s complex j f g pair e free index =
     record {
       from_is = ap (λ (h : DirectedFacet). cell_index s.vertices complex.cells h) e;
       to_is = ap (λ (h : DirectedFacet). cell_index s.vertices complex.cells (turned h)) e;
-      back = ap (λ (h : DirectedFacet). pair_of s complex h) e ∙ ap (λ (b : Bool). cond b None (Some (facet_index complex.facets f))) free ∙ ap (λ (i : ℕ). Some i) index;
+      back =
+          ap (λ (h : DirectedFacet). pair_of s complex h) e
+          ∙ ap (λ (b : Bool). cond b None (Some (facet_index complex.facets f))) free ∙ ap (λ (i : ℕ). Some i) index;
     }
 
 some_is : {m n : ℕ} → Some m ≡ Some n → m ≡ n
 some_is h = cc
 
-valid_with : (s : Scene) (complex : Complex) (j : ℕ) (f : List ℕ) → IsSightList s.sights → IsListingOf s complex → HasCapacity s complex.cells f → facet_index complex.facets (facet_at f) ≡ j
+valid_with : (s : Scene) (complex : Complex) (j : ℕ) (f : List ℕ) → IsSightList s.sights → IsListingOf s complex
+    → HasCapacity s complex.cells f → facet_index complex.facets (facet_at f) ≡ j
     → (b : Bool) → is_fixed s.vertices s.scanners (cell_of s.vertices complex.cells (facet_at f)) ≡ b
-    → IsValidArc (map (is_fixed s.vertices s.scanners) complex.cells) (arcs_of s complex) j (arc_with s complex (facet_at f) (cond b None (Some (facet_index complex.facets (turned (facet_at f))))))
+    → IsValidArc (map (is_fixed s.vertices s.scanners) complex.cells) (arcs_of s complex) j
+    (arc_with s complex (facet_at f) (cond b None (Some (facet_index complex.facets (turned (facet_at f))))))
 valid_with s complex j f few o h index b own =
     by b own (flag_there s complex (facet_at f) (joined s complex.cells f h).own ∙ own)
   where
     small : capacity s (facet_at f) ≤ 2 ^ 60
     small = omega (arith, capacity_fits s (facet_at f) few)
 
-    by : (b : Bool) → is_fixed s.vertices s.scanners (cell_of s.vertices complex.cells (facet_at f)) ≡ b → flag_at (map (is_fixed s.vertices s.scanners) complex.cells) (cell_index s.vertices complex.cells (facet_at f)) ≡ b
-        → IsValidArc (map (is_fixed s.vertices s.scanners) complex.cells) (arcs_of s complex) j (arc_with s complex (facet_at f) (cond b None (Some (facet_index complex.facets (turned (facet_at f))))))
+    by : (b : Bool) → is_fixed s.vertices s.scanners (cell_of s.vertices complex.cells (facet_at f)) ≡ b
+        → flag_at (map (is_fixed s.vertices s.scanners) complex.cells) (cell_index s.vertices complex.cells (facet_at f)) ≡ b
+        → IsValidArc (map (is_fixed s.vertices s.scanners) complex.cells) (arcs_of s complex) j
+        (arc_with s complex (facet_at f) (cond b None (Some (facet_index complex.facets (turned (facet_at f))))))
     by true own own_flag =
         let p : IsJoined s complex.cells f = joined s complex.cells f h in
         let count = length-map complex.cells (is_fixed s.vertices s.scanners) in
@@ -200,31 +253,43 @@ valid_with s complex j f few o h index b own =
           cap_fits = small;
           no_pair = λ e. absurd (cc);
           pair_free = λ k e. own_flag;
-          pair_in = λ k e. let at : pair.at ≡ k = sym pair.index ∙ some_is e in omega (arith, at, pair.in_range, length-map complex.facets (arc_of s complex));
+          pair_in = λ k e. let at : pair.at ≡ k = sym pair.index ∙ some_is e in
+              omega (arith, at, pair.in_range, length-map complex.facets (arc_of s complex));
           pair_is = λ k e.
-              subst (λ (i : ℕ). IsReverse (arc_with s complex (facet_at f) (Some (facet_index complex.facets (turned (facet_at f))))) j (arc_at (arcs_of s complex) i)) (sym pair.index ∙ some_is e)
-              (subst (λ (a : Arc). IsReverse (arc_with s complex (facet_at f) (Some (facet_index complex.facets (turned (facet_at f))))) j a) (sym (arc_there s complex pair.at pair.in_range))
-              (turned_back s complex j (facet_at f) (get_or complex.facets pair.at []) (Some (facet_index complex.facets (turned (facet_at f)))) pair.is h.free index));
+              subst (λ (i : ℕ). IsReverse
+              (arc_with s complex (facet_at f) (Some (facet_index complex.facets (turned (facet_at f))))) j
+              (arc_at (arcs_of s complex) i)) (sym pair.index ∙ some_is e)
+              (subst (λ (a : Arc).
+              IsReverse (arc_with s complex (facet_at f) (Some (facet_index complex.facets (turned (facet_at f))))) j a)
+              (sym (arc_there s complex pair.at pair.in_range))
+              (turned_back s complex j (facet_at f) (get_or complex.facets pair.at [])
+              (Some (facet_index complex.facets (turned (facet_at f)))) pair.is h.free index));
         }
 
 valid_arc : (s : Scene) (complex : Complex) (j : ℕ) → IsSightList s.sights → IsListingOf s complex → j < length complex.facets
-    → IsValidArc (map (is_fixed s.vertices s.scanners) complex.cells) (arcs_of s complex) j (arc_of s complex (get_or complex.facets j []))
+    → IsValidArc (map (is_fixed s.vertices s.scanners) complex.cells) (arcs_of s complex) j
+    (arc_of s complex (get_or complex.facets j []))
 unfolding arc_of
 valid_arc s complex j few o l =
-    valid_with s complex j (get_or complex.facets j []) few o (has_capacity s complex o (get_or complex.facets j []) (index_has complex.facets j l)) (facet_index_at complex.facets j (facets_once s complex o) (three_at s complex o) l)
+    valid_with s complex j (get_or complex.facets j []) few o
+    (has_capacity s complex o (get_or complex.facets j []) (index_has complex.facets j l))
+    (facet_index_at complex.facets j (facets_once s complex o) (three_at s complex o) l)
     (is_fixed s.vertices s.scanners (cell_of s.vertices complex.cells (facet_at (get_or complex.facets j [])))) refl
 
 -- the flags, sinks and arcs of a scene with few sights make a valid network
 pub network_valid : (s : Scene) (complex : Complex) → IsSightList s.sights → IsListingOf s complex
-    → IsValidNet (map (is_fixed s.vertices s.scanners) complex.cells) (map (sink s) complex.cells) (map (arc_of s complex) complex.facets)
+    → IsValidNet (map (is_fixed s.vertices s.scanners) complex.cells) (map (sink s) complex.cells)
+    (map (arc_of s complex) complex.facets)
 network_valid s complex few o =
     record {
       sink_count = length-map complex.cells (sink s) ∙ sym (length-map complex.cells (is_fixed s.vertices s.scanners));
       sinks_fit = λ k l.
           let m : k < length complex.cells = omega (arith, l, length-map complex.cells (sink s)) in
-          let at : get_or (map (sink s) complex.cells) k 0 ≡ sink s (get_or complex.cells k []) = get_or-map (sink s) complex.cells k [] 0 m in
+          let at : get_or (map (sink s) complex.cells) k 0 ≡ sink s (get_or complex.cells k []) =
+          get_or-map (sink s) complex.cells k [] 0 m in
           omega (arith, at, sink_fits s (get_or complex.cells k []) few);
       valid_arcs = λ j l.
           let m : j < length complex.facets = omega (arith, l, length-map complex.facets (arc_of s complex)) in
-          subst (λ (a : Arc). IsValidArc (map (is_fixed s.vertices s.scanners) complex.cells) (arcs_of s complex) j a) (sym (arc_there s complex j m)) (valid_arc s complex j few o m);
+          subst (λ (a : Arc). IsValidArc (map (is_fixed s.vertices s.scanners) complex.cells) (arcs_of s complex) j a)
+          (sym (arc_there s complex j m)) (valid_arc s complex j few o m);
     }

@@ -30,7 +30,8 @@ AreSightsIn s = (sight : Sight) → Contains s.sights sight → Has s.vertices s
 -- listed cells are fixed together and have one sink, listed facets have one capacity, and labels and flows are judged alike
 pub record AgreeOverCells (s r : Scene) (complex : Complex) : Type 0 where
   pub cell_of_is : (f : DirectedFacet) → cell_of s.vertices complex.cells f ≡ cell_of r.vertices complex.cells f
-  pub fixed_is : (row : List ℕ) → Contains complex.cells row → is_fixed s.vertices s.scanners row ≡ is_fixed r.vertices r.scanners row
+  pub fixed_is : (row : List ℕ) → Contains complex.cells row
+      → is_fixed s.vertices s.scanners row ≡ is_fixed r.vertices r.scanners row
   pub sink_is : (row : List ℕ) → Contains complex.cells row → sink s row ≡ sink r row
   pub capacity_is : (f : List ℕ) → Contains complex.facets f → capacity s (facet_at f) ≡ capacity r (facet_at f)
   pub cost_is : (inside : List ℕ → Bool) → cost s complex inside ≡ cost r complex inside
@@ -47,7 +48,9 @@ pub record AgreeAsScenes (s r : Scene) : Type 0 where
 
 -- no sight decides which facets have a capacity
 abbrev pub ComplexesAgree : Type 0
-ComplexesAgree = (s : Scene) (w : Vertices) → Agree s.vertices w → (complex : Complex) → IsComplexOf s complex ↔ IsComplexOf (over_vertices s w) complex
+ComplexesAgree =
+    (s : Scene) (w : Vertices) → Agree s.vertices w → (complex : Complex) → IsComplexOf s complex
+    ↔ IsComplexOf (over_vertices s w) complex
 
 -- whatever the vertices are that are not in
 abbrev pub ScenesAgree : Type 0

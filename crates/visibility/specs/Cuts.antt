@@ -46,4 +46,5 @@ pub record IsLeastCost (s : Scene) (complex : Complex) (inside : List ℕ → Bo
 -- labels of the least cost whose inside is contained in that of all labels of that cost
 pub record IsLeastInside (s : Scene) (complex : Complex) (inside : List ℕ → Bool) : Type 0 where
   pub least_cost : IsLeastCost s complex inside
-  pub within : (other : List ℕ → Bool) → IsLeastCost s complex other → (row : List ℕ) → Contains complex.cells row → inside row ≡ true → other row ≡ true
+  pub within : (other : List ℕ → Bool) → IsLeastCost s complex other → (row : List ℕ) → Contains complex.cells row
+      → inside row ≡ true → other row ≡ true

@@ -19,7 +19,8 @@ use Rattle.flow_net.specs.declared.Labels.{Labels}
 use Rattle.flow_net.specs.declared.Flow.{Flow}
 use Rattle.flow_net.specs.Nets.{flag_at}
 use Rattle.flow_net.specs.Weights.{IsSightList}
-use Rattle.flow_net.specs.Flows.{cost_of, value_of, IsAdmissible as IsAdmissibleNet, IsLeastCost as IsLeastCostNet, IsLeastInside as IsLeastInsideNet, IsValidFlow as IsValidFlowNet}
+use Rattle.flow_net.specs.Flows.{cost_of, value_of, IsAdmissible as IsAdmissibleNet, IsLeastCost as IsLeastCostNet}
+use Rattle.flow_net.specs.Flows.{IsLeastInside as IsLeastInsideNet, IsValidFlow as IsValidFlowNet}
 use Rattle.geo_sign.specs.Tetrahedron.{DirectedFacet, facet_at, numbers_of}
 use Rattle.geo_sign.specs.Cells.{written}
 use Rattle.geo_sign.specs.Sights.{is_behind}
@@ -58,7 +59,8 @@ pub record AgreeAsLabels (s : Scene) (voted : Voted) (inside : List ℕ → Bool
   pub cost_is : cost_of voted.net (labels_of (complex_of voted) inside) ≡ cost s (complex_of voted) inside
   pub admissible : IsAdmissibleNet voted.net (labels_of (complex_of voted) inside) ↔ IsAdmissible s (complex_of voted) inside
   pub least_cost : IsLeastCostNet voted.net (labels_of (complex_of voted) inside) ↔ IsLeastCost s (complex_of voted) inside
-  pub least_inside : IsLeastInsideNet voted.net (labels_of (complex_of voted) inside) ↔ IsLeastInside s (complex_of voted) inside
+  pub least_inside : IsLeastInsideNet voted.net (labels_of (complex_of voted) inside)
+      ↔ IsLeastInside s (complex_of voted) inside
 
 abbrev pub LabelsAgree : Type 0
 LabelsAgree = (s : Scene) (voted : Voted) (inside : List ℕ → Bool) → IsNetworkInAnyOrder s voted → AgreeAsLabels s voted inside
@@ -66,18 +68,25 @@ LabelsAgree = (s : Scene) (voted : Voted) (inside : List ℕ → Bool) → IsNet
 -- amounts on facets and cells, and the flow by number: they are worth the same, and valid together
 pub record AgreeAsFlows (s : Scene) (voted : Voted) (on_facet on_cell : List ℕ → ℕ) : Type 0 where
   pub value_is : value_of voted.net (flow_of (complex_of voted) on_facet on_cell) ≡ value s (complex_of voted) on_cell
-  pub valid : IsValidFlowNet voted.net (flow_of (complex_of voted) on_facet on_cell) ↔ IsValidFlow s (complex_of voted) on_facet on_cell
+  pub valid : IsValidFlowNet voted.net (flow_of (complex_of voted) on_facet on_cell)
+      ↔ IsValidFlow s (complex_of voted) on_facet on_cell
 
 abbrev pub FlowsAgree : Type 0
-FlowsAgree = (s : Scene) (voted : Voted) (on_facet on_cell : List ℕ → ℕ) → IsNetworkInAnyOrder s voted → AgreeAsFlows s voted on_facet on_cell
+FlowsAgree =
+    (s : Scene) (voted : Voted) (on_facet on_cell : List ℕ → ℕ) → IsNetworkInAnyOrder s voted
+    → AgreeAsFlows s voted on_facet on_cell
 
 -- flags of rows that stand once are those of a test of rows
 abbrev pub FlagsAreTests : Type 0
-FlagsAreTests = (rows : List (List ℕ)) (flags : List Bool) → AreOnce rows → length flags ≡ length rows → map (test_of rows flags) rows ≡ flags
+FlagsAreTests =
+    (rows : List (List ℕ)) (flags : List Bool) → AreOnce rows → length flags ≡ length rows
+    → map (test_of rows flags) rows ≡ flags
 
 -- amounts of rows that stand once are amounts by row
 abbrev pub AmountsAreTests : Type 0
-AmountsAreTests = (rows : List (List ℕ)) (amounts : List ℕ) → AreOnce rows → length amounts ≡ length rows → map (amount_of rows amounts) rows ≡ amounts
+AmountsAreTests =
+    (rows : List (List ℕ)) (amounts : List ℕ) → AreOnce rows → length amounts ≡ length rows
+    → map (amount_of rows amounts) rows ≡ amounts
 
 -- a capacity and a sink are below 2^48
 abbrev pub CapacitiesFit : Type 0
@@ -89,14 +98,16 @@ SinksFit = (s : Scene) (row : List ℕ) → IsSightList s.sights → sink s row 
 -- each sight has at most one of these cells behind it
 abbrev pub HasOneBehind : Scene → List (List ℕ) → Type 0
 HasOneBehind s cells =
-    (sight : Sight) → Contains s.sights sight →
-    count_by (λ row. is_behind s.vertices sight.vertex (scanner_point s.scanners sight.scanner) (written s.vertices row)) cells ≤ 1
+    (sight : Sight) → Contains s.sights sight
+    → count_by
+    (λ row. is_behind s.vertices sight.vertex (scanner_point s.scanners sight.scanner) (written s.vertices row)) cells ≤ 1
 
 -- then the least cost is below 2^47, however many vertices there are
 abbrev pub LeastCostIsSmall : Type 0
 LeastCostIsSmall =
-    (s : Scene) (complex : Complex) (inside : List ℕ → Bool) → HasOneBehind s complex.cells → IsSightList s.sights → IsLeastCost s complex inside →
-    cost s complex inside < 2 ^ 47
+    (s : Scene) (complex : Complex) (inside : List ℕ → Bool) → HasOneBehind s complex.cells → IsSightList s.sights
+    → IsLeastCost s complex inside
+    → cost s complex inside < 2 ^ 47
 
 -- three distinct numbers below n, the smallest first
 pub record IsOrdered (n : ℕ) (f : List ℕ) : Type 0 where
@@ -109,7 +120,9 @@ pub record IsOrdered (n : ℕ) (f : List ℕ) : Type 0 where
 
 -- each facet that has a capacity is written so
 abbrev pub FacetsAreOrdered : Type 0
-FacetsAreOrdered = (s : Scene) (complex : Complex) → IsComplexOf s complex → (f : List ℕ) → Contains complex.facets f → IsOrdered s.vertices.count f
+FacetsAreOrdered =
+    (s : Scene) (complex : Complex) → IsComplexOf s complex → (f : List ℕ) → Contains complex.facets f
+    → IsOrdered s.vertices.count f
 
 -- two lists of all cells and of all facets that have a capacity are the same
 abbrev pub OneComplex : Type 0

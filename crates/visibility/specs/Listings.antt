@@ -22,9 +22,11 @@ pub record IsListingOf (s : Scene) (listing : Complex) : Type 0 where
   pub complex_is : IsComplexOf s complex
   pub cells_are : IsPermutation complex.cells listing.cells
   pub facets_are : IsPermutation complex.facets listing.facets
-  pub same_cell : (f : DirectedFacet) → HasFacet s.vertices complex.cells f → cell_of s.vertices listing.cells f ≡ cell_of s.vertices complex.cells f
+  pub same_cell : (f : DirectedFacet) → HasFacet s.vertices complex.cells f
+      → cell_of s.vertices listing.cells f ≡ cell_of s.vertices complex.cells f
 
--- labels cost the same, and are admissible, of the least cost and the least inside together; flows are worth the same, and valid together
+-- labels cost the same, and are admissible, of the least cost and the least inside together; flows are worth the same, and
+-- valid together
 pub record AgreeInAnyOrder (s : Scene) (c d : Complex) : Type 0 where
   pub cost_is : (inside : List ℕ → Bool) → cost s c inside ≡ cost s d inside
   pub admissible : (inside : List ℕ → Bool) → IsAdmissible s c inside ↔ IsAdmissible s d inside

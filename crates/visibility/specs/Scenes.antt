@@ -10,7 +10,8 @@ use Rattle.geo_sign.specs.Vertices.{Vertices, vertices_of}
 use Rattle.flow_net.specs.declared.votes.Settings.{Settings}
 use Rattle.flow_net.specs.declared.votes.Sight.{Sight}
 
--- the vertices, the scanners in order of their numbers, the sights as often as they were seen, and the weights of votes and smoothing
+-- the vertices, the scanners in order of their numbers, the sights as often as they were seen, and the weights of votes and
+-- smoothing
 pub record Scene : Type 0 where
   pub vertices : Vertices
   pub scanners : List Point

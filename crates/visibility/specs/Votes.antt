@@ -43,7 +43,9 @@ capacity s f = s.settings.vote * crossings s f + s.settings.smooth
 
 -- what the sights that the cell is behind weigh together
 unfoldable pub sights_before : Scene → List ℕ → ℕ
-sights_before s row = weight_where (λ sight. is_behind s.vertices sight.vertex (scanner_point s.scanners sight.scanner) (written s.vertices row)) s.sights
+sights_before s row =
+    weight_where
+    (λ sight. is_behind s.vertices sight.vertex (scanner_point s.scanners sight.scanner) (written s.vertices row)) s.sights
 
 -- the sink of a cell: as many votes
 unfoldable pub sink : Scene → List ℕ → ℕ

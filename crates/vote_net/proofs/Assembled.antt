@@ -1,6 +1,7 @@
 -- What the lists and tables of the code are together: the network of the scene, which is valid as all networks of scenes are.
 -- Stands on: Nodes.
-use Rattle.std.proofs.Common.{ℕ, ◌*◌, ◌<◌, ◌^◌, ◌≡◌, sym, ap, subst, ◌∙◌, arith, Bool, is_some, Option, List, [], length, get_or, map, Contains, unwrap_or}
+use Rattle.std.proofs.Common.{ℕ, ◌*◌, ◌<◌, ◌^◌, ◌≡◌, sym, ap, subst, ◌∙◌, arith, Bool, is_some, Option, List, [], length}
+use Rattle.std.proofs.Common.{get_or, map, Contains, unwrap_or}
 use Rattle.std.specs.List.Sorted.{IsPermutation, IsNonDecreasingBy}
 use Rattle.std.proofs.lemmas.List.{get_or-map, length-map, same_lists}
 use Rattle.std.proofs.lemmas.List.Sorted.{IsPermutation-map, IsPermutation-sym, IsPermutation-trans, Contains-permutation}
@@ -21,7 +22,8 @@ use Rattle.vote_net.specs.declared.rows.Row.{Row}
 use Rattle.vote_net.specs.declared.sides.Side.{Side}
 use Rattle.vote_net.specs.Counts.{AreCountsOf, AreIdsOf, row_of}
 use Rattle.vote_net.specs.Gathered.{key_of_row, key_of_side, all_rows, all_open}
-use Rattle.vote_net.specs.Tables.{id_of_row, cell_of_row, facet_of_side, number_of_side, AreApart, AreNumbered, AreArcs, CanJoin, other_of, arc_from}
+use Rattle.vote_net.specs.Tables.{id_of_row, cell_of_row, facet_of_side, number_of_side, AreApart, AreNumbered, AreArcs}
+use Rattle.vote_net.specs.Tables.{CanJoin, other_of, arc_from}
 use Rattle.vote_net.proofs.CellSides.{across_has}
 use Rattle.vote_net.proofs.Entries.{IsRowAt, IsSideAt, row_is, side_is}
 use Rattle.vote_net.proofs.Stored.{listed, live, live_in_range}
@@ -35,7 +37,8 @@ pub record AreListed (slots : List (Option Cell)) (fixed : List Bool) (rows : Li
   pub moved : IsPermutation (all_rows slots) rows
   pub moved_sides : IsPermutation (all_open fixed slots) sides
 
-module _ (s : Scene) (slots : List (Option Cell)) (crossed behind : List ℕ) (fixed : List Bool) (rows : List Row) (sides : List Side) (asked : AreCountsOf s slots crossed behind fixed) (lists : AreListed slots fixed rows sides) where
+module _ (s : Scene) (slots : List (Option Cell)) (crossed behind : List ℕ) (fixed : List Bool) (rows : List Row)
+    (sides : List Side) (asked : AreCountsOf s slots crossed behind fixed) (lists : AreListed slots fixed rows sides) where
   row_at_is : (r : Row) → Contains rows r → IsRowAt slots r
   row_at_is r h =
       row_is slots r (Contains-permutation rows (all_rows slots) r (IsPermutation-sym (all_rows slots) rows lists.moved) h)
@@ -73,7 +76,13 @@ module _ (s : Scene) (slots : List (Option Cell)) (crossed behind : List ℕ) (f
       (listed slots x.id p.live) p.in_range p.next in
       let m = live_in_range slots p.other (live slots p.other b.0) in
       let other : other_of slots x ≡ p.other = ap (λ (o : Option ℕ). unwrap_or o 0) p.next in
-      record { live = p.live; in_range = p.in_range; there = ap is_some p.next; small = omega (arith, fits, n, l); small_other = omega (arith, fits, n, m, other) }
+      record {
+        live = p.live;
+        in_range = p.in_range;
+        there = ap is_some p.next;
+        small = omega (arith, fits, n, l);
+        small_other = omega (arith, fits, n, m, other);
+      }
 
   abbrev pub complex : Complex
   complex = record { cells = map cell_of_row rows; facets = map facet_of_side sides }
@@ -81,7 +90,8 @@ module _ (s : Scene) (slots : List (Option Cell)) (crossed behind : List ℕ) (f
   -- sorted, they are the rising lists
   pub complex_is : IsNonDecreasingBy key_of_row rows → IsNonDecreasingBy key_of_side sides → IsComplexOf s complex
   complex_is sorted sorted_sides =
-      made.complex_is s slots fixed asked.cells asked.few rows lists.moved asked.flags sides lists.moved_sides sorted sorted_sides
+      made.complex_is s slots fixed asked.cells asked.few rows lists.moved asked.flags sides lists.moved_sides sorted
+      sorted_sides
 
   listing_is : IsListingOf s complex
   listing_is =
@@ -100,8 +110,10 @@ module _ (s : Scene) (slots : List (Option Cell)) (crossed behind : List ℕ) (f
             let o = made.owner s slots fixed asked.cells asked.few r.0 moved f h in
             let k = o.2 in
             subst
-            (λ (g : DirectedFacet). cell_of s.vertices (map cell_of_row rows) g ≡ cell_of s.vertices (map cell_of_row r.0) g) k.2
-            (made.cell_is s slots fixed asked.cells asked.few rows lists.moved o.0 k.0 o.1 k.1 ∙ sym (made.cell_is s slots fixed asked.cells asked.few r.0 moved o.0 k.0 o.1 k.1));
+            (λ (g : DirectedFacet). cell_of s.vertices (map cell_of_row rows) g ≡ cell_of s.vertices (map cell_of_row r.0) g)
+            k.2
+            (made.cell_is s slots fixed asked.cells asked.few rows lists.moved o.0 k.0 o.1 k.1
+            ∙ sym (made.cell_is s slots fixed asked.cells asked.few r.0 moved o.0 k.0 o.1 k.1));
       }
 
   by_rows : {Y : Type 0} (f : Row → Y) (g : List ℕ → Y) → ((r : Row) → IsRowAt slots r → f r ≡ g (row_of slots r.id))
@@ -128,7 +140,8 @@ module _ (s : Scene) (slots : List (Option Cell)) (crossed behind : List ℕ) (f
   arcs_are : (nodes numbers : List ℕ) → AreNumbered id_of_row rows nodes → AreNumbered number_of_side sides numbers
       → map (arc_from slots nodes numbers crossed fixed s.settings) sides ≡ map (arc_of s complex) (map facet_of_side sides)
   arcs_are nodes numbers a b =
-      made.arcs_are s slots fixed asked.cells asked.few rows lists.moved asked.flags sides lists.moved_sides nodes numbers crossed a b asked.crossings
+      made.arcs_are s slots fixed asked.cells asked.few rows lists.moved asked.flags sides lists.moved_sides nodes numbers
+      crossed a b asked.crossings
 
   -- the parts of the network, as they are made
   pub record IsMade (settings : Settings) (flags : List Bool) (sinks : List ℕ) (arcs : List Arc) : Type 0 where
@@ -137,16 +150,20 @@ module _ (s : Scene) (slots : List (Option Cell)) (crossed behind : List ℕ) (f
     pub sinks_are : sinks ≡ map (λ r. settings.vote * get_or behind (id_of_row r) 0) rows
     pub arcs_are : AreArcs slots rows sides crossed fixed settings arcs
 
-  pub fixed_made : (settings : Settings) (flags : List Bool) (sinks : List ℕ) (arcs : List Arc) → IsMade settings flags sinks arcs
+  pub fixed_made : (settings : Settings) (flags : List Bool) (sinks : List ℕ) (arcs : List Arc)
+      → IsMade settings flags sinks arcs
       → flags ≡ map (is_fixed s.vertices s.scanners) (map cell_of_row rows)
   fixed_made settings flags sinks arcs m = m.flags_are ∙ fixed_are
 
-  pub sinks_made : (settings : Settings) (flags : List Bool) (sinks : List ℕ) (arcs : List Arc) → IsMade settings flags sinks arcs
+  pub sinks_made : (settings : Settings) (flags : List Bool) (sinks : List ℕ) (arcs : List Arc)
+      → IsMade settings flags sinks arcs
       → sinks ≡ map (sink s) (map cell_of_row rows)
   sinks_made settings flags sinks arcs m =
-      m.sinks_are ∙ ap (λ (x : Settings). map (λ r. x.vote * get_or behind (id_of_row r) 0) rows) (sym m.settings_are) ∙ sinks_are
+      m.sinks_are ∙ ap (λ (x : Settings). map (λ r. x.vote * get_or behind (id_of_row r) 0) rows) (sym m.settings_are)
+      ∙ sinks_are
 
-  pub arcs_made : (settings : Settings) (flags : List Bool) (sinks : List ℕ) (arcs : List Arc) → IsMade settings flags sinks arcs
+  pub arcs_made : (settings : Settings) (flags : List Bool) (sinks : List ℕ) (arcs : List Arc)
+      → IsMade settings flags sinks arcs
       → arcs ≡ map (arc_of s complex) (map facet_of_side sides)
   arcs_made settings flags sinks arcs m =
       let a = m.arcs_are in
@@ -157,20 +174,31 @@ module _ (s : Scene) (slots : List (Option Cell)) (crossed behind : List ℕ) (f
       → IsValidNet flags sinks arcs
   valid settings flags sinks arcs m =
       subst (λ (x : List Bool). IsValidNet x sinks arcs) (sym (fixed_made settings flags sinks arcs m))
-      (subst (λ (y : List ℕ). IsValidNet (map (is_fixed s.vertices s.scanners) (map cell_of_row rows)) y arcs) (sym (sinks_made settings flags sinks arcs m))
-      (subst (λ (z : List Arc). IsValidNet (map (is_fixed s.vertices s.scanners) (map cell_of_row rows)) (map (sink s) (map cell_of_row rows)) z) (sym (arcs_made settings flags sinks arcs m))
+      (subst (λ (y : List ℕ). IsValidNet (map (is_fixed s.vertices s.scanners) (map cell_of_row rows)) y arcs)
+      (sym (sinks_made settings flags sinks arcs m))
+      (subst (λ (z : List Arc).
+      IsValidNet (map (is_fixed s.vertices s.scanners) (map cell_of_row rows)) (map (sink s) (map cell_of_row rows)) z)
+      (sym (arcs_made settings flags sinks arcs m))
       (network_valid s complex asked.few_sights listing_is)))
 
-  pub network_is : (settings : Settings) (flags : List Bool) (sinks : List ℕ) (arcs : List Arc) → IsMade settings flags sinks arcs
+  pub network_is : (settings : Settings) (flags : List Bool) (sinks : List ℕ) (arcs : List Arc)
+      → IsMade settings flags sinks arcs
       → (net : Net) (cells facets : List (List ℕ)) → cells ≡ map cell_of_row rows → facets ≡ map facet_of_side sides
       → net.fixed ≡ flags → net.sink ≡ sinks → net.arcs ≡ arcs → IsNetworkInAnyOrder s
       (record { net = net; cells = cells; facets = facets })
   network_is settings flags sinks arcs m net cells facets c f x y z =
       subst (λ (u : List (List ℕ)). IsNetworkInAnyOrder s (record { net = net; cells = u; facets = facets })) (sym c)
-      (subst (λ (u : List (List ℕ)). IsNetworkInAnyOrder s (record { net = net; cells = map cell_of_row rows; facets = u })) (sym f)
-      (record { listing = listing_is; fixed_is = x ∙ fixed_made settings flags sinks arcs m; sink_is = y ∙ sinks_made settings flags sinks arcs m; arcs_are = z ∙ arcs_made settings flags sinks arcs m }))
+      (subst (λ (u : List (List ℕ)). IsNetworkInAnyOrder s (record { net = net; cells = map cell_of_row rows; facets = u }))
+      (sym f)
+      (record {
+        listing = listing_is;
+        fixed_is = x ∙ fixed_made settings flags sinks arcs m;
+        sink_is = y ∙ sinks_made settings flags sinks arcs m;
+        arcs_are = z ∙ arcs_made settings flags sinks arcs m;
+      }))
 
-  pub network_rises : (net : Net) (cells facets : List (List ℕ)) → cells ≡ map cell_of_row rows → facets ≡ map facet_of_side sides
+  pub network_rises : (net : Net) (cells facets : List (List ℕ)) → cells ≡ map cell_of_row rows
+      → facets ≡ map facet_of_side sides
       → IsNonDecreasingBy key_of_row rows → IsNonDecreasingBy key_of_side sides
       → IsNetworkInAnyOrder s (record { net = net; cells = cells; facets = facets }) → IsNetworkOf s
       (record { net = net; cells = cells; facets = facets })
@@ -178,7 +206,8 @@ module _ (s : Scene) (slots : List (Option Cell)) (crossed behind : List ℕ) (f
       record {
         complex_is =
             subst (λ (u : List (List ℕ)). IsComplexOf s (record { cells = u; facets = facets })) (sym c)
-            (subst (λ (u : List (List ℕ)). IsComplexOf s (record { cells = map cell_of_row rows; facets = u })) (sym f) (complex_is sorted sorted_sides));
+            (subst (λ (u : List (List ℕ)). IsComplexOf s (record { cells = map cell_of_row rows; facets = u })) (sym f)
+            (complex_is sorted sorted_sides));
         fixed_is = n.fixed_is;
         sink_is = n.sink_is;
         arcs_are = n.arcs_are;

@@ -1,5 +1,5 @@
--- Counts do not depend on how a facet or a cell is written: each test of a sight says the same of a rotated facet, and of a cell
--- written anew, and so does the test for a corner.
+-- Counts do not depend on how a facet or a cell is written: each test of a sight says the same of a rotated facet, and of a
+-- cell written anew, and so does the test for a corner.
 use Rattle.std.proofs.Common.{◌≡◌, refl, ap, ap₂, sym, Bool, true, false, ◌||◌, nat_lt}
 use Rattle.std.specs.List.{list_any}
 use Rattle.geo_sign.specs.Point.{Point}
@@ -61,5 +61,6 @@ cell_count_law s slots cells id h =
           (equal (λ (x : Sight). same_behind s.vertices x.vertex (scanner_point s.scanners x.scanner) t r w));
       fixed =
           ap₂ (λ (m n : Bool). m || n) (corner_same t r w)
-          (ap (λ (p : Point → Bool). list_any p s.scanners) (equal (λ (q : Point). same_cell_of s.vertices (displaced q) t r w)));
+          (ap (λ (p : Point → Bool). list_any p s.scanners)
+          (equal (λ (q : Point). same_cell_of s.vertices (displaced q) t r w)));
     }

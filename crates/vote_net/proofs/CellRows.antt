@@ -1,9 +1,10 @@
 -- The row of a cell and the facets of its sides, as the code makes them.
 --
--- Each of the five exchanges keeps the four numbers of the cell, in an even order or with the last two exchanged, and after the last
--- they rise. So they are the cell's row in the words of geo_sign, which says that there is one and what `written` makes of it. The
--- facets of the cell so written begin with their least number, and a facet has one rotation that does.
-use Rattle.std.proofs.Common.{ℕ, ◌<◌, ◌≤◌, ◌≡◌, ◌≢◌, refl, sym, subst, ◌∙◌, ◌⊎◌, inl, inr, ⊎_elim, arith, Bool, true, false, cond, ◌&&◌, nat_lt, List, [], ◌∷◌}
+-- Each of the five exchanges keeps the four numbers of the cell, in an even order or with the last two exchanged, and after the
+-- last they rise. So they are the cell's row in the words of geo_sign, which says that there is one and what `written` makes of
+-- it. The facets of the cell so written begin with their least number, and a facet has one rotation that does.
+use Rattle.std.proofs.Common.{ℕ, ◌<◌, ◌≤◌, ◌≡◌, ◌≢◌, refl, sym, subst, ◌∙◌, ◌⊎◌, inl, inr, ⊎_elim, arith, Bool, true, false}
+use Rattle.std.proofs.Common.{cond, ◌&&◌, nat_lt, List, [], ◌∷◌}
 use Rattle.std.proofs.lemmas.Bool.{ltb-true, ltb-false, lt-ltb, le-ltb}
 use Rattle.geo_sign.specs.Tetrahedron.{Tetrahedron, tetrahedron, DirectedFacet, facet, facet_of, turned, is_among, IsRotated}
 use Rattle.geo_sign.specs.Vertices.{Vertices}
@@ -39,12 +40,14 @@ take_cd t r (inr h) = inl h
 take_ac : (t r : Tetrahedron) → AreFour t r → AreFour t (tetrahedron r.c r.b r.a r.d)
 unfolding AreFour
 take_ac t r (inl h) = inr (after t r (tetrahedron r.c r.b r.d r.a) (false ∷ true ∷ []) h refl)
-take_ac t r (inr h) = inl (after t (tetrahedron r.a r.b r.d r.c) (tetrahedron r.c r.b r.a r.d) (true ∷ true ∷ false ∷ []) h refl)
+take_ac t r (inr h) =
+    inl (after t (tetrahedron r.a r.b r.d r.c) (tetrahedron r.c r.b r.a r.d) (true ∷ true ∷ false ∷ []) h refl)
 
 take_bd : (t r : Tetrahedron) → AreFour t r → AreFour t (tetrahedron r.a r.d r.c r.b)
 unfolding AreFour
 take_bd t r (inl h) = inr (after t r (tetrahedron r.a r.d r.b r.c) (true ∷ false ∷ []) h refl)
-take_bd t r (inr h) = inl (after t (tetrahedron r.a r.b r.d r.c) (tetrahedron r.a r.d r.c r.b) (false ∷ true ∷ true ∷ []) h refl)
+take_bd t r (inr h) =
+    inl (after t (tetrahedron r.a r.b r.d r.c) (tetrahedron r.a r.d r.c r.b) (false ∷ true ∷ true ∷ []) h refl)
 
 take_bc : (t r : Tetrahedron) → AreFour t r → AreFour t (tetrahedron r.a r.c r.b r.d)
 unfolding AreFour
@@ -112,10 +115,26 @@ in_order x y = by (nat_lt y x) refl
     by : (b : Bool) → nat_lt y x ≡ b → IsInOrder x y (cond b y x) (cond b x y)
     by true e =
         let l = ltb-true y x e in
-        record { below = omega (arith, l); low_x = omega (arith, l); low_y = omega arith; high_x = omega arith; high_y = omega (arith, l); low_is = inr refl; high_is = inl refl }
+        record {
+          below = omega (arith, l);
+          low_x = omega (arith, l);
+          low_y = omega arith;
+          high_x = omega arith;
+          high_y = omega (arith, l);
+          low_is = inr refl;
+          high_is = inl refl;
+        }
     by false e =
         let l = ltb-false y x e in
-        record { below = l; low_x = omega arith; low_y = l; high_x = l; high_y = omega arith; low_is = inl refl; high_is = inr refl }
+        record {
+          below = l;
+          low_x = omega arith;
+          low_y = l;
+          high_x = l;
+          high_y = omega arith;
+          low_is = inl refl;
+          high_is = inr refl;
+        }
 
 record IsRising (r : Tetrahedron) : Type 0 where
   a_below : r.a < r.b
@@ -152,7 +171,11 @@ risen_ordered t =
 
 strict : (r : Tetrahedron) → IsOrdered r → r.b ≢ r.a → r.c ≢ r.b → r.d ≢ r.c → IsRising r
 strict r o e f g =
-    record { a_below = let h = o.a_below in omega (arith, e, h); b_below = let h = o.b_below in omega (arith, f, h); c_below = let h = o.c_below in omega (arith, g, h) }
+    record {
+      a_below = let h = o.a_below in omega (arith, e, h);
+      b_below = let h = o.b_below in omega (arith, f, h);
+      c_below = let h = o.c_below in omega (arith, g, h);
+    }
 
 risen_rising : (v : Vertices) (t : Tetrahedron) → IsPositive v t → IsRising (risen t)
 unfolding AreFour
@@ -193,7 +216,8 @@ least_of f g (inl e) h =
     let k : IsFirstLeast f = subst IsFirstLeast e h in
     by (nat_lt f.a f.b) (nat_lt f.a f.c) (lt-ltb f.a f.b k.0) (lt-ltb f.a f.c k.1) ∙ sym e
   where
-    by : (b c : Bool) → b ≡ true → c ≡ true → cond (b && c) f (cond (nat_lt f.b f.c) (facet f.b f.c f.a) (facet f.c f.a f.b)) ≡ f
+    by : (b c : Bool) → b ≡ true → c ≡ true
+        → cond (b && c) f (cond (nat_lt f.b f.c) (facet f.b f.c f.a) (facet f.c f.a f.b)) ≡ f
     by true true x y = refl
     by true false x y = absurd (cc)
     by false c x y = absurd (cc)
@@ -211,7 +235,8 @@ least_of f g (inr (inr e)) h =
     let k : IsFirstLeast (facet f.c f.a f.b) = subst IsFirstLeast e h in
     let i : f.c < f.a = k.0 in
     let j : f.c < f.b = k.1 in
-    by (nat_lt f.a f.b) (nat_lt f.a f.c) (nat_lt f.b f.c) (le-ltb f.a f.c (omega (arith, i))) (le-ltb f.b f.c (omega (arith, j)))
+    by (nat_lt f.a f.b) (nat_lt f.a f.c) (nat_lt f.b f.c) (le-ltb f.a f.c (omega (arith, i)))
+    (le-ltb f.b f.c (omega (arith, j)))
     ∙ sym e
   where
     by : (b c d : Bool) → c ≡ false → d ≡ false
@@ -238,10 +263,15 @@ written_side : (v : Vertices) (t : Tetrahedron) (k : ℕ) → IsPositive v t →
 written_side v t k h =
     let w : Tetrahedron = written v (row_from (risen t)) in
     let j = same_facets w t (rewritten_back t w (risen_written v t h)) k in
-    record { side = j.0; is = least_of (facet_of t k) (facet_of w j.0) (rotated_back (facet_of w j.0) (facet_of t k) j.2) (row_facets v t j.0 h) }
+    record {
+      side = j.0;
+      is = least_of (facet_of t k) (facet_of w j.0) (rotated_back (facet_of w j.0) (facet_of t k) j.2) (row_facets v t j.0 h);
+    }
 
 pub side_least : (v : Vertices) (t : Tetrahedron) (k : ℕ) → IsPositive v t → IsFirstLeast (least_first (facet_of t k))
-side_least v t k h = let p : IsWrittenSide v t k = written_side v t k h in subst IsFirstLeast (sym p.is) (row_facets v t p.side h)
+side_least v t k h =
+    let p : IsWrittenSide v t k = written_side v t k h in
+    subst IsFirstLeast (sym p.is) (row_facets v t p.side h)
 
 pub row_has_side : (v : Vertices) (t : Tetrahedron) (k : ℕ) → IsPositive v t → has_facet v (row_from (risen t))
     (least_first (facet_of t k)) ≡ true

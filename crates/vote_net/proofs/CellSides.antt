@@ -1,6 +1,6 @@
--- The sides of linked Delaunay cells, each with its facet from the least number on. No facet stands twice, so a side has one facet and a
--- facet one side. The neighbor across a side has the facet turned; and who has it turned is the neighbor, since a facet with a cell
--- behind it is on no wall, so there is a neighbor, and it is the only one with the turned facet.
+-- The sides of linked Delaunay cells, each with its facet from the least number on. No facet stands twice, so a side has one
+-- facet and a facet one side. The neighbor across a side has the facet turned; and who has it turned is the neighbor, since a
+-- facet with a cell behind it is on no wall, so there is a neighbor, and it is the only one with the turned facet.
 -- Stands on: CellRows, and the laws of cells and links.
 use Rattle.std.proofs.Common.{ℕ, ◌<◌, ◌≡◌, refl, ap, subst, ◌∙◌, ⊎_elim, true, Option, Some, None, List}
 use Rattle.geo_sign.specs.Tetrahedron.{Tetrahedron, tetrahedron, vertex_of, DirectedFacet, facet, facet_of, turned, IsRotated}
@@ -23,13 +23,15 @@ use Rattle.vote_net.proofs.CellRows.{IsSideOf, least_rotated, least_of, turned_l
 -- the facets of two sides from the least number on: equal where rotated, and turned where turned
 least_same : (f g : DirectedFacet) → least_first f ≡ least_first g → IsRotated f g
 least_same f g e =
-    rotated_after f (least_first g) g (subst (IsRotated f) e (least_rotated f)) (rotated_back g (least_first g) (least_rotated g))
+    rotated_after f (least_first g) g (subst (IsRotated f) e (least_rotated f))
+    (rotated_back g (least_first g) (least_rotated g))
 
 least_turned : (f g : DirectedFacet) → IsFirstLeast (least_first f) → IsRotated (turned f) g
     → least_first g ≡ turned (least_first f)
 least_turned f g l r =
     least_of g (turned (least_first f))
-    (rotated_after g (turned f) (turned (least_first f)) (rotated_back (turned f) g r) (both_turned f (least_first f) (least_rotated f)))
+    (rotated_after g (turned f) (turned (least_first f)) (rotated_back (turned f) g r)
+    (both_turned f (least_first f) (least_rotated f)))
     (turned_least (least_first f) l)
 
 turned_from : (f g : DirectedFacet) → least_first g ≡ turned (least_first f) → IsRotated (turned f) g
@@ -37,7 +39,8 @@ turned_from f g e =
     rotated_after (turned f) (turned (least_first f)) g (both_turned f (least_first f) (least_rotated f))
     (rotated_back g (turned (least_first f)) (subst (IsRotated g) e (least_rotated g)))
 
-module _ (v : Vertices) (live : List ℕ) (cell : ℕ → Tetrahedron) (next : ℕ → ℕ → Option ℕ) (cells : AreAllCells v live cell next) where
+module _ (v : Vertices) (live : List ℕ) (cell : ℕ → Tetrahedron) (next : ℕ → ℕ → Option ℕ)
+    (cells : AreAllCells v live cell next) where
   abbrev pub side_facet : ℕ → ℕ → DirectedFacet
   side_facet x k = least_first (facet_of (cell x) k)
 
@@ -77,7 +80,8 @@ module _ (v : Vertices) (live : List ℕ) (cell : ℕ → Tetrahedron) (next : �
       behind : IsCell v f.a f.c f.b (vertex_of (cell y) m)
       behind =
           same_cell v (cell y) (tetrahedron f.a f.c f.b (vertex_of (cell y) m))
-          (facet_of_same (cell y) (tetrahedron f.a f.c f.b (vertex_of (cell y) m)) (m, hm, rotated_back (turned f) (facet_of (cell y) m) turns, refl))
+          (facet_of_same (cell y) (tetrahedron f.a f.c f.b (vertex_of (cell y) m))
+          (m, hm, rotated_back (turned f) (facet_of (cell y) m) turns, refl))
           (cells.cells y hy)
 
       own : IsCell v f.a f.b f.c (vertex_of (cell x) k)
@@ -85,7 +89,8 @@ module _ (v : Vertices) (live : List ℕ) (cell : ℕ → Tetrahedron) (next : �
 
       no_wall : IsWall v f → ⊥
       no_wall w =
-          ⊎_elim (λ (p : IsWall v (facet f.a f.b f.c) × ((n : ℕ) → ¬ IsCell v f.a f.c f.b n)). p.1 (vertex_of (cell y) m) behind)
+          ⊎_elim
+          (λ (p : IsWall v (facet f.a f.b f.c) × ((n : ℕ) → ¬ IsCell v f.a f.c f.b n)). p.1 (vertex_of (cell y) m) behind)
           (λ (p : (¬ IsWall v (facet f.a f.b f.c)) × HasOneAcross v f.a f.b f.c). p.0 w)
           (across_law v cells.boxed f.a f.b f.c (vertex_of (cell x) k) own)
 
@@ -95,8 +100,10 @@ module _ (v : Vertices) (live : List ℕ) (cell : ℕ → Tetrahedron) (next : �
           let b : IsBackAt live cell f z = cells.linked.back x k z hx hk o in
           let same : z ≡ y =
           cells.linked.apart z y b.side m b.listed hy b.in_range hm
-          (rotated_after (facet_of (cell z) b.side) (turned f) (facet_of (cell y) m) (rotated_back (turned f) (facet_of (cell z) b.side) b.turned) turns) in
+          (rotated_after (facet_of (cell z) b.side) (turned f) (facet_of (cell y) m)
+          (rotated_back (turned f) (facet_of (cell z) b.side) b.turned) turns) in
           o ∙ ap Some same
 
-  pub has_is : (x : ℕ) (f : DirectedFacet) → IsIn live x → has_facet v (row_from (risen (cell x))) f ≡ true → IsSideOf (cell x) f
+  pub has_is : (x : ℕ) (f : DirectedFacet) → IsIn live x → has_facet v (row_from (risen (cell x))) f ≡ true
+      → IsSideOf (cell x) f
   has_is x f h e = row_side_is v (cell x) f (positive x h) e

@@ -1,8 +1,9 @@
--- What the rows and the sides of a store's cells are. The entries of the store's slab are its live cells by rising number, so ids rise
--- along the rows and the numbers 4 * id + side along the sides, and none stands twice. A row is that of a live cell, and each live cell
--- has one; a side is one with a free neighbor, and each such side is there.
+-- What the rows and the sides of a store's cells are. The entries of the store's slab are its live cells by rising number, so
+-- ids rise along the rows and the numbers 4 * id + side along the sides, and none stands twice. A row is that of a live cell,
+-- and each live cell has one; a side is one with a free neighbor, and each such side is there.
 -- Stands on: Lists.
-use Rattle.std.proofs.Common.{ℕ, zero, suc, ◌+◌, ◌*◌, ◌<◌, ◌≡◌, refl, sym, ap, ap₂, subst, ◌∙◌, ⊎_elim, arith, Bool, true, false, not, cond, Option, Some, None, is_some, List, [], ◌∷◌, ◌++◌, length, get_or, map, Contains}
+use Rattle.std.proofs.Common.{ℕ, zero, suc, ◌+◌, ◌*◌, ◌<◌, ◌≡◌, refl, sym, ap, ap₂, subst, ◌∙◌, ⊎_elim, arith, Bool, true}
+use Rattle.std.proofs.Common.{false, not, cond, Option, Some, None, is_some, List, [], ◌∷◌, ◌++◌, length, get_or, map, Contains}
 use Rattle.std.specs.List.{flat_map}
 use Rattle.std.proofs.lemmas.List.Elements.{Contains-append_left, Contains-append_right, Contains-append_cases}
 use Rattle.flow_net.specs.Nets.{flag_at}
@@ -34,7 +35,9 @@ flat_map_has f [] y h = absurd (omega (arith, h.1))
 flat_map_has f (x ∷ xs) y h =
     ⊎_elim
     (λ (a : Contains (f x) y). let r : IsInOne f (x ∷ xs) y = record { from = x; listed = here x xs; has = a } in r)
-    (λ (b : Contains (flat_map f xs) y). let p = flat_map_has f xs y b in let r : IsInOne f (x ∷ xs) y = record { from = p.from; listed = there x p.from xs p.listed; has = p.has } in r)
+    (λ (b : Contains (flat_map f xs) y). let p = flat_map_has f xs y b in
+    let r : IsInOne f (x ∷ xs) y = record { from = p.from; listed = there x p.from xs p.listed; has = p.has } in
+    r)
     (Contains-append_cases (f x) (flat_map f xs) y h)
 
 pub flat_map_gets : {X Y : Type 0} (f : X → List Y) (xs : List X) (x : X) (y : Y) → Contains xs x → Contains (f x) y
@@ -161,7 +164,8 @@ sides_rise fixed n [] m r = omega (arith, r)
 sides_rise fixed n (e ∷ es) m r =
     let a = r.0 in
     rises_from number_of_side (4 * n) (4 * e.0) (open_at fixed e ++ flat_map (open_at fixed) es) (4 * m) (omega (arith, a))
-    (rises_append number_of_side (4 * e.0) (open_at fixed e) (4 * (e.0 + 1)) (flat_map (open_at fixed) es) (4 * m) (open_rises fixed e) (sides_rise fixed (e.0 + 1) es m r.1))
+    (rises_append number_of_side (4 * e.0) (open_at fixed e) (4 * (e.0 + 1)) (flat_map (open_at fixed) es) (4 * m)
+    (open_rises fixed e) (sides_rise fixed (e.0 + 1) es m r.1))
 
 pub sides_apart : (fixed : List Bool) (slots : List (Option Cell)) → AreApart number_of_side (all_open fixed slots)
 sides_apart fixed slots =
@@ -183,7 +187,8 @@ cut_rises outside n [] m r = omega (arith, r)
 cut_rises outside n (e ∷ es) m r =
     let a = r.0 in
     rises_from number_of_side (4 * n) (4 * e.0) (cut_at outside e ++ flat_map (cut_at outside) es) (4 * m) (omega (arith, a))
-    (rises_append number_of_side (4 * e.0) (cut_at outside e) (4 * (e.0 + 1)) (flat_map (cut_at outside) es) (4 * m) (cut_rises_at outside e) (cut_rises outside (e.0 + 1) es m r.1))
+    (rises_append number_of_side (4 * e.0) (cut_at outside e) (4 * (e.0 + 1)) (flat_map (cut_at outside) es) (4 * m)
+    (cut_rises_at outside e) (cut_rises outside (e.0 + 1) es m r.1))
 
 pub cut_apart : (outside : List Bool) (slots : List (Option Cell)) → AreApart number_of_side (all_cut outside slots)
 cut_apart outside slots =
@@ -200,7 +205,8 @@ module _ (slots : List (Option Cell)) where
   row_is r h =
       let p = map_has row_at (entries_from 0 slots) r h in
       let at : slot_at slots p.from.0 ≡ Some p.from.1 = entry_slot slots p.from p.listed in
-      subst IsRowAt p.is (record { live = ap is_some at; is = ap (λ (o : Option Cell). row_from (risen (vertices_in o))) (sym at) })
+      subst IsRowAt p.is
+      (record { live = ap is_some at; is = ap (λ (o : Option Cell). row_from (risen (vertices_in o))) (sym at) })
 
   pub row_there : (id : ℕ) → IsLive (links_of slots) id → (r : Row) × Contains (all_rows slots) r × (r.id ≡ id)
   row_there id h = by (slot_at slots id) refl h
@@ -252,7 +258,8 @@ module _ (slots : List (Option Cell)) where
       let d = side_if_open fixed e 3 in
       ⊎_elim (λ g. one_is fixed e 0 x (omega arith) at g)
       (λ g. ⊎_elim (λ g. one_is fixed e 1 x (omega arith) at g)
-      (λ g. ⊎_elim (λ g. one_is fixed e 2 x (omega arith) at g) (λ g. one_is fixed e 3 x (omega arith) at g) (Contains-append_cases c d x g))
+      (λ g. ⊎_elim (λ g. one_is fixed e 2 x (omega arith) at g) (λ g. one_is fixed e 3 x (omega arith) at g)
+      (Contains-append_cases c d x g))
       (Contains-append_cases b (c ++ d) x g))
       (Contains-append_cases a (b ++ (c ++ d)) x h)
 
@@ -269,7 +276,8 @@ module _ (slots : List (Option Cell)) where
       let c = side_if_open fixed e 2 in
       let d = side_if_open fixed e 3 in
       ⊎_elim (λ g. id_of_one 0 g)
-      (λ g. ⊎_elim (λ g. id_of_one 1 g) (λ g. ⊎_elim (λ g. id_of_one 2 g) (λ g. id_of_one 3 g) (Contains-append_cases c d x g)) (Contains-append_cases b (c ++ d) x g))
+      (λ g. ⊎_elim (λ g. id_of_one 1 g) (λ g. ⊎_elim (λ g. id_of_one 2 g) (λ g. id_of_one 3 g) (Contains-append_cases c d x g))
+      (Contains-append_cases b (c ++ d) x g))
       (Contains-append_cases a (b ++ (c ++ d)) x h)
     where
       id_of_one : (k : ℕ) → Contains (side_if_open fixed e k) x → x.id ≡ e.0
@@ -293,7 +301,8 @@ module _ (slots : List (Option Cell)) where
       by e at true f g = (open_is outside e x at g, ap (flag_at outside) (id_of_open outside e x g) ∙ f)
       by e at false f g = absurd (omega (arith, g.1))
 
-  one_there : (fixed : List Bool) (e : ℕ × Cell) (k other : ℕ) → get_or e.1.next k None ≡ Some other → flag_at fixed other ≡ false
+  one_there : (fixed : List Bool) (e : ℕ × Cell) (k other : ℕ) → get_or e.1.next k None ≡ Some other
+      → flag_at fixed other ≡ false
       → Contains (side_if_open fixed e k) (side_at e k)
   unfolding side_if_open
   one_there fixed e k other n f =
@@ -303,20 +312,24 @@ module _ (slots : List (Option Cell)) where
   open_there : (fixed : List Bool) (e : ℕ × Cell) (k other : ℕ) → k < 4 → get_or e.1.next k None ≡ Some other
       → flag_at fixed other ≡ false → Contains (open_at fixed e) (side_at e k)
   open_there fixed e zero other l n f =
-      Contains-append_left (side_if_open fixed e 0) (side_if_open fixed e 1 ++ (side_if_open fixed e 2 ++ side_if_open fixed e 3))
+      Contains-append_left (side_if_open fixed e 0)
+      (side_if_open fixed e 1 ++ (side_if_open fixed e 2 ++ side_if_open fixed e 3))
       (side_at e 0) (one_there fixed e 0 other n f)
   open_there fixed e (suc zero) other l n f =
       Contains-append_right (side_if_open fixed e 0)
       (side_if_open fixed e 1 ++ (side_if_open fixed e 2 ++ side_if_open fixed e 3)) (side_at e 1)
-      (Contains-append_left (side_if_open fixed e 1) (side_if_open fixed e 2 ++ side_if_open fixed e 3) (side_at e 1) (one_there fixed e 1 other n f))
+      (Contains-append_left (side_if_open fixed e 1) (side_if_open fixed e 2 ++ side_if_open fixed e 3) (side_at e 1)
+      (one_there fixed e 1 other n f))
   open_there fixed e (suc (suc zero)) other l n f =
       Contains-append_right (side_if_open fixed e 0)
       (side_if_open fixed e 1 ++ (side_if_open fixed e 2 ++ side_if_open fixed e 3)) (side_at e 2)
-      (Contains-append_right (side_if_open fixed e 1) (side_if_open fixed e 2 ++ side_if_open fixed e 3) (side_at e 2) (Contains-append_left (side_if_open fixed e 2) (side_if_open fixed e 3) (side_at e 2) (one_there fixed e 2 other n f)))
+      (Contains-append_right (side_if_open fixed e 1) (side_if_open fixed e 2 ++ side_if_open fixed e 3) (side_at e 2)
+      (Contains-append_left (side_if_open fixed e 2) (side_if_open fixed e 3) (side_at e 2) (one_there fixed e 2 other n f)))
   open_there fixed e (suc (suc (suc zero))) other l n f =
       Contains-append_right (side_if_open fixed e 0)
       (side_if_open fixed e 1 ++ (side_if_open fixed e 2 ++ side_if_open fixed e 3)) (side_at e 3)
-      (Contains-append_right (side_if_open fixed e 1) (side_if_open fixed e 2 ++ side_if_open fixed e 3) (side_at e 3) (Contains-append_right (side_if_open fixed e 2) (side_if_open fixed e 3) (side_at e 3) (one_there fixed e 3 other n f)))
+      (Contains-append_right (side_if_open fixed e 1) (side_if_open fixed e 2 ++ side_if_open fixed e 3) (side_at e 3)
+      (Contains-append_right (side_if_open fixed e 2) (side_if_open fixed e 3) (side_at e 3) (one_there fixed e 3 other n f)))
   open_there fixed e (suc (suc (suc (suc k)))) other l n f = absurd (omega (arith, l))
 
   pub side_there : (fixed : List Bool) (id k other : ℕ) → k < 4 → (links_of slots).next id k ≡ Some other
@@ -326,8 +339,13 @@ module _ (slots : List (Option Cell)) where
       by : (o : Option Cell) → slot_at slots id ≡ o → next_in o k ≡ Some other
           → (x : Side) × Contains (all_open fixed slots) x × (x.id ≡ id) × (x.side ≡ k)
       by None e h = absurd (cc)
-      by (Some c) e h =
-          (side_at (id, c) k, flat_map_gets (open_at fixed) (entries_from 0 slots) (id, c) (side_at (id, c) k) (slot_entry slots id c e) (open_there fixed (id, c) k other l h f), refl, refl)
+      by (Some c) e h = (
+        side_at (id, c) k,
+        flat_map_gets (open_at fixed) (entries_from 0 slots) (id, c) (side_at (id, c) k) (slot_entry slots id c e)
+            (open_there fixed (id, c) k other l h f),
+        refl,
+        refl,
+      )
 
   pub cut_there : (outside : List Bool) (id k other : ℕ) → k < 4 → (links_of slots).next id k ≡ Some other
       → flag_at outside other ≡ false → flag_at outside id ≡ true
@@ -341,5 +359,9 @@ module _ (slots : List (Option Cell)) where
       by (Some c) e h =
           let listed : Contains (cut_at outside (id, c)) (side_at (id, c) k) =
           subst (λ (b : Bool). Contains (cond b (open_at outside (id, c)) []) (side_at (id, c) k)) (sym own)
-          (open_there outside (id, c) k other l h f) in
-          (side_at (id, c) k, flat_map_gets (cut_at outside) (entries_from 0 slots) (id, c) (side_at (id, c) k) (slot_entry slots id c e) listed, refl, refl)
+          (open_there outside (id, c) k other l h f) in (
+            side_at (id, c) k,
+            flat_map_gets (cut_at outside) (entries_from 0 slots) (id, c) (side_at (id, c) k) (slot_entry slots id c e) listed,
+            refl,
+            refl,
+          )

@@ -1,5 +1,5 @@
--- The numbers by which rows and facets are sorted keep their order: of two numbers with the last digits below the base, the first digits
--- decide unless they are equal.
+-- The numbers by which rows and facets are sorted keep their order: of two numbers with the last digits below the base, the
+-- first digits decide unless they are equal.
 use Rattle.std.proofs.Common.{ℕ, ◌+◌, ◌*◌, ◌<◌, ◌≤◌, ◌≡◌, ◌⊎◌, inl, inr, ⊎_elim, ap, ◌∙◌, arith}
 use Rattle.std.proofs.lemmas.Bool.{cases_lt}
 use Rattle.geo_sign.specs.Cells.{IsBefore}
@@ -15,7 +15,8 @@ small_pair : (x y z w : ℕ) → y < 4294967296 → w < 4294967296 → x * 42949
 unfolding IsFirst
 small_pair x y z w hy hw h =
     ⊎_elim (λ (l : x < z). inl l)
-    (λ (l : z ≤ x). ⊎_elim (λ (m : z < x). absurd (omega (arith, h, m, hy, hw))) (λ (m : x ≤ z). let e : x ≡ z = omega (arith, l, m) in inr (e, omega (arith, e, h))) (cases_lt z x))
+    (λ (l : z ≤ x). ⊎_elim (λ (m : z < x). absurd (omega (arith, h, m, hy, hw)))
+    (λ (m : x ≤ z). let e : x ≡ z = omega (arith, l, m) in inr (e, omega (arith, e, h))) (cases_lt z x))
     (cases_lt x z)
 
 large_pair : (x y z w : ℕ) → y < 18446744073709551616 → w < 18446744073709551616
@@ -23,7 +24,8 @@ large_pair : (x y z w : ℕ) → y < 18446744073709551616 → w < 18446744073709
 unfolding IsFirst
 large_pair x y z w hy hw h =
     ⊎_elim (λ (l : x < z). inl l)
-    (λ (l : z ≤ x). ⊎_elim (λ (m : z < x). absurd (omega (arith, h, m, hy, hw))) (λ (m : x ≤ z). let e : x ≡ z = omega (arith, l, m) in inr (e, omega (arith, e, h))) (cases_lt z x))
+    (λ (l : z ≤ x). ⊎_elim (λ (m : z < x). absurd (omega (arith, h, m, hy, hw)))
+    (λ (m : x ≤ z). let e : x ≡ z = omega (arith, l, m) in inr (e, omega (arith, e, h))) (cases_lt z x))
     (cases_lt x z)
 
 pub record AreSmall (t : Tetrahedron) : Type 0 where
@@ -51,12 +53,14 @@ rows_before t r ht hr h =
     (λ (m : r.d ≤ t.d). let k = q.1 in let last : t.d ≡ r.d = omega (arith, m, k) in inr (cc (ab.0, ab.1, q.0, last)))
     (cases_lt t.d r.d))
     (small_pair t.c t.d r.c r.d td rd p.1))
-    (large_pair (t.a * 4294967296 + t.b) (t.c * 4294967296 + t.d) (r.a * 4294967296 + r.b) (r.c * 4294967296 + r.d) (omega (arith, tc, td)) (omega (arith, rc, rd)) h)
+    (large_pair (t.a * 4294967296 + t.b) (t.c * 4294967296 + t.d) (r.a * 4294967296 + r.b) (r.c * 4294967296 + r.d)
+    (omega (arith, tc, td)) (omega (arith, rc, rd)) h)
   where
     same_pair : (x y z w : ℕ) → y < 4294967296 → w < 4294967296 → x * 4294967296 + y ≡ z * 4294967296 + w → (x ≡ z) × (y ≡ w)
     same_pair x y z w hy hw h =
         ⊎_elim (λ (l : x < z). absurd (omega (arith, h, l, hy, hw)))
-        (λ (l : z ≤ x). ⊎_elim (λ (m : z < x). absurd (omega (arith, h, m, hy, hw))) (λ (m : x ≤ z). let e : x ≡ z = omega (arith, l, m) in (e, omega (arith, e, h))) (cases_lt z x))
+        (λ (l : z ≤ x). ⊎_elim (λ (m : z < x). absurd (omega (arith, h, m, hy, hw)))
+        (λ (m : x ≤ z). let e : x ≡ z = omega (arith, l, m) in (e, omega (arith, e, h))) (cases_lt z x))
         (cases_lt x z)
 
 pub record AreSmallOf (f : DirectedFacet) : Type 0 where
@@ -73,7 +77,9 @@ facets_before f g hf hg h =
     ⊎_elim (λ (m : f.b < g.b). inl (inr (p.0, inl m)))
     (λ (q : (f.b ≡ g.b) × (f.c ≤ g.c)).
     ⊎_elim (λ (m : f.c < g.c). inl (inr (p.0, inr (q.0, inl m))))
-    (λ (m : g.c ≤ f.c). let k = q.1 in let last : f.c ≡ g.c = omega (arith, m, k) in inr (ap (λ (n : ℕ). facet n f.b f.c) p.0 ∙ ap (λ (n : ℕ). facet g.a n f.c) q.0 ∙ ap (λ (n : ℕ). facet g.a g.b n) last))
+    (λ (m : g.c ≤ f.c). let k = q.1 in
+    let last : f.c ≡ g.c = omega (arith, m, k) in
+    inr (ap (λ (n : ℕ). facet n f.b f.c) p.0 ∙ ap (λ (n : ℕ). facet g.a n f.c) q.0 ∙ ap (λ (n : ℕ). facet g.a g.b n) last))
     (cases_lt f.c g.c))
     (small_pair f.b f.c g.b g.c fc gc p.1))
     (large_pair f.a (f.b * 4294967296 + f.c) g.a (g.b * 4294967296 + g.c) (omega (arith, fb, fc)) (omega (arith, gb, gc)) h)

@@ -1,8 +1,11 @@
--- Rows are the list of cells and sides the list of facets with a capacity, in whatever order they stand, and what the tables give are
--- the arcs. A cell is searched for by a facet that it alone has, so what the search finds is the index that the table of nodes has; and
--- so for facets and the table of arcs. Rows and facets are apart, and keys keep their order, so sorted lists rise strictly.
+-- Rows are the list of cells and sides the list of facets with a capacity, in whatever order they stand, and what the tables
+-- give are the arcs. A cell is searched for by a facet that it alone has, so what the search finds is the index that the table
+-- of nodes has; and so for facets and the table of arcs. Rows and facets are apart, and keys keep their order, so sorted lists
+-- rise strictly.
 -- Stands on: CellRows, CellSides, Entries, KeyOrders.
-use Rattle.std.proofs.Common.{ℕ, zero, suc, ◌+◌, ◌*◌, ◌<◌, ◌≤◌, ◌^◌, ◌≡◌, ◌≢◌, refl, sym, ap, subst, ◌∙◌, inl, inr, ⊎_elim, arith, Bool, true, false, true≢false, cond, Option, Some, None, List, [], length, get_or, map, AllPairs, Contains, unwrap_or}
+use Rattle.std.proofs.Common.{ℕ, zero, suc, ◌+◌, ◌*◌, ◌<◌, ◌≤◌, ◌^◌, ◌≡◌, ◌≢◌, refl, sym, ap, subst, ◌∙◌, inl, inr, ⊎_elim}
+use Rattle.std.proofs.Common.{arith, Bool, true, false, true≢false, cond, Option, Some, None, List, [], length, get_or, map}
+use Rattle.std.proofs.Common.{AllPairs, Contains, unwrap_or}
 use Rattle.std.specs.List.Sorted.{IsPermutation, IsNonDecreasingBy}
 use Rattle.std.proofs.lemmas.Bool.{false_from_ne_true}
 use Rattle.std.proofs.lemmas.List.{get_or-map, get_or_default, length-map, same_lists}
@@ -11,7 +14,8 @@ use Rattle.std.proofs.lemmas.List.Sorted.{IsPermutation-sym, Contains-permutatio
 use Rattle.std.proofs.lemmas.List.Sums.{position_or_len_is}
 use Rattle.flow_net.specs.Nets.{flag_at}
 use Rattle.flow_net.specs.declared.Arc.{Arc}
-use Rattle.geo_sign.specs.Tetrahedron.{Tetrahedron, DirectedFacet, facet_of, facet_at, numbers_of, turned, is_same_facet, IsRotated}
+use Rattle.geo_sign.specs.Tetrahedron.{Tetrahedron, DirectedFacet, facet_of, facet_at, numbers_of, turned, is_same_facet}
+use Rattle.geo_sign.specs.Tetrahedron.{IsRotated}
 use Rattle.geo_sign.specs.Cells.{FormCell, IsBefore, IsRisingCell, IsCellList}
 use Rattle.visibility.specs.Scenes.{Scene}
 use Rattle.visibility.specs.Complexes.{has_facet, HasFacet, cell_index, cell_of, Complex}
@@ -29,7 +33,8 @@ use Rattle.vote_net.specs.CellRows.{least_first, risen, facet_row}
 use Rattle.vote_net.specs.Counts.{AreCellsOf, AreFixed, AreCrossings, row_of}
 use Rattle.vote_net.specs.Gathered.{row_key, facet_key, key_of_row, key_of_side, all_rows, all_open}
 use Rattle.tetra_store.specs.Stored.{live_of}
-use Rattle.vote_net.specs.Tables.{id_of_row, cell_of_row, facet_of_side, number_of_side, AreApart, AreNumbered, side_with, other_of, arc_from}
+use Rattle.vote_net.specs.Tables.{id_of_row, cell_of_row, facet_of_side, number_of_side, AreApart, AreNumbered, side_with}
+use Rattle.vote_net.specs.Tables.{other_of, arc_from}
 use Rattle.vote_net.proofs.CellRows.{IsSideOf, risen_row, row_has_side, least_rotated}
 use Rattle.vote_net.proofs.CellSides.{side_facet, one_cell, one_side_of, across_has, has_across, has_is}
 use Rattle.vote_net.proofs.Entries.{IsRowAt, IsSideAt, row_is, row_there, rows_apart, side_is, side_there, sides_apart}
@@ -99,7 +104,8 @@ pub record IsAt {X : Type 0} (xs : List X) (x : X) (i : ℕ) : Type 0 where
 at_index : {X : Type 0} (xs : List X) (x : X) → Contains xs x → (i : ℕ) × IsAt xs x i
 at_index xs x h = (h.0, record { below = h.1; is = λ d. get_or_default xs h.0 d x h.1 ∙ h.2 })
 
-module _ (s : Scene) (slots : List (Option Cell)) (fixed : List Bool) (cells : AreCellsOf s slots) (few : s.vertices.count ≤ 2 ^ 32) where
+module _ (s : Scene) (slots : List (Option Cell)) (fixed : List Bool) (cells : AreCellsOf s slots)
+    (few : s.vertices.count ≤ 2 ^ 32) where
   abbrev cell : ℕ → Tetrahedron
   cell = (links_of slots).at
 
@@ -146,7 +152,8 @@ module _ (s : Scene) (slots : List (Option Cell)) (fixed : List Bool) (cells : A
       (is_row x hx) (subst (IsRowOf (cell y)) (sym e) (is_row y hy))
 
   -- ---- sides
-  module _ (sides : List Side) (side_at_is : (i : ℕ) (d : Side) → i < length sides → IsSideAt slots fixed (get_or sides i d)) (sides_are_apart : AreApart number_of_side sides) where
+  module _ (sides : List Side) (side_at_is : (i : ℕ) (d : Side) → i < length sides → IsSideAt slots fixed (get_or sides i d))
+      (sides_are_apart : AreApart number_of_side sides) where
     -- sides of one facet are one
     pub one_index : (i j : ℕ) → i < length sides → j < length sides
         → facet_at (get_or sides i no_side).facet ≡ facet_at (get_or sides j no_side).facet → i ≡ j
@@ -161,7 +168,8 @@ module _ (s : Scene) (slots : List (Option Cell)) (fixed : List Bool) (cells : A
         one_cell s.vertices (live_of slots) cell next cells x.id y.id x.side y.side (listed slots x.id p.live)
         (listed slots y.id q.live) p.in_range q.in_range f in
         let side : x.side ≡ y.side =
-        one_side_of s.vertices (live_of slots) cell next cells x.id x.side y.side (listed slots x.id p.live) p.in_range q.in_range
+        one_side_of s.vertices (live_of slots) cell next cells x.id x.side y.side (listed slots x.id p.live)
+        p.in_range q.in_range
         (f ∙ ap (λ (n : ℕ). facet_at_side n y.side) (sym id)) in
         sides_are_apart i j no_side li lj (omega (arith, id, side))
 
@@ -175,7 +183,8 @@ module _ (s : Scene) (slots : List (Option Cell)) (fixed : List Bool) (cells : A
         let b = p.1 in let d = p.2 in
         record { b = omega (arith, b, few); c = omega (arith, d, few) }
 
-    facet_there : (i : ℕ) (d : List ℕ) → i < length sides → get_or (map facet_of_side sides) i d ≡ (get_or sides i no_side).facet
+    facet_there : (i : ℕ) (d : List ℕ) → i < length sides
+        → get_or (map facet_of_side sides) i d ≡ (get_or sides i no_side).facet
     facet_there i d l = get_or-map facet_of_side sides i no_side d l
 
     pub facets_rise : IsNonDecreasingBy key_of_side sides → AllPairs IsBefore (map facet_of_side sides)
@@ -197,7 +206,8 @@ module _ (s : Scene) (slots : List (Option Cell)) (fixed : List Bool) (cells : A
         let same : i ≡ j =
         one_index i j li lj (ap (λ (r : List ℕ). facet_at r) p.is ∙ e ∙ sym (ap (λ (r : List ℕ). facet_at r) q.is)) in
         absurd (omega (arith, l, same)))
-        (facets_before (facet_at_side x.id x.side) (facet_at_side y.id y.side) (small_facet x.id x.side p.live) (small_facet y.id y.side q.live) key)))
+        (facets_before (facet_at_side x.id x.side) (facet_at_side y.id y.side) (small_facet x.id x.side p.live)
+        (small_facet y.id y.side q.live) key)))
 
   module _ (rows : List Row) (moved : IsPermutation (all_rows slots) rows) where
     abbrev pub complex_cells : List (List ℕ)
@@ -206,7 +216,8 @@ module _ (s : Scene) (slots : List (Option Cell)) (fixed : List Bool) (cells : A
     pub row_at_is : (i : ℕ) (d : Row) → i < length rows → IsRowAt slots (get_or rows i d)
     row_at_is i d l =
         row_is slots (get_or rows i d)
-        (Contains-permutation rows (all_rows slots) (get_or rows i d) (IsPermutation-sym (all_rows slots) rows moved) (Contains-get_or rows i d l))
+        (Contains-permutation rows (all_rows slots) (get_or rows i d) (IsPermutation-sym (all_rows slots) rows moved)
+        (Contains-get_or rows i d l))
 
     pub apart : AreApart id_of_row rows
     apart = apart_permuted id_of_row (all_rows slots) rows moved (rows_apart slots)
@@ -238,11 +249,13 @@ module _ (s : Scene) (slots : List (Option Cell)) (fixed : List Bool) (cells : A
         let second : get_or complex_cells j d ≡ row_of slots y = get_or-map cell_of_row rows j no_row d lj ∙ q.is in
         let key : row_key_of x ≤ row_key_of y =
         subst (λ (k : ℕ). k ≤ row_key_of y) (ap row_key p.is)
-        (subst (λ (k : ℕ). row_key (get_or rows i no_row).cell ≤ k) (ap row_key q.is) (sorted i j no_row (omega (arith, l)) lj)) in
+        (subst (λ (k : ℕ). row_key (get_or rows i no_row).cell ≤ k) (ap row_key q.is)
+        (sorted i j no_row (omega (arith, l)) lj)) in
         subst (λ (a : List ℕ). IsBefore a (get_or complex_cells j d)) (sym first)
         (subst (λ (b : List ℕ). IsBefore (row_of slots x) b) (sym second)
         (⊎_elim (λ (h : IsBefore (row_of slots x) (row_of slots y)). h)
-        (λ (e : row_of slots x ≡ row_of slots y). let same : i ≡ j = apart i j no_row li lj (one_id x y p.live q.live e) in absurd (omega (arith, l, same)))
+        (λ (e : row_of slots x ≡ row_of slots y). let same : i ≡ j = apart i j no_row li lj (one_id x y p.live q.live e) in
+        absurd (omega (arith, l, same)))
         (rows_before (risen (cell x)) (risen (cell y)) (small_at x p.live) (small_at y q.live) key)))
       where
         row_key_of : ℕ → ℕ
@@ -258,8 +271,12 @@ module _ (s : Scene) (slots : List (Option Cell)) (fixed : List Bool) (cells : A
 
     pub row_in : (x : ℕ) → IsLive (links_of slots) x → Contains complex_cells (row_of slots x)
     row_in x h =
-        let p = node x h in let n = length-map rows cell_of_row in let l = p.1.below in
-        (p.0, omega (arith, l, n), get_or-map cell_of_row rows p.0 no_row (row_of slots x) l ∙ (row_at_is p.0 no_row l).is ∙ ap (row_of slots) (p.1.is no_row))
+        let p = node x h in let n = length-map rows cell_of_row in let l = p.1.below in (
+          p.0,
+          omega (arith, l, n),
+          get_or-map cell_of_row rows p.0 no_row (row_of slots x) l ∙ (row_at_is p.0 no_row l).is
+              ∙ ap (row_of slots) (p.1.is no_row),
+        )
 
     all_cells : (row : List ℕ) → IsRisingCell s.vertices row → Contains complex_cells row
     all_cells row h =
@@ -288,7 +305,8 @@ module _ (s : Scene) (slots : List (Option Cell)) (fixed : List Bool) (cells : A
         one_cell s.vertices (live_of slots) cell next cells y x t.0 k (listed slots y p.live) (listed slots x h) t.1 l t.2 in
         let back : m ≡ i = apart m i no_row bm b (same ∙ sym (n.is no_row)) in
         omega (arith, lm, back)))
-        (λ _. ap (λ (row : List ℕ). has_facet s.vertices row f) (row_here i b ∙ ap (row_of slots) (n.is no_row)) ∙ row_has_side s.vertices (cell x) k (positive x h))
+        (λ _. ap (λ (row : List ℕ). has_facet s.vertices row f) (row_here i b ∙ ap (row_of slots) (n.is no_row))
+        ∙ row_has_side s.vertices (cell x) k (positive x h))
 
     pub cell_is : (x k : ℕ) → IsLive (links_of slots) x → k < 4
         → cell_of s.vertices complex_cells (facet_at_side x k) ≡ row_of slots x
@@ -303,14 +321,19 @@ module _ (s : Scene) (slots : List (Option Cell)) (fixed : List Bool) (cells : A
         (c.0, row_of slots x, c.1, c.2, row_has_side s.vertices (cell x) k (positive x h))
 
     -- and who has it
-    pub owner : (f : DirectedFacet) → HasFacet s.vertices complex_cells f → (x : ℕ) × IsLive (links_of slots) x × IsSideOf (cell x) f
+    pub owner : (f : DirectedFacet) → HasFacet s.vertices complex_cells f
+        → (x : ℕ) × IsLive (links_of slots) x × IsSideOf (cell x) f
     owner f h =
         let len = length-map rows cell_of_row in let l = h.2 in
         let i : h.0 < length rows = omega (arith, l, len) in
         let x = (get_or rows h.0 no_row).id in
         let p = row_at_is h.0 no_row i in
-        let at : row_of slots x ≡ h.1 = sym (row_here h.0 i) ∙ get_or_default complex_cells h.0 [] h.1 l ∙ h.3 in
-        (x, p.live, has_is s.vertices (live_of slots) cell next cells x f (listed slots x p.live) (ap (λ (row : List ℕ). has_facet s.vertices row f) at ∙ h.4))
+        let at : row_of slots x ≡ h.1 = sym (row_here h.0 i) ∙ get_or_default complex_cells h.0 [] h.1 l ∙ h.3 in (
+          x,
+          p.live,
+          has_is s.vertices (live_of slots) cell next cells x f (listed slots x p.live)
+              (ap (λ (row : List ℕ). has_facet s.vertices row f) at ∙ h.4),
+        )
 
     module _ (flags : AreFixed s slots fixed) where
       fixed_is : (x k : ℕ) → IsLive (links_of slots) x → k < 4
@@ -364,7 +387,8 @@ module _ (s : Scene) (slots : List (Option Cell)) (fixed : List Bool) (cells : A
         pub side_at_is : (i : ℕ) (d : Side) → i < length sides → IsSideAt slots fixed (get_or sides i d)
         side_at_is i d l =
             side_is slots fixed (get_or sides i d)
-            (Contains-permutation sides (all_open fixed slots) (get_or sides i d) (IsPermutation-sym (all_open fixed slots) sides moved_sides) (Contains-get_or sides i d l))
+            (Contains-permutation sides (all_open fixed slots) (get_or sides i d)
+            (IsPermutation-sym (all_open fixed slots) sides moved_sides) (Contains-get_or sides i d l))
 
         pub sides_are_apart : AreApart number_of_side sides
         sides_are_apart = apart_permuted number_of_side (all_open fixed slots) sides moved_sides (sides_apart fixed slots)
@@ -409,11 +433,13 @@ module _ (s : Scene) (slots : List (Option Cell)) (fixed : List Bool) (cells : A
             let bm : m < length sides = omega (arith, lm, l) in
             let same : m ≡ j =
             one_index sides side_at_is sides_are_apart m j bm l
-            (sym (ap (λ (r : List ℕ). facet_at r) (facet_here m [] bm)) ∙ same_facets (facet_at (get_or complex_facets m [])) f e) in
+            (sym (ap (λ (r : List ℕ). facet_at r) (facet_here m [] bm))
+            ∙ same_facets (facet_at (get_or complex_facets m [])) f e) in
             omega (arith, lm, same)))
             (λ _. subst (λ (r : List ℕ). is_same_facet (facet_at r) f ≡ true) (sym (facet_here j [] l)) (is_same_itself f))
 
-        module _ (nodes numbers crossed : List ℕ) (are_nodes : AreNumbered id_of_row rows nodes) (are_numbers : AreNumbered number_of_side sides numbers) (counts : AreCrossings s slots crossed) where
+        module _ (nodes numbers crossed : List ℕ) (are_nodes : AreNumbered id_of_row rows nodes)
+            (are_numbers : AreNumbered number_of_side sides numbers) (counts : AreCrossings s slots crossed) where
           node_number : (x k : ℕ) → IsLive (links_of slots) x → k < 4
               → get_or nodes x 0 ≡ cell_index s.vertices complex_cells (facet_at_side x k)
           node_number x k h l =
@@ -469,19 +495,24 @@ module _ (s : Scene) (slots : List (Option Cell)) (fixed : List Bool) (cells : A
               ap (λ (n : ℕ). s.settings.vote * n + s.settings.smooth)
               (counts.at x.id x.side f p.live p.in_range (least_rotated (facet_of (cell x.id) x.side))) in
               let facet_is : facet_at x.facet ≡ f = ap (λ (r : List ℕ). facet_at r) p.is in
-              let reverse : flag_at fixed x.id ≡ false → get_or numbers (4 * other_of slots x + side_with (cell (other_of slots x)) (turned (facet_at x.facet))) 0 ≡ facet_index complex_facets (turned f) =
+              let reverse : flag_at fixed x.id ≡ false
+              → get_or numbers (4 * other_of slots x + side_with (cell (other_of slots x)) (turned (facet_at x.facet))) 0
+              ≡ facet_index complex_facets (turned f) =
               λ free. ap (λ (n : ℕ). get_or numbers (4 * n + side_with (cell n) (turned (facet_at x.facet))) 0) other
               ∙ ap (λ (g : DirectedFacet). get_or numbers (4 * p.other + side_with (cell p.other) (turned g)) 0) facet_is
               ∙ reverse_is x.id x.side p.other p.live p.in_range p.next free in
               same_arc (node_number x.id x.side p.live p.in_range) to cap
-              (pairs (flag_at fixed x.id) refl reverse ∙ ap (λ (c : Bool). cond c None (Some (facet_index complex_facets (turned f)))) (sym (fixed_is x.id x.side p.live p.in_range)))
+              (pairs (flag_at fixed x.id) refl reverse
+              ∙ ap (λ (c : Bool). cond c None (Some (facet_index complex_facets (turned f))))
+              (sym (fixed_is x.id x.side p.live p.in_range)))
             where
               pairs : {m n : ℕ} (c : Bool) → flag_at fixed x.id ≡ c → (flag_at fixed x.id ≡ false → m ≡ n)
                   → cond c None (Some m) ≡ cond c None (Some n)
               pairs true e h = refl
               pairs false e h = ap Some (h e)
 
-          pub arcs_are : map (arc_from slots nodes numbers crossed fixed s.settings) sides ≡ map (arc_of s complex) complex_facets
+          pub arcs_are : map (arc_from slots nodes numbers crossed fixed s.settings) sides
+              ≡ map (arc_of s complex) complex_facets
           arcs_are =
               let n = length-map sides (arc_from slots nodes numbers crossed fixed s.settings) in
               let m = length-map complex_facets (arc_of s complex) in

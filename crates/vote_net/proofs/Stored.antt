@@ -1,7 +1,9 @@
--- A store in the words of the laws of cells. A live number is a slot that is taken, and it is below the number of slots, so the list
--- that runs down from there has it. What the store keeps of its links says what the laws ask of linked cells, and linked cells that
--- are Delaunay are all cells of the store's vertices. Where all of these are in, they are all cells of any scene of its points.
-use Rattle.std.proofs.Common.{ℕ, zero, suc, ◌+◌, ◌<◌, ◌≤◌, ◌≡◌, ◌⊎◌, inl, inr, ⊎_elim, refl, sym, ap, subst, ◌∙◌, arith, Bool, true, false, true≢false, Option, None, List, ◌++◌, length, get_or, is_some}
+-- A store in the words of the laws of cells. A live number is a slot that is taken, and it is below the number of slots, so the
+-- list that runs down from there has it. What the store keeps of its links says what the laws ask of linked cells, and linked
+-- cells that are Delaunay are all cells of the store's vertices. Where all of these are in, they are all cells of any scene of
+-- its points.
+use Rattle.std.proofs.Common.{ℕ, zero, suc, ◌+◌, ◌<◌, ◌≤◌, ◌≡◌, ◌⊎◌, inl, inr, ⊎_elim, refl, sym, ap, subst, ◌∙◌, arith, Bool}
+use Rattle.std.proofs.Common.{true, false, true≢false, Option, None, List, ◌++◌, length, get_or, is_some}
 use Rattle.std.proofs.lemmas.List.{get_or_past, length-append}
 use Rattle.geo_sign.specs.Point.{Point}
 use Rattle.geo_sign.specs.Tie.{height}
@@ -34,7 +36,8 @@ in_below slots zero id l e = absurd (omega (arith, l))
 in_below slots (suc n) id l e =
     let h : (id < n) ⊎ (n ≡ id) = search (arith, l) in
     ⊎_elim (λ (m : id < n). tail_in (is_some (slot_at slots n)) n id (live_below slots n) (in_below slots n id m e))
-    (λ (m : n ≡ id). subst (λ (x : ℕ). IsIn (live_below slots (suc n)) x) m (head_in (is_some (slot_at slots n)) n (live_below slots n) (ap (λ (x : ℕ). is_some (slot_at slots x)) m ∙ e)))
+    (λ (m : n ≡ id). subst (λ (x : ℕ). IsIn (live_below slots (suc n)) x) m
+    (head_in (is_some (slot_at slots n)) n (live_below slots n) (ap (λ (x : ℕ). is_some (slot_at slots x)) m ∙ e)))
     h
 
 of_number : (b : Bool) (n id : ℕ) (rest : List ℕ) → IsIn (with_number b n rest) id → ((n ≡ id) × (b ≡ true)) ⊎ IsIn rest id
@@ -104,17 +107,26 @@ vertices_are : (places : List Point) (points : List Point) (flags : List Bool) �
     → vertices_at places flags ≡ inserted_vertices points flags
 vertices_are places points flags e =
     ap (λ (ps : List Point). vertices_at ps flags) e
-    ∙ ap (λ (n : ℕ). let v : Vertices = record { at = point_of points; high = λ u. height n u (point_of points u); count = n; is_in = λ u. get_or flags u false } in v)
+    ∙ ap (λ (n : ℕ).
+    let v : Vertices = record {
+      at = point_of points;
+      high = λ u. height n u (point_of points u);
+      count = n;
+      is_in = λ u. get_or flags u false;
+    } in
+    v)
     (length-append corners points)
 
 pub whole : (s : Store) (points : List Point) → IsStore s → s.points ≡ corners ++ points → IsDelaunay (vertices_of s)
     (links_of s.slots)
-    → ((u : ℕ) → u < length s.points → get_or s.inserted u false ≡ true) → AreAllCells (all.vertices_of points) (live_of s.slots)
+    → ((u : ℕ) → u < length s.points → get_or s.inserted u false ≡ true)
+    → AreAllCells (all.vertices_of points) (live_of s.slots)
     (links_of s.slots).at (links_of s.slots).next
 whole s points k e d inserted =
     (stored_law points s.inserted).whole (λ u l. inserted u (let n = count in omega (arith, l, n))) (live_of s.slots)
     (links_of s.slots).at (links_of s.slots).next
-    (subst (λ (v : Vertices). AreAllCells v (live_of s.slots) (links_of s.slots).at (links_of s.slots).next) (vertices_are s.points points s.inserted e) (all_cells s k d))
+    (subst (λ (v : Vertices). AreAllCells v (live_of s.slots) (links_of s.slots).at (links_of s.slots).next)
+    (vertices_are s.points points s.inserted e) (all_cells s k d))
   where
     count : length s.points ≡ 8 + length points
     count = ap (λ (ps : List Point). length ps) e ∙ length-append corners points

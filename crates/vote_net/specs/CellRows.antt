@@ -43,7 +43,8 @@ row_from t = t.a ∷ t.b ∷ t.c ∷ t.d ∷ []
 
 -- of three distinct numbers
 unfoldable pub least_first : DirectedFacet → DirectedFacet
-least_first f = if nat_lt f.a f.b && nat_lt f.a f.c then f else (if nat_lt f.b f.c then facet f.b f.c f.a else facet f.c f.a f.b)
+least_first f =
+    if nat_lt f.a f.b && nat_lt f.a f.c then f else (if nat_lt f.b f.c then facet f.b f.c f.a else facet f.c f.a f.b)
 
 -- as the cell has it
 abbrev pub facet_row : Tetrahedron → ℕ → List ℕ

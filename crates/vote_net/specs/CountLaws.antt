@@ -20,7 +20,8 @@ FacetCountLaw = (s : Scene) (f g : DirectedFacet) → IsRotated f g → crossing
 -- the sights before the cell, and whether it is fixed
 pub record AreCellCounts (s : Scene) (slots : List (Option Cell)) (id : ℕ) : Type 0 where
   pub before : sights_before s (row_of slots id)
-      ≡ weight_where (λ sight. is_behind s.vertices sight.vertex (scanner_point s.scanners sight.scanner) ((links_of slots).at id)) s.sights
+      ≡ weight_where
+      (λ sight. is_behind s.vertices sight.vertex (scanner_point s.scanners sight.scanner) ((links_of slots).at id)) s.sights
   pub fixed : is_fixed s.vertices s.scanners (row_of slots id)
       ≡ (has_corner ((links_of slots).at id) || has_scanner s.vertices s.scanners ((links_of slots).at id))
 

@@ -30,7 +30,8 @@ row_of slots id = row_from (risen ((links_of slots).at id))
 -- four counts a cell at least: at 4 * id + k the crossings of the facet of side k, from whatever vertex on it is written
 pub record AreCrossings (s : Scene) (slots : List (Option Cell)) (crossed : List ℕ) : Type 0 where
   pub count : 4 * length slots ≤ length crossed
-  pub at : (id k : ℕ) (f : DirectedFacet) → IsLive (links_of slots) id → k < 4 → IsRotated (facet_of ((links_of slots).at id) k) f
+  pub at : (id k : ℕ) (f : DirectedFacet) → IsLive (links_of slots) id → k < 4
+      → IsRotated (facet_of ((links_of slots).at id) k) f
       → slice_index crossed (4 * id + k) ≡ crossings s f
 
 -- a count a cell at least

@@ -10,7 +10,8 @@
 --   CanJoin slots x             a side with a neighbor, whose numbers fit
 --   arc_from ..                 the arc of a side, as the code finds it
 --   AreArcs ..                  the arcs of sides, from tables of the indices
-use Rattle.std.specs.Prelude.{ℕ, ◌≡◌, ◌<◌, ◌+◌, ◌*◌, ◌^◌, Bool, Option, Some, None, IsSome, List, length, map, slice_index, slice_index_or, unwrap_or, if◌then◌else◌}
+use Rattle.std.specs.Prelude.{ℕ, ◌≡◌, ◌<◌, ◌+◌, ◌*◌, ◌^◌, Bool, Option, Some, None, IsSome, List, length, map, slice_index}
+use Rattle.std.specs.Prelude.{slice_index_or, unwrap_or, if◌then◌else◌}
 use Rattle.flow_net.specs.declared.Arc.{Arc}
 use Rattle.flow_net.specs.declared.votes.Settings.{Settings}
 use Rattle.flow_net.specs.Nets.{flag_at}
@@ -54,7 +55,8 @@ AreNumbered f xs table = AreNumberedTo f xs table (length xs)
 unfoldable pub side_with : Tetrahedron → DirectedFacet → ℕ
 side_with t f =
     if is_same_facet (least_first (facet_of t 0)) f then 0 else
-    (if is_same_facet (least_first (facet_of t 1)) f then 1 else (if is_same_facet (least_first (facet_of t 2)) f then 2 else 3))
+    (if is_same_facet (least_first (facet_of t 1)) f then 1
+    else (if is_same_facet (least_first (facet_of t 2)) f then 2 else 3))
 
 -- the neighbor, of which there is one
 abbrev pub other_of : List (Option Cell) → Side → ℕ
@@ -68,7 +70,8 @@ pub record CanJoin (slots : List (Option Cell)) (x : Side) : Type 0 where
   pub small : 4 * x.id + 4 < 2 ^ 64
   pub small_other : 4 * other_of slots x + 4 < 2 ^ 64
 
--- from the side's own cell to its neighbor's, at a vote for each crossing and the smoothing; its reverse leaves a free cell alone
+-- from the side's own cell to its neighbor's, at a vote for each crossing and the smoothing; its reverse leaves a free cell
+-- alone
 unfoldable pub arc_from : List (Option Cell) → (nodes numbers crossed : List ℕ) → List Bool → Settings → Side → Arc
 arc_from slots nodes numbers crossed fixed settings x =
     record {
@@ -77,7 +80,8 @@ arc_from slots nodes numbers crossed fixed settings x =
       cap = settings.vote * slice_index crossed (number_of_side x) + settings.smooth;
       pair =
           if flag_at fixed x.id then None else Some
-          (slice_index numbers (4 * other_of slots x + side_with ((links_of slots).at (other_of slots x)) (turned (facet_at x.facet))));
+          (slice_index numbers
+          (4 * other_of slots x + side_with ((links_of slots).at (other_of slots x)) (turned (facet_at x.facet))));
     }
 
 -- what the tables are is left open, but for the indices of rows and sides

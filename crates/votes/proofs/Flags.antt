@@ -1,6 +1,9 @@
--- Flags of cells, while cells and scanners are gone through. The cells that `cells` lists are all live ones, so a cell is still to come
--- or its flag says whether it has a corner. A scanner more sets the flag of its cell, which is the only one that has that scanner.
-use Rattle.std.proofs.Common.{ℕ, ◌<◌, ◌≤◌, ◌+◌, ◌≡◌, ◌≢◌, ◌⊎◌, inl, inr, ⊎_elim, refl, sym, ap, subst, ◌∙◌, arith, Bool, true, false, true≢false, eqb, ◌||◌, Option, Some, None, is_some, List, [], ◌∷◌, ◌++◌, length, set, take, get_or, slice_index, Contains}
+-- Flags of cells, while cells and scanners are gone through. The cells that `cells` lists are all live ones, so a cell is still
+-- to come or its flag says whether it has a corner. A scanner more sets the flag of its cell, which is the only one that has
+-- that scanner.
+use Rattle.std.proofs.Common.{ℕ, ◌<◌, ◌≤◌, ◌+◌, ◌≡◌, ◌≢◌, ◌⊎◌, inl, inr, ⊎_elim, refl, sym, ap, subst, ◌∙◌, arith, Bool, true}
+use Rattle.std.proofs.Common.{false, true≢false, eqb, ◌||◌, Option, Some, None, is_some, List, [], ◌∷◌, ◌++◌, length, set, take}
+use Rattle.std.proofs.Common.{get_or, slice_index, Contains}
 use Rattle.std.proofs.lemmas.Bool.{eqb-true, eqb-false}
 use Rattle.std.proofs.lemmas.List.{get_or-set_same, get_or-set_other, length-set, length_push, get_or_push, get_or_append_left}
 use Rattle.std.proofs.lemmas.List.Folds.{list_any_more}
@@ -35,7 +38,8 @@ none_flagged slots flags l =
 some_is : {x y : Cell} → Some x ≡ Some y → x ≡ y
 some_is h = cc
 
-module _ (slots : List (Option Cell)) (id : ℕ) (c : Cell) (left : List (ℕ × Cell)) (flags : List Bool) (h : AreFlagged slots ((id, c) ∷ left) flags) where
+module _ (slots : List (Option Cell)) (id : ℕ) (c : Cell) (left : List (ℕ × Cell)) (flags : List Bool)
+    (h : AreFlagged slots ((id, c) ∷ left) flags) where
   here : slot_at slots id ≡ Some c
   here = h.only id c (0, omega arith, refl)
 
@@ -48,11 +52,13 @@ module _ (slots : List (Option Cell)) (id : ℕ) (c : Cell) (left : List (ℕ ×
   flag_set true n d z i o =
       let q : n ≡ id = eqb-true n id z in
       let w : c ≡ d = some_is (sym here ∙ (ap (slot_at slots) (sym q) ∙ i)) in
-      inr (ap (flag_at (set flags id (corner_of c))) q ∙ (get_or-set_same flags id (corner_of c) false flag_in ∙ ap (λ (x : Cell). corner_of x) w))
+      inr (ap (flag_at (set flags id (corner_of c))) q
+      ∙ (get_or-set_same flags id (corner_of c) false flag_in ∙ ap (λ (x : Cell). corner_of x) w))
   flag_set false n d z i o =
       let e : n ≢ id = eqb-false n id z in
       ⊎_elim
-      (λ a. ⊎_elim (λ (same : (id, c) ≡ (n, d)). absurd (e (sym (ap (λ (p : ℕ × Cell). p.0) same)))) (λ b. inl b) (Contains-cons_cases (id, c) (n, d) left a))
+      (λ a. ⊎_elim (λ (same : (id, c) ≡ (n, d)). absurd (e (sym (ap (λ (p : ℕ × Cell). p.0) same)))) (λ b. inl b)
+      (Contains-cons_cases (id, c) (n, d) left a))
       (λ a. inr (get_or-set_other flags id n (corner_of c) false e ∙ a)) o
 
   pub one_flagged : AreFlagged slots left (set flags id (corner_of c))
@@ -68,15 +74,18 @@ module _ (slots : List (Option Cell)) (id : ℕ) (c : Cell) (left : List (ℕ ×
 pub entry_in_range : (slots : List (Option Cell)) (left rest : List (ℕ × Cell)) (flags : List Bool) (id n : ℕ) (c : Cell) →
     left ≡ (id, c) ∷ rest → n ≡ id → AreFlagged slots left flags → n < length flags
 entry_in_range slots left rest flags id n c e i h =
-    let l : id < length flags = flag_in slots id c rest flags (subst (λ (xs : List (ℕ × Cell)). AreFlagged slots xs flags) e h) in
+    let l : id < length flags =
+    flag_in slots id c rest flags (subst (λ (xs : List (ℕ × Cell)). AreFlagged slots xs flags) e h) in
     omega (arith, l, i)
 
-pub entry_flagged : (slots : List (Option Cell)) (left rest : List (ℕ × Cell)) (flags : List Bool) (id n : ℕ) (c : Cell) (b : Bool) →
-    left ≡ (id, c) ∷ rest → n ≡ id → b ≡ has_corner (tetrahedron_from c.v) → AreFlagged slots left flags →
-    AreFlagged slots rest (set flags n b)
+pub entry_flagged : (slots : List (Option Cell)) (left rest : List (ℕ × Cell)) (flags : List Bool) (id n : ℕ)
+    (c : Cell) (b : Bool)
+    → left ≡ (id, c) ∷ rest → n ≡ id → b ≡ has_corner (tetrahedron_from c.v) → AreFlagged slots left flags
+    → AreFlagged slots rest (set flags n b)
 entry_flagged slots left rest flags id n c b e i f h =
     subst (λ (m : ℕ). AreFlagged slots rest (set flags m b)) (sym i)
-    (subst (λ (z : Bool). AreFlagged slots rest (set flags id z)) (sym f) (one_flagged slots id c rest flags (subst (λ (xs : List (ℕ × Cell)). AreFlagged slots xs flags) e h)))
+    (subst (λ (z : Bool). AreFlagged slots rest (set flags id z)) (sym f)
+    (one_flagged slots id c rest flags (subst (λ (xs : List (ℕ × Cell)). AreFlagged slots xs flags) e h)))
 
 pub all_flagged : (slots : List (Option Cell)) (flags : List Bool) → AreFlagged slots [] flags → (id : ℕ) →
     IsLive (links_of slots) id → flag_at flags id ≡ has_corner ((links_of slots).at id)
@@ -85,7 +94,9 @@ all_flagged slots flags h id live = by (slot_at slots id) refl
     by : (o : Option Cell) → slot_at slots id ≡ o → flag_at flags id ≡ has_corner ((links_of slots).at id)
     by None e = absurd (true≢false (sym live ∙ ap is_some e))
     by (Some c) e =
-        ⊎_elim (λ (a : Contains [] (id, c)). absurd (omega (arith, a.1))) (λ (a : flag_at flags id ≡ corner_of c). a ∙ ap (λ (z : Option Cell). has_corner (vertices_in z)) (sym e)) (h.flagged id c e)
+        ⊎_elim (λ (a : Contains [] (id, c)). absurd (omega (arith, a.1)))
+        (λ (a : flag_at flags id ≡ corner_of c). a ∙ ap (λ (z : Option Cell). has_corner (vertices_in z)) (sym e))
+        (h.flagged id c e)
 
 -- ---- the cells of scanners
 -- the cells are those of the first n scanners
@@ -102,7 +113,10 @@ one_found s scanners n cells id h is =
     }
   where
     at : (k : ℕ) → (k < n) ⊎ (n ≡ k) → IsScannerCell s (get_or scanners k origin) (slice_index (cells ++ id ∷ []) k)
-    at k (inl l) = let c = h.count in subst (λ (x : ℕ). IsScannerCell s (get_or scanners k origin) x) (sym (get_or_append_left cells (id ∷ []) 0 k (omega (arith, c, l)))) (h.at k l)
+    at k (inl l) =
+        let c = h.count in
+        subst (λ (x : ℕ). IsScannerCell s (get_or scanners k origin) x)
+        (sym (get_or_append_left cells (id ∷ []) 0 k (omega (arith, c, l)))) (h.at k l)
     at k (inr e) =
         subst (λ (m : ℕ). IsScannerCell s (get_or scanners m origin) (slice_index (cells ++ id ∷ []) m)) e
         (subst (λ (x : ℕ). IsScannerCell s (get_or scanners n origin) x) (sym (get_or_push cells id 0 n h.count)) is)
@@ -137,7 +151,8 @@ corners_fixed s scanners flags l h =
     record {
       fits = l;
       flagged = λ id live.
-          h id live ∙ (or_false (has_corner ((links_of s.slots).at id)) ∙ ap (λ (xs : List Point). has_corner ((links_of s.slots).at id) || holds s xs id) (sym (none scanners)));
+          h id live ∙ (or_false (has_corner ((links_of s.slots).at id))
+          ∙ ap (λ (xs : List Point). has_corner ((links_of s.slots).at id) || holds s xs id) (sym (none scanners)));
     }
   where
     none : (xs : List Point) → take 0 xs ≡ []
@@ -169,17 +184,23 @@ one_fixed s scanners n found flags l m is h =
     flag id live true z =
         let q : id ≡ found = eqb-true id found z in
         ap (flag_at (set flags found true)) q
-        ∙ (get_or-set_same flags found true false m ∙ (or_true (flag_at flags id) ∙ ap (λ (b : Bool). flag_at flags id || b) (sym (ap (λ (x : ℕ). test x (get_or scanners n origin)) q ∙ is.end.is))))
+        ∙ (get_or-set_same flags found true false m
+        ∙ (or_true (flag_at flags id)
+        ∙ ap (λ (b : Bool). flag_at flags id || b) (sym (ap (λ (x : ℕ). test x (get_or scanners n origin)) q ∙ is.end.is))))
     flag id live false z =
         let e : id ≢ found = eqb-false id found z in
         let t : test id (get_or scanners n origin) ≡ false = no id live e (test id (get_or scanners n origin)) refl in
-        get_or-set_other flags found id true false e ∙ (or_false (flag_at flags id) ∙ ap (λ (b : Bool). flag_at flags id || b) (sym t))
+        get_or-set_other flags found id true false e
+        ∙ (or_false (flag_at flags id) ∙ ap (λ (b : Bool). flag_at flags id || b) (sym t))
 
 -- the cell of the next scanner has a flag, and setting it fixes that scanner's cell
 pub scanner_flag_in : (s : Store) (scanners : List Point) (cells : List ℕ) (n : ℕ) (flags : List Bool) →
     AreScannerCells s scanners cells → n < length cells → AreFixedTo s scanners n flags → slice_index cells n < length flags
 scanner_flag_in s scanners cells n flags are l h =
-    let m = are.count in let is = are.at n (omega (arith, l, m)) in let a = slot_in s.slots (slice_index cells n) is.end.live in let b = h.fits in
+    let m = are.count in
+    let is = are.at n (omega (arith, l, m)) in
+    let a = slot_in s.slots (slice_index cells n) is.end.live in
+    let b = h.fits in
     omega (arith, a, b)
 
 pub scanner_fixed : (s : Store) (scanners : List Point) (cells : List ℕ) (n : ℕ) (flags : List Bool) →

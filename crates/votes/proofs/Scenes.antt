@@ -1,8 +1,9 @@
--- The counts of a store are those of a scene of its points. They do not depend on the order of the sights, since a sum does not. The
--- tests look at nothing but where vertices are, so they say the same of the store's vertices and of all vertices of the points. And no
--- count depends on how a facet or a cell is written (`facet_count_law`, `cell_count_law` of vote_net), so those of the cells as the
--- store has them are those of facets from any vertex on and of rows.
-use Rattle.std.proofs.Common.{ℕ, ◌<◌, ◌≤◌, ◌+◌, ◌^◌, ◌≡◌, refl, sym, ap, subst, ◌∙◌, arith, Bool, true, false, cond, ◌||◌, List, ◌++◌, length, slice_index_or}
+-- The counts of a store are those of a scene of its points. They do not depend on the order of the sights, since a sum does
+-- not. The tests look at nothing but where vertices are, so they say the same of the store's vertices and of all vertices of
+-- the points. And no count depends on how a facet or a cell is written (`facet_count_law`, `cell_count_law` of vote_net), so
+-- those of the cells as the store has them are those of facets from any vertex on and of rows.
+use Rattle.std.proofs.Common.{ℕ, ◌<◌, ◌≤◌, ◌+◌, ◌^◌, ◌≡◌, refl, sym, ap, subst, ◌∙◌, arith, Bool, true, false, cond, ◌||◌, List}
+use Rattle.std.proofs.Common.{◌++◌, length, slice_index_or}
 use Rattle.std.specs.List.{list_any}
 use Rattle.std.specs.List.Sorted.{IsPermutation}
 use Rattle.std.proofs.lemmas.List.{length-append}
@@ -39,8 +40,14 @@ counted_anyhow s scanners sights walked crossed behind p h =
     record {
       crossed_fits = h.crossed_fits;
       behind_fits = h.behind_fits;
-      facets = λ id k l m. h.facets id k l m ∙ same (λ (x : Sight). is_crossed (vertices_of s) x.vertex (scanner_point scanners x.scanner) (facet_of ((links_of s.slots).at id) k));
-      cells = λ id l. h.cells id l ∙ same (λ (x : Sight). is_behind (vertices_of s) x.vertex (scanner_point scanners x.scanner) ((links_of s.slots).at id));
+      facets =
+          λ id k l m. h.facets id k l m
+          ∙ same (λ (x : Sight).
+          is_crossed (vertices_of s) x.vertex (scanner_point scanners x.scanner) (facet_of ((links_of s.slots).at id) k));
+      cells =
+          λ id l. h.cells id l
+          ∙ same
+          (λ (x : Sight). is_behind (vertices_of s) x.vertex (scanner_point scanners x.scanner) ((links_of s.slots).at id));
     }
   where
     same : (test : Sight → Bool) → sum_where test walked ≡ sum_where test sights
@@ -51,7 +58,12 @@ pub count_of : (points : List Point) → length (corners ++ points) ≡ 8 + leng
 count_of points = let l = length-append corners points in omega (arith, l)
 
 abbrev counted : List Point → List Bool → ℕ → Vertices
-counted points inserted n = record { at = point_of points; high = λ u. height n u (point_of points u); count = n; is_in = λ u. slice_index_or inserted u false }
+counted points inserted n = record {
+  at = point_of points;
+  high = λ u. height n u (point_of points u);
+  count = n;
+  is_in = λ u. slice_index_or inserted u false;
+}
 
 seen : (s : Store) (points : List Point) → s.points ≡ corners ++ points → vertices_of s ≡ inserted_vertices points s.inserted
 seen s points e = ap (λ (ps : List Point). vertices_at ps s.inserted) e ∙ ap (counted points s.inserted) (count_of points)
@@ -72,7 +84,8 @@ unfolding is_cell_of
 cell_in points flags q t = refl
 
 -- ---- what the network is made of
-module _ (s : Store) (points scanners : List Point) (sights : List Sight) (settings : Settings) (e : s.points ≡ corners ++ points) (store : IsStore s)
+module _ (s : Store) (points scanners : List Point) (sights : List Sight) (settings : Settings)
+    (e : s.points ≡ corners ++ points) (store : IsStore s)
     (inserted : (u : ℕ) → u < length s.points →
     slice_index_or s.inserted u false ≡ true) (delaunay : IsDelaunay (vertices_of s) (links_of s.slots)) where
   abbrev scene : Scene
@@ -104,7 +117,8 @@ module _ (s : Store) (points scanners : List Point) (sights : List Sight) (setti
         at = λ id k f live l r.
             h.facets id k live l
             ∙ (sum_is_weight _ sights
-            ∙ (ap (λ (test : Sight → Bool). weight_where test sights) (equal (λ (x : Sight). crossed_is x.vertex (scanner_point scanners x.scanner) (facet_of (at id) k)))
+            ∙ (ap (λ (test : Sight → Bool). weight_where test sights)
+            (equal (λ (x : Sight). crossed_is x.vertex (scanner_point scanners x.scanner) (facet_of (at id) k)))
             ∙ facet_count_law scene (facet_of (at id) k) f r));
       }
 
@@ -115,7 +129,8 @@ module _ (s : Store) (points scanners : List Point) (sights : List Sight) (setti
         at = λ id live.
             h.cells id live
             ∙ (sum_is_weight _ sights
-            ∙ (ap (λ (test : Sight → Bool). weight_where test sights) (equal (λ (x : Sight). behind_is x.vertex (scanner_point scanners x.scanner) (at id)))
+            ∙ (ap (λ (test : Sight → Bool). weight_where test sights)
+            (equal (λ (x : Sight). behind_is x.vertex (scanner_point scanners x.scanner) (at id)))
             ∙ sym (cell_count_law scene s.slots cells_are id live).before));
       }
 
@@ -127,17 +142,26 @@ module _ (s : Store) (points scanners : List Point) (sights : List Sight) (setti
         count = l;
         at = λ id live.
             h id live
-            ∙ (ap (λ (test : Point → Bool). has_corner (at id) || list_any test scanners) (equal (λ (q : Point). cell_of_is (displaced q) (at id)))
+            ∙ (ap (λ (test : Point → Bool). has_corner (at id) || list_any test scanners)
+            (equal (λ (q : Point). cell_of_is (displaced q) (at id)))
             ∙ sym (cell_count_law scene s.slots cells_are id live).fixed);
       }
 
-  pub all_asked : (given : Scene) → given ≡ scene → (crossed behind : List ℕ) (flags : List Bool) →
-      AreCounted s scanners sights crossed behind → length s.slots ≤ length flags →
-      ((id : ℕ) → IsLive (links_of s.slots) id → flag_at flags id ≡ (has_corner (at id) || holds s scanners id)) → IsSightList sights →
-      AreCountsOf given s.slots crossed behind flags
+  pub all_asked : (given : Scene) → given ≡ scene → (crossed behind : List ℕ) (flags : List Bool)
+      → AreCounted s scanners sights crossed behind → length s.slots ≤ length flags
+      → ((id : ℕ) → IsLive (links_of s.slots) id → flag_at flags id ≡ (has_corner (at id) || holds s scanners id))
+      → IsSightList sights
+      → AreCountsOf given s.slots crossed behind flags
   all_asked given is crossed behind flags h l f few =
       subst (λ (z : Scene). AreCountsOf z s.slots crossed behind flags) (sym is)
-      (record { cells = cells_are; few = count; few_sights = few; crossings = crossings_are crossed behind h; before = behind_are crossed behind h; flags = fixed_are flags l f })
+      (record {
+        cells = cells_are;
+        few = count;
+        few_sights = few;
+        crossings = crossings_are crossed behind h;
+        before = behind_are crossed behind h;
+        flags = fixed_are flags l f;
+      })
     where
       count : 8 + length points ≤ 2 ^ 32
       count = let n = store.vertices.few in let m = ap length e in let k = count_of points in omega (arith, n, m, k)

@@ -7,8 +7,10 @@
 --   is_behind_at s p q id                         the number has a cell, and it is behind the sight
 --   IsScannerCell s q id                          the cell is that of the scanner at q, and the only one
 --   AreScannerCells s scanners cells              the cells are those of the scanners, in their order
---   AreCounted s scanners sights crossed behind   the counters are what the sights add that cross each facet, and are before each cell
-use Rattle.std.specs.Prelude.{ℕ, ◌≡◌, ◌<◌, ◌≤◌, ◌+◌, ◌*◌, ◌&&◌, Bool, true, List, length, slice_index, slice_index_or, if◌then◌else◌}
+--   AreCounted s scanners sights crossed behind   the counters are what the sights add that cross each facet, and are before
+--   each cell
+use Rattle.std.specs.Prelude.{ℕ, ◌≡◌, ◌<◌, ◌≤◌, ◌+◌, ◌*◌, ◌&&◌, Bool, true, List, length, slice_index, slice_index_or}
+use Rattle.std.specs.Prelude.{if◌then◌else◌}
 use Rattle.std.specs.List.{sum_by}
 use Rattle.geo_sign.specs.Point.{Point, origin}
 use Rattle.geo_sign.specs.Rational.{RationalPoint, displaced}
@@ -37,7 +39,8 @@ sum_where test sights = sum_by (λ sight. if test sight then added_by sight else
 
 -- the number has a cell, and the sight crosses its facet k
 abbrev pub is_crossed_at : Store → (p : ℕ) → RationalPoint → (id k : ℕ) → Bool
-is_crossed_at s p q id k = (links_of s.slots).is_live id && is_crossed (vertices_of s) p q (facet_of ((links_of s.slots).at id) k)
+is_crossed_at s p q id k =
+    (links_of s.slots).is_live id && is_crossed (vertices_of s) p q (facet_of ((links_of s.slots).at id) k)
 
 -- the number has a cell, and it is behind the sight
 abbrev pub is_behind_at : Store → (p : ℕ) → RationalPoint → (id : ℕ) → Bool
@@ -46,7 +49,8 @@ is_behind_at s p q id = (links_of s.slots).is_live id && is_behind (vertices_of 
 -- the cell of the scanner at a point, and the only one
 pub record IsScannerCell (s : Store) (q : Point) (id : ℕ) : Type 0 where
   pub end : IsEndCell s q id
-  pub only : (x : ℕ) → IsLive (links_of s.slots) x → is_cell_of (vertices_of s) (displaced q) ((links_of s.slots).at x) ≡ true → x ≡ id
+  pub only : (x : ℕ) → IsLive (links_of s.slots) x → is_cell_of (vertices_of s) (displaced q) ((links_of s.slots).at x) ≡ true
+      → x ≡ id
 
 -- for each scanner its cell
 pub record AreScannerCells (s : Store) (scanners : List Point) (cells : List ℕ) : Type 0 where
@@ -58,8 +62,13 @@ pub record AreCounted (s : Store) (scanners : List Point) (sights : List Sight) 
   pub crossed_fits : 4 * length s.slots ≤ length crossed
   pub behind_fits : length s.slots ≤ length behind
   pub facets :
-      (id k : ℕ) → IsLive (links_of s.slots) id → k < 4 →
-      slice_index crossed (4 * id + k) ≡ sum_where (λ sight. is_crossed (vertices_of s) sight.vertex (scanner_point scanners sight.scanner) (facet_of ((links_of s.slots).at id) k)) sights
+      (id k : ℕ) → IsLive (links_of s.slots) id → k < 4
+      → slice_index crossed (4 * id + k)
+      ≡ sum_where
+      (λ sight. is_crossed (vertices_of s) sight.vertex (scanner_point scanners sight.scanner)
+      (facet_of ((links_of s.slots).at id) k)) sights
   pub cells :
-      (id : ℕ) → IsLive (links_of s.slots) id →
-      slice_index behind id ≡ sum_where (λ sight. is_behind (vertices_of s) sight.vertex (scanner_point scanners sight.scanner) ((links_of s.slots).at id)) sights
+      (id : ℕ) → IsLive (links_of s.slots) id
+      → slice_index behind id
+      ≡ sum_where
+      (λ sight. is_behind (vertices_of s) sight.vertex (scanner_point scanners sight.scanner) ((links_of s.slots).at id)) sights

@@ -43,7 +43,9 @@ added_behind s line id = if is_behind_at s line.vertex (displaced line.scanner) 
 
 -- the counter of the first facet to come, if there is one, stays below 2 ^ 32 with the amount
 abbrev pub HasRoom : List Side → ℕ → List ℕ → Type 0
-HasRoom sides amount counters = (side : Side) (later : List Side) → side.side < 4 → sides ≡ side ∷ later → slice_index counters (4 * side.at + side.side) + amount < 2 ^ 32
+HasRoom sides amount counters =
+    (side : Side) (later : List Side) → side.side < 4 → sides ≡ side ∷ later
+    → slice_index counters (4 * side.at + side.side) + amount < 2 ^ 32
 
 -- the walk went on by one facet, and the amount was added to its counter
 pub record IsCountedStep (amount : ℕ) (from to : Walk) (old new : List ℕ) : Type 0 where

@@ -7,9 +7,11 @@ use Rattle.cell_bench.proofs.points.merged.Goals as goal
 
 pub returns-3-clause-within : goal.returns-3-clause-within
 returns-3-clause-within c =
-    λ k l. subst (λ (list : List Point). All (IsWithin DATA_LIMIT) list) (sym c.in_ok-merged.ensures.points) (keep (IsWithin DATA_LIMIT) c.args.points.now c.requires) k origin l
+    λ k l. subst (λ (list : List Point). All (IsWithin DATA_LIMIT) list) (sym c.in_ok-merged.ensures.points)
+    (keep (IsWithin DATA_LIMIT) c.args.points.now c.requires) k origin l
 
 pub returns-3-clause-distinct : goal.returns-3-clause-distinct
 returns-3-clause-distinct c =
-    subst (λ (list : List Point). (j k : ℕ) → j < length list → k < length list → get_or list j origin ≡ get_or list k origin → j ≡ k) (sym c.in_ok-merged.ensures.points)
+    subst (λ (list : List Point). (j k : ℕ) → j < length list → k < length list → get_or list j origin ≡ get_or list k origin
+    → j ≡ k) (sym c.in_ok-merged.ensures.points)
     (apart _ (distinct c.args.points.now))

@@ -8,6 +8,8 @@ pub loop-point-preserved : goal.loop-point-preserved
 loop-point-preserved c =
     let more : c.push.new.self.items ≡ c.loop-point.made.items ++ c.rounded.result ∷ [] = search rules in
     record {
-      within = subst (All (IsWithin DATA_LIMIT)) (sym more) (All-push (IsWithin DATA_LIMIT) _ _ c.loop-point.invariant.within c.rounded.ensures);
+      within =
+          subst (All (IsWithin DATA_LIMIT)) (sym more)
+          (All-push (IsWithin DATA_LIMIT) _ _ c.loop-point.invariant.within c.rounded.ensures);
       count = search rules;
     }

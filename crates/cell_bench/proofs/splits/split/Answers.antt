@@ -14,14 +14,18 @@ use Rattle.cell_bench.proofs.splits.split.Given.{Over}
 use Rattle.cell_bench.proofs.splits.split.Goals as goal
 
 pub locate-found-requires-clause-data_point : goal.locate-found-requires-clause-data_point
-locate-found-requires-clause-data_point g c = is_data c.args.t.now c.args.p c.point.result c.point.ensures c.facts.ensures c.requires.below c.requires.out
+locate-found-requires-clause-data_point g c =
+    is_data c.args.t.now c.args.p c.point.result c.point.ensures c.facts.ensures c.requires.below c.requires.out
 
 pub cavity_of-requires-clause-conflict : goal.cavity_of-requires-clause-conflict
 cavity_of-requires-clause-conflict g c =
     let s = c.args.t.now in
     let found = c.locate-found.result in
-    found_law (vertices_of s) (boxed s c.facts.ensures) c.args.p (new_vertex s c.args.p c.facts.ensures c.requires.below c.requires.out) ((links_of s.slots).at found) (c.requires.delaunay.cells found c.locate-found.ensures.live)
-    (subst (λ (z : Point). IsLyingIn (vertices_of s) ((links_of s.slots).at found) (rational z)) c.point.ensures c.locate-found.ensures.lies)
+    found_law (vertices_of s) (boxed s c.facts.ensures) c.args.p
+    (new_vertex s c.args.p c.facts.ensures c.requires.below c.requires.out) ((links_of s.slots).at found)
+    (c.requires.delaunay.cells found c.locate-found.ensures.live)
+    (subst (λ (z : Point). IsLyingIn (vertices_of s) ((links_of s.slots).at found) (rational z)) c.point.ensures
+    c.locate-found.ensures.lies)
 
 pub replace-id-requires : goal.replace-id-requires
 replace-id-requires g c =
@@ -32,7 +36,8 @@ replace-id-requires g c =
     let fan = c.cavity_of.new.into.fan.items in
     let l : length fan ≤ t.spare = (let m = e.spare in let n = c.len.ensures.value in omega arith) in
     subst (λ (z : List ℕ). CanReplace t z c.deref-2.result.now c.args.p) (sym c.deref.ensures)
-    (subst (λ (z : List Facet). CanReplace t cells z c.args.p) (sym c.deref-2.ensures) (can_replace s t c.args.p cells fan e.points e.inserted e.slots e.kept l c.in_ok-cavity_of.ensures.cavity))
+    (subst (λ (z : List Facet). CanReplace t cells z c.args.p) (sym c.deref-2.ensures)
+    (can_replace s t c.args.p cells fan e.points e.inserted e.slots e.kept l c.in_ok-cavity_of.ensures.cavity))
 
 are_cells : (g : Over) (c : goal.After-facts-2 g) → AreLiveCells c.replace-id.new.self
 are_cells g c =
@@ -43,8 +48,12 @@ are_cells g c =
     let cells = c.cavity_of.new.into.cells.items in
     let fan = c.cavity_of.new.into.fan.items in
     let r : IsReplaced t u cells fan c.args.p =
-    subst (λ (z : List ℕ). IsReplaced t u z fan c.args.p) c.deref.ensures (subst (λ (z : List Facet). IsReplaced t u c.deref.result.now z c.args.p) c.deref-2.ensures c.replace-id.ensures.replaced) in
-    live_cells s u t.spare c.args.p cells fan c.facts.ensures c.requires.delaunay c.requires.below c.requires.out c.in_ok-cavity_of.ensures.cavity (replaced s t u c.args.p cells fan e.points e.inserted e.slots e.kept r)
+    subst (λ (z : List ℕ). IsReplaced t u z fan c.args.p) c.deref.ensures
+    (subst (λ (z : List Facet). IsReplaced t u c.deref.result.now z c.args.p) c.deref-2.ensures
+    c.replace-id.ensures.replaced) in
+    live_cells s u t.spare c.args.p cells fan c.facts.ensures c.requires.delaunay c.requires.below c.requires.out
+    c.in_ok-cavity_of.ensures.cavity (replaced s t u c.args.p cells fan e.points e.inserted e.slots e.kept r)
 
 pub returns-clause-delaunay : goal.returns-clause-delaunay
-returns-clause-delaunay g c = whole c.replace-id.new.self c.replace-id.result c.facts-2.ensures c.replace-id.ensures.live (are_cells g c)
+returns-clause-delaunay g c =
+    whole c.replace-id.new.self c.replace-id.result c.facts-2.ensures c.replace-id.ensures.live (are_cells g c)

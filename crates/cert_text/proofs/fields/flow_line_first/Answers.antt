@@ -3,4 +3,7 @@ use Rattle.cert_text.proofs.FieldForms.{no_flow_row}
 use Rattle.cert_text.proofs.fields.flow_line_first.Goals as goal
 
 pub returns-in_err-amount-clause-none : goal.returns-in_err-amount-clause-none
-returns-in_err-amount-clause-none c = IfNone-holds _ _ (no_flow_row c.args.text.now c.in_ok-facet.rest.now c.in_ok-facet.facet c.in_ok-facet.ensures.some.0 c.in_ok-facet.ensures.some.1 c.in_err-amount.ensures.none)
+returns-in_err-amount-clause-none c =
+    IfNone-holds _ _
+    (no_flow_row c.args.text.now c.in_ok-facet.rest.now c.in_ok-facet.facet c.in_ok-facet.ensures.some.0
+    c.in_ok-facet.ensures.some.1 c.in_err-amount.ensures.none)

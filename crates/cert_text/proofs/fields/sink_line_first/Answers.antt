@@ -3,4 +3,7 @@ use Rattle.cert_text.proofs.FieldForms.{no_sink_row}
 use Rattle.cert_text.proofs.fields.sink_line_first.Goals as goal
 
 pub returns-in_err-amount-clause-none : goal.returns-in_err-amount-clause-none
-returns-in_err-amount-clause-none c = IfNone-holds _ _ (no_sink_row c.args.text.now c.in_ok-cell.rest.now c.in_ok-cell.cell c.in_ok-cell.ensures.some.0 c.in_ok-cell.ensures.some.1 c.in_err-amount.ensures.none)
+returns-in_err-amount-clause-none c =
+    IfNone-holds _ _
+    (no_sink_row c.args.text.now c.in_ok-cell.rest.now c.in_ok-cell.cell c.in_ok-cell.ensures.some.0 c.in_ok-cell.ensures.some.1
+    c.in_err-amount.ensures.none)

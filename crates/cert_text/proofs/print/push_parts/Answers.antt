@@ -3,13 +3,38 @@ use Rattle.line_text.proofs.Kept.{OnErr-holds, front_of_more, front_of_front}
 use Rattle.cert_text.proofs.print.push_parts.Goals as goal
 
 pub returns-in_err-push_inside-clause-kept : goal.returns-in_err-push_inside-clause-kept
-returns-in_err-push_inside-clause-kept c = OnErr-holds _ _ (front_of_front _ _ _ (front_of_front _ _ _ (front_of_more _ _ _ c.in_ok-push_version.ensures.ok) (front_of_more _ _ _ c.in_ok-push_counts.ensures.ok)) c.in_err-push_inside.ensures.kept)
+returns-in_err-push_inside-clause-kept c =
+    OnErr-holds _ _
+    (front_of_front _ _ _
+    (front_of_front _ _ _ (front_of_more _ _ _ c.in_ok-push_version.ensures.ok)
+    (front_of_more _ _ _ c.in_ok-push_counts.ensures.ok)) c.in_err-push_inside.ensures.kept)
 
 pub returns-in_err-push_flow-clause-kept : goal.returns-in_err-push_flow-clause-kept
-returns-in_err-push_flow-clause-kept c = OnErr-holds _ _ (front_of_front _ _ _ (front_of_front _ _ _ (front_of_front _ _ _ (front_of_more _ _ _ c.in_ok-push_version.ensures.ok) (front_of_more _ _ _ c.in_ok-push_counts.ensures.ok)) (front_of_more _ _ _ c.in_ok-push_inside.ensures.ok)) c.in_err-push_flow.ensures.kept)
+returns-in_err-push_flow-clause-kept c =
+    OnErr-holds _ _
+    (front_of_front _ _ _
+    (front_of_front _ _ _
+    (front_of_front _ _ _ (front_of_more _ _ _ c.in_ok-push_version.ensures.ok)
+    (front_of_more _ _ _ c.in_ok-push_counts.ensures.ok)) (front_of_more _ _ _ c.in_ok-push_inside.ensures.ok))
+    c.in_err-push_flow.ensures.kept)
 
 pub returns-in_err-push_sink-clause-kept : goal.returns-in_err-push_sink-clause-kept
-returns-in_err-push_sink-clause-kept c = OnErr-holds _ _ (front_of_front _ _ _ (front_of_front _ _ _ (front_of_front _ _ _ (front_of_front _ _ _ (front_of_more _ _ _ c.in_ok-push_version.ensures.ok) (front_of_more _ _ _ c.in_ok-push_counts.ensures.ok)) (front_of_more _ _ _ c.in_ok-push_inside.ensures.ok)) (front_of_more _ _ _ c.in_ok-push_flow.ensures.ok)) c.in_err-push_sink.ensures.kept)
+returns-in_err-push_sink-clause-kept c =
+    OnErr-holds _ _
+    (front_of_front _ _ _
+    (front_of_front _ _ _
+    (front_of_front _ _ _
+    (front_of_front _ _ _ (front_of_more _ _ _ c.in_ok-push_version.ensures.ok)
+    (front_of_more _ _ _ c.in_ok-push_counts.ensures.ok)) (front_of_more _ _ _ c.in_ok-push_inside.ensures.ok))
+    (front_of_more _ _ _ c.in_ok-push_flow.ensures.ok)) c.in_err-push_sink.ensures.kept)
 
 pub returns-in_err-extend_from_slice-clause-kept : goal.returns-in_err-extend_from_slice-clause-kept
-returns-in_err-extend_from_slice-clause-kept c = OnErr-holds _ _ (ap (take (length c.args.out.now.items)) c.in_err-extend_from_slice.ensures.items ∙ front_of_front _ _ _ (front_of_front _ _ _ (front_of_front _ _ _ (front_of_front _ _ _ (front_of_more _ _ _ c.in_ok-push_version.ensures.ok) (front_of_more _ _ _ c.in_ok-push_counts.ensures.ok)) (front_of_more _ _ _ c.in_ok-push_inside.ensures.ok)) (front_of_more _ _ _ c.in_ok-push_flow.ensures.ok)) (front_of_more _ _ _ c.in_ok-push_sink.ensures.ok))
+returns-in_err-extend_from_slice-clause-kept c =
+    OnErr-holds _ _
+    (ap (take (length c.args.out.now.items)) c.in_err-extend_from_slice.ensures.items
+    ∙ front_of_front _ _ _
+    (front_of_front _ _ _
+    (front_of_front _ _ _
+    (front_of_front _ _ _ (front_of_more _ _ _ c.in_ok-push_version.ensures.ok)
+    (front_of_more _ _ _ c.in_ok-push_counts.ensures.ok)) (front_of_more _ _ _ c.in_ok-push_inside.ensures.ok))
+    (front_of_more _ _ _ c.in_ok-push_flow.ensures.ok)) (front_of_more _ _ _ c.in_ok-push_sink.ensures.ok))

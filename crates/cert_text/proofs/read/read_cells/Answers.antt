@@ -4,14 +4,21 @@ use Rattle.line_text.proofs.Rows.{one_more_read_at, pushed, bad_row, row_out_of_
 use Rattle.cert_text.proofs.read.read_cells.Goals as goal
 
 pub returns-in-None-clause-refused : goal.returns-in-None-clause-refused
-returns-in-None-clause-refused c = bad_row IsCellRow cell_line cell_order _ _ _ _ _ _ _ _ c.loop-k.invariant c.loop-k-test.true c.in-None.ensures.none c.refusal_of.ensures
+returns-in-None-clause-refused c =
+    bad_row IsCellRow cell_line cell_order _ _ _ _ _ _ _ _ c.loop-k.invariant c.loop-k-test.true c.in-None.ensures.none
+    c.refusal_of.ensures
 
 pub returns-then-not-cell_rises-clause-refused : goal.returns-then-not-cell_rises-clause-refused
 returns-then-not-cell_rises-clause-refused c =
-    row_out_of_order_at IsCellRow cell_line cell_order c.args.text.now c.loop-k.rest.now c.in-Some.read.1.now c.loop-k.rows.items c.deref.result.now c.in-Some.read.0 c.args.count c.loop-k.k c.args.line c.loop-k.at
-    c.loop-k.invariant c.loop-k-test.true c.in-Some.ensures.some.0 c.in-Some.ensures.some.1 c.deref.ensures.value c.if-not-cell_rises.ensures.no
+    row_out_of_order_at IsCellRow cell_line cell_order c.args.text.now c.loop-k.rest.now c.in-Some.read.1.now
+    c.loop-k.rows.items c.deref.result.now c.in-Some.read.0 c.args.count c.loop-k.k c.args.line c.loop-k.at
+    c.loop-k.invariant c.loop-k-test.true c.in-Some.ensures.some.0 c.in-Some.ensures.some.1 c.deref.ensures.value
+    c.if-not-cell_rises.ensures.no
 
 pub loop-k-preserved : goal.loop-k-preserved
 loop-k-preserved c =
-    one_more_read_at IsCellRow cell_line cell_order c.args.text.now c.loop-k.rest.now c.in-Some.read.1.now c.loop-k.rows.items c.deref.result.now c.push.new.self.items c.in-Some.read.0 c.loop-k.k c.args.line c.loop-k.at c.saturating_add-at.result
-    c.loop-k.invariant c.in-Some.ensures.some.0 c.in-Some.ensures.some.1 c.deref.ensures.value c.if-not-cell_rises.ensures.yes (pushed c.push.result c.push.new.self.items c.loop-k.rows.items c.in-Some.read.0 c.if-is_err.ensures.value c.push.ensures.items) c.saturating_add-at.ensures
+    one_more_read_at IsCellRow cell_line cell_order c.args.text.now c.loop-k.rest.now c.in-Some.read.1.now c.loop-k.rows.items
+    c.deref.result.now c.push.new.self.items c.in-Some.read.0 c.loop-k.k c.args.line c.loop-k.at c.saturating_add-at.result
+    c.loop-k.invariant c.in-Some.ensures.some.0 c.in-Some.ensures.some.1 c.deref.ensures.value c.if-not-cell_rises.ensures.yes
+    (pushed c.push.result c.push.new.self.items c.loop-k.rows.items c.in-Some.read.0 c.if-is_err.ensures.value
+    c.push.ensures.items) c.saturating_add-at.ensures

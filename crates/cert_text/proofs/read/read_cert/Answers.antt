@@ -15,9 +15,12 @@ only_memory (Order n) P none h = absurd (none h)
 only_memory CertCut P none h = absurd (none h)
 only_memory NoMemory P none h = refl
 
-printed_so : (o : Result Certificate CertRefusal) (text : List ℕ) → IfOk o (λ cert. IsWellFormed (claim_of cert) × (text ≡ cert_text (claim_of cert))) → IfErr o (λ r. OrNoMemory r (IsRefused text r))
+printed_so : (o : Result Certificate CertRefusal) (text : List ℕ)
+    → IfOk o (λ cert. IsWellFormed (claim_of cert) × (text ≡ cert_text (claim_of cert)))
+    → IfErr o (λ r. OrNoMemory r (IsRefused text r))
     → (c : Claim) → IsWellFormed c → text ≡ cert_text c → MatchResult o (λ cert. claim_of cert ≡ c) (λ r. r ≡ NoMemory)
-printed_so (Ok cert) text ok err c w e = (cert_code (claim_of cert) c [] [] ok.0 w (ap (λ (t : List ℕ). t ++ []) (sym ok.1 ∙ e))).0
+printed_so (Ok cert) text ok err c w e =
+    (cert_code (claim_of cert) c [] [] ok.0 w (ap (λ (t : List ℕ). t ++ []) (sym ok.1 ∙ e))).0
 printed_so (Err r) text ok err c w e = only_memory r (IsRefused text r) (printed_not_refused c r text w e) err
 
 same_or_memory : (s r : CertRefusal) (text : List ℕ) → OrNoMemory s (IsRefused text s) → IsRefused text r → OrNoMemory s (s ≡ r)
@@ -26,13 +29,17 @@ same_or_memory (Order n) r text h k = refused_once text (Order n) r h k
 same_or_memory CertCut r text h k = refused_once text CertCut r h k
 same_or_memory NoMemory r text h k = tt
 
-first_so : (o : Result Certificate CertRefusal) (text : List ℕ) → IfOk o (λ cert. IsWellFormed (claim_of cert) × (text ≡ cert_text (claim_of cert))) → IfErr o (λ r. OrNoMemory r (IsRefused text r))
+first_so : (o : Result Certificate CertRefusal) (text : List ℕ)
+    → IfOk o (λ cert. IsWellFormed (claim_of cert) × (text ≡ cert_text (claim_of cert)))
+    → IfErr o (λ r. OrNoMemory r (IsRefused text r))
     → (r : CertRefusal) → IsRefused text r → IfErr o (λ s. OrNoMemory s (s ≡ r)) × IsErr o
 first_so (Ok cert) text ok err r h = absurd (printed_not_refused (claim_of cert) r text ok.0 ok.1 h)
 first_so (Err s) text ok err r h = (same_or_memory s r text err h, refl)
 
 pub returns-clause-printed : goal.returns-clause-printed
-returns-clause-printed c = printed_so c.read_or_refuse.result c.args.bytes.now c.read_or_refuse.ensures.ok c.read_or_refuse.ensures.refused
+returns-clause-printed c =
+    printed_so c.read_or_refuse.result c.args.bytes.now c.read_or_refuse.ensures.ok c.read_or_refuse.ensures.refused
 
 pub returns-clause-first : goal.returns-clause-first
-returns-clause-first c = first_so c.read_or_refuse.result c.args.bytes.now c.read_or_refuse.ensures.ok c.read_or_refuse.ensures.refused
+returns-clause-first c =
+    first_so c.read_or_refuse.result c.args.bytes.now c.read_or_refuse.ensures.ok c.read_or_refuse.ensures.refused

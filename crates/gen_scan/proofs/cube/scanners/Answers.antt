@@ -14,5 +14,7 @@ loop-face-preserved c =
           ∙ ap (λ (p : Point). c.loop-face.places.items ++ p ∷ []) c.point_on_face.ensures.value
           ∙ ap (λ places. places ++ on_face c.loop-face.face (pos 5000) (pos 0) (pos 0) ∷ []) c.loop-face.invariant.value
           ∙ sym (one_more_scanner c.loop-face.face c.loop-face-test.true);
-      data_points = subst (All (IsWithin DATA_LIMIT)) (sym more) (All-push (IsWithin DATA_LIMIT) _ _ c.loop-face.invariant.data_points c.point_on_face.ensures.data);
+      data_points =
+          subst (All (IsWithin DATA_LIMIT)) (sym more)
+          (All-push (IsWithin DATA_LIMIT) _ _ c.loop-face.invariant.data_points c.point_on_face.ensures.data);
     }

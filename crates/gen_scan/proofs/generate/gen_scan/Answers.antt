@@ -3,8 +3,10 @@ use Rattle.gen_scan.proofs.generate.gen_scan.Goals as goal
 
 pub invariant_of-result : goal.invariant_of-result
 invariant_of-result c =
-    let is = lists_are_shown c.args.n c.args.seed c.in_ok-points.points.items c.in_ok-scanners.scanners.items c.in_ok-points.seen.items
-    c.in_ok-points.ensures.points c.in_ok-points.ensures.seen c.in_ok-scanners.ensures.value c.in_ok-points.ensures.count c.requires.most c.in_ok-scanners.ensures.data in
+    let is =
+    lists_are_shown c.args.n c.args.seed c.in_ok-points.points.items c.in_ok-scanners.scanners.items c.in_ok-points.seen.items
+    c.in_ok-points.ensures.points c.in_ok-points.ensures.seen c.in_ok-scanners.ensures.value c.in_ok-points.ensures.count
+    c.requires.most c.in_ok-scanners.ensures.data in
     record {
       points_are_data = is.points;
       scanners_are_data = is.scanners;

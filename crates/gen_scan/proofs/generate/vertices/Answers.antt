@@ -12,8 +12,10 @@ loop-row-preserved c =
     let number = c.loop-row.row in
     let first : c.next_word.result ≡ (pcg32 g).0 = ap (λ (x : ℕ × Lcg). x.0) c.next_word.ensures in
     let then : c.next_word.new.self ≡ (pcg32 g).1 = ap (λ (x : ℕ × Lcg). x.1) c.next_word.ensures in
-    let second : c.next_word-in-loop-row.result ≡ (pcg32 (pcg32 g).1).0 = ap (λ (x : ℕ × Lcg). x.0) c.next_word-in-loop-row.ensures ∙ ap (λ h. (pcg32 h).0) then in
-    let behind : c.next_word-in-loop-row.new.self ≡ behind_row g = ap (λ (x : ℕ × Lcg). x.1) c.next_word-in-loop-row.ensures ∙ ap (λ h. (pcg32 h).1) then in
+    let second : c.next_word-in-loop-row.result ≡ (pcg32 (pcg32 g).1).0 =
+    ap (λ (x : ℕ × Lcg). x.0) c.next_word-in-loop-row.ensures ∙ ap (λ h. (pcg32 h).0) then in
+    let behind : c.next_word-in-loop-row.new.self ≡ behind_row g =
+    ap (λ (x : ℕ × Lcg). x.1) c.next_word-in-loop-row.ensures ∙ ap (λ h. (pcg32 h).1) then in
     let face = number % 6 in
     let placed : c.point_on_face.result ≡ on_face face (pos 1000) c.spread-u.result c.spread-v.result = search rules in
     let point_is : c.point_on_face.result ≡ point_in (next_row number g) =
@@ -22,9 +24,13 @@ loop-row-preserved c =
     ∙ ap (λ v. on_face face (pos 1000) (spread (pcg32 g).0) v) (c.spread-v.ensures.value ∙ ap spread second) in
     let more : c.push.new.self.items ≡ c.loop-row.points.items ++ c.point_on_face.result ∷ [] = search rules in
     record {
-      place = one_more_point c.loop-row.points.items c.push.new.self.items _ number c.args.count g c.next_word-in-loop-row.new.self c.loop-row-test.true
+      place =
+          one_more_point c.loop-row.points.items c.push.new.self.items _ number c.args.count g c.next_word-in-loop-row.new.self
+          c.loop-row-test.true
           (more ∙ ap (λ (p : Point). c.loop-row.points.items ++ p ∷ []) point_is) behind c.loop-row.invariant.place;
-      sight = one_more_sight c.loop-row.seen.items c.push-in-loop-row.new.self.items _ number c.args.count g c.next_word-in-loop-row.new.self c.loop-row-test.true
+      sight =
+          one_more_sight c.loop-row.seen.items c.push-in-loop-row.new.self.items _ number c.args.count g
+          c.next_word-in-loop-row.new.self c.loop-row-test.true
           (search rules) behind c.loop-row.invariant.sight;
       point_count = search rules;
     }

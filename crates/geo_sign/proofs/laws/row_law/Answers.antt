@@ -1,4 +1,5 @@
-use Rattle.geo_sign.proofs.RowLaws.{rows_exist, rows_are_written, rows_are_kept, rows_tell, cells_are_rows, written_facets, facets_are_among}
+use Rattle.geo_sign.proofs.RowLaws.{rows_exist, rows_are_written, rows_are_kept, rows_tell, cells_are_rows, written_facets}
+use Rattle.geo_sign.proofs.RowLaws.{facets_are_among}
 use Rattle.geo_sign.proofs.laws.row_law.Goals as goal
 
 pub returns-clause-exist : goal.returns-clause-exist

@@ -9,11 +9,14 @@ pub returns-clause-value : goal.returns-clause-value
 unfolding orientation
 returns-clause-value c =
     (held_kept w128 (held _ _ c.dot.ensures.bound) tt).is ∙ c.dot.ensures.value
-    ∙ ap₂ (λ p q. dot p q) (c.cross.ensures.value ∙ ap₂ (λ p q. cross p q) c.to.ensures.value c.to-2.ensures.value) c.to-3.ensures.value
+    ∙ ap₂ (λ p q. dot p q) (c.cross.ensures.value ∙ ap₂ (λ p q. cross p q) c.to.ensures.value c.to-2.ensures.value)
+    c.to-3.ensures.value
 
 pub returns-clause-bound : goal.returns-clause-bound
 unfolding orientation
 returns-clause-bound c =
     subst (λ (z : ℤ). unsigned_abs z < 2 ^ 75)
-    (c.dot.ensures.value ∙ ap₂ (λ p q. dot p q) (c.cross.ensures.value ∙ ap₂ (λ p q. cross p q) c.to.ensures.value c.to-2.ensures.value) c.to-3.ensures.value)
+    (c.dot.ensures.value
+    ∙ ap₂ (λ p q. dot p q) (c.cross.ensures.value ∙ ap₂ (λ p q. cross p q) c.to.ensures.value c.to-2.ensures.value)
+    c.to-3.ensures.value)
     (omega (arith, c.dot.ensures.bound))

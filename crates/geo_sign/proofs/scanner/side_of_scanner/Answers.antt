@@ -20,16 +20,20 @@ returns-clause-value c =
     ∙ ap₂ (λ s t. first_sign s t)
     (c.or-2.ensures
     ∙ ap₂ (λ s t. first_sign s t)
-    (c.or.ensures ∙ ap₂ (λ s t. first_sign s t) (c.of.ensures ∙ ap sign_of (held_kept w128 (held _ c.dot.result c.dot.ensures.bound) tt).is) (c.of-2.ensures ∙ part_sign c.cross-normal.result.x _ _ c.x.ensures c.from.ensures n.x_within))
+    (c.or.ensures ∙ ap₂ (λ s t. first_sign s t)
+    (c.of.ensures ∙ ap sign_of (held_kept w128 (held _ c.dot.result c.dot.ensures.bound) tt).is)
+    (c.of-2.ensures ∙ part_sign c.cross-normal.result.x _ _ c.x.ensures c.from.ensures n.x_within))
     (c.of-3.ensures ∙ part_sign c.cross-normal.result.y _ _ c.y.ensures c.from-2.ensures n.y_within))
     (c.of-4.ensures ∙ part_sign c.cross-normal.result.z _ _ c.z.ensures c.from-3.ensures n.z_within)
     ∙ scanner_signs c.args.a c.args.b c.args.c c.args.s c.cross-normal.result c.dot.result
-    (c.cross-normal.ensures.value ∙ ap₂ (λ u v. cross u v) c.to.ensures.value c.to-2.ensures.value) (c.dot.ensures.value ∙ ap (λ v. dot c.cross-normal.result v) c.to-3.ensures.value) n
+    (c.cross-normal.ensures.value ∙ ap₂ (λ u v. cross u v) c.to.ensures.value c.to-2.ensures.value)
+    (c.dot.ensures.value ∙ ap (λ v. dot c.cross-normal.result v) c.to-3.ensures.value) n
 
 pub returns-clause-bound : goal.returns-clause-bound
 returns-clause-bound c =
     side_bound c.args.a c.args.b c.args.c c.args.s c.cross-normal.result c.dot.result
-    (c.cross-normal.ensures.value ∙ ap₂ (λ u v. cross u v) c.to.ensures.value c.to-2.ensures.value) (c.dot.ensures.value ∙ ap (λ v. dot c.cross-normal.result v) c.to-3.ensures.value)
+    (c.cross-normal.ensures.value ∙ ap₂ (λ u v. cross u v) c.to.ensures.value c.to-2.ensures.value)
+    (c.dot.ensures.value ∙ ap (λ v. dot c.cross-normal.result v) c.to-3.ensures.value)
     c.cross-normal.ensures.bound c.dot.ensures.bound
 
 pub returns-clause-zero : goal.returns-clause-zero

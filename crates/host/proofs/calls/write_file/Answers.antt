@@ -11,6 +11,7 @@ pub returns-clause-failed : goal.returns-clause-failed
 returns-clause-failed g c =
     OnErr-map c.finish-finished.result _ _
     (failed_last c.args.name.now c.args.bytes.now
-    (g.H.Host.state c.args.host.now) (g.H.Host.state c.create.new.self) (g.H.Host.state c.append_all-added.new.host) (g.H.Host.state c.finish-finished.new.self)
+    (g.H.Host.state c.args.host.now) (g.H.Host.state c.create.new.self) (g.H.Host.state c.append_all-added.new.host)
+    (g.H.Host.state c.finish-finished.new.self)
     c.in_ok-create.ensures.created c.in_ok-added.ensures.added)
     c.finish-finished.ensures.failed

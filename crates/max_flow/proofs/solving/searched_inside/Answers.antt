@@ -18,5 +18,6 @@ returns-clause-cost c =
     let complete = c.in_ok-search.ensures in
     let are = levels_of c.args.net.now c.args.flow.now search complete in
     let none = none_fixed_at_largest c.args.net.now c.args.flow.now search c.requires complete.tree in
-    rw c.from.ensures (sym (levels_cost c.args.net.now c.args.flow.now search.marked.items search.level.items c.requires.valid are
+    rw c.from.ensures
+    (sym (levels_cost c.args.net.now c.args.flow.now search.marked.items search.level.items c.requires.valid are
     (levels_admissible c.args.net.now c.args.flow.now search.marked.items search.level.items are none)))

@@ -1,4 +1,5 @@
-use Rattle.std.proofs.Common.{ℕ, ◌≡◌, ◌<◌, ◌+◌, ◌++◌, ◌||◌, not, Bool, true, false, cond, refl, subst, rules, [], ◌∷◌, List, map, length, get_or, take, ap, sym, ◌∙◌, arith}
+use Rattle.std.proofs.Common.{ℕ, ◌≡◌, ◌<◌, ◌+◌, ◌++◌, ◌||◌, not, Bool, true, false, cond, refl, subst, rules, [], ◌∷◌, List}
+use Rattle.std.proofs.Common.{map, length, get_or, take, ap, sym, ◌∙◌, arith}
 use Rattle.std.specs.List.{list_any, position_or_len}
 use Rattle.std.proofs.lemmas.Bool.{false≢true}
 use Rattle.std.proofs.lemmas.List.{take_more, length-take-le}
@@ -25,20 +26,26 @@ equals_is a b = by (ghosts.eq a b) (is_same_point a b) refl refl
     by true true e f = refl
     by false false e f = refl
     by true false e f = absurd (differ_is a b f (same_point a b e))
-    by false true e f = absurd (false≢true (sym e ∙ subst (λ (p : Point). ghosts.eq a p ≡ true) (same_is a b f) (equals_itself a)))
+    by false true e f =
+        absurd (false≢true (sym e ∙ subst (λ (p : Point). ghosts.eq a p ≡ true) (same_is a b f) (equals_itself a)))
 
 any_is : (p : Point) (points : List Point) → list_any (ghosts.eq p) points ≡ list_any (is_same_point p) points
 any_is p [] = refl
-any_is p (first ∷ rest) = ap (λ (b : Bool). b || list_any (ghosts.eq p) rest) (equals_is p first) ∙ ap (λ (b : Bool). is_same_point p first || b) (any_is p rest)
+any_is p (first ∷ rest) =
+    ap (λ (b : Bool). b || list_any (ghosts.eq p) rest) (equals_is p first)
+    ∙ ap (λ (b : Bool). is_same_point p first || b) (any_is p rest)
 
 index_is : (p : Point) (points : List Point) → position_or_len (ghosts.eq p) points ≡ index_among points p
 index_is p [] = refl
-index_is p (first ∷ rest) = ap (λ (b : Bool). cond (not b) (1 + position_or_len (ghosts.eq p) rest) 0) (equals_is p first) ∙ ap (λ (n : ℕ). cond (not (is_same_point p first)) (1 + n) 0) (index_is p rest)
+index_is p (first ∷ rest) =
+    ap (λ (b : Bool). cond (not b) (1 + position_or_len (ghosts.eq p) rest) 0) (equals_is p first)
+    ∙ ap (λ (n : ℕ). cond (not (is_same_point p first)) (1 + n) 0) (index_is p rest)
 
 -- ---- a row more
 
 -- the points that were seen, with the next row's point
-points_more : (rows seen : List Point) (i : ℕ) (p : Point) → i < length rows → p ≡ get_or rows i p → seen ≡ distinct_points (take i rows)
+points_more : (rows seen : List Point) (i : ℕ) (p : Point) → i < length rows → p ≡ get_or rows i p
+    → seen ≡ distinct_points (take i rows)
     → insert_key ghosts.eq seen p ≡ distinct_points (take (i + 1) rows)
 points_more rows seen i p within is kept =
     ap (λ (b : Bool). cond b seen (seen ++ p ∷ [])) (any_is p seen)
@@ -47,30 +54,38 @@ points_more rows seen i p within is kept =
     ∙ ap distinct_points (sym (take_more rows i p within ∙ ap (λ (q : Point). take i rows ++ q ∷ []) (sym is)))
 
 -- the rows' indices, with the next row's
-indices_more : (rows seen : List Point) (of_row : List ℕ) (i : ℕ) (p : Point) → i < length rows → p ≡ get_or rows i p → seen ≡ distinct_points (take i rows)
+indices_more : (rows seen : List Point) (of_row : List ℕ) (i : ℕ) (p : Point) → i < length rows → p ≡ get_or rows i p
+    → seen ≡ distinct_points (take i rows)
     → of_row ≡ map (index_among (distinct_points (take i rows))) (take i rows)
-    → of_row ++ position_or_len (ghosts.eq p) seen ∷ [] ≡ map (index_among (distinct_points (take (i + 1) rows))) (take (i + 1) rows)
+    → of_row ++ position_or_len (ghosts.eq p) seen ∷ []
+    ≡ map (index_among (distinct_points (take (i + 1) rows))) (take (i + 1) rows)
 indices_more rows seen of_row i p within is kept indices =
     ap (λ (n : ℕ). of_row ++ n ∷ []) (index_is p seen)
     ∙ ap (λ (list : List ℕ). list ++ index_among seen p ∷ []) indices
-    ∙ ap (λ (points : List Point). map (index_among (distinct_points (take i rows))) (take i rows) ++ index_among points p ∷ []) kept
+    ∙ ap (λ (points : List Point). map (index_among (distinct_points (take i rows))) (take i rows) ++ index_among points p ∷ [])
+    kept
     ∙ sym (indices_push (take i rows) p)
-    ∙ ap (λ (list : List Point). map (index_among (distinct_points list)) list) (sym (take_more rows i p within ∙ ap (λ (q : Point). take i rows ++ q ∷ []) (sym is)))
+    ∙ ap (λ (list : List Point). map (index_among (distinct_points list)) list)
+    (sym (take_more rows i p within ∙ ap (λ (q : Point). take i rows ++ q ∷ []) (sym is)))
 
 pub loop-point-preserved : goal.loop-point-preserved
 loop-point-preserved c =
     record {
       points = c.in_ok-index.ensures.keys
-          ∙ points_more c.args.points.now c.loop-point.seen.keys c.loop-point.point-index c.point-item.result c.loop-point-test.true c.point-item.is c.loop-point.invariant.points;
+          ∙ points_more c.args.points.now c.loop-point.seen.keys c.loop-point.point-index c.point-item.result
+          c.loop-point-test.true c.point-item.is c.loop-point.invariant.points;
       of_row = c.in_ok-push.ensures.items
           ∙ ap (λ (index : ℕ). c.loop-point.of_row.items ++ index ∷ []) c.in_ok-index.ensures.index
-          ∙ indices_more c.args.points.now c.loop-point.seen.keys c.loop-point.of_row.items c.loop-point.point-index c.point-item.result c.loop-point-test.true c.point-item.is
+          ∙ indices_more c.args.points.now c.loop-point.seen.keys c.loop-point.of_row.items c.loop-point.point-index
+          c.point-item.result c.loop-point-test.true c.point-item.is
           c.loop-point.invariant.points c.loop-point.invariant.of_row;
     }
 
 pub overflow_cast-index : goal.overflow_cast-index
 overflow_cast-index c =
-    let more = points_more c.args.points.now c.loop-point.seen.keys c.loop-point.point-index c.point-item.result c.loop-point-test.true c.point-item.is c.loop-point.invariant.points in
+    let more =
+    points_more c.args.points.now c.loop-point.seen.keys c.loop-point.point-index c.point-item.result c.loop-point-test.true
+    c.point-item.is c.loop-point.invariant.points in
     omega (
       arith,
       c.in_ok-index.ensures.within,

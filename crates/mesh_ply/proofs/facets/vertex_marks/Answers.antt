@@ -8,4 +8,5 @@ pub returns : goal.returns
 returns c =
     let facets = c.args.facets.now in
     let all : take c.loop-facet.facet-index facets ≡ facets = take_all c.loop-facet.facet-index facets (omega arith) in
-    marks_are facets c.loop-facet.marks.items c.args.count c.loop-facet.invariant.0 (λ v l. c.loop-facet.invariant.1 v l ∙ ap (λ (t : List (List ℕ)). is_used t v) all)
+    marks_are facets c.loop-facet.marks.items c.args.count c.loop-facet.invariant.0
+    (λ v l. c.loop-facet.invariant.1 v l ∙ ap (λ (t : List (List ℕ)). is_used t v) all)

@@ -5,9 +5,15 @@ use Rattle.mesh_ply.specs.Texts.{face_line}
 use Rattle.mesh_ply.proofs.read.read_faces.Goals as goal
 
 pub returns-in-None-clause-refused : goal.returns-in-None-clause-refused
-returns-in-None-clause-refused c = bad_row (IsFace c.args.points) face_line None _ _ _ _ _ _ _ _ c.loop-k.invariant c.loop-k-test.true c.in-None.ensures.none c.refusal_of.ensures
+returns-in-None-clause-refused c =
+    bad_row (IsFace c.args.points) face_line None _ _ _ _ _ _ _ _ c.loop-k.invariant c.loop-k-test.true c.in-None.ensures.none
+    c.refusal_of.ensures
 
 pub loop-k-preserved : goal.loop-k-preserved
 loop-k-preserved c =
-    one_more_read_at (IsFace c.args.points) face_line None c.args.text.now c.loop-k.rest.now c.in-Some.read.1.now c.loop-k.rows.items c.loop-k.rows.items c.push.new.self.items c.in-Some.read.0 c.loop-k.k c.args.line c.loop-k.at c.saturating_add-at.result
-    c.loop-k.invariant c.in-Some.ensures.some.0 c.in-Some.ensures.some.1 refl tt (pushed c.push.result c.push.new.self.items c.loop-k.rows.items c.in-Some.read.0 c.if-is_err.ensures.value c.push.ensures.items) c.saturating_add-at.ensures
+    one_more_read_at (IsFace c.args.points) face_line None c.args.text.now c.loop-k.rest.now c.in-Some.read.1.now
+    c.loop-k.rows.items c.loop-k.rows.items c.push.new.self.items c.in-Some.read.0 c.loop-k.k c.args.line c.loop-k.at
+    c.saturating_add-at.result
+    c.loop-k.invariant c.in-Some.ensures.some.0 c.in-Some.ensures.some.1 refl tt
+    (pushed c.push.result c.push.new.self.items c.loop-k.rows.items c.in-Some.read.0 c.if-is_err.ensures.value
+    c.push.ensures.items) c.saturating_add-at.ensures

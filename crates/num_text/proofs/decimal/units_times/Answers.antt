@@ -7,4 +7,5 @@ pub returns-then-units : goal.returns-then-units
 returns-then-units c = sym (within_limit_none _ (many_out c.args.units c.args.exponent c.if-units.true))
 
 pub returns-then-exponent-gt7 : goal.returns-then-exponent-gt7
-returns-then-exponent-gt7 c = sym (within_limit_none _ (far_out c.args.units c.args.exponent (omega arith) c.if-exponent-gt7.true))
+returns-then-exponent-gt7 c =
+    sym (within_limit_none _ (far_out c.args.units c.args.exponent (omega arith) c.if-exponent-gt7.true))

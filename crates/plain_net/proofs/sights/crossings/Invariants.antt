@@ -6,4 +6,7 @@ use Rattle.flow_net.specs.Weights.{weight_where}
 use Rattle.plain_net.proofs.sights.crossings.Given as goal
 
 abbrev pub invariant-loop-sight : goal.invariant-loop-sight
-invariant-loop-sight l = l.total ≡ weight_where (λ sight. is_crossed (vertices_of l.points) sight.vertex (scanner_point l.scanners sight.scanner) l.facet) (take l.sight-index l.sights)
+invariant-loop-sight l =
+    l.total ≡ weight_where
+    (λ sight. is_crossed (vertices_of l.points) sight.vertex (scanner_point l.scanners sight.scanner) l.facet)
+    (take l.sight-index l.sights)

@@ -6,4 +6,7 @@ use Rattle.flow_net.specs.Weights.{weight_where}
 use Rattle.plain_net.proofs.sights.sights_before.Given as goal
 
 abbrev pub invariant-loop-sight : goal.invariant-loop-sight
-invariant-loop-sight l = l.before ≡ weight_where (λ sight. is_behind (vertices_of l.points) sight.vertex (scanner_point l.scanners sight.scanner) l.cell) (take l.sight-index l.sights)
+invariant-loop-sight l =
+    l.before ≡ weight_where
+    (λ sight. is_behind (vertices_of l.points) sight.vertex (scanner_point l.scanners sight.scanner) l.cell)
+    (take l.sight-index l.sights)

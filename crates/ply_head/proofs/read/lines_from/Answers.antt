@@ -6,25 +6,37 @@ use Rattle.ply_head.proofs.read.lines_from.Goals as goal
 
 pub loop-number-preserved : goal.loop-number-preserved
 loop-number-preserved c = record {
-  head = step_goes c.loop-number.number c.loop-number.head c.in-Goes.next (parts_of c.loop-number.rest.now) c.in_ok-line.line.now (parts_of c.in_ok-line.behind.now) _ (omega arith) c.in_ok-line.ensures.line (rw c.in-Goes.is at c.in_ok-next.ensures) c.loop-number.invariant.head;
+  head =
+      step_goes c.loop-number.number c.loop-number.head c.in-Goes.next (parts_of c.loop-number.rest.now) c.in_ok-line.line.now
+      (parts_of c.in_ok-line.behind.now) _ (omega arith) c.in_ok-line.ensures.line (rw c.in-Goes.is at c.in_ok-next.ensures)
+      c.loop-number.invariant.head;
   tail = tail_of_tail _ _ _ c.in_ok-line.ensures.tail c.loop-number.invariant.tail;
 }
 
 pub returns-in_err-line-clause-head : goal.returns-in_err-line-clause-head
 returns-in_err-line-clause-head c =
     let p = err_from_is_err_and c.from_residual.result c.from_residual.ensures.1 in
-    rw (p.1, p.2) (line_refused c.in_err-line.field-0.0 c.loop-number.number c.loop-number.head (parts_of c.loop-number.rest.now) _ (omega arith) c.in_err-line.ensures.line c.loop-number.invariant.head)
+    rw (p.1, p.2)
+    (line_refused c.in_err-line.field-0.0 c.loop-number.number c.loop-number.head (parts_of c.loop-number.rest.now) _
+    (omega arith) c.in_err-line.ensures.line c.loop-number.invariant.head)
 
 pub returns-in_err-next-clause-head : goal.returns-in_err-next-clause-head
 returns-in_err-next-clause-head c =
     let p = err_from_is_err_and c.from_residual-in_err-next.result c.from_residual-in_err-next.ensures.1 in
-    rw (p.1, p.2) (step_refused c.in_err-next.field-0.0 c.loop-number.number c.loop-number.head (parts_of c.loop-number.rest.now) c.in_ok-line.line.now (parts_of c.in_ok-line.behind.now) _ (omega arith) c.in_ok-line.ensures.line c.in_err-next.ensures c.loop-number.invariant.head)
+    rw (p.1, p.2)
+    (step_refused c.in_err-next.field-0.0 c.loop-number.number c.loop-number.head (parts_of c.loop-number.rest.now)
+    c.in_ok-line.line.now (parts_of c.in_ok-line.behind.now) _ (omega arith) c.in_ok-line.ensures.line c.in_err-next.ensures
+    c.loop-number.invariant.head)
 
 pub returns-in-Ends-clause-head : goal.returns-in-Ends-clause-head
-returns-in-Ends-clause-head c = step_ends c.loop-number.number c.loop-number.head c.in-Ends.whole (parts_of c.loop-number.rest.now) c.in_ok-line.line.now c.in_ok-line.behind.now _ (omega arith) c.in_ok-line.ensures.line (rw c.in-Ends.is at c.in_ok-next.ensures) c.loop-number.invariant.head
+returns-in-Ends-clause-head c =
+    step_ends c.loop-number.number c.loop-number.head c.in-Ends.whole (parts_of c.loop-number.rest.now) c.in_ok-line.line.now
+    c.in_ok-line.behind.now _ (omega arith) c.in_ok-line.ensures.line (rw c.in-Ends.is at c.in_ok-next.ensures)
+    c.loop-number.invariant.head
 
 pub returns-clause-head : goal.returns-clause-head
-returns-clause-head c = lines_over c.loop-number.number c.loop-number.head c.loop-number.rest.now _ (omega arith) c.loop-number.invariant.head
+returns-clause-head c =
+    lines_over c.loop-number.number c.loop-number.head c.loop-number.rest.now _ (omega arith) c.loop-number.invariant.head
 
 pub returns-in-Ends-clause-tail : goal.returns-in-Ends-clause-tail
 returns-in-Ends-clause-tail c = tail_of_tail _ _ _ c.in_ok-line.ensures.tail c.loop-number.invariant.tail

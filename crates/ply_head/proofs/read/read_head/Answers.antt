@@ -10,7 +10,8 @@ overflow_sub-position c = tail_fits _ _ (tail_of_tail _ _ _ c.in_ok-head.ensures
 -- the header and the body that the position cuts off
 read : goal.returns-clause-exact
 read c =
-    c.in-Some.ensures.some ∙ c.in_ok-head.ensures.head ∙ ap (whole_and c.in_ok-head.head) (sym (tail_is _ _ (tail_of_tail _ _ _ c.in_ok-head.ensures.tail c.in-Some.ensures.tail)))
+    c.in-Some.ensures.some ∙ c.in_ok-head.ensures.head
+    ∙ ap (whole_and c.in_ok-head.head) (sym (tail_is _ _ (tail_of_tail _ _ _ c.in_ok-head.ensures.tail c.in-Some.ensures.tail)))
 
 pub returns-clause-exact : goal.returns-clause-exact
 returns-clause-exact c = read c

@@ -12,13 +12,19 @@ returns-then-is_empty-clause-none c =
 
 pub returns-then-is_blank_byte-clause-some : goal.returns-then-is_blank_byte-clause-some
 returns-then-is_blank_byte-clause-some c =
-    word_taken c.args.line.now c.behind_blanks-rest.result.now c.loop-position.position c.behind_blanks-rest.ensures.words c.behind_blanks-rest.ensures.begins c.loop-position-test.true c.loop-position.invariant (sym c.is_blank_byte.ensures ∙ c.if-is_blank_byte.true)
+    word_taken c.args.line.now c.behind_blanks-rest.result.now c.loop-position.position c.behind_blanks-rest.ensures.words
+    c.behind_blanks-rest.ensures.begins c.loop-position-test.true c.loop-position.invariant
+    (sym c.is_blank_byte.ensures ∙ c.if-is_blank_byte.true)
 
 pub loop-position-preserved : goal.loop-position-preserved
-loop-position-preserved c = All-more (λ x. is_blank x ≡ false) c.behind_blanks-rest.result.now c.loop-position.position 0 c.loop-position-test.true c.loop-position.invariant (sym c.is_blank_byte.ensures ∙ c.if-is_blank_byte.false)
+loop-position-preserved c =
+    All-more (λ x. is_blank x ≡ false) c.behind_blanks-rest.result.now c.loop-position.position 0 c.loop-position-test.true
+    c.loop-position.invariant (sym c.is_blank_byte.ensures ∙ c.if-is_blank_byte.false)
 
 pub returns-clause-some : goal.returns-clause-some
 returns-clause-some c =
     let some : 0 < length c.behind_blanks-rest.result.now = grind arith in
-    let all = subst (λ (w : List ℕ). All (λ x. is_blank x ≡ false) w) (take_all c.loop-position.position c.behind_blanks-rest.result.now (omega arith)) c.loop-position.invariant in
+    let all =
+    subst (λ (w : List ℕ). All (λ x. is_blank x ≡ false) w)
+    (take_all c.loop-position.position c.behind_blanks-rest.result.now (omega arith)) c.loop-position.invariant in
     last_taken c.args.line.now c.behind_blanks-rest.result.now c.behind_blanks-rest.ensures.words some all

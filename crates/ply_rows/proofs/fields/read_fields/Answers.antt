@@ -9,20 +9,34 @@ use Rattle.ply_rows.proofs.fields.read_fields.Goals as goal
 pub loop-i-preserved : goal.loop-i-preserved
 loop-i-preserved c = record {
   most = c.in_ok-field.ensures.most;
-  fits = subst (λ (fs : List Field). FitSoFar c.args.kind c.args.body.now c.args.properties.now (c.loop-i.i + 1) fs) (sym c.in_ok-push.ensures.items)
-      (one_fits c.args.kind c.args.body.now c.args.properties.now c.loop-i.i c.loop-i.out.items c.index-properties-i.result c.in_ok-field.field c.loop-i-test.true c.index-properties-i.is c.loop-i.invariant.fits c.in_ok-field.ensures.fits);
+  fits =
+      subst (λ (fs : List Field). FitSoFar c.args.kind c.args.body.now c.args.properties.now (c.loop-i.i + 1) fs)
+      (sym c.in_ok-push.ensures.items)
+      (one_fits c.args.kind c.args.body.now c.args.properties.now c.loop-i.i c.loop-i.out.items c.index-properties-i.result
+      c.in_ok-field.field c.loop-i-test.true c.index-properties-i.is c.loop-i.invariant.fits c.in_ok-field.ensures.fits);
   so_far =
-      ap (λ (fs : List Field). with_front fs (fields_of c.args.row.element c.args.row.row (c.loop-i.i + 1) (drop (c.loop-i.i + 1) c.args.properties.now) (rest_at c.args.kind c.args.body.now c.in_ok-field.behind))) c.in_ok-push.ensures.items
-      ∙ fields_more c.args.row.element c.args.row.row c.loop-i.i c.args.properties.now c.index-properties-i.result (rest_at c.args.kind c.args.body.now c.loop-i.end) (rest_at c.args.kind c.args.body.now c.in_ok-field.behind) c.loop-i.out.items c.in_ok-field.field _ c.loop-i-test.true c.index-properties-i.is c.in_ok-field.ensures.field c.loop-i.invariant.so_far;
+      ap (λ (fs : List Field).
+      with_front fs
+      (fields_of c.args.row.element c.args.row.row (c.loop-i.i + 1) (drop (c.loop-i.i + 1) c.args.properties.now)
+      (rest_at c.args.kind c.args.body.now c.in_ok-field.behind))) c.in_ok-push.ensures.items
+      ∙ fields_more c.args.row.element c.args.row.row c.loop-i.i c.args.properties.now c.index-properties-i.result
+      (rest_at c.args.kind c.args.body.now c.loop-i.end) (rest_at c.args.kind c.args.body.now c.in_ok-field.behind)
+      c.loop-i.out.items c.in_ok-field.field _ c.loop-i-test.true c.index-properties-i.is c.in_ok-field.ensures.field
+      c.loop-i.invariant.so_far;
 }
 
 pub returns-in_err-field-clause-fields : goal.returns-in_err-field-clause-fields
 returns-in_err-field-clause-fields c =
     let p = err_from_is_err_and c.from_residual.result c.from_residual.ensures.1 in
-    rw (p.1, p.2) (fields_fail c.in_err-field.field-0.0 c.args.row.element c.args.row.row c.loop-i.i c.args.properties.now c.index-properties-i.result (rest_at c.args.kind c.args.body.now c.loop-i.end) c.loop-i.out.items _ c.loop-i-test.true c.index-properties-i.is c.in_err-field.ensures.field c.loop-i.invariant.so_far)
+    rw (p.1, p.2)
+    (fields_fail c.in_err-field.field-0.0 c.args.row.element c.args.row.row c.loop-i.i c.args.properties.now
+    c.index-properties-i.result (rest_at c.args.kind c.args.body.now c.loop-i.end) c.loop-i.out.items _ c.loop-i-test.true
+    c.index-properties-i.is c.in_err-field.ensures.field c.loop-i.invariant.so_far)
 
 pub returns-clause-fields : goal.returns-clause-fields
-returns-clause-fields c = fields_done c.args.row.element c.args.row.row c.loop-i.i c.args.properties.now (rest_at c.args.kind c.args.body.now c.loop-i.end) c.loop-i.out.items _ c.loop-i-test.false c.loop-i.invariant.so_far
+returns-clause-fields c =
+    fields_done c.args.row.element c.args.row.row c.loop-i.i c.args.properties.now
+    (rest_at c.args.kind c.args.body.now c.loop-i.end) c.loop-i.out.items _ c.loop-i-test.false c.loop-i.invariant.so_far
 
 pub returns-clause-fits : goal.returns-clause-fits
 returns-clause-fits c =

@@ -8,5 +8,6 @@ abbrev pub invariant-loop-i : goal.invariant-loop-i
 invariant-loop-i l = record {
   most : l.end ≤ length l.body;
   fits : FitSoFar l.kind l.body l.properties l.i l.out.items;
-  so_far : with_front l.out.items (fields_of l.row.element l.row.row l.i (drop l.i l.properties) (rest_at l.kind l.body l.end)) ≡ fields_of l.row.element l.row.row 0 l.properties (rest_at l.kind l.body l.place);
+  so_far : with_front l.out.items (fields_of l.row.element l.row.row l.i (drop l.i l.properties) (rest_at l.kind l.body l.end))
+      ≡ fields_of l.row.element l.row.row 0 l.properties (rest_at l.kind l.body l.place);
 }

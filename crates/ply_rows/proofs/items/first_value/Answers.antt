@@ -10,5 +10,7 @@ pub returns-clause-first : goal.returns-clause-first
 returns-clause-first c =
     let a = c.args in
     value_first a.kind a.item a.body.now a.place a.items c.requires.kind c.requires.some
-    ∙ ap (λ (n : ℕ). take n (drop a.place a.body.now) ∷ items_from a.kind a.item a.body.now (a.place + n) (a.items - 1)) (sym c.size.ensures.value)
-    ∙ ap (λ (n : ℕ). take n (drop a.place a.body.now) ∷ items_from a.kind a.item a.body.now (a.place + c.size.result) (a.items - 1)) (taken a.place c.size.result)
+    ∙ ap (λ (n : ℕ). take n (drop a.place a.body.now) ∷ items_from a.kind a.item a.body.now (a.place + n) (a.items - 1))
+    (sym c.size.ensures.value)
+    ∙ ap (λ (n : ℕ). take n (drop a.place a.body.now)
+    ∷ items_from a.kind a.item a.body.now (a.place + c.size.result) (a.items - 1)) (taken a.place c.size.result)

@@ -9,9 +9,12 @@ loop-index-preserved c on e =
     elim c.if-flow-ne0.branch [
       | then-flow-ne0+in_ok-push w ↦
           ap (λ v. v.items) w.rows-is ∙ w.in_ok-push.ensures.items
-          ∙ ap (λ rows. rows ++ flow_row (get_or c.args.facets.now c.loop-index.index []) (get_or c.args.amounts.now c.loop-index.index 0) ∷ []) (c.loop-index.invariant on e)
-          ∙ sym (listed_more_yes flow_row c.args.facets.now c.args.amounts.now on c.loop-index.index e c.loop-index-test.true w.if-flow-ne0.true)
+          ∙ ap (λ rows. rows ++ flow_row (get_or c.args.facets.now c.loop-index.index [])
+          (get_or c.args.amounts.now c.loop-index.index 0) ∷ []) (c.loop-index.invariant on e)
+          ∙ sym (listed_more_yes flow_row c.args.facets.now c.args.amounts.now on c.loop-index.index e c.loop-index-test.true
+          w.if-flow-ne0.true)
       | else-flow-ne0 w ↦
           ap (λ v. v.items) w.rows-is ∙ c.loop-index.invariant on e
-          ∙ sym (listed_more_no flow_row c.args.facets.now c.args.amounts.now on c.loop-index.index e c.loop-index-test.true w.if-flow-ne0.false)
+          ∙ sym (listed_more_no flow_row c.args.facets.now c.args.amounts.now on c.loop-index.index e c.loop-index-test.true
+          w.if-flow-ne0.false)
     ]

@@ -20,7 +20,12 @@ use Rattle.recon_build.proofs.solving.certificate.Goals as goal
 pub returns-clause-counts : goal.returns-clause-counts
 returns-clause-counts c =
     record {
-      points = omega (arith, c.vertex_count.ensures, corner_count c.args.tetra.now (points_of (shown_of c.args.scan.now)) c.requires.points);
+      points =
+          omega (
+            arith,
+            c.vertex_count.ensures,
+            corner_count c.args.tetra.now (points_of (shown_of c.args.scan.now)) c.requires.points,
+          );
       scanners = omega (arith, c.len.ensures, c.args.scan.now.scanners.ok);
       sights = omega (arith, c.len-2.ensures, c.args.scan.now.seen.ok);
       vote = refl;
@@ -32,48 +37,86 @@ returns-clause-states c listing =
     let s : Scene = scene_of_scan (shown_of c.args.scan.now) c.args.settings in
     let voted : Voted = c.args.voted.now in
     let network : IsNetworkInAnyOrder s voted =
-    record { listing = listing; fixed_is = c.requires.network.fixed_is; sink_is = c.requires.network.sink_is; arcs_are = c.requires.network.arcs_are } in
+    record {
+      listing = listing;
+      fixed_is = c.requires.network.fixed_is;
+      sink_is = c.requires.network.sink_is;
+      arcs_are = c.requires.network.arcs_are;
+    } in
     let few : s.vertices.count ≤ 2 ^ 32 = omega (arith, few_vertices c.args.scan.now c.args.settings) in
-    certificate_is s voted c.args.labels.now c.args.flow.now _ network c.requires.labels c.requires.flow c.requires.equal c.least_cost.ensures
+    certificate_is s voted c.args.labels.now c.args.flow.now _ network c.requires.labels c.requires.flow c.requires.equal
+    c.least_cost.ensures
     (inside_are s few (complex_of voted) listing (test_of voted.cells c.args.labels.now.inside) _
-    (inside_moved _ _ _ _ _ _ c.as_slice-cells.ensures c.as_slice.ensures (flags_are s voted c.args.labels.now network c.requires.labels) c.in_ok-inside_rows.ensures.moved)
+    (inside_moved _ _ _ _ _ _ c.as_slice-cells.ensures c.as_slice.ensures
+    (flags_are s voted c.args.labels.now network c.requires.labels) c.in_ok-inside_rows.ensures.moved)
     c.in_ok-inside_rows.ensures.sorted)
     (flow_are s few (complex_of voted) listing (amount_of voted.facets c.args.flow.now.on_arc) _
-    (flow_moved _ _ _ _ _ _ c.as_slice-2.ensures c.as_slice-3.ensures (on_arcs_are s voted c.args.flow.now network c.requires.flow) c.in_ok-flow_rows.ensures.moved)
+    (flow_moved _ _ _ _ _ _ c.as_slice-2.ensures c.as_slice-3.ensures
+    (on_arcs_are s voted c.args.flow.now network c.requires.flow) c.in_ok-flow_rows.ensures.moved)
     c.in_ok-flow_rows.ensures.sorted)
     (sinks_are s few (complex_of voted) listing (amount_of voted.cells c.args.flow.now.on_sink) _
-    (sinks_moved _ _ _ _ _ _ c.as_slice-cells.ensures c.as_slice-4.ensures (at_nodes_are s voted c.args.flow.now network c.requires.flow) c.in_ok-sink_rows.ensures.moved)
+    (sinks_moved _ _ _ _ _ _ c.as_slice-cells.ensures c.as_slice-4.ensures
+    (at_nodes_are s voted c.args.flow.now network c.requires.flow) c.in_ok-sink_rows.ensures.moved)
     c.in_ok-sink_rows.ensures.sorted)
   where
-    inside_moved : (rows cells given : List (List ℕ)) (flags inside : List Bool) (test : List ℕ → Bool) → given ≡ cells → inside ≡ flags → map test cells ≡ flags
-        → ((t : List ℕ → Bool) → map t given ≡ inside → IsPermutation (filter t given) rows) → IsPermutation (filter test cells) rows
-    inside_moved rows cells given flags inside test a b e f = subst (λ (list : List (List ℕ)). IsPermutation (filter test list) rows) a (f test (ap (map test) a ∙ (e ∙ sym b)))
+    inside_moved : (rows cells given : List (List ℕ)) (flags inside : List Bool) (test : List ℕ → Bool) → given ≡ cells
+        → inside ≡ flags → map test cells ≡ flags
+        → ((t : List ℕ → Bool) → map t given ≡ inside → IsPermutation (filter t given) rows)
+        → IsPermutation (filter test cells) rows
+    inside_moved rows cells given flags inside test a b e f =
+        subst (λ (list : List (List ℕ)). IsPermutation (filter test list) rows) a (f test (ap (map test) a ∙ (e ∙ sym b)))
 
-    flow_moved : (rows : List FlowRow) (facets given : List (List ℕ)) (amounts on_arc : List ℕ) (on : List ℕ → ℕ) → given ≡ facets → amounts ≡ on_arc → map on facets ≡ on_arc
-        → ((t : List ℕ → ℕ) → map t given ≡ amounts → IsPermutation (flow_rows given t) rows) → IsPermutation (flow_rows facets on) rows
-    flow_moved rows facets given amounts on_arc on a b e f = subst (λ (list : List (List ℕ)). IsPermutation (flow_rows list on) rows) a (f on (ap (map on) a ∙ (e ∙ sym b)))
+    flow_moved : (rows : List FlowRow) (facets given : List (List ℕ)) (amounts on_arc : List ℕ) (on : List ℕ → ℕ)
+        → given ≡ facets → amounts ≡ on_arc → map on facets ≡ on_arc
+        → ((t : List ℕ → ℕ) → map t given ≡ amounts → IsPermutation (flow_rows given t) rows)
+        → IsPermutation (flow_rows facets on) rows
+    flow_moved rows facets given amounts on_arc on a b e f =
+        subst (λ (list : List (List ℕ)). IsPermutation (flow_rows list on) rows) a (f on (ap (map on) a ∙ (e ∙ sym b)))
 
-    sinks_moved : (rows : List SinkRow) (cells given : List (List ℕ)) (amounts on_sink : List ℕ) (at : List ℕ → ℕ) → given ≡ cells → amounts ≡ on_sink → map at cells ≡ on_sink
-        → ((t : List ℕ → ℕ) → map t given ≡ amounts → IsPermutation (sink_rows given t) rows) → IsPermutation (sink_rows cells at) rows
-    sinks_moved rows cells given amounts on_sink at a b e f = subst (λ (list : List (List ℕ)). IsPermutation (sink_rows list at) rows) a (f at (ap (map at) a ∙ (e ∙ sym b)))
+    sinks_moved : (rows : List SinkRow) (cells given : List (List ℕ)) (amounts on_sink : List ℕ) (at : List ℕ → ℕ)
+        → given ≡ cells → amounts ≡ on_sink → map at cells ≡ on_sink
+        → ((t : List ℕ → ℕ) → map t given ≡ amounts → IsPermutation (sink_rows given t) rows)
+        → IsPermutation (sink_rows cells at) rows
+    sinks_moved rows cells given amounts on_sink at a b e f =
+        subst (λ (list : List (List ℕ)). IsPermutation (sink_rows list at) rows) a (f at (ap (map at) a ∙ (e ∙ sym b)))
 
 pub inside_rows-requires : goal.inside_rows-requires
 inside_rows-requires c =
-    omega (arith, ap length c.as_slice-cells.ensures, ap length c.as_slice.ensures, c.requires.labels.least_cost.admissible.count, node_count (scene_of_scan (shown_of c.args.scan.now) c.args.settings) c.args.voted.now c.requires.network)
+    omega (
+      arith,
+      ap length c.as_slice-cells.ensures,
+      ap length c.as_slice.ensures,
+      c.requires.labels.least_cost.admissible.count,
+      node_count (scene_of_scan (shown_of c.args.scan.now) c.args.settings) c.args.voted.now c.requires.network,
+    )
 
 pub flow_rows-requires : goal.flow_rows-requires
 flow_rows-requires c =
-    omega (arith, ap length c.as_slice-2.ensures, ap length c.as_slice-3.ensures, c.requires.flow.arc_count, arc_count (scene_of_scan (shown_of c.args.scan.now) c.args.settings) c.args.voted.now c.requires.network)
+    omega (
+      arith,
+      ap length c.as_slice-2.ensures,
+      ap length c.as_slice-3.ensures,
+      c.requires.flow.arc_count,
+      arc_count (scene_of_scan (shown_of c.args.scan.now) c.args.settings) c.args.voted.now c.requires.network,
+    )
 
 pub sink_rows-requires : goal.sink_rows-requires
 sink_rows-requires c =
-    omega (arith, ap length c.as_slice-cells.ensures, ap length c.as_slice-4.ensures, c.requires.flow.node_count, node_count (scene_of_scan (shown_of c.args.scan.now) c.args.settings) c.args.voted.now c.requires.network)
+    omega (
+      arith,
+      ap length c.as_slice-cells.ensures,
+      ap length c.as_slice-4.ensures,
+      c.requires.flow.node_count,
+      node_count (scene_of_scan (shown_of c.args.scan.now) c.args.settings) c.args.voted.now c.requires.network,
+    )
 
 pub returns-clause-well_formed : goal.returns-clause-well_formed
 returns-clause-well_formed c =
     let s : Scene = scene_of_scan (shown_of c.args.scan.now) c.args.settings in
     let cost : c.least_cost.result < 2 ^ 64 = omega (arith, c.least_cost.type_inv) in
-    well_formed s c.requires.network.listing.complex (test_of c.args.voted.now.cells c.args.labels.now.inside) _ c.requires.network.listing.complex_is (few_vertices c.args.scan.now c.args.settings) (few_sights c.args.scan.now) (version_of c.args.stamp)
+    well_formed s c.requires.network.listing.complex (test_of c.args.voted.now.cells c.args.labels.now.inside) _
+    c.requires.network.listing.complex_is (few_vertices c.args.scan.now c.args.settings) (few_sights c.args.scan.now)
+    (version_of c.args.stamp)
     (fit_counts _ c.args.scan.now c.args.settings (returns-clause-counts c) cost)
     (record {
       inside = omega (arith, c.in_ok-inside_rows.field-0.ok, c.in_ok-inside_rows.field-0.small);
@@ -83,4 +126,6 @@ returns-clause-well_formed c =
     (returns-clause-states c c.requires.network.listing)
 
 pub overflow_sub-result : goal.overflow_sub-result
-overflow_sub-result c = omega (arith, c.vertex_count.ensures, corner_count c.args.tetra.now (points_of (shown_of c.args.scan.now)) c.requires.points)
+overflow_sub-result c =
+    omega
+    (arith, c.vertex_count.ensures, corner_count c.args.tetra.now (points_of (shown_of c.args.scan.now)) c.requires.points)

@@ -12,26 +12,40 @@ use Rattle.recon_check.proofs.checking.check_all.Goals as goal
 
 pub returns-in-Ok-clause-only : goal.returns-in-Ok-clause-only
 returns-in-Ok-clause-only c = λ answer h.
-    one_answer (shown_of c.args.scan.now) c.args.settings (stamp_view c.args.stamp.now) c.args.mesh.now c.args.cert.now (Yes c.in-Ok.shown.inside c.in-Ok.shown.faces c.in-Ok.shown.cost) answer c.in-Ok.ensures.shown h
+    one_answer (shown_of c.args.scan.now) c.args.settings (stamp_view c.args.stamp.now) c.args.mesh.now c.args.cert.now
+    (Yes c.in-Ok.shown.inside c.in-Ok.shown.faces c.in-Ok.shown.cost) answer c.in-Ok.ensures.shown h
 
 pub returns-in-Ok-clause-built : goal.returns-in-Ok-clause-built
 returns-in-Ok-clause-built c = λ surface claim solution formed stamped mesh_is cert_is.
-    one_answer (shown_of c.args.scan.now) c.args.settings (stamp_view c.args.stamp.now) c.args.mesh.now c.args.cert.now (Yes c.in-Ok.shown.inside c.in-Ok.shown.faces c.in-Ok.shown.cost) _ c.in-Ok.ensures.shown
-    (built_yes (shown_of c.args.scan.now) c.args.settings (stamp_view c.args.stamp.now) c.args.mesh.now c.args.cert.now surface claim solution formed stamped mesh_is cert_is)
+    one_answer (shown_of c.args.scan.now) c.args.settings (stamp_view c.args.stamp.now) c.args.mesh.now c.args.cert.now
+    (Yes c.in-Ok.shown.inside c.in-Ok.shown.faces c.in-Ok.shown.cost) _ c.in-Ok.ensures.shown
+    (built_yes (shown_of c.args.scan.now) c.args.settings (stamp_view c.args.stamp.now) c.args.mesh.now c.args.cert.now surface
+    claim solution formed stamped mesh_is cert_is)
 
-fault_is : (c : goal.In-Err-Fault) → IsAnswer (shown_of c.args.scan.now) c.args.settings (stamp_view c.args.stamp.now) c.args.mesh.now c.args.cert.now (No c.in-Err-Fault.reason)
+fault_is : (c : goal.In-Err-Fault)
+    → IsAnswer (shown_of c.args.scan.now) c.args.settings (stamp_view c.args.stamp.now) c.args.mesh.now c.args.cert.now
+    (No c.in-Err-Fault.reason)
 fault_is c =
-    let P : Reason → Type 0 = λ reason. IsAnswer (shown_of c.args.scan.now) c.args.settings (stamp_view c.args.stamp.now) c.args.mesh.now c.args.cert.now (No reason) in
+    let P : Reason → Type 0 =
+    λ reason. IsAnswer (shown_of c.args.scan.now) c.args.settings (stamp_view c.args.stamp.now) c.args.mesh.now c.args.cert.now
+    (No reason) in
     subst (λ (stop : Stop). StopsFor P stop) c.in-Err-Fault.field-0-is c.in-Err-Fault.ensures.fault
 
 pub returns-in-Err-Fault-clause-only : goal.returns-in-Err-Fault-clause-only
 returns-in-Err-Fault-clause-only c = λ answer h.
-    one_answer (shown_of c.args.scan.now) c.args.settings (stamp_view c.args.stamp.now) c.args.mesh.now c.args.cert.now (No c.in-Err-Fault.reason) answer (fault_is c) h
+    one_answer (shown_of c.args.scan.now) c.args.settings (stamp_view c.args.stamp.now) c.args.mesh.now c.args.cert.now
+    (No c.in-Err-Fault.reason) answer (fault_is c) h
 
 pub returns-in-Err-Fault-clause-yes : goal.returns-in-Err-Fault-clause-yes
-returns-in-Err-Fault-clause-yes c = (λ h. absurd h, λ accepted. not_accepted (shown_of c.args.scan.now) c.args.settings (stamp_view c.args.stamp.now) c.args.mesh.now c.args.cert.now c.in-Err-Fault.reason (fault_is c) accepted)
+returns-in-Err-Fault-clause-yes c = (
+  λ h. absurd h,
+  λ accepted. not_accepted (shown_of c.args.scan.now) c.args.settings (stamp_view c.args.stamp.now) c.args.mesh.now
+      c.args.cert.now c.in-Err-Fault.reason (fault_is c) accepted,
+)
 
 pub returns-in-Err-Fault-clause-built : goal.returns-in-Err-Fault-clause-built
 returns-in-Err-Fault-clause-built c = λ surface claim solution formed stamped mesh_is cert_is.
-    one_answer (shown_of c.args.scan.now) c.args.settings (stamp_view c.args.stamp.now) c.args.mesh.now c.args.cert.now (No c.in-Err-Fault.reason) _ (fault_is c)
-    (built_yes (shown_of c.args.scan.now) c.args.settings (stamp_view c.args.stamp.now) c.args.mesh.now c.args.cert.now surface claim solution formed stamped mesh_is cert_is)
+    one_answer (shown_of c.args.scan.now) c.args.settings (stamp_view c.args.stamp.now) c.args.mesh.now c.args.cert.now
+    (No c.in-Err-Fault.reason) _ (fault_is c)
+    (built_yes (shown_of c.args.scan.now) c.args.settings (stamp_view c.args.stamp.now) c.args.mesh.now c.args.cert.now surface
+    claim solution formed stamped mesh_is cert_is)

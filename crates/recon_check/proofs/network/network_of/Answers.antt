@@ -22,13 +22,15 @@ pub count_votes_rising-requires : goal.count_votes_rising-requires
 count_votes_rising-requires c = (
   refl,
   (
-    c.in_ok-linked.ensures.points ∙ ap (λ (list : List Point). corners ++ list) (c.deref.ensures.value ∙ sym c.deref-2.ensures.value),
+    c.in_ok-linked.ensures.points
+        ∙ ap (λ (list : List Point). corners ++ list) (c.deref.ensures.value ∙ sym c.deref-2.ensures.value),
     (
       c.in_ok-linked.ensures.inserted,
       (
         c.in_ok-linked.ensures.delaunay,
         (
-          seen_in_range c.args.scan.now c.in_ok-linked.linked c.deref.result.now c.deref-4.result.now c.deref-3.result.now c.in_ok-linked.ensures.points (c.deref.ensures.value ∙ c.requires.points) c.in_ok-linked.ensures.inserted
+          seen_in_range c.args.scan.now c.in_ok-linked.linked c.deref.result.now c.deref-4.result.now c.deref-3.result.now
+              c.in_ok-linked.ensures.points (c.deref.ensures.value ∙ c.requires.points) c.in_ok-linked.ensures.inserted
               c.deref-4.ensures.value (c.deref-3.ensures.value ∙ c.requires.sights),
           (
             subst IsSightList (sym (c.deref-3.ensures.value ∙ c.requires.sights)) (few_sights c.args.scan.now),
@@ -42,9 +44,16 @@ count_votes_rising-requires c = (
 
 pub returns : goal.returns
 returns c = record {
-  points = c.in_ok-linked.ensures.points ∙ ap (λ (list : List Point). corners ++ list) (c.deref.ensures.value ∙ c.requires.points);
-  cells = seen_cells c.args.scan.now c.args.settings c.in_ok-linked.linked c.deref.result.now c.facts.ensures c.in_ok-linked.ensures.points (c.deref.ensures.value ∙ c.requires.points) c.in_ok-linked.ensures.delaunay c.in_ok-linked.ensures.inserted;
-  voted = scene_over c.args.scan.now c.args.settings c.deref-2.result.now c.deref-4.result.now c.deref-3.result.now (λ (s : Scene). IsNetworkOf s c.in_ok-counted.counted.voted)
-      (c.deref-2.ensures.value ∙ c.requires.points) c.deref-4.ensures.value (c.deref-3.ensures.value ∙ c.requires.sights) c.in_ok-counted.ensures.network;
+  points =
+      c.in_ok-linked.ensures.points ∙ ap (λ (list : List Point). corners ++ list) (c.deref.ensures.value ∙ c.requires.points);
+  cells =
+      seen_cells c.args.scan.now c.args.settings c.in_ok-linked.linked c.deref.result.now c.facts.ensures
+      c.in_ok-linked.ensures.points (c.deref.ensures.value ∙ c.requires.points) c.in_ok-linked.ensures.delaunay
+      c.in_ok-linked.ensures.inserted;
+  voted =
+      scene_over c.args.scan.now c.args.settings c.deref-2.result.now c.deref-4.result.now c.deref-3.result.now
+      (λ (s : Scene). IsNetworkOf s c.in_ok-counted.counted.voted)
+      (c.deref-2.ensures.value ∙ c.requires.points) c.deref-4.ensures.value (c.deref-3.ensures.value ∙ c.requires.sights)
+      c.in_ok-counted.ensures.network;
   ids = c.in_ok-counted.ensures.ids;
 }

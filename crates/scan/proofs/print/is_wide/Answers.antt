@@ -12,25 +12,33 @@ pub returns-then-not-is_once : goal.returns-then-not-is_once
 returns-then-not-is_once c =
     let seen = c.args.seen.now in
     let point = get_or c.args.points.now c.loop-i.i origin in
-    let is_point : point ≡ get_or c.args.points.now c.loop-i.i point = get_or_default c.args.points.now c.loop-i.i origin point c.loop-i-test.true in
+    let is_point : point ≡ get_or c.args.points.now c.loop-i.i point =
+    get_or_default c.args.points.now c.loop-i.i origin point c.loop-i-test.true in
     let start = c.loop-i.next in
     let end = c.end_of_row-end.result in
     let of = c.end_of_row-end.ensures in
-    let run : IsRun seen start end c.loop-i.i = record { least = of.least; most = of.most; inside = of.inside; ends = of.ends } in
-    let other : is_once (row_of point (take (end - start) (drop start seen))) ≡ false = search (rules, c.is_once.ensures point) in
-    sym (not_once c.args.points.now seen start end c.loop-i.i point (take (end - start) (drop start seen)) c.loop-i-test.true is_point c.requires c.loop-i.invariant.cut run refl other c.loop-i.invariant.so_far)
+    let run : IsRun seen start end c.loop-i.i =
+    record { least = of.least; most = of.most; inside = of.inside; ends = of.ends } in
+    let other : is_once (row_of point (take (end - start) (drop start seen))) ≡ false =
+    search (rules, c.is_once.ensures point) in
+    sym (not_once c.args.points.now seen start end c.loop-i.i point (take (end - start) (drop start seen)) c.loop-i-test.true
+    is_point c.requires c.loop-i.invariant.cut run refl other c.loop-i.invariant.so_far)
 
 pub loop-i-preserved : goal.loop-i-preserved
 loop-i-preserved c =
     let seen = c.args.seen.now in
     let point = get_or c.args.points.now c.loop-i.i origin in
-    let is_point : point ≡ get_or c.args.points.now c.loop-i.i point = get_or_default c.args.points.now c.loop-i.i origin point c.loop-i-test.true in
+    let is_point : point ≡ get_or c.args.points.now c.loop-i.i point =
+    get_or_default c.args.points.now c.loop-i.i origin point c.loop-i-test.true in
     let start = c.loop-i.next in
     let end = c.end_of_row-end.result in
     let of = c.end_of_row-end.ensures in
-    let run : IsRun seen start end c.loop-i.i = record { least = of.least; most = of.most; inside = of.inside; ends = of.ends } in
+    let run : IsRun seen start end c.loop-i.i =
+    record { least = of.least; most = of.most; inside = of.inside; ends = of.ends } in
     let once : is_once (row_of point (take (end - start) (drop start seen))) ≡ true = search (rules, c.is_once.ensures point) in
     record {
-      so_far = once_more c.args.points.now seen start end c.loop-i.i point (take (end - start) (drop start seen)) c.loop-i-test.true is_point c.requires c.loop-i.invariant.cut run refl once c.loop-i.invariant.so_far;
+      so_far =
+          once_more c.args.points.now seen start end c.loop-i.i point (take (end - start) (drop start seen)) c.loop-i-test.true
+          is_point c.requires c.loop-i.invariant.cut run refl once c.loop-i.invariant.so_far;
       cut = next_cut seen start end c.loop-i.i c.requires c.loop-i.invariant.cut run;
     }

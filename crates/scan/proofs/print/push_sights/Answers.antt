@@ -4,4 +4,7 @@ use Rattle.scan.proofs.print.push_sights.Goals as goal
 
 pub returns-then-wide-clause-printed : goal.returns-then-wide-clause-printed
 returns-then-wide-clause-printed c p =
-    subst (λ (wide : Bool). OnOk c.push_counted.result (c.push_counted.new.out.items ≡ c.args.out.now.items ++ spaced (numbers_of wide (row_of p c.args.sights.now)))) (sym c.if-wide.true) (c.push_counted.ensures.printed p)
+    subst (λ (wide : Bool).
+    OnOk c.push_counted.result
+    (c.push_counted.new.out.items ≡ c.args.out.now.items ++ spaced (numbers_of wide (row_of p c.args.sights.now))))
+    (sym c.if-wide.true) (c.push_counted.ensures.printed p)

@@ -16,7 +16,8 @@ returns-in-Many c =
     let scanners = c.in-Some.scanners in
     let is : IsIndexIn body fields scanners.index = rw c.in-Some.is at c.requires in
     let field = field_in fields scanners.index.number in
-    let of : IsFieldOf body.kind body.bytes (Many c.in-Many.count c.in-Many.item) field = subst (λ (s : Shape). IsFieldOf body.kind body.bytes s field) c.in-Many.is (is.field no_field) in
+    let of : IsFieldOf body.kind body.bytes (Many c.in-Many.count c.in-Many.item) field =
+    subst (λ (s : Shape). IsFieldOf body.kind body.bytes s field) c.in-Many.is (is.field no_field) in
     list_count body c.in-Many.count c.in-Many.item field of
     ∙ sym (ap (λ (s : Shape). length (values_in body s field)) c.in-Many.is)
     ∙ sym (ap (λ (s : Option ScannerPlan). sights_said body fields s) c.in-Some.is)

@@ -13,11 +13,16 @@ loop-left-init c = record { so_far = refl; inside = c.requires.place; there = c.
 pub loop-left-preserved : goal.loop-left-preserved
 loop-left-preserved c =
     let body = c.args.body.now in
-    let more : c.push.new.self.items ≡ c.loop-left.seen.items ++ (record { row = c.args.point.row; scanner = c.in_ok-scanner.scanner; weight = c.args.point.weight }) ∷ [] =
+    let more : c.push.new.self.items
+    ≡ c.loop-left.seen.items
+    ++ (record { row = c.args.point.row; scanner = c.in_ok-scanner.scanner; weight = c.args.point.weight }) ∷ [] =
     c.in_ok-push.ensures.items ∙ ap (λ (s : Seen). c.loop-left.seen.items ++ s ∷ []) c.from.ensures in
     record {
-      so_far = named_taken (scanner_named (body_view body) c.args.at c.args.scanners) c.loop-left.seen.items c.push.new.self.items c.args.point.row c.args.point.weight c.in_ok-scanner.scanner c.first_item-behind.result.0.now
-          (items_from body.kind c.args.item body.bytes.now c.loop-left.place c.loop-left.left) (items_from body.kind c.args.item body.bytes.now c.first_item-behind.result.1 (c.loop-left.left - 1)) _
+      so_far =
+          named_taken (scanner_named (body_view body) c.args.at c.args.scanners) c.loop-left.seen.items c.push.new.self.items
+          c.args.point.row c.args.point.weight c.in_ok-scanner.scanner c.first_item-behind.result.0.now
+          (items_from body.kind c.args.item body.bytes.now c.loop-left.place c.loop-left.left)
+          (items_from body.kind c.args.item body.bytes.now c.first_item-behind.result.1 (c.loop-left.left - 1)) _
           c.first_item-behind.ensures.first c.in_ok-scanner.ensures more c.loop-left.invariant.so_far;
       inside = c.first_item-behind.ensures.most;
       there = c.first_item-behind.ensures.there;
@@ -27,12 +32,19 @@ pub returns-in_err-scanner : goal.returns-in_err-scanner
 returns-in_err-scanner c =
     let body = c.args.body.now in
     let returned = err_from_is_err_and c.from_residual.result c.from_residual.ensures.1 in
-    rw (returned.1, returned.2) (named_refused c.in_err-scanner.field-0.0 (scanner_named (body_view body) c.args.at c.args.scanners) c.args.seen.now.items c.loop-left.seen.items c.args.point.row c.args.point.weight c.first_item-behind.result.0.now
-    (items_from body.kind c.args.item body.bytes.now c.loop-left.place c.loop-left.left) (items_from body.kind c.args.item body.bytes.now c.first_item-behind.result.1 (c.loop-left.left - 1))
-    (each_of (scanner_named (body_view body) c.args.at c.args.scanners) (items_in body.kind c.args.item body.bytes.now c.args.field)) c.first_item-behind.ensures.first c.in_err-scanner.ensures c.loop-left.invariant.so_far)
+    rw (returned.1, returned.2)
+    (named_refused c.in_err-scanner.field-0.0 (scanner_named (body_view body) c.args.at c.args.scanners) c.args.seen.now.items
+    c.loop-left.seen.items c.args.point.row c.args.point.weight c.first_item-behind.result.0.now
+    (items_from body.kind c.args.item body.bytes.now c.loop-left.place c.loop-left.left)
+    (items_from body.kind c.args.item body.bytes.now c.first_item-behind.result.1 (c.loop-left.left - 1))
+    (each_of (scanner_named (body_view body) c.args.at c.args.scanners)
+    (items_in body.kind c.args.item body.bytes.now c.args.field)) c.first_item-behind.ensures.first c.in_err-scanner.ensures
+    c.loop-left.invariant.so_far)
 
 pub returns : goal.returns
 returns c =
     let body = c.args.body.now in
-    all_named (scanner_named (body_view body) c.args.at c.args.scanners) c.loop-left.seen.items c.args.point.row c.args.point.weight (items_from body.kind c.args.item body.bytes.now c.loop-left.place c.loop-left.left) _
-    (no_items body.kind c.args.item body.bytes.now c.loop-left.place c.loop-left.left c.loop-left-test.false) c.loop-left.invariant.so_far
+    all_named (scanner_named (body_view body) c.args.at c.args.scanners) c.loop-left.seen.items c.args.point.row
+    c.args.point.weight (items_from body.kind c.args.item body.bytes.now c.loop-left.place c.loop-left.left) _
+    (no_items body.kind c.args.item body.bytes.now c.loop-left.place c.loop-left.left c.loop-left-test.false)
+    c.loop-left.invariant.so_far

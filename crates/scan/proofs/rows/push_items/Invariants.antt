@@ -7,8 +7,11 @@ use Rattle.scan.proofs.rows.push_items.Given as goal
 
 abbrev pub invariant-loop-left : goal.invariant-loop-left
 invariant-loop-left l = record {
-  so_far : seen_behind l.seen.items l.point.row l.point.weight (each_of (scanner_named (body_view l.body) l.at l.scanners) (items_from l.body.kind l.item l.body.bytes.now l.place l.left))
-      ≡ seen_behind l.initial.seen.items l.point.row l.point.weight (each_of (scanner_named (body_view l.body) l.at l.scanners) (items_in l.body.kind l.item l.body.bytes.now l.fn.field));
+  so_far : seen_behind l.seen.items l.point.row l.point.weight
+      (each_of (scanner_named (body_view l.body) l.at l.scanners)
+      (items_from l.body.kind l.item l.body.bytes.now l.place l.left))
+      ≡ seen_behind l.initial.seen.items l.point.row l.point.weight
+      (each_of (scanner_named (body_view l.body) l.at l.scanners) (items_in l.body.kind l.item l.body.bytes.now l.fn.field));
   inside : l.place ≤ length l.body.bytes.now;
   there : HasItems l.body.kind l.item l.body.bytes.now l.place l.left;
 }

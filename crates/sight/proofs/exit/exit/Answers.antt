@@ -4,13 +4,18 @@ use Rattle.sight.proofs.Steps.{distinct_at, ahead_there}
 use Rattle.sight.proofs.exit.exit.Goals as goal
 
 pub exit_side-requires-clause-distinct : goal.exit_side-requires-clause-distinct
-exit_side-requires-clause-distinct c = let a = c.args in distinct_at a.t.now a.vertex a.s a.at a.v a.entered c.facts.ensures c.requires.walking
+exit_side-requires-clause-distinct c =
+    let a = c.args in
+    distinct_at a.t.now a.vertex a.s a.at a.v a.entered c.facts.ensures c.requires.walking
 
 pub side_ahead-requires-clause-distinct : goal.side_ahead-requires-clause-distinct
-side_ahead-requires-clause-distinct c = let a = c.args in distinct_at a.t.now a.vertex a.s a.at a.v a.entered c.facts.ensures c.requires.walking
+side_ahead-requires-clause-distinct c =
+    let a = c.args in
+    distinct_at a.t.now a.vertex a.s a.at a.v a.entered c.facts.ensures c.requires.walking
 
 pub returns-else-eq-clause-some : goal.returns-else-eq-clause-some
 returns-else-eq-clause-some c =
     let a = c.args in
     let end = c.requires.end c.in-Some.end c.in-Some.is in
-    ahead_there a.t.now a.vertex a.s a.at a.v a.entered c.side_ahead.result c.in-Some.end c.facts.ensures c.requires.walking end (λ i. true≢false (sym (same_number a.at) ∙ ap (eqb a.at) i ∙ sym c.if-eq.ensures)) c.side_ahead.ensures.only
+    ahead_there a.t.now a.vertex a.s a.at a.v a.entered c.side_ahead.result c.in-Some.end c.facts.ensures c.requires.walking end
+    (λ i. true≢false (sym (same_number a.at) ∙ ap (eqb a.at) i ∙ sym c.if-eq.ensures)) c.side_ahead.ensures.only

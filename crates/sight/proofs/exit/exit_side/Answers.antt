@@ -7,10 +7,22 @@ use Rattle.sight.proofs.exit.exit_side.Goals as goal
 
 pub returns-then-is_beyond-clause-some : goal.returns-then-is_beyond-clause-some
 returns-then-is_beyond-clause-some c =
-    let a = c.args in let r = c.requires in let w = vertices_of a.t.now in let q = displaced a.s in let t = tetrahedron_from a.v in
-    goes_out w a.vertex q t a.entered c.side_ahead-side.result (sight_law w c.facts.ensures.vertices.boxed a.vertex r.vertex a.s r.data_point t r.cell) r.entered c.side_ahead-side.ensures.only (yes c.if-is_beyond.ensures)
+    let a = c.args in
+    let r = c.requires in
+    let w = vertices_of a.t.now in
+    let q = displaced a.s in
+    let t = tetrahedron_from a.v in
+    goes_out w a.vertex q t a.entered c.side_ahead-side.result
+    (sight_law w c.facts.ensures.vertices.boxed a.vertex r.vertex a.s r.data_point t r.cell) r.entered
+    c.side_ahead-side.ensures.only (yes c.if-is_beyond.ensures)
 
 pub returns-else-is_beyond-clause-none : goal.returns-else-is_beyond-clause-none
 returns-else-is_beyond-clause-none c =
-    let a = c.args in let r = c.requires in let w = vertices_of a.t.now in let q = displaced a.s in let t = tetrahedron_from a.v in
-    ends_here w a.vertex q t a.entered c.side_ahead-side.result (sight_law w c.facts.ensures.vertices.boxed a.vertex r.vertex a.s r.data_point t r.cell) r.entered c.side_ahead-side.ensures.only (no c.if-is_beyond.ensures)
+    let a = c.args in
+    let r = c.requires in
+    let w = vertices_of a.t.now in
+    let q = displaced a.s in
+    let t = tetrahedron_from a.v in
+    ends_here w a.vertex q t a.entered c.side_ahead-side.result
+    (sight_law w c.facts.ensures.vertices.boxed a.vertex r.vertex a.s r.data_point t r.cell) r.entered
+    c.side_ahead-side.ensures.only (no c.if-is_beyond.ensures)

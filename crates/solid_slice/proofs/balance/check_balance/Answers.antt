@@ -7,33 +7,61 @@ use Rattle.solid_slice.proofs.balance.check_balance.Goals as goal
 pub returns-in-None-clause-balanced : goal.returns-in-None-clause-balanced
 returns-in-None-clause-balanced c =
     let faces = c.args.mesh.now.faces.items in
-    let pairs = subst (λ (fs : List (List ℕ)). IsPairOf fs c.in_ok-sides.sides.there.items c.in_ok-sides.sides.back.items) c.deref.ensures.value c.in_ok-sides.ensures.pairs in
-    balanced faces c.in_ok-sides.sides.there.items c.in_ok-sides.sides.back.items (each_among (length c.args.mesh.now.points.items) faces c.requires.few_points c.requires.each) pairs
-    (λ k. ap (key_count k) (sym c.deref-2.ensures.value) ∙ (c.in-None.ensures.none k ∙ ap (key_count k) c.deref-3.ensures.value))
+    let pairs =
+    subst (λ (fs : List (List ℕ)). IsPairOf fs c.in_ok-sides.sides.there.items c.in_ok-sides.sides.back.items)
+    c.deref.ensures.value c.in_ok-sides.ensures.pairs in
+    balanced faces c.in_ok-sides.sides.there.items c.in_ok-sides.sides.back.items
+    (each_among (length c.args.mesh.now.points.items) faces c.requires.few_points c.requires.each) pairs
+    (λ k. ap (key_count k) (sym c.deref-2.ensures.value)
+    ∙ (c.in-None.ensures.none k ∙ ap (key_count k) c.deref-3.ensures.value))
 
 pub overflow_cast-result : goal.overflow_cast-result
 overflow_cast-result c =
     let faces = c.args.mesh.now.faces.items in
-    let pairs = subst (λ (fs : List (List ℕ)). IsPairOf fs c.in_ok-sides.sides.there.items c.in_ok-sides.sides.back.items) c.deref.ensures.value c.in_ok-sides.ensures.pairs in
+    let pairs =
+    subst (λ (fs : List (List ℕ)). IsPairOf fs c.in_ok-sides.sides.there.items c.in_ok-sides.sides.back.items)
+    c.deref.ensures.value c.in_ok-sides.ensures.pairs in
     let p = c.in-Some.pair in
     let small : p.second < 2 ^ 32 = omega arith in
-    omega (arith, c.count.ensures, ap (key_count (key_of_pair p)) c.deref-in-Some.ensures.value, pairs.there_count p.first p.second c.in-Some.ensures.some.1 small, few faces p.first p.second, c.requires.few_faces)
+    omega (
+      arith,
+      c.count.ensures,
+      ap (key_count (key_of_pair p)) c.deref-in-Some.ensures.value,
+      pairs.there_count p.first p.second c.in-Some.ensures.some.1 small,
+      few faces p.first p.second,
+      c.requires.few_faces,
+    )
 
 pub overflow_cast-result-in-Some : goal.overflow_cast-result-in-Some
 overflow_cast-result-in-Some c =
     let faces = c.args.mesh.now.faces.items in
-    let pairs = subst (λ (fs : List (List ℕ)). IsPairOf fs c.in_ok-sides.sides.there.items c.in_ok-sides.sides.back.items) c.deref.ensures.value c.in_ok-sides.ensures.pairs in
+    let pairs =
+    subst (λ (fs : List (List ℕ)). IsPairOf fs c.in_ok-sides.sides.there.items c.in_ok-sides.sides.back.items)
+    c.deref.ensures.value c.in_ok-sides.ensures.pairs in
     let p = c.in-Some.pair in
     let small : p.second < 2 ^ 32 = omega arith in
-    omega (arith, c.count-in-Some.ensures, ap (key_count (key_of_pair p)) c.deref-in-Some-2.ensures.value, pairs.back_count p.first p.second c.in-Some.ensures.some.1 small, few faces p.second p.first, c.requires.few_faces)
+    omega (
+      arith,
+      c.count-in-Some.ensures,
+      ap (key_count (key_of_pair p)) c.deref-in-Some-2.ensures.value,
+      pairs.back_count p.first p.second c.in-Some.ensures.some.1 small,
+      few faces p.second p.first,
+      c.requires.few_faces,
+    )
 
 pub returns-clause-refused : goal.returns-clause-refused
 returns-clause-refused c =
     let faces = c.args.mesh.now.faces.items in
-    let pairs = subst (λ (fs : List (List ℕ)). IsPairOf fs c.in_ok-sides.sides.there.items c.in_ok-sides.sides.back.items) c.deref.ensures.value c.in_ok-sides.ensures.pairs in
+    let pairs =
+    subst (λ (fs : List (List ℕ)). IsPairOf fs c.in_ok-sides.sides.there.items c.in_ok-sides.sides.back.items)
+    c.deref.ensures.value c.in_ok-sides.ensures.pairs in
     let p = c.in-Some.pair in
     let small : p.second < 2 ^ 32 = omega arith in
-    let first = subst (λ (t : List Pair). IsFirstDifference t c.in_ok-sides.sides.back.items p) c.deref-2.ensures.value (subst (λ (t : List Pair). IsFirstDifference c.deref-2.result.now t p) c.deref-3.ensures.value c.in-Some.ensures.some.0) in
-    unbalanced faces c.in_ok-sides.sides.there.items c.in_ok-sides.sides.back.items (each_among (length c.args.mesh.now.points.items) faces c.requires.few_points c.requires.each) pairs p _ _ small c.in-Some.ensures.some.1 first
+    let first =
+    subst (λ (t : List Pair). IsFirstDifference t c.in_ok-sides.sides.back.items p) c.deref-2.ensures.value
+    (subst (λ (t : List Pair). IsFirstDifference c.deref-2.result.now t p) c.deref-3.ensures.value c.in-Some.ensures.some.0) in
+    unbalanced faces c.in_ok-sides.sides.there.items c.in_ok-sides.sides.back.items
+    (each_among (length c.args.mesh.now.points.items) faces c.requires.few_points c.requires.each) pairs p _ _ small
+    c.in-Some.ensures.some.1 first
     (c.count.ensures ∙ ap (key_count (key_of_pair p)) c.deref-in-Some.ensures.value)
     (c.count-in-Some.ensures ∙ ap (key_count (key_of_pair p)) c.deref-in-Some-2.ensures.value)

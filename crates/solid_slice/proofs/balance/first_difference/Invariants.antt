@@ -3,4 +3,5 @@ use Rattle.solid_slice.specs.Pairs.{key_of_pair}
 use Rattle.solid_slice.proofs.balance.first_difference.Given as goal
 
 abbrev pub invariant-loop-at : goal.invariant-loop-at
-invariant-loop-at l = record { same : map key_of_pair (take l.at l.there) ≡ map key_of_pair (take l.at l.back); within : l.at ≤ length l.back }
+invariant-loop-at l =
+    record { same : map key_of_pair (take l.at l.there) ≡ map key_of_pair (take l.at l.back); within : l.at ≤ length l.back }

@@ -8,7 +8,8 @@ use Rattle.solid_slice.proofs.EdgeCounts.{pairs_moved}
 use Rattle.solid_slice.proofs.balance.sorted_sides.Goals as goal
 
 moved_to : (xs from ys zs : List Pair) → from ≡ xs → zs ≡ ys → IsPermutation from ys → IsPermutation xs zs
-moved_to xs from ys zs e f p = subst (λ (t : List Pair). IsPermutation t zs) e (subst (λ (t : List Pair). IsPermutation from t) (sym f) p)
+moved_to xs from ys zs e f p =
+    subst (λ (t : List Pair). IsPermutation t zs) e (subst (λ (t : List Pair). IsPermutation from t) (sym f) p)
 
 pub returns-clause-pairs : goal.returns-clause-pairs
 returns-clause-pairs c =
@@ -21,6 +22,8 @@ rising_to xs from ys zs e f p r = All-permutation (λ (q : Pair). q.first < q.se
 
 pub returns-clause-rising : goal.returns-clause-rising
 returns-clause-rising c = (
-  rising_to _ _ _ _ c.deref_mut.ensures.value (grind (arith, common_steps)) c.sort_pairs.ensures.moved c.in_ok-sides.ensures.rising.0,
-  rising_to _ _ _ _ c.deref_mut-2.ensures.value (grind (arith, common_steps)) c.sort_pairs-2.ensures.moved c.in_ok-sides.ensures.rising.1,
+  rising_to _ _ _ _ c.deref_mut.ensures.value (grind (arith, common_steps)) c.sort_pairs.ensures.moved
+      c.in_ok-sides.ensures.rising.0,
+  rising_to _ _ _ _ c.deref_mut-2.ensures.value (grind (arith, common_steps)) c.sort_pairs-2.ensures.moved
+      c.in_ok-sides.ensures.rising.1,
 )

@@ -9,7 +9,8 @@ use Rattle.solid_slice.proofs.crossings.matched_crossings.Goals as goal
 pub returns-clause-crossings : goal.returns-clause-crossings
 returns-clause-crossings c =
     let e : to_z w32 (of_z w32 c.args.height) ≡ c.args.height = omega (arith, ints) in
-    subst (λ (h : ℤ). AreCrossings c.args.mesh.now.points.items c.args.mesh.now.faces.items h (length c.args.mesh.now.faces.items) c.sort_crossings.new.list.items c.sort_crossings-2.new.list.items) e
+    subst (λ (h : ℤ). AreCrossings c.args.mesh.now.points.items c.args.mesh.now.faces.items h
+    (length c.args.mesh.now.faces.items) c.sort_crossings.new.list.items c.sort_crossings-2.new.list.items) e
     record {
       upward = λ u v l. c.in_ok-sort_crossings.ensures.stable (key_of u v) ∙ c.in_ok-crossings.ensures.upward u v l;
       downward = λ u v l. c.in_ok-sort_crossings-2.ensures.stable (key_of u v) ∙ c.in_ok-crossings.ensures.downward u v l;
@@ -17,7 +18,8 @@ returns-clause-crossings c =
 
 pub returns-clause-matched : goal.returns-clause-matched
 returns-clause-matched c =
-    matched c.args.mesh.now.points.items c.args.mesh.now.faces.items (to_z w32 (of_z w32 c.args.height)) c.sort_crossings.new.list.items c.sort_crossings-2.new.list.items
+    matched c.args.mesh.now.points.items c.args.mesh.now.faces.items (to_z w32 (of_z w32 c.args.height))
+    c.sort_crossings.new.list.items c.sort_crossings-2.new.list.items
     record {
       upward = λ u v l. c.in_ok-sort_crossings.ensures.stable (key_of u v) ∙ c.in_ok-crossings.ensures.upward u v l;
       downward = λ u v l. c.in_ok-sort_crossings-2.ensures.stable (key_of u v) ∙ c.in_ok-crossings.ensures.downward u v l;

@@ -19,10 +19,14 @@ kept k xs ys stable =
     let same = λ (d : Crossing). tie_is (key_of_crossing c) (key_of_crossing d) k (omega arith) in
     let test = λ (d : Crossing). key_of_crossing d == k in
     let tied = ties (λ (x y : Crossing). is_lt (nat_cmp (key_of_crossing x) (key_of_crossing y))) c in
-    ap (λ (t : List Crossing). map the_crossed t) (sym (filter_agree tied test same ys) ∙ (stable c ∙ filter_agree tied test same xs))
+    ap (λ (t : List Crossing). map the_crossed t)
+    (sym (filter_agree tied test same ys) ∙ (stable c ∙ filter_agree tied test same xs))
 
 pub returns-clause-sorted : goal.returns-clause-sorted
-returns-clause-sorted c = IsNonDecreasingBy-from_sort key_of_crossing _ (c.in_ok-sort_by_key.ensures.sorted key_of_crossing (answers_always _ _ _ (λ f a r g h. search rules)))
+returns-clause-sorted c =
+    IsNonDecreasingBy-from_sort key_of_crossing _
+    (c.in_ok-sort_by_key.ensures.sorted key_of_crossing (answers_always _ _ _ (λ f a r g h. search rules)))
 
 pub returns-clause-stable : goal.returns-clause-stable
-returns-clause-stable c = λ k. kept k _ _ (c.in_ok-sort_by_key.ensures.stable key_of_crossing (answers_always _ _ _ (λ f a r g h. search rules)))
+returns-clause-stable c =
+    λ k. kept k _ _ (c.in_ok-sort_by_key.ensures.stable key_of_crossing (answers_always _ _ _ (λ f a r g h. search rules)))

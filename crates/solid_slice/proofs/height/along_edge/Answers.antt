@@ -6,7 +6,9 @@ pub overflow_mul-result-2 : goal.overflow_mul-result-2
 overflow_mul-result-2 c =
     fits_held w64
     (held_mul
-    (held_kept w64 (held_sub (held_kept w64 (held _ c.args.to c.requires.to_within) tt) (held_kept w64 (held _ c.args.from c.requires.from_within) tt)) tt)
+    (held_kept w64
+    (held_sub (held_kept w64 (held _ c.args.to c.requires.to_within) tt)
+    (held_kept w64 (held _ c.args.from c.requires.from_within) tt)) tt)
     (held_kept w64 (held _ c.args.climb c.requires.climb_within) tt))
     tt
 
@@ -17,7 +19,9 @@ overflow_add-result c =
     (held_kept w64 (held_product w64 c.args.from c.args.d c.requires.from_within c.requires.d_within tt tt) tt)
     (held_kept w64
     (held_mul
-    (held_kept w64 (held_sub (held_kept w64 (held _ c.args.to c.requires.to_within) tt) (held_kept w64 (held _ c.args.from c.requires.from_within) tt)) tt)
+    (held_kept w64
+    (held_sub (held_kept w64 (held _ c.args.to c.requires.to_within) tt)
+    (held_kept w64 (held _ c.args.from c.requires.from_within) tt)) tt)
     (held_kept w64 (held _ c.args.climb c.requires.climb_within) tt))
     tt))
     tt
@@ -29,7 +33,9 @@ returns c =
     (held_kept w64 (held_product w64 c.args.from c.args.d c.requires.from_within c.requires.d_within tt tt) tt)
     (held_kept w64
     (held_mul
-    (held_kept w64 (held_sub (held_kept w64 (held _ c.args.to c.requires.to_within) tt) (held_kept w64 (held _ c.args.from c.requires.from_within) tt)) tt)
+    (held_kept w64
+    (held_sub (held_kept w64 (held _ c.args.to c.requires.to_within) tt)
+    (held_kept w64 (held _ c.args.from c.requires.from_within) tt)) tt)
     (held_kept w64 (held _ c.args.climb c.requires.climb_within) tt))
     tt))
     tt).is

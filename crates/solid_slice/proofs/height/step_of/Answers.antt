@@ -14,16 +14,24 @@ step_on-requires c =
     let points = c.args.mesh.now.points.items in
     let faces = c.args.mesh.now.faces.items in
     let stored : to_z w32 (of_z w32 c.args.height) ≡ c.args.height = omega (arith, ints) in
-    let up = up_edge_at points c.deref.result.now faces c.args.height _ c.args.face c.index.result.now c.up_edge.result c.unwrap-edge.result c.requires.cut c.deref.ensures.value stored c.index.ensures c.unwrap-edge.ensures c.up_edge.ensures.some in
+    let up =
+    up_edge_at points c.deref.result.now faces c.args.height _ c.args.face c.index.result.now c.up_edge.result
+    c.unwrap-edge.result c.requires.cut c.deref.ensures.value stored c.index.ensures c.unwrap-edge.ensures
+    c.up_edge.ensures.some in
     let o = c.requires.valid.valid.each c.args.face [] (cut_within points faces c.args.height c.args.face c.requires.cut) in
-    let within = edge_within (length points) c.unwrap-edge.result.first c.unwrap-edge.result.second (face_at faces c.args.face) o up.edge in
+    let within =
+    edge_within (length points) c.unwrap-edge.result.first c.unwrap-edge.result.second (face_at faces c.args.face) o up.edge in
     let size = ap (λ (t : List Point). length t) c.deref-2.ensures.value in
     record {
       boxed = subst (λ (t : List Point). All (IsWithin 8388608) t) (sym c.deref-2.ensures.value) c.requires.valid.boxed;
       lower = omega (arith, within.0, size);
       upper = omega (arith, within.1, size);
-      from_below = ap (λ (t : List Point). is_above t (to_z w32 (of_z w32 c.args.height)) c.unwrap-edge.result.first) c.deref-2.ensures.value ∙ (ap (λ (z : ℤ). is_above points z c.unwrap-edge.result.first) stored ∙ up.from_below);
-      to_above = ap (λ (t : List Point). is_above t (to_z w32 (of_z w32 c.args.height)) c.unwrap-edge.result.second) c.deref-2.ensures.value ∙ (ap (λ (z : ℤ). is_above points z c.unwrap-edge.result.second) stored ∙ up.to_above);
+      from_below =
+          ap (λ (t : List Point). is_above t (to_z w32 (of_z w32 c.args.height)) c.unwrap-edge.result.first)
+          c.deref-2.ensures.value ∙ (ap (λ (z : ℤ). is_above points z c.unwrap-edge.result.first) stored ∙ up.from_below);
+      to_above =
+          ap (λ (t : List Point). is_above t (to_z w32 (of_z w32 c.args.height)) c.unwrap-edge.result.second)
+          c.deref-2.ensures.value ∙ (ap (λ (z : ℤ). is_above points z c.unwrap-edge.result.second) stored ∙ up.to_above);
     }
 
 pub returns-clause-step : goal.returns-clause-step
@@ -31,7 +39,10 @@ returns-clause-step c =
     let points = c.args.mesh.now.points.items in
     let faces = c.args.mesh.now.faces.items in
     let stored : to_z w32 (of_z w32 c.args.height) ≡ c.args.height = omega (arith, ints) in
-    let up = up_edge_at points c.deref.result.now faces c.args.height _ c.args.face c.index.result.now c.up_edge.result c.unwrap-edge.result c.requires.cut c.deref.ensures.value stored c.index.ensures c.unwrap-edge.ensures c.up_edge.ensures.some in
+    let up =
+    up_edge_at points c.deref.result.now faces c.args.height _ c.args.face c.index.result.now c.up_edge.result
+    c.unwrap-edge.result c.requires.cut c.deref.ensures.value stored c.index.ensures c.unwrap-edge.ensures
+    c.up_edge.ensures.some in
     let l = c.unwrap-edge.result.first in
     let u = c.unwrap-edge.result.second in
     let s = c.step_on.result in
@@ -40,9 +51,15 @@ returns-clause-step c =
       lower = l;
       upper = u;
       up = subst (λ (f : ℕ). IsUpEdge points c.args.height (face_at faces f) l u) (sym c.step_on.ensures.face) up;
-      x = subst (λ (z : ℤ). s.x ≡ along z (point_at points l) (point_at points u) (point_at points l).x (point_at points u).x) stored
-          (subst (λ (ps : List Point). s.x ≡ along kept (point_at ps l) (point_at ps u) (point_at ps l).x (point_at ps u).x) c.deref-2.ensures.value c.step_on.ensures.x);
-      y = subst (λ (z : ℤ). s.y ≡ along z (point_at points l) (point_at points u) (point_at points l).y (point_at points u).y) stored
-          (subst (λ (ps : List Point). s.y ≡ along kept (point_at ps l) (point_at ps u) (point_at ps l).y (point_at ps u).y) c.deref-2.ensures.value c.step_on.ensures.y);
+      x =
+          subst (λ (z : ℤ). s.x ≡ along z (point_at points l) (point_at points u) (point_at points l).x (point_at points u).x)
+          stored
+          (subst (λ (ps : List Point). s.x ≡ along kept (point_at ps l) (point_at ps u) (point_at ps l).x (point_at ps u).x)
+          c.deref-2.ensures.value c.step_on.ensures.x);
+      y =
+          subst (λ (z : ℤ). s.y ≡ along z (point_at points l) (point_at points u) (point_at points l).y (point_at points u).y)
+          stored
+          (subst (λ (ps : List Point). s.y ≡ along kept (point_at ps l) (point_at ps u) (point_at ps l).y (point_at ps u).y)
+          c.deref-2.ensures.value c.step_on.ensures.y);
       d = subst (λ (ps : List Point). s.d ≡ rise (point_at ps l) (point_at ps u)) c.deref-2.ensures.value c.step_on.ensures.d;
     }

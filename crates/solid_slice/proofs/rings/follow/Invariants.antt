@@ -8,7 +8,8 @@ use Rattle.solid_slice.proofs.rings.follow.Given as goal
 abbrev pub invariant-loop-steps : goal.invariant-loop-steps
 invariant-loop-steps l =
     record {
-      walk : IsFollowed l.mesh.points.items l.mesh.faces.items l.fn.height l.next l.fn.visited l.fn.start l.visited (map the_face l.steps.items) l.face;
+      walk : IsFollowed l.mesh.points.items l.mesh.faces.items l.fn.height l.next l.fn.visited l.fn.start l.visited
+          (map the_face l.steps.items) l.face;
       points : All (IsStep l.mesh.points.items l.mesh.faces.items l.fn.height) l.steps.items;
     }
 

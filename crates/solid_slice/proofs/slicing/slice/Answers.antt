@@ -23,8 +23,12 @@ returns-clause-slice c =
     let h = to_z w32 (of_z w32 c.args.height) in
     let there = c.in_ok-rings.ensures in
     record {
-      loops = subst (λ (z : ℤ). AreLoops points faces z (map (map the_face) (map steps_of rings))) stored (subst (λ (t : List (List ℕ)). AreLoops points faces h t) (faces_of_steps rings) there.loops);
-      steps = subst (λ (z : ℤ). All (All (IsStep points faces z)) (map steps_of rings)) stored (All-map (All (IsStep points faces h)) steps_of rings there.points);
+      loops =
+          subst (λ (z : ℤ). AreLoops points faces z (map (map the_face) (map steps_of rings))) stored
+          (subst (λ (t : List (List ℕ)). AreLoops points faces h t) (faces_of_steps rings) there.loops);
+      steps =
+          subst (λ (z : ℤ). All (All (IsStep points faces z)) (map steps_of rings)) stored
+          (All-map (All (IsStep points faces h)) steps_of rings there.points);
     }
 
 pub returns-clause-few : goal.returns-clause-few
@@ -33,4 +37,5 @@ returns-clause-few c =
     let points = c.args.mesh.now.points.items in
     let faces = c.args.mesh.now.faces.items in
     let rings = c.in_ok-rings.rings.items in
-    few_steps points faces h (map steps_of rings) (subst (λ (t : List (List ℕ)). AreLoops points faces h t) (faces_of_steps rings) c.in_ok-rings.ensures.loops)
+    few_steps points faces h (map steps_of rings)
+    (subst (λ (t : List (List ℕ)). AreLoops points faces h t) (faces_of_steps rings) c.in_ok-rings.ensures.loops)

@@ -11,7 +11,10 @@ use Rattle.solution.proofs.cost.least_cost.Goals as goal
 pub overflow_cast-result : goal.overflow_cast-result
 overflow_cast-result c =
     let s : Scene = scene_of_scan (shown_of c.args.scan.now) c.args.settings in
-    let fits = least_cost_law (shown_of c.args.scan.now) c.args.settings c.requires.network.listing.complex (test_of c.args.voted.now.cells c.args.labels.now.inside)
-    (scan_is_shown c.args.scan.now) c.requires.network.listing.complex_is (least_inside_is s c.args.voted.now c.args.labels.now c.requires.network c.requires.labels).least_cost in
+    let fits =
+    least_cost_law (shown_of c.args.scan.now) c.args.settings c.requires.network.listing.complex
+    (test_of c.args.voted.now.cells c.args.labels.now.inside)
+    (scan_is_shown c.args.scan.now) c.requires.network.listing.complex_is
+    (least_inside_is s c.args.voted.now c.args.labels.now c.requires.network c.requires.labels).least_cost in
     let is = cost_over s c.args.voted.now c.args.labels.now c.requires.network c.requires.labels in
     omega (arith, fits, is, c.cost.ensures.sum)

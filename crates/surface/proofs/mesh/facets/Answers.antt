@@ -1,4 +1,5 @@
-use Rattle.std.proofs.Common.{ℕ, ◌+◌, ◌^◌, ◌≡◌, ◌<◌, ◌≤◌, ◌∙◌, not, length, get_or, subst, sym, ap, arith, IfOk, List, Bool, Option}
+use Rattle.std.proofs.Common.{ℕ, ◌+◌, ◌^◌, ◌≡◌, ◌<◌, ◌≤◌, ◌∙◌, not, length, get_or, subst, sym, ap, arith, IfOk, List, Bool}
+use Rattle.std.proofs.Common.{Option}
 use Rattle.std.proofs.lemmas.Result.{IfOk-weaker}
 use Rattle.geo_sign.specs.Point.{Point}
 use Rattle.flow_net.specs.Nets.{flag_at}
@@ -55,11 +56,13 @@ mesh_of_facets-requires-clause-facets g c =
     let few_points : length points ≤ 8 + VERTEX_LIMIT = c.facts.ensures.vertices.few in
     let few : s.vertices.count ≤ 2 ^ 32 = omega (arith, count, few_points) in
     let inside : List ℕ → Bool = test_of order labels in
-    let none : IsAdmissible s complex inside = ((with_rising s g.cutting.complex listed).admissible inside).0 c.requires.1.1.1.1.1 in
+    let none : IsAdmissible s complex inside =
+    ((with_rising s g.cutting.complex listed).admissible inside).0 c.requires.1.1.1.1.1 in
     let outside : List Bool = c.in_ok-outside.outside.items in
     let made : (k : ℕ) → k < length ids → flag_at outside (get_or ids k 0) ≡ not (flag_at labels k) =
     λ k l. c.in_ok-outside.ensures k l ∙ ap (λ (x : List Bool). not (flag_at x k)) c.as_slice-inside.ensures in
-    let flags : AreOutside slots inside outside = outside_is s slots cells few complex all order listed.cells_are ids labels outside are_ids made in
+    let flags : AreOutside slots inside outside =
+    outside_is s slots cells few complex all order listed.cells_are ids labels outside are_ids made in
     let sorted : IsSortedCut slots outside c.in_ok-facets.facets.items =
     subst (λ (o : List Bool). IsSortedCut slots o c.in_ok-facets.facets.items) c.deref.ensures.value c.in_ok-facets.ensures in
     let cut : List (List ℕ) = cut_facets s.vertices complex inside in
@@ -87,11 +90,13 @@ returns-clause-points g c rising is_rising =
     let few_points : length points ≤ 8 + VERTEX_LIMIT = c.facts.ensures.vertices.few in
     let few : s.vertices.count ≤ 2 ^ 32 = omega (arith, count, few_points) in
     let inside : List ℕ → Bool = test_of order labels in
-    let none : IsAdmissible s complex inside = ((with_rising s g.cutting.complex listed).admissible inside).0 c.requires.1.1.1.1.1 in
+    let none : IsAdmissible s complex inside =
+    ((with_rising s g.cutting.complex listed).admissible inside).0 c.requires.1.1.1.1.1 in
     let outside : List Bool = c.in_ok-outside.outside.items in
     let made : (k : ℕ) → k < length ids → flag_at outside (get_or ids k 0) ≡ not (flag_at labels k) =
     λ k l. c.in_ok-outside.ensures k l ∙ ap (λ (x : List Bool). not (flag_at x k)) c.as_slice-inside.ensures in
-    let flags : AreOutside slots inside outside = outside_is s slots cells few complex all order listed.cells_are ids labels outside are_ids made in
+    let flags : AreOutside slots inside outside =
+    outside_is s slots cells few complex all order listed.cells_are ids labels outside are_ids made in
     let sorted : IsSortedCut slots outside c.in_ok-facets.facets.items =
     subst (λ (o : List Bool). IsSortedCut slots o c.in_ok-facets.facets.items) c.deref.ensures.value c.in_ok-facets.ensures in
     let cut : List (List ℕ) = cut_facets s.vertices complex inside in
@@ -99,9 +104,13 @@ returns-clause-points g c rising is_rising =
     c.deref-3.ensures.value
     ∙ cut_is_facets s slots cells few complex all inside none outside c.in_ok-facets.facets.items flags sorted in
     let at : c.deref-2.result.now ≡ points = c.deref-2.ensures.value ∙ c.in_ok-points.ensures in
-    subst (λ (x : Complex). IfOk c.mesh_of_facets.result (λ mesh. mesh.points.items ≡ (mesh_of points (cut_facets s.vertices x inside)).points)) (one_complex s complex rising all is_rising)
+    subst (λ (x : Complex).
+    IfOk c.mesh_of_facets.result (λ mesh. mesh.points.items ≡ (mesh_of points (cut_facets s.vertices x inside)).points))
+    (one_complex s complex rising all is_rising)
     (subst (λ (ps : List Point). IfOk c.mesh_of_facets.result (λ mesh. mesh.points.items ≡ (mesh_of ps cut).points)) at
-    (subst (λ (fs : List (List ℕ)). IfOk c.mesh_of_facets.result (λ mesh. mesh.points.items ≡ (mesh_of c.deref-2.result.now fs).points)) is c.mesh_of_facets.ensures.points))
+    (subst (λ (fs : List (List ℕ)).
+    IfOk c.mesh_of_facets.result (λ mesh. mesh.points.items ≡ (mesh_of c.deref-2.result.now fs).points)) is
+    c.mesh_of_facets.ensures.points))
 
 pub returns-clause-faces : goal.returns-clause-faces
 returns-clause-faces g c rising is_rising =
@@ -120,11 +129,13 @@ returns-clause-faces g c rising is_rising =
     let few_points : length points ≤ 8 + VERTEX_LIMIT = c.facts.ensures.vertices.few in
     let few : s.vertices.count ≤ 2 ^ 32 = omega (arith, count, few_points) in
     let inside : List ℕ → Bool = test_of order labels in
-    let none : IsAdmissible s complex inside = ((with_rising s g.cutting.complex listed).admissible inside).0 c.requires.1.1.1.1.1 in
+    let none : IsAdmissible s complex inside =
+    ((with_rising s g.cutting.complex listed).admissible inside).0 c.requires.1.1.1.1.1 in
     let outside : List Bool = c.in_ok-outside.outside.items in
     let made : (k : ℕ) → k < length ids → flag_at outside (get_or ids k 0) ≡ not (flag_at labels k) =
     λ k l. c.in_ok-outside.ensures k l ∙ ap (λ (x : List Bool). not (flag_at x k)) c.as_slice-inside.ensures in
-    let flags : AreOutside slots inside outside = outside_is s slots cells few complex all order listed.cells_are ids labels outside are_ids made in
+    let flags : AreOutside slots inside outside =
+    outside_is s slots cells few complex all order listed.cells_are ids labels outside are_ids made in
     let sorted : IsSortedCut slots outside c.in_ok-facets.facets.items =
     subst (λ (o : List Bool). IsSortedCut slots o c.in_ok-facets.facets.items) c.deref.ensures.value c.in_ok-facets.ensures in
     let cut : List (List ℕ) = cut_facets s.vertices complex inside in
@@ -132,9 +143,13 @@ returns-clause-faces g c rising is_rising =
     c.deref-3.ensures.value
     ∙ cut_is_facets s slots cells few complex all inside none outside c.in_ok-facets.facets.items flags sorted in
     let at : c.deref-2.result.now ≡ points = c.deref-2.ensures.value ∙ c.in_ok-points.ensures in
-    subst (λ (x : Complex). IfOk c.mesh_of_facets.result (λ mesh. mesh.faces.items ≡ (mesh_of points (cut_facets s.vertices x inside)).faces)) (one_complex s complex rising all is_rising)
+    subst (λ (x : Complex).
+    IfOk c.mesh_of_facets.result (λ mesh. mesh.faces.items ≡ (mesh_of points (cut_facets s.vertices x inside)).faces))
+    (one_complex s complex rising all is_rising)
     (subst (λ (ps : List Point). IfOk c.mesh_of_facets.result (λ mesh. mesh.faces.items ≡ (mesh_of ps cut).faces)) at
-    (subst (λ (fs : List (List ℕ)). IfOk c.mesh_of_facets.result (λ mesh. mesh.faces.items ≡ (mesh_of c.deref-2.result.now fs).faces)) is c.mesh_of_facets.ensures.faces))
+    (subst (λ (fs : List (List ℕ)).
+    IfOk c.mesh_of_facets.result (λ mesh. mesh.faces.items ≡ (mesh_of c.deref-2.result.now fs).faces)) is
+    c.mesh_of_facets.ensures.faces))
 
 pub returns-clause-closed : goal.returns-clause-closed
 returns-clause-closed g c =
@@ -153,11 +168,13 @@ returns-clause-closed g c =
     let few_points : length points ≤ 8 + VERTEX_LIMIT = c.facts.ensures.vertices.few in
     let few : s.vertices.count ≤ 2 ^ 32 = omega (arith, count, few_points) in
     let inside : List ℕ → Bool = test_of order labels in
-    let none : IsAdmissible s complex inside = ((with_rising s g.cutting.complex listed).admissible inside).0 c.requires.1.1.1.1.1 in
+    let none : IsAdmissible s complex inside =
+    ((with_rising s g.cutting.complex listed).admissible inside).0 c.requires.1.1.1.1.1 in
     let outside : List Bool = c.in_ok-outside.outside.items in
     let made : (k : ℕ) → k < length ids → flag_at outside (get_or ids k 0) ≡ not (flag_at labels k) =
     λ k l. c.in_ok-outside.ensures k l ∙ ap (λ (x : List Bool). not (flag_at x k)) c.as_slice-inside.ensures in
-    let flags : AreOutside slots inside outside = outside_is s slots cells few complex all order listed.cells_are ids labels outside are_ids made in
+    let flags : AreOutside slots inside outside =
+    outside_is s slots cells few complex all order listed.cells_are ids labels outside are_ids made in
     let sorted : IsSortedCut slots outside c.in_ok-facets.facets.items =
     subst (λ (o : List Bool). IsSortedCut slots o c.in_ok-facets.facets.items) c.deref.ensures.value c.in_ok-facets.ensures in
     let cut : List (List ℕ) = cut_facets s.vertices complex inside in
@@ -166,10 +183,15 @@ returns-clause-closed g c =
     ∙ cut_is_facets s slots cells few complex all inside none outside c.in_ok-facets.facets.items flags sorted in
     let at : c.deref-2.result.now ≡ points = c.deref-2.ensures.value ∙ c.in_ok-points.ensures in
     let faces =
-    subst (λ (fs : List (List ℕ)). IfOk c.mesh_of_facets.result (λ mesh. mesh.faces.items ≡ (mesh_of c.deref-2.result.now fs).faces)) is c.mesh_of_facets.ensures.faces in
+    subst (λ (fs : List (List ℕ)).
+    IfOk c.mesh_of_facets.result (λ mesh. mesh.faces.items ≡ (mesh_of c.deref-2.result.now fs).faces)) is
+    c.mesh_of_facets.ensures.faces in
     let closed : IsClosed cut =
-    subst IsClosed (sym sorted.facets_are ∙ cut_is_facets s slots cells few complex all inside none outside c.in_ok-facets.facets.items flags sorted)
+    subst IsClosed
+    (sym sorted.facets_are
+    ∙ cut_is_facets s slots cells few complex all inside none outside c.in_ok-facets.facets.items flags sorted)
     (closed_sides s slots cells few complex all inside none outside flags sorted.sides sorted.moved) in
     IfOk-weaker c.mesh_of_facets.result (λ mesh. mesh.faces.items ≡ (mesh_of c.deref-2.result.now cut).faces)
     (λ mesh. IsClosed mesh.faces.items)
-    (λ mesh e. subst IsClosed (sym e) (mesh_closed s.vertices.count c.deref-2.result.now cut (cut_is_list s complex all inside) closed)) faces
+    (λ mesh e. subst IsClosed (sym e)
+    (mesh_closed s.vertices.count c.deref-2.result.now cut (cut_is_list s complex all inside) closed)) faces

@@ -8,7 +8,8 @@ use Rattle.tetra_store.proofs.growth.grow.Goals as goal
 
 pub name_outer-requires-clause-facing : goal.name_outer-requires-clause-facing
 name_outer-requires-clause-facing c =
-    put_facing c.args.cells.now.slots c.put_all.new.cells.slots c.args.fan.now c.args.p c.put_all.new.ids.items c.put_all.ensures.put c.requires.can.facing
+    put_facing c.args.cells.now.slots c.put_all.new.cells.slots c.args.fan.now c.args.p c.put_all.new.ids.items
+    c.put_all.ensures.put c.requires.can.facing
 
 pub join-requires : goal.join-requires
 join-requires c = λ xs moved.
@@ -16,10 +17,14 @@ join-requires c = λ xs moved.
     let ids = c.put_all.new.ids.items in
     let fan = c.args.fan.now in
     let named : AreNamed (links_of c.put_all.new.cells.slots) (links_of c.name_outer.new.cells.slots) fan ids (length fan) =
-    subst (λ (z : List ℕ). AreNamed (links_of c.put_all.new.cells.slots) (links_of c.name_outer.new.cells.slots) fan z (length fan)) c.deref.ensures.value c.name_outer.ensures.named in
-    let fe : AreFanEdges fan ids edges (length fan) = subst (λ (z : List ℕ). AreFanEdges fan z edges (length fan)) c.deref-2.ensures.value c.push_edges.ensures.edges in
+    subst (λ (z : List ℕ).
+    AreNamed (links_of c.put_all.new.cells.slots) (links_of c.name_outer.new.cells.slots) fan z (length fan))
+    c.deref.ensures.value c.name_outer.ensures.named in
+    let fe : AreFanEdges fan ids edges (length fan) =
+    subst (λ (z : List ℕ). AreFanEdges fan z edges (length fan)) c.deref-2.ensures.value c.push_edges.ensures.edges in
     fan_joins c.put_all.new.cells.slots c.args.cells.now.slots (links_of c.name_outer.new.cells.slots) fan c.args.p ids edges xs
-    c.put_all.ensures.put c.put_all.ensures.count named fe (subst (λ (z : List Edge). IsPermutation z xs) c.deref_mut.ensures.value moved) c.requires.can
+    c.put_all.ensures.put c.put_all.ensures.count named fe
+    (subst (λ (z : List Edge). IsPermutation z xs) c.deref_mut.ensures.value moved) c.requires.can
 
 pub returns-clause-grown : goal.returns-clause-grown
 returns-clause-grown c =
@@ -27,8 +32,13 @@ returns-clause-grown c =
     let ids = c.put_all.new.ids.items in
     let fan = c.args.fan.now in
     let named : AreNamed (links_of c.put_all.new.cells.slots) (links_of c.name_outer.new.cells.slots) fan ids (length fan) =
-    subst (λ (z : List ℕ). AreNamed (links_of c.put_all.new.cells.slots) (links_of c.name_outer.new.cells.slots) fan z (length fan)) c.deref.ensures.value c.name_outer.ensures.named in
-    let fe : AreFanEdges fan ids edges (length fan) = subst (λ (z : List ℕ). AreFanEdges fan z edges (length fan)) c.deref-2.ensures.value c.push_edges.ensures.edges in
-    let moved : IsPermutation edges c.join.new.edges = subst (λ (z : List Edge). IsPermutation z c.join.new.edges) c.deref_mut.ensures.value c.join.ensures.moved in
-    all_grown c.args.cells.now.slots c.put_all.new.cells.slots (links_of c.name_outer.new.cells.slots) (links_of c.join.new.cells.slots) fan c.args.p ids edges c.join.new.edges
+    subst (λ (z : List ℕ).
+    AreNamed (links_of c.put_all.new.cells.slots) (links_of c.name_outer.new.cells.slots) fan z (length fan))
+    c.deref.ensures.value c.name_outer.ensures.named in
+    let fe : AreFanEdges fan ids edges (length fan) =
+    subst (λ (z : List ℕ). AreFanEdges fan z edges (length fan)) c.deref-2.ensures.value c.push_edges.ensures.edges in
+    let moved : IsPermutation edges c.join.new.edges =
+    subst (λ (z : List Edge). IsPermutation z c.join.new.edges) c.deref_mut.ensures.value c.join.ensures.moved in
+    all_grown c.args.cells.now.slots c.put_all.new.cells.slots (links_of c.name_outer.new.cells.slots)
+    (links_of c.join.new.cells.slots) fan c.args.p ids edges c.join.new.edges
     c.put_all.ensures.put c.put_all.ensures.count named fe moved c.join.ensures.joined c.requires.can

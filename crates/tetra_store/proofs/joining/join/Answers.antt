@@ -8,8 +8,11 @@ join_hinted-requires c = c.requires c.args.edges.now (IsPermutation-refl c.args.
 
 pub join_sorted-requires-clause-can : goal.join_sorted-requires-clause-can
 join_sorted-requires-clause-can c =
-    can_again (links_of c.args.cells.now.slots) (links_of c.join_hinted.new.cells.slots) c.args.edges.now c.sort.new.edges c.join_hinted.ensures.some (c.requires c.sort.new.edges c.sort.ensures.moved)
+    can_again (links_of c.args.cells.now.slots) (links_of c.join_hinted.new.cells.slots) c.args.edges.now c.sort.new.edges
+    c.join_hinted.ensures.some (c.requires c.sort.new.edges c.sort.ensures.moved)
 
 pub returns-clause-joined : goal.returns-clause-joined
 returns-clause-joined c =
-    AreJoined_again (links_of c.args.cells.now.slots) (links_of c.join_hinted.new.cells.slots) (links_of c.join_sorted.new.cells.slots) c.args.edges.now c.sort.new.edges c.join_hinted.ensures.some c.sort.ensures.moved c.join_sorted.ensures.joined
+    AreJoined_again (links_of c.args.cells.now.slots) (links_of c.join_hinted.new.cells.slots)
+    (links_of c.join_sorted.new.cells.slots) c.args.edges.now c.sort.new.edges c.join_hinted.ensures.some c.sort.ensures.moved
+    c.join_sorted.ensures.joined

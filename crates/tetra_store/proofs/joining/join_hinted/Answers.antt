@@ -22,7 +22,8 @@ join_side-requires-clause-side c =
 
 pub join_side-requires-clause-small : goal.join_side-requires-clause-small
 join_side-requires-clause-small c =
-    c.requires.small c.in-Some.mate (subst (λ (o : Option Edge). IfSome o (λ mate. Contains c.args.edges.now mate)) c.in-Some.is c.hinted.ensures.listed)
+    c.requires.small c.in-Some.mate
+    (subst (λ (o : Option Edge). IfSome o (λ mate. Contains c.args.edges.now mate)) c.in-Some.is c.hinted.ensures.listed)
 
 pub loop-at-preserved : goal.loop-at-preserved
 loop-at-preserved c =
@@ -31,10 +32,15 @@ loop-at-preserved c =
     let lt : n < length edges = omega arith in
     let x = edge_at edges n in
     let r = c.in-Some.mate in
-    let listed : Contains edges r = subst (λ (o : Option Edge). IfSome o (λ mate. Contains edges mate)) c.in-Some.is c.hinted.ensures.listed in
-    let reverse : IsReverse x r = subst (λ (o : Option Edge). IfSome o (λ mate. IsReverse x mate)) c.in-Some.is c.hinted.ensures.reverse in
+    let listed : Contains edges r =
+    subst (λ (o : Option Edge). IfSome o (λ mate. Contains edges mate)) c.in-Some.is c.hinted.ensures.listed in
+    let reverse : IsReverse x r =
+    subst (λ (o : Option Edge). IfSome o (λ mate. IsReverse x mate)) c.in-Some.is c.hinted.ensures.reverse in
     record {
-      joined = AreJoined_join (links_of c.args.cells.now.slots) (links_of c.loop-at.cells.slots) (links_of c.join_side.new.cells.slots) edges n x r c.loop-at.invariant.joined c.requires lt (get_or_default edges n x no_edge lt) listed reverse c.join_side.ensures.written;
+      joined =
+          AreJoined_join (links_of c.args.cells.now.slots) (links_of c.loop-at.cells.slots)
+          (links_of c.join_side.new.cells.slots) edges n x r c.loop-at.invariant.joined c.requires lt
+          (get_or_default edges n x no_edge lt) listed reverse c.join_side.ensures.written;
       capacity = c.join_side.ensures.capacity ∙ c.loop-at.invariant.capacity;
       len = c.join_side.ensures.len ∙ c.loop-at.invariant.len;
     }

@@ -28,7 +28,11 @@ loop-at-preserved c =
     let x = edge_at edges n in
     let r = c.reverse_of-mate.result in
     record {
-      joined = AreJoined_join (links_of c.args.cells.now.slots) (links_of c.loop-at.cells.slots) (links_of c.join_side.new.cells.slots) edges n x r c.loop-at.invariant.joined c.requires.can lt (get_or_default edges n x no_edge lt) c.reverse_of-mate.ensures.listed c.reverse_of-mate.ensures.reverse c.join_side.ensures.written;
+      joined =
+          AreJoined_join (links_of c.args.cells.now.slots) (links_of c.loop-at.cells.slots)
+          (links_of c.join_side.new.cells.slots) edges n x r c.loop-at.invariant.joined c.requires.can lt
+          (get_or_default edges n x no_edge lt) c.reverse_of-mate.ensures.listed c.reverse_of-mate.ensures.reverse
+          c.join_side.ensures.written;
       capacity = c.join_side.ensures.capacity ∙ c.loop-at.invariant.capacity;
       len = c.join_side.ensures.len ∙ c.loop-at.invariant.len;
     }

@@ -11,10 +11,16 @@ pub keep-requires-clause-vertices : goal.keep-requires-clause-vertices
 keep-requires-clause-vertices c = λ k l.
     let fan = c.args.fan.now in
     let lt : c.loop-i.i < length fan = omega arith in
-    let e = over_read fan c.loop-i.i c.args.p c.index-fan-i.result c.index-fan-i-in-loop-i.result c.index-fan-i-in-loop-i-2.result lt in
-    let xs = slice_index (slice_index_or fan c.loop-i.i c.index-fan-i.result).v 0 ∷ slice_index (slice_index_or fan c.loop-i.i c.index-fan-i-in-loop-i.result).v 1 ∷ slice_index (slice_index_or fan c.loop-i.i c.index-fan-i-in-loop-i-2.result).v 2 ∷ c.args.p ∷ [] in
-    let same : vertex_of (over (fan_facet fan c.loop-i.i) c.args.p) k ≡ slice_index xs k = ap (λ (t : Tetrahedron). vertex_of t k) (sym e) ∙ vertex_index xs k l in
-    let below : vertex_of (over (fan_facet fan c.loop-i.i) c.args.p) k < length c.loop-i.kept = omega (arith, c.requires.vertices c.loop-i.i k lt l, c.loop-i.invariant.count) in
+    let e =
+    over_read fan c.loop-i.i c.args.p c.index-fan-i.result c.index-fan-i-in-loop-i.result c.index-fan-i-in-loop-i-2.result lt in
+    let xs =
+    slice_index (slice_index_or fan c.loop-i.i c.index-fan-i.result).v 0
+    ∷ slice_index (slice_index_or fan c.loop-i.i c.index-fan-i-in-loop-i.result).v 1
+    ∷ slice_index (slice_index_or fan c.loop-i.i c.index-fan-i-in-loop-i-2.result).v 2 ∷ c.args.p ∷ [] in
+    let same : vertex_of (over (fan_facet fan c.loop-i.i) c.args.p) k ≡ slice_index xs k =
+    ap (λ (t : Tetrahedron). vertex_of t k) (sym e) ∙ vertex_index xs k l in
+    let below : vertex_of (over (fan_facet fan c.loop-i.i) c.args.p) k < length c.loop-i.kept =
+    omega (arith, c.requires.vertices c.loop-i.i k lt l, c.loop-i.invariant.count) in
     subst (λ (z : ℕ). z < length c.loop-i.kept) same below
 
 pub loop-i-preserved : goal.loop-i-preserved

@@ -10,13 +10,17 @@ use Rattle.tetra_store.proofs.keeping.mend_cell.Goals.{then-eq, else-eq}
 pub bounds-kept-v : goal.bounds-kept-v
 bounds-kept-v c =
     let is : slot_at c.args.cells.now.slots c.args.id ≡ Some c.index.result.now = rw c.number.ensures at c.index.ensures in
-    let v = cell_vertices c.args.cells.now.slots c.args.id c.index.result.now c.vertices-v.result is c.vertices-v.ensures c.loop-k.k c.loop-k-test.true in
+    let v =
+    cell_vertices c.args.cells.now.slots c.args.id c.index.result.now c.vertices-v.result is c.vertices-v.ensures c.loop-k.k
+    c.loop-k-test.true in
     omega (arith, v, c.requires.vertices c.loop-k.k c.loop-k-test.true, c.loop-k.invariant.count)
 
 pub bounds-kept-v-then-eq : goal.bounds-kept-v-then-eq
 bounds-kept-v-then-eq c =
     let is : slot_at c.args.cells.now.slots c.args.id ≡ Some c.index.result.now = rw c.number.ensures at c.index.ensures in
-    let v = cell_vertices c.args.cells.now.slots c.args.id c.index.result.now c.vertices-v.result is c.vertices-v.ensures c.loop-k.k c.loop-k-test.true in
+    let v =
+    cell_vertices c.args.cells.now.slots c.args.id c.index.result.now c.vertices-v.result is c.vertices-v.ensures c.loop-k.k
+    c.loop-k-test.true in
     omega (arith, v, c.requires.vertices c.loop-k.k c.loop-k-test.true, c.loop-k.invariant.count)
 
 pub find_outside-requires-clause-held : goal.find_outside-requires-clause-held
@@ -28,9 +32,13 @@ find_outside-requires-clause-held c =
     let is : slot_at slots c.args.id ≡ Some c.index.result.now = rw c.number.ensures at c.index.ensures in
     let v = cell_vertices slots c.args.id c.index.result.now c.vertices-v.result is c.vertices-v.ensures k c.loop-k-test.true in
     let u = vertex_of (links.at c.args.id) k in
-    let l : slice_index c.vertices-v.result k < length c.loop-k.kept = omega (arith, v, c.requires.vertices k c.loop-k-test.true, c.loop-k.invariant.count) in
-    let now : slice_index c.loop-k.kept (slice_index c.vertices-v.result k) ≡ c.args.id = keeps_it c.loop-k.kept (slice_index c.vertices-v.result k) c.index-kept-v.result c.id.result c.args.id l (c.id.ensures ∙ c.index-kept-v.is) c.if-eq.ensures in
-    let now' : slice_index c.loop-k.kept u ≡ c.args.id = subst (λ (z : ℕ). slice_index c.loop-k.kept z ≡ c.args.id) (sym v) now in
+    let l : slice_index c.vertices-v.result k < length c.loop-k.kept =
+    omega (arith, v, c.requires.vertices k c.loop-k-test.true, c.loop-k.invariant.count) in
+    let now : slice_index c.loop-k.kept (slice_index c.vertices-v.result k) ≡ c.args.id =
+    keeps_it c.loop-k.kept (slice_index c.vertices-v.result k) c.index-kept-v.result c.id.result c.args.id l
+    (c.id.ensures ∙ c.index-kept-v.is) c.if-eq.ensures in
+    let now' : slice_index c.loop-k.kept u ≡ c.args.id =
+    subst (λ (z : ℕ). slice_index c.loop-k.kept z ≡ c.args.id) (sym v) now in
     let was = was_kept links old c.args.kept.now c.loop-k.kept u c.args.id (c.loop-k.invariant.each u) c.requires.listed now' in
     subst (λ (z : ℕ). IsHeld links old z) v (c.requires.held k c.loop-k-test.true was)
 
@@ -42,12 +50,19 @@ loop-k-preserved c =
     let k = c.loop-k.k in
     let is : slot_at slots c.args.id ≡ Some c.index.result.now = rw c.number.ensures at c.index.ensures in
     let v = cell_vertices slots c.args.id c.index.result.now c.vertices-v.result is c.vertices-v.ensures k c.loop-k-test.true in
-    let l : slice_index c.vertices-v.result k < length c.loop-k.kept = omega (arith, v, c.requires.vertices k c.loop-k-test.true, c.loop-k.invariant.count) in
+    let l : slice_index c.vertices-v.result k < length c.loop-k.kept =
+    omega (arith, v, c.requires.vertices k c.loop-k-test.true, c.loop-k.invariant.count) in
     elim c.if-eq.branch [
       | then-eq w ↦ subst (λ (z : List ℕ). IsMendedAt links old c.args.kept.now z c.args.id (k + 1)) (sym w.kept-is)
-          (mended_write links old c.args.kept.now c.loop-k.kept c.args.id k (slice_index c.vertices-v.result k) w.new.result c.loop-k.invariant c.requires.listed c.loop-k-test.true (sym v) l (subst (λ (z : ℕ). IsOutsideWith links old (slice_index c.vertices-v.result k) z) (sym w.new.ensures) w.find_outside.ensures.outside))
+          (mended_write links old c.args.kept.now c.loop-k.kept c.args.id k (slice_index c.vertices-v.result k) w.new.result
+          c.loop-k.invariant c.requires.listed c.loop-k-test.true (sym v) l
+          (subst (λ (z : ℕ). IsOutsideWith links old (slice_index c.vertices-v.result k) z) (sym w.new.ensures)
+          w.find_outside.ensures.outside))
       | else-eq w ↦
-          let other = keeps_other c.loop-k.kept (slice_index c.vertices-v.result k) c.index-kept-v.result c.id.result c.args.id l (c.id.ensures ∙ c.index-kept-v.is) w.if-eq.ensures in
+          let other =
+          keeps_other c.loop-k.kept (slice_index c.vertices-v.result k) c.index-kept-v.result c.id.result c.args.id l
+          (c.id.ensures ∙ c.index-kept-v.is) w.if-eq.ensures in
           subst (λ (z : List ℕ). IsMendedAt links old c.args.kept.now z c.args.id (k + 1)) (sym w.kept-is)
-          (mended_skip links old c.args.kept.now c.loop-k.kept c.args.id k c.loop-k.invariant (subst (λ (z : ℕ). slice_index c.loop-k.kept z ≢ c.args.id) (sym v) other))
+          (mended_skip links old c.args.kept.now c.loop-k.kept c.args.id k c.loop-k.invariant
+          (subst (λ (z : ℕ). slice_index c.loop-k.kept z ≢ c.args.id) (sym v) other))
     ]

@@ -10,8 +10,12 @@ use Rattle.tetra_walk.proofs.walk.behind.Goals as goal
 pub returns-clause-is : goal.returns-clause-is
 returns-clause-is c =
     let s = c.args.t.now in let x = c.walk_to.result in
-    (sight_cells s c.facts.ensures c.args.v c.requires.inserted c.args.s c.requires.data_point).behind ((links_of s.slots).at x) (c.requires.delaunay.cells x c.walk_to.ensures.live)
-    (subst (λ (p : Point). IsLyingIn (vertices_of s) ((links_of s.slots).at x) (behind_place p c.args.s)) c.point.ensures c.walk_to.ensures.lies)
+    (sight_cells s c.facts.ensures c.args.v c.requires.inserted c.args.s c.requires.data_point).behind ((links_of s.slots).at x)
+    (c.requires.delaunay.cells x c.walk_to.ensures.live)
+    (subst (λ (p : Point). IsLyingIn (vertices_of s) ((links_of s.slots).at x) (behind_place p c.args.s)) c.point.ensures
+    c.walk_to.ensures.lies)
 
 pub returns-clause-only : goal.returns-clause-only
-returns-clause-only c = λ id l e. one_behind_cell c.args.t.now c.facts.ensures c.requires.delaunay c.args.v c.requires.inserted c.args.s c.requires.data_point id c.walk_to.result l c.walk_to.ensures.live e (returns-clause-is c)
+returns-clause-only c =
+    λ id l e. one_behind_cell c.args.t.now c.facts.ensures c.requires.delaunay c.args.v c.requires.inserted c.args.s
+    c.requires.data_point id c.walk_to.result l c.walk_to.ensures.live e (returns-clause-is c)

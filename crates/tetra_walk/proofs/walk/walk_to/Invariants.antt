@@ -11,4 +11,6 @@ abbrev pub invariant-loop-at : goal.invariant-loop-at
 invariant-loop-at l = IsReached l.t (place_of l.goal) l.at l.cell l.entered
 
 abbrev pub decreases-loop-at : goal.decreases-loop-at
-decreases-loop-at l = count (λ z. is_higher (vertices_of l.t) (place_of l.goal) ((links_of l.t.slots).at l.at) ((links_of l.t.slots).at z)) (live_of l.t.slots)
+decreases-loop-at l =
+    count (λ z. is_higher (vertices_of l.t) (place_of l.goal) ((links_of l.t.slots).at l.at) ((links_of l.t.slots).at z))
+    (live_of l.t.slots)

@@ -18,4 +18,7 @@ returns c points e =
     let few = k.vertices.few in
     let rows = c.in_ok-rows.rows.items in
     subst (IsCellList (vertices_of points)) (sym (c.in_ok-cells.ensures ∙ ap (map cell_of_row) c.deref.ensures.value))
-    (cell_list (scene_of points [] [] (record { vote = 1; smooth = 0; vote_at_least = omega arith; vote_at_most = omega arith; smooth_at_most = omega arith })) c.args.t.now.slots [] all (omega (arith, n, few)) rows c.in_ok-rows.ensures.moved c.in_ok-rows.ensures.sorted)
+    (cell_list
+    (scene_of points [] []
+    (record { vote = 1; smooth = 0; vote_at_least = omega arith; vote_at_most = omega arith; smooth_at_most = omega arith }))
+    c.args.t.now.slots [] all (omega (arith, n, few)) rows c.in_ok-rows.ensures.moved c.in_ok-rows.ensures.sorted)

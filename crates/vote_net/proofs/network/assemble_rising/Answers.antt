@@ -9,7 +9,8 @@ use Rattle.vote_net.proofs.Assembled.{AreListed, network_rises}
 use Rattle.vote_net.proofs.network.assemble_rising.Goals as goal
 
 -- what follows from three facts of a result
-joined : {T E : Type 0} (r : Result T E) (P Q R S : T → Type 0) → ((x : T) → P x → Q x → R x → S x) → IfOk r P → IfOk r Q → IfOk r R → IfOk r S
+joined : {T E : Type 0} (r : Result T E) (P Q R S : T → Type 0) → ((x : T) → P x → Q x → R x → S x) → IfOk r P → IfOk r Q
+    → IfOk r R → IfOk r S
 joined (Ok x) P Q R S h p q s = h x p q s
 joined (Err e) P Q R S h p q s = tt
 
@@ -20,9 +21,13 @@ returns-clause-network g c =
     let fixed : List Bool = c.args.fixed.now in
     let rows : List Row = c.in_ok-rows.rows.items in
     let sides : List Side = c.in_ok-sides.sides.items in
-    let lists : AreListed slots fixed rows sides = record { moved = c.in_ok-rows.ensures.moved; moved_sides = c.in_ok-sides.ensures.moved } in
-    joined c.network_over.result (λ counted. IsNetworkInAnyOrder s counted.voted) (λ counted. counted.voted.cells ≡ map cell_of_row c.deref.result.now)
+    let lists : AreListed slots fixed rows sides =
+    record { moved = c.in_ok-rows.ensures.moved; moved_sides = c.in_ok-sides.ensures.moved } in
+    joined c.network_over.result (λ counted. IsNetworkInAnyOrder s counted.voted)
+    (λ counted. counted.voted.cells ≡ map cell_of_row c.deref.result.now)
     (λ counted. counted.voted.facets ≡ map facet_of_side sides) (λ counted. IsNetworkOf s counted.voted)
-    (λ counted n cells facets. network_rises s slots c.args.crossed.now c.args.behind.now fixed rows sides c.requires.0 lists counted.voted.net counted.voted.cells counted.voted.facets
+    (λ counted n cells facets.
+    network_rises s slots c.args.crossed.now c.args.behind.now fixed rows sides c.requires.0 lists counted.voted.net
+    counted.voted.cells counted.voted.facets
     (cells ∙ ap (map cell_of_row) c.deref.ensures.value) facets c.in_ok-rows.ensures.sorted c.in_ok-sides.ensures.sorted n)
     c.network_over.ensures.network c.network_over.ensures.cells c.network_over.ensures.facets

@@ -7,7 +7,8 @@ use Rattle.vote_net.specs.declared.rows.Row.{Row}
 use Rattle.vote_net.specs.declared.sides.Side.{Side}
 use Rattle.vote_net.specs.Counts.{AreCountsOf}
 use Rattle.vote_net.specs.Tables.{number_of_side, AreApart, AreArcs}
-use Rattle.vote_net.proofs.Assembled.{AreListed, IsMade, ids_below, rows_apart, numbers_below, sides_apart, can_join, valid, network_is, ids_are}
+use Rattle.vote_net.proofs.Assembled.{AreListed, IsMade, ids_below, rows_apart, numbers_below, sides_apart, can_join, valid}
+use Rattle.vote_net.proofs.Assembled.{network_is, ids_are}
 use Rattle.vote_net.proofs.network.network_over.Goals as goal
 
 pub arcs_of-requires-clause-ids : goal.arcs_of-requires-clause-ids
@@ -89,18 +90,21 @@ new-net-requires g c =
     let sides : List Side = c.args.sides.items in
     let asked : AreCountsOf s slots crossed behind fixed = c.requires.0 in
     let lists : AreListed slots fixed rows sides = record { moved = c.requires.1.1.0; moved_sides = c.requires.1.1.1 } in
-    let made : IsMade s slots crossed behind fixed rows sides asked lists c.args.settings c.in_ok-fixed_of.field-0.items c.in_ok-sinks_of.field-0.items c.in_ok-arcs.arcs.items =
+    let made : IsMade s slots crossed behind fixed rows sides asked lists c.args.settings c.in_ok-fixed_of.field-0.items
+    c.in_ok-sinks_of.field-0.items c.in_ok-arcs.arcs.items =
     record {
       settings_are = c.requires.1.0;
       flags_are = c.in_ok-fixed_of.ensures;
       sinks_are = c.in_ok-sinks_of.ensures;
       arcs_are =
-          subst (λ (x : List Side). AreArcs slots rows x crossed fixed c.args.settings c.in_ok-arcs.arcs.items) c.deref.ensures.value c.in_ok-arcs.ensures;
+          subst (λ (x : List Side). AreArcs slots rows x crossed fixed c.args.settings c.in_ok-arcs.arcs.items)
+          c.deref.ensures.value c.in_ok-arcs.ensures;
     } in
     subst (λ (x : List Bool). IsValidNet x c.from-2.result c.from-3.result) (sym c.from.ensures)
     (subst (λ (y : List ℕ). IsValidNet c.in_ok-fixed_of.field-0.items y c.from-3.result) (sym c.from-2.ensures)
     (subst (λ (z : List Arc). IsValidNet c.in_ok-fixed_of.field-0.items c.in_ok-sinks_of.field-0.items z) (sym c.from-3.ensures)
-    (valid s slots crossed behind fixed rows sides asked lists c.args.settings c.in_ok-fixed_of.field-0.items c.in_ok-sinks_of.field-0.items c.in_ok-arcs.arcs.items made)))
+    (valid s slots crossed behind fixed rows sides asked lists c.args.settings c.in_ok-fixed_of.field-0.items
+    c.in_ok-sinks_of.field-0.items c.in_ok-arcs.arcs.items made)))
 
 pub returns-clause-network : goal.returns-clause-network
 returns-clause-network g c =
@@ -113,15 +117,18 @@ returns-clause-network g c =
     let sides : List Side = c.args.sides.items in
     let asked : AreCountsOf s slots crossed behind fixed = c.requires.0 in
     let lists : AreListed slots fixed rows sides = record { moved = c.requires.1.1.0; moved_sides = c.requires.1.1.1 } in
-    let made : IsMade s slots crossed behind fixed rows sides asked lists c.args.settings c.in_ok-fixed_of.field-0.items c.in_ok-sinks_of.field-0.items c.in_ok-arcs.arcs.items =
+    let made : IsMade s slots crossed behind fixed rows sides asked lists c.args.settings c.in_ok-fixed_of.field-0.items
+    c.in_ok-sinks_of.field-0.items c.in_ok-arcs.arcs.items =
     record {
       settings_are = c.requires.1.0;
       flags_are = c.in_ok-fixed_of.ensures;
       sinks_are = c.in_ok-sinks_of.ensures;
       arcs_are =
-          subst (λ (x : List Side). AreArcs slots rows x crossed fixed c.args.settings c.in_ok-arcs.arcs.items) c.deref.ensures.value c.in_ok-arcs.ensures;
+          subst (λ (x : List Side). AreArcs slots rows x crossed fixed c.args.settings c.in_ok-arcs.arcs.items)
+          c.deref.ensures.value c.in_ok-arcs.ensures;
     } in
-    network_is s slots crossed behind fixed rows sides asked lists c.args.settings c.in_ok-fixed_of.field-0.items c.in_ok-sinks_of.field-0.items c.in_ok-arcs.arcs.items made c.new-net.result c.from-4.result c.from-5.result
+    network_is s slots crossed behind fixed rows sides asked lists c.args.settings c.in_ok-fixed_of.field-0.items
+    c.in_ok-sinks_of.field-0.items c.in_ok-arcs.arcs.items made c.new-net.result c.from-4.result c.from-5.result
     (c.from-4.ensures ∙ c.in_ok-cells_of.ensures) (c.from-5.ensures ∙ c.in_ok-facets.ensures)
     (c.new-net.ensures.fixed ∙ c.from.ensures) (c.new-net.ensures.sink ∙ c.from-2.ensures)
     (c.new-net.ensures.arcs ∙ c.from-3.ensures)

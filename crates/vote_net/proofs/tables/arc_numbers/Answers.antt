@@ -10,7 +10,8 @@ index_mut-requires c =
     let x : Side = c.index-sides-arc.result in
     let l : c.loop-arc.arc < length c.args.sides.now = omega arith in
     let m : number_of_side x < c.args.count =
-    c.requires.numbers x (subst (Contains c.args.sides.now) (sym c.index-sides-arc.is) (Contains-get_or c.args.sides.now c.loop-arc.arc x l)) in
+    c.requires.numbers x
+    (subst (Contains c.args.sides.now) (sym c.index-sides-arc.is) (Contains-get_or c.args.sides.now c.loop-arc.arc x l)) in
     let e = c.number.ensures in
     let n = c.loop-arc.invariant.0 in
     omega (arith, m, e, n)
@@ -20,16 +21,21 @@ loop-arc-preserved c =
     let x : Side = c.index-sides-arc.result in
     let l : c.loop-arc.arc < length c.args.sides.now = omega arith in
     let m : number_of_side x < c.args.count =
-    c.requires.numbers x (subst (Contains c.args.sides.now) (sym c.index-sides-arc.is) (Contains-get_or c.args.sides.now c.loop-arc.arc x l)) in
+    c.requires.numbers x
+    (subst (Contains c.args.sides.now) (sym c.index-sides-arc.is) (Contains-get_or c.args.sides.now c.loop-arc.arc x l)) in
     let e = c.number.ensures in
-    let n = c.loop-arc.invariant.0 in
-    (c.loop-arc.invariant.0, numbered_more number_of_side c.args.sides.now c.loop-arc.table.items c.loop-arc.arc c.number.result x c.requires.apart l c.loop-arc.invariant.1 c.index-sides-arc.is c.number.ensures (omega (arith, m, e, n)))
+    let n = c.loop-arc.invariant.0 in (
+      c.loop-arc.invariant.0,
+      numbered_more number_of_side c.args.sides.now c.loop-arc.table.items c.loop-arc.arc c.number.result x c.requires.apart l
+          c.loop-arc.invariant.1 c.index-sides-arc.is c.number.ensures (omega (arith, m, e, n)),
+    )
 
 pub number-requires : goal.number-requires
 number-requires c =
     let x : Side = c.index-sides-arc.result in
     let l : c.loop-arc.arc < length c.args.sides.now = omega arith in
     let m : number_of_side x < c.args.count =
-    c.requires.numbers x (subst (Contains c.args.sides.now) (sym c.index-sides-arc.is) (Contains-get_or c.args.sides.now c.loop-arc.arc x l)) in
+    c.requires.numbers x
+    (subst (Contains c.args.sides.now) (sym c.index-sides-arc.is) (Contains-get_or c.args.sides.now c.loop-arc.arc x l)) in
     let n = c.ranges.count.fits in
     omega (arith, m, n)

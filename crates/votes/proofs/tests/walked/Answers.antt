@@ -17,7 +17,8 @@ count_votes-requires c = (
           c.are_in_range.ensures c.if-not-are_in_range.false,
           (
             c.are_sights.ensures.0 (c.if-not-are_sights.false),
-            (λ k d l. subst (λ (p : Point). IsWithin DATA_LIMIT p) (get_or_default c.args.scanners.now k origin d l) (c.if-not-are_data-2.ensures refl k l)),
+            (λ k d l. subst (λ (p : Point). IsWithin DATA_LIMIT p) (get_or_default c.args.scanners.now k origin d l)
+                (c.if-not-are_data-2.ensures refl k l)),
           ),
         ),
       ),
@@ -38,7 +39,8 @@ count_votes_rising-requires c = (
           c.are_in_range.ensures c.if-not-are_in_range.false,
           (
             c.are_sights.ensures.0 (c.if-not-are_sights.false),
-            (λ k d l. subst (λ (p : Point). IsWithin DATA_LIMIT p) (get_or_default c.args.scanners.now k origin d l) (c.if-not-are_data-2.ensures refl k l)),
+            (λ k d l. subst (λ (p : Point). IsWithin DATA_LIMIT p) (get_or_default c.args.scanners.now k origin d l)
+                (c.if-not-are_data-2.ensures refl k l)),
           ),
         ),
       ),

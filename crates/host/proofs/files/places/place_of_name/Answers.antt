@@ -11,7 +11,9 @@ loop-i-preserved c =
     below_more _ _ c.loop-i.invariant (names_differ _ _ _ _ c.eq.ensures c.if-eq.false f)
 
 pub returns-then-eq-clause-found : goal.returns-then-eq-clause-found
-returns-then-eq-clause-found c = let e = name_at-get c.args.files.now c.loop-i.i c.index-files-i.result c.loop-i-test.true in (omega arith, grind (arith, bytes_eq-Decides))
+returns-then-eq-clause-found c =
+    let e = name_at-get c.args.files.now c.loop-i.i c.index-files-i.result c.loop-i-test.true in
+    (omega arith, grind (arith, bytes_eq-Decides))
 
 pub returns-then-eq-clause-named : goal.returns-then-eq-clause-named
 returns-then-eq-clause-named c =

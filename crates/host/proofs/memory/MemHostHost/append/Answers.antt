@@ -14,7 +14,8 @@ returns-then-is_full-clause-fails c =
         grind (arith, common_steps),
         no_room_left c.args.self.now.files.items c.args.self.now.activity at _ c.in-Writing.is
             (c.args.self.now.rooms at (exists_lt c.args.self.now.files.items at there))
-            (subst (λ (files : List MemFile). room_at files c.in-Writing.at - length (file_bytes (files_of files) (name_at files c.in-Writing.at)) ≡ 0)
+            (subst (λ (files : List MemFile). room_at files c.in-Writing.at
+            - length (file_bytes (files_of files) (name_at files c.in-Writing.at)) ≡ 0)
             c.deref.ensures.value (c.if-is_full.ensures.0 refl)),
       ),
       λ _. c.fail-then-is_full.ensures.err,

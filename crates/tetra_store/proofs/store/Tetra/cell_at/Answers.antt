@@ -9,4 +9,5 @@ pub returns-clause-has : goal.returns-clause-has
 returns-clause-has c =
     let s = store_now _ c.args.self.now c.self.view_is c.self.invariant in
     let value : c.id.result ≡ slice_index c.args.self.now.kept c.args.v = grind (arith, common_steps) in
-    subst (λ (id : ℕ). IsVertexOf ((links_of c.args.self.now.slots).at id) c.args.v) (sym value) (s.kept_cells c.args.v c.requires).1
+    subst (λ (id : ℕ). IsVertexOf ((links_of c.args.self.now.slots).at id) c.args.v) (sym value)
+    (s.kept_cells c.args.v c.requires).1

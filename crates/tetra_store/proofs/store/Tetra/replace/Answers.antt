@@ -1,4 +1,5 @@
-use Rattle.std.proofs.Common.{ℕ, ◌≡◌, ◌<◌, ◌≤◌, ◌+◌, List, ◌++◌, take, drop, length, ap, sym, ◌∙◌, subst, arith, slice_index, vec_capacity, true}
+use Rattle.std.proofs.Common.{ℕ, ◌≡◌, ◌<◌, ◌≤◌, ◌+◌, List, ◌++◌, take, drop, length, ap, sym, ◌∙◌, subst, arith, slice_index}
+use Rattle.std.proofs.Common.{vec_capacity, true}
 use Rattle.std.proofs.Math.ListN.{set}
 use Rattle.std.proofs.lemmas.List.{get_or_default}
 use Rattle.geo_sign.specs.Tetrahedron.{vertex_of}
@@ -15,40 +16,54 @@ use Rattle.tetra_store.proofs.store.Tetra.replace.Goals as goal
 pub grow-requires-clause-can : goal.grow-requires-clause-can
 grow-requires-clause-can c =
     let i = c.self.inside in
-    let s : Store = store_from i.points.items i.inserted.items i.cells i.kept.items (vec_capacity i.ids) (vec_capacity i.edges) in
-    let can : CanReplace s c.args.old.now c.args.fan.now c.args.p = subst (λ (t : Store). CanReplace t c.args.old.now c.args.fan.now c.args.p) (sym c.self.view_is) c.requires in
-    let room = has_room i.cells.capacity (slab_len i.cells) (vec_capacity i.ids) (vec_capacity i.edges) (length c.args.fan.now) can.some_facet can.room in
-    let slots : length i.cells.slots ≤ i.cells.capacity = omega (arith, c.capacity-most.ensures.slots, c.capacity-most.ensures.value) in
+    let s : Store =
+    store_from i.points.items i.inserted.items i.cells i.kept.items (vec_capacity i.ids) (vec_capacity i.edges) in
+    let can : CanReplace s c.args.old.now c.args.fan.now c.args.p =
+    subst (λ (t : Store). CanReplace t c.args.old.now c.args.fan.now c.args.p) (sym c.self.view_is) c.requires in
+    let room =
+    has_room i.cells.capacity (slab_len i.cells) (vec_capacity i.ids) (vec_capacity i.edges) (length c.args.fan.now)
+    can.some_facet can.room in
+    let slots : length i.cells.slots ≤ i.cells.capacity =
+    omega (arith, c.capacity-most.ensures.slots, c.capacity-most.ensures.value) in
     can_grow s c.args.old.now c.args.fan.now c.args.p c.self.invariant can i.cells.capacity slots room.few
 
 pub keep_new-requires-clause-vertices : goal.keep_new-requires-clause-vertices
 keep_new-requires-clause-vertices c =
     let i = c.self.inside in
-    let s : Store = store_from i.points.items i.inserted.items i.cells i.kept.items (vec_capacity i.ids) (vec_capacity i.edges) in
-    let can : CanReplace s c.args.old.now c.args.fan.now c.args.p = subst (λ (t : Store). CanReplace t c.args.old.now c.args.fan.now c.args.p) (sym c.self.view_is) c.requires in
-    λ k m l n. let b = over_below s c.args.old.now c.args.fan.now c.args.p c.self.invariant can k m l n in let e = ap length c.deref_mut.ensures.value in omega arith
+    let s : Store =
+    store_from i.points.items i.inserted.items i.cells i.kept.items (vec_capacity i.ids) (vec_capacity i.edges) in
+    let can : CanReplace s c.args.old.now c.args.fan.now c.args.p =
+    subst (λ (t : Store). CanReplace t c.args.old.now c.args.fan.now c.args.p) (sym c.self.view_is) c.requires in
+    λ k m l n. let b = over_below s c.args.old.now c.args.fan.now c.args.p c.self.invariant can k m l n in
+    let e = ap length c.deref_mut.ensures.value in
+    omega arith
 
 pub mend-requires-clause-held : goal.mend-requires-clause-held
 mend-requires-clause-held c =
     let i = c.self.inside in
-    let s : Store = store_from i.points.items i.inserted.items i.cells i.kept.items (vec_capacity i.ids) (vec_capacity i.edges) in
-    let can : CanReplace s c.args.old.now c.args.fan.now c.args.p = subst (λ (t : Store). CanReplace t c.args.old.now c.args.fan.now c.args.p) (sym c.self.view_is) c.requires in
+    let s : Store =
+    store_from i.points.items i.inserted.items i.cells i.kept.items (vec_capacity i.ids) (vec_capacity i.edges) in
+    let can : CanReplace s c.args.old.now c.args.fan.now c.args.p =
+    subst (λ (t : Store). CanReplace t c.args.old.now c.args.fan.now c.args.p) (sym c.self.view_is) c.requires in
     let fan = c.args.fan.now in
     let ids = c.grow.new.ids.items in
     let kept1 = c.keep_new.new.kept in
     let keeps : AreKeptNew i.kept.items kept1 fan ids c.args.p (length fan) =
     subst (λ (z : List ℕ). AreKeptNew z kept1 fan ids c.args.p (length fan)) c.deref_mut.ensures.value
-    (subst (λ (z : List ℕ). AreKeptNew c.deref_mut.result.now kept1 fan z c.args.p (length fan)) c.deref.ensures.value c.keep_new.ensures) in
+    (subst (λ (z : List ℕ). AreKeptNew c.deref_mut.result.now kept1 fan z c.args.p (length fan)) c.deref.ensures.value
+    c.keep_new.ensures) in
     let n : length kept1 ≡ i.kept.len = omega (arith, keeps.count, i.kept.ok.0) in
     let same : c.deref_mut-2.result.now ≡ kept1 = c.deref_mut-2.ensures.value ∙ items_written i.kept.len kept1 i.kept.items n in
     λ id k h l e.
-    can_mend s c.args.old.now fan c.args.p c.self.invariant can c.grow.new.cells.slots ids kept1 c.grow.ensures.grown c.grow.ensures.count keeps id k h l
+    can_mend s c.args.old.now fan c.args.p c.self.invariant can c.grow.new.cells.slots ids kept1 c.grow.ensures.grown
+    c.grow.ensures.count keeps id k h l
     (subst (λ (z : List ℕ). slice_index z (vertex_of ((links_of c.grow.new.cells.slots).at id) k) ≡ id) same e)
 
 pub invariant_of-self : goal.invariant_of-self
 invariant_of-self c =
     let i = c.self.inside in
-    let s : Store = store_from i.points.items i.inserted.items i.cells i.kept.items (vec_capacity i.ids) (vec_capacity i.edges) in
+    let s : Store =
+    store_from i.points.items i.inserted.items i.cells i.kept.items (vec_capacity i.ids) (vec_capacity i.edges) in
     let old = c.args.old.now in
     let fan = c.args.fan.now in
     let p = c.args.p in
@@ -59,20 +74,35 @@ invariant_of-self c =
     let links1 = links_of c.grow.new.cells.slots in
     let keeps : AreKeptNew i.kept.items kept1 fan ids p (length fan) =
     subst (λ (z : List ℕ). AreKeptNew z kept1 fan ids p (length fan)) c.deref_mut.ensures.value
-    (subst (λ (z : List ℕ). AreKeptNew c.deref_mut.result.now kept1 fan z p (length fan)) c.deref.ensures.value c.keep_new.ensures) in
+    (subst (λ (z : List ℕ). AreKeptNew c.deref_mut.result.now kept1 fan z p (length fan)) c.deref.ensures.value
+    c.keep_new.ensures) in
     let n1 : length kept1 ≡ i.kept.len = omega (arith, keeps.count, i.kept.ok.0) in
-    let same : c.deref_mut-2.result.now ≡ kept1 = c.deref_mut-2.ensures.value ∙ items_written i.kept.len kept1 i.kept.items n1 in
-    let mends : AreMended links1 old kept1 kept2 (length old) = subst (λ (z : List ℕ). AreMended links1 old z kept2 (length old)) same c.mend.ensures in
+    let same : c.deref_mut-2.result.now ≡ kept1 =
+    c.deref_mut-2.ensures.value ∙ items_written i.kept.len kept1 i.kept.items n1 in
+    let mends : AreMended links1 old kept1 kept2 (length old) =
+    subst (λ (z : List ℕ). AreMended links1 old z kept2 (length old)) same c.mend.ensures in
     let n2 : length kept2 ≡ i.kept.len = mends.count ∙ n1 in
-    let spare = room_of c.take_out.new.cells.capacity (slab_len c.take_out.new.cells) (vec_capacity c.grow.new.ids) (vec_capacity c.grow.new.edges) in
-    let again = store_again s old fan p c.self.invariant can c.grow.new.cells.slots ids kept1 c.grow.ensures.grown c.grow.ensures.count keeps c.take_out.new.cells.slots kept2 mends c.take_out.ensures.out spare in
-    let here : List ℕ → Store = λ z. record { points = i.points.items; inserted = set i.inserted.items p true; slots = c.take_out.new.cells.slots; kept = z; spare = spare } in
-    subst (λ (z : List ℕ). IsStore (here z)) (sym (items_written i.kept.len kept2 (take i.kept.len (kept1 ++ drop (length kept1) i.kept.items)) n2)) again
+    let spare =
+    room_of c.take_out.new.cells.capacity (slab_len c.take_out.new.cells) (vec_capacity c.grow.new.ids)
+    (vec_capacity c.grow.new.edges) in
+    let again =
+    store_again s old fan p c.self.invariant can c.grow.new.cells.slots ids kept1 c.grow.ensures.grown c.grow.ensures.count
+    keeps c.take_out.new.cells.slots kept2 mends c.take_out.ensures.out spare in
+    let here : List ℕ → Store = λ z. record {
+      points = i.points.items;
+      inserted = set i.inserted.items p true;
+      slots = c.take_out.new.cells.slots;
+      kept = z;
+      spare = spare;
+    } in
+    subst (λ (z : List ℕ). IsStore (here z))
+    (sym (items_written i.kept.len kept2 (take i.kept.len (kept1 ++ drop (length kept1) i.kept.items)) n2)) again
 
 pub returns-clause-replaced : goal.returns-clause-replaced
 returns-clause-replaced c =
     let i = c.self.inside in
-    let s : Store = store_from i.points.items i.inserted.items i.cells i.kept.items (vec_capacity i.ids) (vec_capacity i.edges) in
+    let s : Store =
+    store_from i.points.items i.inserted.items i.cells i.kept.items (vec_capacity i.ids) (vec_capacity i.edges) in
     let old = c.args.old.now in
     let fan = c.args.fan.now in
     let p = c.args.p in
@@ -83,29 +113,49 @@ returns-clause-replaced c =
     let links1 = links_of c.grow.new.cells.slots in
     let keeps : AreKeptNew i.kept.items kept1 fan ids p (length fan) =
     subst (λ (z : List ℕ). AreKeptNew z kept1 fan ids p (length fan)) c.deref_mut.ensures.value
-    (subst (λ (z : List ℕ). AreKeptNew c.deref_mut.result.now kept1 fan z p (length fan)) c.deref.ensures.value c.keep_new.ensures) in
+    (subst (λ (z : List ℕ). AreKeptNew c.deref_mut.result.now kept1 fan z p (length fan)) c.deref.ensures.value
+    c.keep_new.ensures) in
     let n1 : length kept1 ≡ i.kept.len = omega (arith, keeps.count, i.kept.ok.0) in
-    let same : c.deref_mut-2.result.now ≡ kept1 = c.deref_mut-2.ensures.value ∙ items_written i.kept.len kept1 i.kept.items n1 in
-    let mends : AreMended links1 old kept1 kept2 (length old) = subst (λ (z : List ℕ). AreMended links1 old z kept2 (length old)) same c.mend.ensures in
+    let same : c.deref_mut-2.result.now ≡ kept1 =
+    c.deref_mut-2.ensures.value ∙ items_written i.kept.len kept1 i.kept.items n1 in
+    let mends : AreMended links1 old kept1 kept2 (length old) =
+    subst (λ (z : List ℕ). AreMended links1 old z kept2 (length old)) same c.mend.ensures in
     let n2 : length kept2 ≡ i.kept.len = mends.count ∙ n1 in
     let count = slab_len c.take_out.new.cells in
     let spare = room_of c.take_out.new.cells.capacity count (vec_capacity c.grow.new.ids) (vec_capacity c.grow.new.edges) in
     let fewer : count ≤ slab_len i.cells + length fan = omega (arith, c.take_out.ensures.len, c.grow.ensures.len) in
-    let left = spare_left i.cells.capacity (slab_len i.cells) count (vec_capacity i.ids) (vec_capacity i.edges) (length fan) fewer in
+    let left =
+    spare_left i.cells.capacity (slab_len i.cells) count (vec_capacity i.ids) (vec_capacity i.edges) (length fan) fewer in
     let cap : i.cells.capacity ≡ c.take_out.new.cells.capacity = sym (c.take_out.ensures.capacity ∙ c.grow.ensures.capacity) in
     let spares : s.spare ≤ spare + length fan =
     subst (λ (z : ℕ). s.spare ≤ room_of z count (vec_capacity c.grow.new.ids) (vec_capacity c.grow.new.edges) + length fan) cap
-    (subst (λ (z : ℕ). s.spare ≤ room_of i.cells.capacity count z (vec_capacity c.grow.new.edges) + length fan) (sym c.grow.ensures.ids_list)
-    (subst (λ (z : ℕ). s.spare ≤ room_of i.cells.capacity count (vec_capacity i.ids) z + length fan) (sym c.grow.ensures.edges_list) left)) in
-    let done = replaced_now s old fan p c.self.invariant can c.grow.new.cells.slots ids kept1 c.grow.ensures.grown c.grow.ensures.count keeps c.take_out.new.cells.slots kept2 mends c.take_out.ensures.out spare spares in
-    let here : List ℕ → Store = λ z. record { points = i.points.items; inserted = set i.inserted.items p true; slots = c.take_out.new.cells.slots; kept = z; spare = spare } in
-    let whole = subst (λ (z : List ℕ). IsReplaced s (here z) old fan p) (sym (items_written i.kept.len kept2 (take i.kept.len (kept1 ++ drop (length kept1) i.kept.items)) n2)) done in
-    subst (λ (t : Store). IsReplaced t (here (take i.kept.len (kept2 ++ drop (length kept2) (take i.kept.len (kept1 ++ drop (length kept1) i.kept.items))))) old fan p) c.self.view_is whole
+    (subst (λ (z : ℕ). s.spare ≤ room_of i.cells.capacity count z (vec_capacity c.grow.new.edges) + length fan)
+    (sym c.grow.ensures.ids_list)
+    (subst (λ (z : ℕ). s.spare ≤ room_of i.cells.capacity count (vec_capacity i.ids) z + length fan)
+    (sym c.grow.ensures.edges_list) left)) in
+    let done =
+    replaced_now s old fan p c.self.invariant can c.grow.new.cells.slots ids kept1 c.grow.ensures.grown c.grow.ensures.count
+    keeps c.take_out.new.cells.slots kept2 mends c.take_out.ensures.out spare spares in
+    let here : List ℕ → Store = λ z. record {
+      points = i.points.items;
+      inserted = set i.inserted.items p true;
+      slots = c.take_out.new.cells.slots;
+      kept = z;
+      spare = spare;
+    } in
+    let whole =
+    subst (λ (z : List ℕ). IsReplaced s (here z) old fan p)
+    (sym (items_written i.kept.len kept2 (take i.kept.len (kept1 ++ drop (length kept1) i.kept.items)) n2)) done in
+    subst (λ (t : Store).
+    IsReplaced t
+    (here (take i.kept.len (kept2 ++ drop (length kept2) (take i.kept.len (kept1 ++ drop (length kept1) i.kept.items))))) old
+    fan p) c.self.view_is whole
 
 pub returns-clause-live : goal.returns-clause-live
 returns-clause-live c =
     let i = c.self.inside in
-    let s : Store = store_from i.points.items i.inserted.items i.cells i.kept.items (vec_capacity i.ids) (vec_capacity i.edges) in
+    let s : Store =
+    store_from i.points.items i.inserted.items i.cells i.kept.items (vec_capacity i.ids) (vec_capacity i.edges) in
     let old = c.args.old.now in
     let fan = c.args.fan.now in
     let p = c.args.p in
@@ -116,11 +166,16 @@ returns-clause-live c =
     let links1 = links_of c.grow.new.cells.slots in
     let keeps : AreKeptNew i.kept.items kept1 fan ids p (length fan) =
     subst (λ (z : List ℕ). AreKeptNew z kept1 fan ids p (length fan)) c.deref_mut.ensures.value
-    (subst (λ (z : List ℕ). AreKeptNew c.deref_mut.result.now kept1 fan z p (length fan)) c.deref.ensures.value c.keep_new.ensures) in
+    (subst (λ (z : List ℕ). AreKeptNew c.deref_mut.result.now kept1 fan z p (length fan)) c.deref.ensures.value
+    c.keep_new.ensures) in
     let n1 : length kept1 ≡ i.kept.len = omega (arith, keeps.count, i.kept.ok.0) in
-    let same : c.deref_mut-2.result.now ≡ kept1 = c.deref_mut-2.ensures.value ∙ items_written i.kept.len kept1 i.kept.items n1 in
-    let mends : AreMended links1 old kept1 kept2 (length old) = subst (λ (z : List ℕ). AreMended links1 old z kept2 (length old)) same c.mend.ensures in
-    let new = first_new s old fan p c.self.invariant can c.grow.new.cells.slots ids kept1 c.grow.ensures.grown c.grow.ensures.count keeps c.take_out.new.cells.slots kept2 mends c.take_out.ensures.out in
+    let same : c.deref_mut-2.result.now ≡ kept1 =
+    c.deref_mut-2.ensures.value ∙ items_written i.kept.len kept1 i.kept.items n1 in
+    let mends : AreMended links1 old kept1 kept2 (length old) =
+    subst (λ (z : List ℕ). AreMended links1 old z kept2 (length old)) same c.mend.ensures in
+    let new =
+    first_new s old fan p c.self.invariant can c.grow.new.cells.slots ids kept1 c.grow.ensures.grown c.grow.ensures.count keeps
+    c.take_out.new.cells.slots kept2 mends c.take_out.ensures.out in
     let l : 0 < length ids = omega (arith, c.grow.ensures.count, can.some_facet) in
     let is : slice_index ids 0 ≡ c.index.result.now = get_or_default ids 0 0 c.index.result.now l ∙ sym c.index.ensures in
     subst (λ (z : ℕ). IsLive (links_of c.take_out.new.cells.slots) z) is new.0
@@ -128,7 +183,8 @@ returns-clause-live c =
 pub returns-clause-new : goal.returns-clause-new
 returns-clause-new c =
     let i = c.self.inside in
-    let s : Store = store_from i.points.items i.inserted.items i.cells i.kept.items (vec_capacity i.ids) (vec_capacity i.edges) in
+    let s : Store =
+    store_from i.points.items i.inserted.items i.cells i.kept.items (vec_capacity i.ids) (vec_capacity i.edges) in
     let old = c.args.old.now in
     let fan = c.args.fan.now in
     let p = c.args.p in
@@ -139,11 +195,16 @@ returns-clause-new c =
     let links1 = links_of c.grow.new.cells.slots in
     let keeps : AreKeptNew i.kept.items kept1 fan ids p (length fan) =
     subst (λ (z : List ℕ). AreKeptNew z kept1 fan ids p (length fan)) c.deref_mut.ensures.value
-    (subst (λ (z : List ℕ). AreKeptNew c.deref_mut.result.now kept1 fan z p (length fan)) c.deref.ensures.value c.keep_new.ensures) in
+    (subst (λ (z : List ℕ). AreKeptNew c.deref_mut.result.now kept1 fan z p (length fan)) c.deref.ensures.value
+    c.keep_new.ensures) in
     let n1 : length kept1 ≡ i.kept.len = omega (arith, keeps.count, i.kept.ok.0) in
-    let same : c.deref_mut-2.result.now ≡ kept1 = c.deref_mut-2.ensures.value ∙ items_written i.kept.len kept1 i.kept.items n1 in
-    let mends : AreMended links1 old kept1 kept2 (length old) = subst (λ (z : List ℕ). AreMended links1 old z kept2 (length old)) same c.mend.ensures in
-    let new = first_new s old fan p c.self.invariant can c.grow.new.cells.slots ids kept1 c.grow.ensures.grown c.grow.ensures.count keeps c.take_out.new.cells.slots kept2 mends c.take_out.ensures.out in
+    let same : c.deref_mut-2.result.now ≡ kept1 =
+    c.deref_mut-2.ensures.value ∙ items_written i.kept.len kept1 i.kept.items n1 in
+    let mends : AreMended links1 old kept1 kept2 (length old) =
+    subst (λ (z : List ℕ). AreMended links1 old z kept2 (length old)) same c.mend.ensures in
+    let new =
+    first_new s old fan p c.self.invariant can c.grow.new.cells.slots ids kept1 c.grow.ensures.grown c.grow.ensures.count keeps
+    c.take_out.new.cells.slots kept2 mends c.take_out.ensures.out in
     let l : 0 < length ids = omega (arith, c.grow.ensures.count, can.some_facet) in
     let is : slice_index ids 0 ≡ c.index.result.now = get_or_default ids 0 0 c.index.result.now l ∙ sym c.index.ensures in
     subst (λ (z : ℕ). IsOver (links_of c.take_out.new.cells.slots) fan p z) is new.1

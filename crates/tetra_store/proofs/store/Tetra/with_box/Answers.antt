@@ -17,13 +17,20 @@ invariant_of-result c =
     let kept = c.in_ok-kept.kept.items in
     let slots = c.in_ok-cells.cells.slots in
     let ids = c.in_ok-cells.ids.items in
-    let keeps : (u : ℕ) → u < 8 → slice_index kept u ≡ slice_index ids (box_keeper u) = λ u l. c.in_ok-kept.ensures.kept u l ∙ ap (λ (xs : List ℕ). slice_index xs (box_keeper u)) c.deref.ensures.value in
-    let spare = room_of c.in_ok-cells.cells.capacity (slab_len c.in_ok-cells.cells) (vec_capacity c.in_ok-cells.ids) (vec_capacity c.new.result) in
+    let keeps : (u : ℕ) → u < 8 → slice_index kept u ≡ slice_index ids (box_keeper u) =
+    λ u l. c.in_ok-kept.ensures.kept u l ∙ ap (λ (xs : List ℕ). slice_index xs (box_keeper u)) c.deref.ensures.value in
+    let spare =
+    room_of c.in_ok-cells.cells.capacity (slab_len c.in_ok-cells.cells) (vec_capacity c.in_ok-cells.ids)
+    (vec_capacity c.new.result) in
     let n : length c.in_ok-all.all.items ≡ length (corners ++ points) = ap length all_is in
-    let f : length flags ≡ length (corners ++ points) = omega (arith, c.in_ok-inserted.ensures.count, c.len.ensures, c.in_ok-all.all.ok.0) in
-    let k : length kept ≡ length (corners ++ points) = omega (arith, c.in_ok-kept.ensures.count, c.len-2.ensures, c.in_ok-all.all.ok.0) in
-    subst (λ (z : List Point). IsStore (record { points = z; inserted = flags; slots = slots; kept = kept; spare = spare })) (sym all_is)
-    (box_store points c.requires.within c.requires.distinct c.requires.few flags c.in_ok-inserted.ensures.flags slots ids kept c.in_ok-cells.ensures.cells keeps spare f k)
+    let f : length flags ≡ length (corners ++ points) =
+    omega (arith, c.in_ok-inserted.ensures.count, c.len.ensures, c.in_ok-all.all.ok.0) in
+    let k : length kept ≡ length (corners ++ points) =
+    omega (arith, c.in_ok-kept.ensures.count, c.len-2.ensures, c.in_ok-all.all.ok.0) in
+    subst (λ (z : List Point). IsStore (record { points = z; inserted = flags; slots = slots; kept = kept; spare = spare }))
+    (sym all_is)
+    (box_store points c.requires.within c.requires.distinct c.requires.few flags c.in_ok-inserted.ensures.flags slots ids kept
+    c.in_ok-cells.ensures.cells keeps spare f k)
 
 pub returns-clause-cells : goal.returns-clause-cells
 returns-clause-cells c =
@@ -32,6 +39,8 @@ returns-clause-cells c =
     let kept = c.in_ok-kept.kept.items in
     let slots = c.in_ok-cells.cells.slots in
     let ids = c.in_ok-cells.ids.items in
-    let keeps : (u : ℕ) → u < 8 → slice_index kept u ≡ slice_index ids (box_keeper u) = λ u l. c.in_ok-kept.ensures.kept u l ∙ ap (λ (xs : List ℕ). slice_index xs (box_keeper u)) c.deref.ensures.value in
+    let keeps : (u : ℕ) → u < 8 → slice_index kept u ≡ slice_index ids (box_keeper u) =
+    λ u l. c.in_ok-kept.ensures.kept u l ∙ ap (λ (xs : List ℕ). slice_index xs (box_keeper u)) c.deref.ensures.value in
     subst (λ (z : List Point). IsDelaunay (vertices_at z flags) (links_of slots)) (sym c.in_ok-all.ensures)
-    (box_is_delaunay points c.requires.within c.requires.distinct c.requires.few flags c.in_ok-inserted.ensures.flags slots ids kept c.in_ok-cells.ensures.cells keeps)
+    (box_is_delaunay points c.requires.within c.requires.distinct c.requires.few flags c.in_ok-inserted.ensures.flags slots ids
+    kept c.in_ok-cells.ensures.cells keeps)
