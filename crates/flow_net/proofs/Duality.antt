@@ -1,3 +1,12 @@
+-- The value of a valid flow is at most the cost of admissible labels, and equal to it just where the labels are tight.
+--
+-- No fixed node is inside, so each inside node is balanced. Summed over them: what arcs bring to inside nodes is what arcs
+-- take from inside nodes and what the sinks of inside nodes take (`inside_balance`). Arc by arc, what comes to the inside is
+-- at most what is taken from the inside and, if the arc leads in from outside, its capacity (`arc_le`). Node by node, what
+-- counts for the value is at most what the sink of an inside node takes and what an outside node costs (`node_le`). The sums
+-- give `value_le_cost`. At tight labels each of these is an equality (`value_is_cost`). Conversely, where the cost is no more
+-- than the value, no summand can be less than its bound, so the labels are tight (`tight_from_cost`). Where the two are equal,
+-- no flow is worth more and no labels cost less (`equal_is_best`).
 use Rattle.std.proofs.Common.{ℕ, ◌≡◌, ◌<◌, ◌≤◌, ◌+◌, Bool, true, false, cond, not, ◌&&◌, List, length, get_or, refl, sym, arith}
 use Rattle.std.proofs.lemmas.Bool.{false≢true, both_ways, false_from_ne_true}
 use Rattle.flow_net.specs.Sums.{sum_below}

@@ -1,3 +1,12 @@
+-- There are least-inside labels, and no two of them.
+--
+-- The insides of two least-inside labels lie within each other, so they are the same (`least_inside_unique`). That there are
+-- some: rank labels by their cost, and those of one cost by how many nodes are inside. There are finitely many admissible
+-- labels, so some are of the least rank (`has_least`, node by node), and these are of least cost. Take any others of least
+-- cost. Inside by both, and inside by one of the two, are admissible labels as well, and together they cost no more than the
+-- two (`submodular`, arc by arc and node by node). So what is inside by both is of least cost. Its rank is no lower than the
+-- best one's, so it has no fewer nodes inside, though each of them is inside by the best labels: it has them all, and these
+-- lie within the others (`ranked_least`).
 use Rattle.std.proofs.Common.{ℕ, zero, suc, ◌≡◌, ◌<◌, ◌≤◌, ◌+◌, ◌*◌, Bool, true, false, cond, not, ◌&&◌, List, [], ◌∷◌, length}
 use Rattle.std.proofs.Common.{get_or, refl, ap, sym, ◌∙◌, inl, inr, arith}
 use Rattle.std.proofs.Math.Nat.{mul-le-mul_left}

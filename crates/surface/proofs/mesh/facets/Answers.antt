@@ -1,3 +1,11 @@
+-- The mesh of the facets between inside and outside.
+--
+-- Each answer begins with what the arguments are: the cells of a scene, their ids in the order of the listing, and labels in
+-- that order. No id stands twice (`ids_once`), and the flags by id are the labels turned round (`outside_is`). So the sorted
+-- facets that the store's cells give are the cut of the complex by the labels (`cut_is_facets`). They are a list of faces of
+-- the points (`cut_is_list`), as the mesh wants them, and the mesh's points and faces are those of the cut; a rising complex
+-- of the scene is this complex (`one_complex`). The sides of the cut are closed (`closed_sides`), and the mesh keeps this
+-- (`mesh_closed`).
 use Rattle.std.proofs.Common.{ℕ, ◌+◌, ◌^◌, ◌≡◌, ◌<◌, ◌≤◌, ◌∙◌, not, length, get_or, subst, sym, ap, arith, IfOk, List, Bool}
 use Rattle.std.proofs.Common.{Option}
 use Rattle.std.proofs.lemmas.Result.{IfOk-weaker}
