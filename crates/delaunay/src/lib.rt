@@ -6,6 +6,30 @@
 //!
 //! What both promise is of the cells alone: they are exactly the Delaunay cells of the vertices that are inserted, and with the links
 //! between them they part the box. The order of insertion is not promised, and no cell depends on it.
+//!
+//! # Example
+//!
+//! Of four points (`geo_sign::Point`) and one between them, the cells that have no corner of the box. Point i is vertex 8 + i:
+//!
+//! ```rust
+//! let points = [
+//!     Point::data(0, 0, 0).ok_or("a data point")?,
+//!     Point::data(300, 0, 0).ok_or("a data point")?,
+//!     Point::data(0, 300, 0).ok_or("a data point")?,
+//!     Point::data(0, 0, 300).ok_or("a data point")?,
+//!     Point::data(50, 50, 50).ok_or("a data point")?,
+//! ];
+//! let store = build(rt.alloc(), &points)?;
+//! let mut cells = store.cells();
+//! let mut inner = Vec::new(rt.alloc());
+//! while let Some((_, cell)) = cells.next() {
+//!     if cell.v.iter().all(|v| *v >= 8) {
+//!         inner.push(cell.v)?;
+//!     }
+//! }
+//! assert_eq!(rt; inner.len(), 4);
+//! Ok(())
+//! ```
 #![tactic(auto)]
 
 mod building;

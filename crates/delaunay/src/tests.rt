@@ -116,6 +116,27 @@ fn scattered(alloc: Global, count: u64, flat: bool) -> Result<Vec<Point>, AllocE
 }
 
 #[test]
+fn example(rt: HostRuntime) -> Result<(), Fail> {
+    let points = [
+        Point::data(0, 0, 0).ok_or("a data point")?,
+        Point::data(300, 0, 0).ok_or("a data point")?,
+        Point::data(0, 300, 0).ok_or("a data point")?,
+        Point::data(0, 0, 300).ok_or("a data point")?,
+        Point::data(50, 50, 50).ok_or("a data point")?,
+    ];
+    let store = build(rt.alloc(), &points)?;
+    let mut cells = store.cells();
+    let mut inner = Vec::new(rt.alloc());
+    while let Some((_, cell)) = cells.next() {
+        if cell.v.iter().all(|v| *v >= 8) {
+            inner.push(cell.v)?;
+        }
+    }
+    assert_eq!(rt; inner.len(), 4);
+    Ok(())
+}
+
+#[test]
 fn the_cube_is_built(rt: HostRuntime) -> Result<(), Fail> {
     let sides = [-100, 100];
     let mut points = Vec::new(rt.alloc());
