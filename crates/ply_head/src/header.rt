@@ -1,10 +1,15 @@
 //! What a header says: the kind of its body, and the elements with the properties of their
 //! rows. `Name`, `Properties` and `Elements` are vectors that contracts see as lists.
 
-ghost use Rattle.std.specs.Prelude.{◌≡◌, ◌++◌, ◌∷◌, [], OnOk, OnErr, IfOk, IfSome, IfNone};
+ghost use Rattle.std.specs.Prelude.{◌≡◌, ◌<◌, ◌^◌, ◌++◌, ◌∷◌, [], length, OnOk, OnErr, IfOk, IfSome, IfNone};
+ghost use Rattle.std.specs.Iterator.Adapters.{IterYieldsInOrder};
+ghost use Rattle.std.specs.Slice.Iter.{iter_rest};
+ghost use Rattle.ply_head.specs.declared.header.Element.{Element};
+ghost use Rattle.ply_head.specs.declared.header.Property.{Property};
 
 use std::alloc::{AllocError, Global};
 use std::marker::Model;
+use std::slice;
 
 /// Want of memory.
 pub type NoMemory = AllocError;
@@ -150,6 +155,15 @@ impl Properties {
         self.items.as_slice()
     }
 
+    /// An iterator over the properties in order.
+    pub fn iter(&self) -> slice::Iter<'_, Property>
+        ensures rest { iter_rest result ≡ self.now }
+        ensures fits { length (iter_rest result) < 2 ^ 64 }
+        ensures in_order { IterYieldsInOrder Property }
+    {
+        self.items.iter()
+    }
+
     /// The properties in order, without a copy.
     pub fn into_vec(self) -> Vec<Property>
         ensures { result.items ≡ self }
@@ -164,6 +178,18 @@ impl Properties {
     {
         self.items.push(property)?;
         Ok(())
+    }
+}
+
+impl<'a> IntoIterator for &'a Properties {
+    type Item = &'a Property;
+
+    type IntoIter = slice::Iter<'a, Property>;
+
+    ghost into_iter_gives = { λ properties items. (iter_rest items ≡ properties.now) × (length (iter_rest items) < 2 ^ 64) × IterYieldsInOrder Property };
+
+    fn into_iter(self) -> slice::Iter<'a, Property> {
+        self.iter()
     }
 }
 
@@ -217,6 +243,15 @@ impl Elements {
         self.items.as_slice()
     }
 
+    /// An iterator over the elements in order.
+    pub fn iter(&self) -> slice::Iter<'_, Element>
+        ensures rest { iter_rest result ≡ self.now }
+        ensures fits { length (iter_rest result) < 2 ^ 64 }
+        ensures in_order { IterYieldsInOrder Element }
+    {
+        self.items.iter()
+    }
+
     /// The elements in order, without a copy.
     pub fn into_vec(self) -> Vec<Element>
         ensures { result.items ≡ self }
@@ -239,6 +274,18 @@ impl Elements {
         ensures none { IfNone result (self.old ≡ []) }
     {
         self.items.pop()
+    }
+}
+
+impl<'a> IntoIterator for &'a Elements {
+    type Item = &'a Element;
+
+    type IntoIter = slice::Iter<'a, Element>;
+
+    ghost into_iter_gives = { λ elements items. (iter_rest items ≡ elements.now) × (length (iter_rest items) < 2 ^ 64) × IterYieldsInOrder Element };
+
+    fn into_iter(self) -> slice::Iter<'a, Element> {
+        self.iter()
     }
 }
 

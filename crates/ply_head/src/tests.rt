@@ -107,3 +107,29 @@ fn other_spellings_are_printed_in_the_first(rt: HostRuntime) -> Result<(), Fail>
     assert!(rt; text.as_slice() == expected);
     Ok(())
 }
+
+#[test]
+fn elements_and_properties_come_in_order(rt: HostRuntime) -> Result<(), Fail> {
+    let (head, _) = read_head(rt.alloc(), PLAIN)?;
+    let mut names = Vec::new(rt.alloc());
+    for element in &head.elements {
+        names.extend_from_slice(element.name.as_slice())?;
+        for property in &element.properties {
+            names.push(b' ')?;
+            names.extend_from_slice(property.name.as_slice())?;
+        }
+        names.push(b'\n')?;
+    }
+    assert_eq!(rt;
+        names.as_slice(),
+        b"vertex x y z scanner\nscanner x y z\n".as_slice()
+    );
+    let vertex = head.elements.iter().next().ok_or("the first element")?;
+    assert!(rt;
+        vertex
+            .properties
+            .iter()
+            .all(|property| property.shape == Shape::One(Scalar::Int))
+    );
+    Ok(())
+}
