@@ -13,7 +13,7 @@ use Rattle.ply_head.specs.Answers.{◌>>=◌}
 use Rattle.ply_head.specs.Headers.{line_at, with_property, step_of, Step, goes, ends, header_from, header_of}
 use Rattle.ply_head.specs.Spelling.{joined}
 use Rattle.ply_head.specs.Grammar.{Says, Adds, AddsProperty, Leads, IsLine, HasHeader}
-use Rattle.ply_head.proofs.HeadLemmas.{Parts, some_part, with_property_last}
+use Rattle.ply_head.proofs.HeadLemmas.{Parts, line_and, some_part, with_property_last}
 use Rattle.ply_head.proofs.LoopLemmas.{whole_and, step_goes, step_ends}
 
 abbrev goes_on : Option Header → Result Step HeadRefusal
@@ -47,23 +47,20 @@ adds_step n (Some head) after finish a = absurd a
 
 -- ---- a line at the front
 
-abbrev text_and : List ℕ → List (List ℕ) → Result (List ℕ × List (List ℕ)) HeadRefusal
-text_and text more = Ok (text, more)
-
 ended : (line rest : List ℕ) → All (λ b. is_line_feed b ≡ false) line → parts_of (line ++ 10 ∷ rest) ≡ line ∷ parts_of rest
 unfolding parts_of
 ended line rest all = slice_split_at is_line_feed line 10 rest all refl
 
 line_is_text : (n : ℕ) (line first : List ℕ) (more : List (List ℕ)) → length (line_text line) ≤ 1000
-    → line_at n (line ∷ first ∷ more) ≡ text_and (line_text line) (first ∷ more)
+    → line_at n (line ∷ first ∷ more) ≡ line_and (line_text line) (first ∷ more)
 line_is_text n line first more le = rw (le-ltb 1000 (length (line_text line)) le) refl
 
 line_taken : (n : ℕ) (line rest : List ℕ) → IsLine line
-    → line_at n (parts_of (line ++ 10 ∷ rest)) ≡ text_and (line_text line) (parts_of rest)
+    → line_at n (parts_of (line ++ 10 ∷ rest)) ≡ line_and (line_text line) (parts_of rest)
 line_taken n line rest is =
     let part : Parts rest zero = some_part rest in
     ap (line_at n) (ended line rest is.no_feed ∙ ap (λ (ps : List (List ℕ)). line ∷ ps) part.is)
-    ∙ line_is_text n line part.first part.more is.short ∙ ap (text_and (line_text line)) (sym part.is)
+    ∙ line_is_text n line part.first part.more is.short ∙ ap (line_and (line_text line)) (sym part.is)
 
 line_step : (n : ℕ) (before after : Option Header) (s : Statement) (line rest : List ℕ) → n ≤ 1000 → IsLine line → Says line s
     → Adds before s after

@@ -107,7 +107,8 @@ ended_at bytes i lt all feed =
     (sym (take-append-drop i bytes) ∙ ap (λ (r : List ℕ). take i bytes ++ r) (drop_more bytes i 0 lt))
     ∙ slice_split_at is_line_feed (take i bytes) (get_or bytes i 0) (drop (i + 1) bytes) all feed
 
-abbrev line_and : List ℕ → List (List ℕ) → Result (List ℕ × List (List ℕ)) HeadRefusal
+-- the text of a line, and the parts behind it
+abbrev pub line_and : List ℕ → List (List ℕ) → Result (List ℕ × List (List ℕ)) HeadRefusal
 line_and text more = Ok (text, more)
 
 pub line_is : (n : ℕ) (bytes : List ℕ) (i : ℕ) → i < length bytes → All (λ x. is_line_feed x ≡ false) (take i bytes)

@@ -11,13 +11,10 @@ use Rattle.ply_head.specs.Headers.{Fails, line_at, text_of_line, step_of, Step, 
 use Rattle.ply_head.specs.declared.header.Header.{Header}
 use Rattle.ply_head.specs.declared.refusal.HeadRefusal.{HeadRefusal}
 use Rattle.ply_head.specs.declared.refusal.HeadRefusal.TheVariants.{LongHeader, NoMemory}
-use Rattle.ply_head.proofs.HeadLemmas.{Parts, some_part}
+use Rattle.ply_head.proofs.HeadLemmas.{Parts, line_and, some_part}
 
 abbrev pub Whole : Type 0
 Whole = Result (Header × List ℕ) HeadRefusal
-
-abbrev text_and : List ℕ → List (List ℕ) → Result (List ℕ × List (List ℕ)) HeadRefusal
-text_and text more = Ok (text, more)
 
 abbrev pub whole_and : Header → List ℕ → Whole
 whole_and whole body = Ok (whole, body)
@@ -36,7 +33,7 @@ header_step n head (part ∷ more) le = rw (le-ltb 1000 n le) (by_text (text_of_
     by_text : (r : Result (List ℕ) HeadRefusal)
         → (r >>= λ text. step_of n head (statement_of_words (words_of text))
         >>= λ step. then_lines step more (λ next. header_from (n + 1) next more))
-        ≡ ((r >>= λ text. text_and text more) >>= line_done n head)
+        ≡ ((r >>= λ text. line_and text more) >>= line_done n head)
     by_text (Ok text) = refl
     by_text (Err e) = refl
 

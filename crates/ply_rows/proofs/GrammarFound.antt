@@ -30,13 +30,9 @@ counted at (pos m) n e =
     let same : m ≡ n = same_done m n both.1 in
     (ap pos same, omega (arith, same, ltb-false 4294967295 m both.0))
 
-abbrev pub whole_number : ℤ → Result ℤ NumRefusal
-whole_number z = Ok z
-
-count_found : (at : Place) (r : Result ℤ NumRefusal) (n : ℕ) → count_of at r ≡ Ok n
-    → (r ≡ whole_number (pos n)) × (n ≤ 4294967295)
+count_found : (at : Place) (r : Result ℤ NumRefusal) (n : ℕ) → count_of at r ≡ Ok n → (r ≡ done (pos n)) × (n ≤ 4294967295)
 count_found at (Err e) n is = absurd cc
-count_found at (Ok z) n is = let both = counted at z n is in (ap whole_number both.0, both.1)
+count_found at (Ok z) n is = let both = counted at z n is in (ap done both.0, both.1)
 
 one_field : (t : Token) (field : Field) → record {
   place = t.place;
@@ -72,7 +68,7 @@ text_found at (Many count item) (t ∷ tokens) field behind e =
     record {
       group = t ∷ take read.0 tokens;
       behind = drop read.0 tokens;
-      is_group = (count_is.0 ∙ ap (λ (n : ℕ). whole_number (pos n)) (sym items), omega (arith, items, count_is.1));
+      is_group = (count_is.0 ∙ ap (λ (n : ℕ). done (pos n)) (sym items), omega (arith, items, count_is.1));
       cut = ap (λ (ts : List Token). t ∷ ts) (sym (take-append-drop read.0 tokens));
       field_is = ap (λ (x : Field × List Token). x.0) (sym same);
       left_is = ap (λ (x : Field × List Token). text x.1) (sym same);
