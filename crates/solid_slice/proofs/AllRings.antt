@@ -48,7 +48,8 @@ rings_skip points faces h next old visited rings start seen r =
       before = λ k l. omega (arith, r.before k l);
     }
 
-first_counts : (ring : List ℕ) (f : ℕ) → 0 < length ring → get_or ring 0 0 ≡ f → 1 ≤ count_by (λ g. g == f) ring
+-- a list has its first face
+pub first_counts : (ring : List ℕ) (f : ℕ) → 0 < length ring → get_or ring 0 0 ≡ f → 1 ≤ count_by (λ g. g == f) ring
 first_counts [] f l e = absurd (omega arith)
 first_counts (g ∷ ring) f l e = omega (arith, sum_by-cons (λ x. one_if (x == f)) g ring, hit_yes g f e)
 

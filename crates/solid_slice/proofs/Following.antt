@@ -54,6 +54,25 @@ one_before points faces h f g n a b =
     same_rank (has_edge a.upper a.lower) faces f g (edge_of_face a.upper a.lower faces f a.down.edge)
     (edge_of_face a.upper a.lower faces g edge) a.down.edge edge (a.rank ∙ sym rank)
 
+-- no face has two next faces
+pub one_after : (points : List Point) (faces : List (List ℕ)) (h : ℤ) (f g n : ℕ) → IsNext points faces h f g
+    → IsNext points faces h f n → g ≡ n
+one_after points faces h f g n a b =
+    let below = λ (w : ℕ). not (is_above points h w) in
+    let e = same_edge below (face_at faces f) a.upper a.lower b.upper b.lower a.down.edge b.down.edge
+    (ap not a.down.from_above) (ap not a.down.to_below) (ap not b.down.from_above) (ap not b.down.to_below) in
+    let edge : has_edge a.lower a.upper (face_at faces n) ≡ true =
+    ap (λ (u : ℕ). has_edge u a.upper (face_at faces n)) e.1
+    ∙ (ap (λ (u : ℕ). has_edge b.lower u (face_at faces n)) e.0 ∙ b.up.edge) in
+    let rank : edge_count a.lower a.upper (take n faces) ≡ edge_count a.upper a.lower (take f faces) =
+    ap (λ (u : ℕ). edge_count u a.upper (take n faces)) e.1
+    ∙ (ap (λ (u : ℕ). edge_count b.lower u (take n faces)) e.0 ∙ (sym b.rank
+    ∙ (ap (λ (u : ℕ). edge_count u b.lower (take f faces)) (sym e.0)
+    ∙ ap (λ (u : ℕ). edge_count a.upper u (take f faces)) (sym e.1)))) in
+    same_rank (has_edge a.lower a.upper) faces g n (edge_of_face a.lower a.upper faces g a.up.edge)
+    (edge_of_face a.lower a.upper faces n edge)
+    a.up.edge edge (sym a.rank ∙ sym rank)
+
 -- the next face of a cut face is cut
 pub next_is_cut : (points : List Point) (faces : List (List ℕ)) (h : ℤ) (f g : ℕ) → IsNext points faces h f g
     → is_cut_at points faces h g ≡ true

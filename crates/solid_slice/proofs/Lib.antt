@@ -9,3 +9,5 @@ pub mod Steps
 pub mod Following
 pub mod AllRings
 pub mod Totals
+pub mod Uniqueness
+pub mod Closed

@@ -7,3 +7,4 @@ pub mod Pairs
 pub mod Crossings
 pub mod Walks
 pub mod Refusals
+pub mod Laws

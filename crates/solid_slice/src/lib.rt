@@ -6,13 +6,17 @@
 //! order, the first with the first and so on: so each cut face has one next face, and following it closes loops. A mesh
 //! in which some edge and its reverse occur unequally often is refused.
 //!
-//! The edges are sorted, and all else is linear. It stands on `mesh_ply` (meshes), `geo_sign` (points)
-//! and `line_text` (numbers in lines).
+//! So a mesh has one slice at a height (`slices_are_unique`), and a closed mesh is refused for want of memory alone
+//! (`closed_meshes_are_sliced`).
+//!
+//! The edges are sorted, and all else is linear. It stands on `mesh_ply` (meshes), `geo_sign` (points),
+//! `line_text` (numbers in lines) and, for the law of closed meshes, `cell_laws` (counts of edges).
 #![tactic(auto)]
 
 mod balance;
 mod crossings;
 mod height;
+mod laws;
 mod pair;
 mod refusal;
 mod rings;
@@ -23,6 +27,7 @@ mod successors;
 mod tests;
 mod text;
 
+pub use laws::{closed_meshes_are_sliced, slices_are_unique};
 pub use mesh_ply::{Mesh, NoMemory};
 pub use refusal::SliceRefusal;
 pub use slicing::slice;

@@ -1,0 +1,46 @@
+-- What holds of all slices.
+--
+--   SliceIsOne              a mesh has one slice at a height
+--   RefusalIsOne            a mesh has one refusal, but for want of memory
+--   LacksMemoryAlone faces  nothing but want of memory refuses these faces
+--   BalancedIsSliced        so it is where each directed edge occurs as often as its reverse
+--   ClosedIsSliced          nothing but want of memory refuses a closed mesh
+use Rattle.std.specs.Prelude.{ℕ, ℤ, ◌≡◌, ◌≢◌, List, map}
+use Rattle.geo_sign.specs.Point.{Point}
+use Rattle.geo_sign.specs.Tetrahedron.{facet_at}
+use Rattle.cell_laws.specs.ClosedLaws.{edge_count}
+use Rattle.mesh_ply.specs.Meshes.{IsMesh}
+use Rattle.solid_slice.specs.Edges.{IsBalanced}
+use Rattle.solid_slice.specs.Refusals.{IsRefused}
+use Rattle.solid_slice.specs.Slices.{IsSlice}
+use Rattle.solid_slice.specs.declared.refusal.SliceRefusal.{SliceRefusal}
+use Rattle.solid_slice.specs.declared.refusal.SliceRefusal.TheVariants.{NoMemory}
+use Rattle.solid_slice.specs.declared.step.Step.{Step}
+
+-- a mesh has one slice at a height
+abbrev pub SliceIsOne : Type 0
+SliceIsOne =
+    (points : List Point) (faces : List (List ℕ)) (h : ℤ) (rings others : List (List Step)) → IsSlice points faces h rings
+    → IsSlice points faces h others → rings ≡ others
+
+-- a mesh has one refusal, but for want of memory
+abbrev pub RefusalIsOne : Type 0
+RefusalIsOne =
+    (faces : List (List ℕ)) (refusal other : SliceRefusal) → IsRefused faces refusal → IsRefused faces other
+    → refusal ≢ NoMemory
+    → other ≢ NoMemory → refusal ≡ other
+
+-- nothing but want of memory refuses these faces
+abbrev pub LacksMemoryAlone : List (List ℕ) → Type 0
+LacksMemoryAlone faces = (refusal : SliceRefusal) → IsRefused faces refusal → refusal ≡ NoMemory
+
+-- each directed edge occurs as often as its reverse, so no pair is told whose two counts differ
+abbrev pub BalancedIsSliced : Type 0
+BalancedIsSliced = (faces : List (List ℕ)) → IsBalanced faces → LacksMemoryAlone faces
+
+-- each directed edge is met by its reverse equally often, where all edges of all faces are counted: no face of a mesh has one
+-- edge twice, so its edges are balanced
+abbrev pub ClosedIsSliced : Type 0
+ClosedIsSliced =
+    (points : List Point) (faces : List (List ℕ)) → IsMesh points faces
+    → ((u w : ℕ) → edge_count u w (map facet_at faces) ≡ edge_count w u (map facet_at faces)) → LacksMemoryAlone faces
