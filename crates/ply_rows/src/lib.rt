@@ -16,6 +16,27 @@
 //!
 //! The crate stands on `ply_head` (headers), `num_text` (the counts of lists in text),
 //! `byteorder` and `thiserror`.
+//!
+//! # Example
+//!
+//! The numbers of the second property of each row, where `ply_head::read_head` reads the header and
+//! `num_text::whole` a number:
+//!
+//! ```rust
+//! let file =
+//!     b"ply\nformat ascii 1.0\nelement vertex 2\nproperty int x\nproperty int y\nend_header\n3 4\n5 6\n";
+//! let (head, start) = read_head(rt.alloc(), file)?;
+//! let mut rows = Rows::new(&head, &file[start..]);
+//! let mut fields = Vec::new(rt.alloc());
+//! let mut heights = Vec::new(rt.alloc());
+//! while let Some(_) = rows.next_row(&mut fields)? {
+//!     if let Some(y) = fields.get(1) {
+//!         heights.push(whole(rows.bytes(*y))?)?;
+//!     }
+//! }
+//! assert_eq!(rt; heights.as_slice(), [4, 6].as_slice());
+//! Ok(())
+//! ```
 #![tactic(auto)]
 
 mod binary;

@@ -1,6 +1,7 @@
 //! Bodies whose rows are known from the format.
 
 use super::*;
+use num_text::whole;
 use ply_head::{Kind, Scalar, read_head};
 use std::test::*;
 
@@ -149,5 +150,22 @@ fn fields_are_those_of_the_row(rt: HostRuntime) -> Result<(), Fail> {
             assert_eq!(rt; binary_whole(kind, scalar, bytes), expected);
         }
     }
+    Ok(())
+}
+
+#[test]
+fn example(rt: HostRuntime) -> Result<(), Fail> {
+    let file =
+        b"ply\nformat ascii 1.0\nelement vertex 2\nproperty int x\nproperty int y\nend_header\n3 4\n5 6\n";
+    let (head, start) = read_head(rt.alloc(), file)?;
+    let mut rows = Rows::new(&head, &file[start..]);
+    let mut fields = Vec::new(rt.alloc());
+    let mut heights = Vec::new(rt.alloc());
+    while let Some(_) = rows.next_row(&mut fields)? {
+        if let Some(y) = fields.get(1) {
+            heights.push(whole(rows.bytes(*y))?)?;
+        }
+    }
+    assert_eq!(rt; heights.as_slice(), [4, 6].as_slice());
     Ok(())
 }
