@@ -1,15 +1,17 @@
-//! The rows of a certificate at the front of a text, read. It stands on `line_text`.
+//! The fields of rows: a cell's numbers, a facet's, an amount, printed and read at the front of a text. It stands on
+//! `line_text`.
 
-ghost use Rattle.std.specs.Prelude.{◌≡◌, ◌<◌, ◌++◌, IfSome, IfNone};
-ghost use Rattle.line_text.specs.Numbers.{line_feed, ended, BeginsWithNone};
-ghost use Rattle.cert_text.specs.Rows.{IsCellRow, IsAmount, IsFlowRow, IsSinkRow};
-ghost use Rattle.cert_text.specs.Texts.{cell_fields, cell_line, flow_line, sink_line};
+ghost use Rattle.std.specs.Prelude.{◌≡◌, ◌<◌, ◌++◌, [], ◌∷◌, IfSome, IfNone, OnOk, OnErr, length, take};
+ghost use Rattle.line_text.specs.Numbers.{space, line_feed, ended, BeginsWithNone};
+ghost use Rattle.line_text.specs.Facets.{facet_fields};
+ghost use Rattle.cert_text.specs.Rows.{IsCellRow, IsAmount};
+ghost use Rattle.cert_text.specs.Texts.{cell_fields};
 
-use crate::{FlowRow, SinkRow};
-use line_text::{facet_first, number_within, pair_first};
+use crate::NoMemory;
+use line_text::{number_within, pair_first, push_number};
 
 // A cell's four numbers, which rise.
-fn cell_first(text: &[u8], end: u8) -> Option<([u32; 4], &[u8])>
+pub fn cell_first(text: &[u8], end: u8) -> Option<([u32; 4], &[u8])>
     requires { end < 48 }
     ensures some { IfSome result (λ read. IsCellRow read.0 × (text.now ≡ cell_fields read.0 end ++ read.1.now)) }
     ensures none { IfNone result (BeginsWithNone IsCellRow (λ c. cell_fields c end) text.now) }
@@ -24,37 +26,50 @@ fn cell_first(text: &[u8], end: u8) -> Option<([u32; 4], &[u8])>
 }
 
 // An amount of at least 1, and the end of its line.
-fn amount_first(text: &[u8]) -> Option<(u64, &[u8])>
+pub fn amount_first(text: &[u8]) -> Option<(u64, &[u8])>
     ensures some { IfSome result (λ read. IsAmount read.0 × (text.now ≡ ended read.0 line_feed ++ read.1.now)) }
     ensures none { IfNone result (BeginsWithNone IsAmount (λ n. ended n line_feed) text.now) }
 {
     number_within(text, b'\n', 1, u64::MAX)
 }
 
-// The line of an inside cell.
-pub fn cell_line_first(text: &[u8]) -> Option<([u32; 4], &[u8])>
-    ensures some { IfSome result (λ read. IsCellRow read.0 × (text.now ≡ cell_line read.0 ++ read.1.now)) }
-    ensures none { IfNone result (BeginsWithNone IsCellRow cell_line text.now) }
+// Four numbers, and a byte behind the last.
+fn push_four(out: &mut Vec<u8>, a: u32, b: u32, c: u32, d: u32, end: u8) -> Result<(), NoMemory>
+    ensures ok { OnOk result (out.new.items ≡ out.old.items ++ cell_fields (a ∷ b ∷ c ∷ d ∷ []) end) }
+    ensures kept { OnErr result (take (length out.old.items) out.new.items ≡ out.old.items) }
 {
-    cell_first(text, b'\n')
+    push_number(out, u64::from(a), b' ')?;
+    push_number(out, u64::from(b), b' ')?;
+    push_number(out, u64::from(c), b' ')?;
+    push_number(out, u64::from(d), end)?;
+    Ok(())
 }
 
-// The line of a flow row.
-pub fn flow_line_first(text: &[u8]) -> Option<(FlowRow, &[u8])>
-    ensures some { IfSome result (λ read. IsFlowRow read.0 × (text.now ≡ flow_line read.0 ++ read.1.now)) }
-    ensures none { IfNone result (BeginsWithNone IsFlowRow flow_line text.now) }
+// A cell's numbers, and a byte behind the last.
+pub fn push_cell(out: &mut Vec<u8>, cell: [u32; 4], end: u8) -> Result<(), NoMemory>
+    ensures ok { OnOk result (out.new.items ≡ out.old.items ++ cell_fields cell end) }
+    ensures kept { OnErr result (take (length out.old.items) out.new.items ≡ out.old.items) }
 {
-    let (facet, rest) = facet_first(text, b' ')?;
-    let (amount, rest) = amount_first(rest)?;
-    Some((FlowRow { facet, amount }, rest))
+    let [a, b, c, d] = cell;
+    push_four(out, a, b, c, d, end)
 }
 
-// The line of a sink row.
-pub fn sink_line_first(text: &[u8]) -> Option<(SinkRow, &[u8])>
-    ensures some { IfSome result (λ read. IsSinkRow read.0 × (text.now ≡ sink_line read.0 ++ read.1.now)) }
-    ensures none { IfNone result (BeginsWithNone IsSinkRow sink_line text.now) }
+// Three numbers, and a space behind each.
+fn push_three(out: &mut Vec<u8>, a: u32, b: u32, c: u32) -> Result<(), NoMemory>
+    ensures ok { OnOk result (out.new.items ≡ out.old.items ++ facet_fields (a ∷ b ∷ c ∷ []) space) }
+    ensures kept { OnErr result (take (length out.old.items) out.new.items ≡ out.old.items) }
 {
-    let (cell, rest) = cell_first(text, b' ')?;
-    let (amount, rest) = amount_first(rest)?;
-    Some((SinkRow { cell, amount }, rest))
+    push_number(out, u64::from(a), b' ')?;
+    push_number(out, u64::from(b), b' ')?;
+    push_number(out, u64::from(c), b' ')?;
+    Ok(())
+}
+
+// A facet's numbers, and a space behind each.
+pub fn push_facet(out: &mut Vec<u8>, facet: [u32; 3]) -> Result<(), NoMemory>
+    ensures ok { OnOk result (out.new.items ≡ out.old.items ++ facet_fields facet space) }
+    ensures kept { OnErr result (take (length out.old.items) out.new.items ≡ out.old.items) }
+{
+    let [a, b, c] = facet;
+    push_three(out, a, b, c)
 }

@@ -18,6 +18,7 @@ mod laws;
 mod print;
 mod read;
 mod refusal;
+mod row;
 mod stamp;
 mod stamp_print;
 mod stamp_read;

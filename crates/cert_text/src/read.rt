@@ -2,24 +2,23 @@
 //! other text the first refusal in line order is answered. Nothing is reserved by a stated
 //! count, so time and memory are linear in the bytes. It stands on `line_text`.
 
-ghost use Rattle.std.specs.Prelude.{◌≡◌, ◌≤◌, ◌<◌, ◌^◌, ◌+◌, ◌++◌, IfOk, IfErr, IsErr, MatchResult, List, length};
+ghost use Rattle.std.specs.Prelude.{◌≡◌, ◌≤◌, ◌<◌, ◌^◌, ◌+◌, ◌++◌, IfOk, IfErr, IsErr, MatchResult, List, Some, length};
 ghost use Rattle.std.specs.Bool.{OnTrue, OnFalse};
 ghost use Rattle.std.specs.List.{flat_map};
 ghost use Rattle.line_text.specs.Numbers.{counted, IsBetween};
 ghost use Rattle.line_text.specs.Refusals.{line_after, WithMemory, RefusedNumber, AreRows, RisesAbove, IsRefusedRow, RefusedList, list_text, IsList};
 ghost use Rattle.line_text.specs.Rising.{IsBefore};
-ghost use Rattle.cert_text.specs.Rows.{IsCellRow, IsFlowRow, IsSinkRow, cell_order, flow_order, sink_order};
 ghost use Rattle.cert_text.specs.Certificates.{Claim, claim_of, FitCounts, IsWellFormed};
-ghost use Rattle.cert_text.specs.Texts.{inside_word, flow_word, sink_word, cell_line, flow_line, sink_line, counts_text, cert_text};
+ghost use Rattle.cert_text.specs.Texts.{counts_text, cert_text};
 ghost use Rattle.cert_text.specs.Refusals.{OrNoMemory, RefusedCounts, AtCertificate, IsRefused};
 ghost use Rattle.cert_text.specs.declared.refusal.CertRefusal.{CertRefusal};
 ghost use Rattle.cert_text.specs.Headings.{counts_of};
 
-use crate::fields::{cell_line_first, flow_line_first, sink_line_first};
 use crate::refusal::refusal_of_cert;
+use crate::row::Row;
 use crate::stamp_read::{counts_line, read_version};
-use crate::words::{cost, end_mark, flow, inside, points, scanners, sights, sink, smooth, vote};
-use crate::{CertRefusal, Certificate, FlowRow, SinkRow};
+use crate::words::{cost, end_mark, points, scanners, sights, smooth, vote};
+use crate::{CertRefusal, Certificate};
 use line_text::{LineRefusal, number_line, refusal_of, word_line};
 use std::alloc::Global;
 
@@ -82,117 +81,35 @@ fn is_before(before: &[u32], row: &[u32]) -> bool
 }
 
 // Whether the row rises above the last of these.
-fn cell_rises(rows: &[[u32; 4]], row: [u32; 4]) -> bool
-    ensures yes { OnTrue result (RisesAbove cell_order rows.now row) }
-    ensures no { OnFalse result (¬ RisesAbove cell_order rows.now row) }
+fn rises<R: Row>(rows: &[R], row: R) -> bool
+    ensures yes { OnTrue result (RisesAbove (Some R.key) rows.now row) }
+    ensures no { OnFalse result (¬ RisesAbove (Some R.key) rows.now row) }
 {
     match rows.last() {
-        Some(before) => is_before(before, &row),
+        Some(before) => is_before(before.key(), row.key()),
         None => true,
     }
 }
 
-// Whether the row rises above the last of these.
-fn flow_rises(rows: &[FlowRow], row: FlowRow) -> bool
-    ensures yes { OnTrue result (RisesAbove flow_order rows.now row) }
-    ensures no { OnFalse result (¬ RisesAbove flow_order rows.now row) }
-{
-    match rows.last() {
-        Some(before) => is_before(&before.facet, &row.facet),
-        None => true,
-    }
-}
-
-// Whether the row rises above the last of these.
-fn sink_rises(rows: &[SinkRow], row: SinkRow) -> bool
-    ensures yes { OnTrue result (RisesAbove sink_order rows.now row) }
-    ensures no { OnFalse result (¬ RisesAbove sink_order rows.now row) }
-{
-    match rows.last() {
-        Some(before) => is_before(&before.cell, &row.cell),
-        None => true,
-    }
-}
-
-// The lines of inside cells, which begin at this line.
-fn read_cells(
+// The lines of so many rows, which begin at this line.
+fn read_rows<R: Row>(
     alloc: Global,
     text: &[u8],
     count: u64,
     line: u64,
-) -> Result<(Vec<[u32; 4]>, &[u8]), LineRefusal>
-    ensures ok { IfOk result (λ read. (length read.0.items ≡ count) × AreRows IsCellRow cell_order read.0.items × (text.now ≡ flat_map cell_line read.0.items ++ read.1.now)) }
-    ensures refused { IfErr result (λ r. WithMemory r (IsRefusedRow IsCellRow cell_line cell_order count line text.now r)) }
+) -> Result<(Vec<R>, &[u8]), LineRefusal>
+    ensures ok { IfOk result (λ read. (length read.0.items ≡ count) × AreRows R.is_row (Some R.key) read.0.items × (text.now ≡ flat_map R.line read.0.items ++ read.1.now)) }
+    ensures refused { IfErr result (λ r. WithMemory r (IsRefusedRow R.is_row R.line (Some R.key) count line text.now r)) }
 {
-    let mut rows: Vec<[u32; 4]> = Vec::new(alloc);
+    let mut rows: Vec<R> = Vec::new(alloc);
     let mut rest = text;
     let mut at = line;
     for k in 0..count {
-        let (row, next) = match cell_line_first(rest) {
+        let (row, next) = match R::first(rest) {
             Some(read) => read,
             None => return Err(refusal_of(rest, at)),
         };
-        if !cell_rises(&rows, row) {
-            return Err(LineRefusal::Order(at));
-        }
-        if rows.push(row).is_err() {
-            return Err(LineRefusal::NoMemory);
-        }
-        rest = next;
-        at = at.saturating_add(1);
-    }
-    Ok((rows, rest))
-}
-
-// The lines of flow rows, which begin at this line.
-fn read_flow_rows(
-    alloc: Global,
-    text: &[u8],
-    count: u64,
-    line: u64,
-) -> Result<(Vec<FlowRow>, &[u8]), LineRefusal>
-    ensures ok { IfOk result (λ read. (length read.0.items ≡ count) × AreRows IsFlowRow flow_order read.0.items × (text.now ≡ flat_map flow_line read.0.items ++ read.1.now)) }
-    ensures refused { IfErr result (λ r. WithMemory r (IsRefusedRow IsFlowRow flow_line flow_order count line text.now r)) }
-{
-    let mut rows: Vec<FlowRow> = Vec::new(alloc);
-    let mut rest = text;
-    let mut at = line;
-    for k in 0..count {
-        let (row, next) = match flow_line_first(rest) {
-            Some(read) => read,
-            None => return Err(refusal_of(rest, at)),
-        };
-        if !flow_rises(&rows, row) {
-            return Err(LineRefusal::Order(at));
-        }
-        if rows.push(row).is_err() {
-            return Err(LineRefusal::NoMemory);
-        }
-        rest = next;
-        at = at.saturating_add(1);
-    }
-    Ok((rows, rest))
-}
-
-// The lines of sink rows, which begin at this line.
-fn read_sink_rows(
-    alloc: Global,
-    text: &[u8],
-    count: u64,
-    line: u64,
-) -> Result<(Vec<SinkRow>, &[u8]), LineRefusal>
-    ensures ok { IfOk result (λ read. (length read.0.items ≡ count) × AreRows IsSinkRow sink_order read.0.items × (text.now ≡ flat_map sink_line read.0.items ++ read.1.now)) }
-    ensures refused { IfErr result (λ r. WithMemory r (IsRefusedRow IsSinkRow sink_line sink_order count line text.now r)) }
-{
-    let mut rows: Vec<SinkRow> = Vec::new(alloc);
-    let mut rest = text;
-    let mut at = line;
-    for k in 0..count {
-        let (row, next) = match sink_line_first(rest) {
-            Some(read) => read,
-            None => return Err(refusal_of(rest, at)),
-        };
-        if !sink_rises(&rows, row) {
+        if !rises(&rows, row) {
             return Err(LineRefusal::Order(at));
         }
         if rows.push(row).is_err() {
@@ -205,47 +122,17 @@ fn read_sink_rows(
 }
 
 // A list with its length before it, and the number of the line behind it.
-fn read_inside(
+fn read_list<R: Row>(
     alloc: Global,
     text: &[u8],
     line: u64,
-) -> Result<(Vec<[u32; 4]>, &[u8], u64), LineRefusal>
-    ensures ok { IfOk result (λ read. IsList IsCellRow cell_order read.0.items × (text.now ≡ list_text cell_line inside_word read.0.items ++ read.1.now) × (read.2 ≡ line_after line (1 + length read.0.items))) }
-    ensures refused { IfErr result (λ r. WithMemory r (RefusedList IsCellRow cell_line cell_order inside_word line text.now r)) }
+) -> Result<(Vec<R>, &[u8], u64), LineRefusal>
+    ensures ok { IfOk result (λ read. IsList R.is_row (Some R.key) read.0.items × (text.now ≡ list_text R.line R.word read.0.items ++ read.1.now) × (read.2 ≡ line_after line (1 + length read.0.items))) }
+    ensures refused { IfErr result (λ r. WithMemory r (RefusedList R.is_row R.line (Some R.key) R.word line text.now r)) }
 {
-    let (count, rest) = number_line(text, inside(), 0, u64::MAX, line)?;
+    let (count, rest) = number_line(text, R::word(), 0, u64::MAX, line)?;
     let first = line.saturating_add(1);
-    let (rows, rest) = read_cells(alloc, rest, count, first)?;
-    Ok((rows, rest, first.saturating_add(count)))
-}
-
-// A list with its length before it, and the number of the line behind it.
-fn read_flow(
-    alloc: Global,
-    text: &[u8],
-    line: u64,
-) -> Result<(Vec<FlowRow>, &[u8], u64), LineRefusal>
-    ensures ok { IfOk result (λ read. IsList IsFlowRow flow_order read.0.items × (text.now ≡ list_text flow_line flow_word read.0.items ++ read.1.now) × (read.2 ≡ line_after line (1 + length read.0.items))) }
-    ensures refused { IfErr result (λ r. WithMemory r (RefusedList IsFlowRow flow_line flow_order flow_word line text.now r)) }
-{
-    let (count, rest) = number_line(text, flow(), 0, u64::MAX, line)?;
-    let first = line.saturating_add(1);
-    let (rows, rest) = read_flow_rows(alloc, rest, count, first)?;
-    Ok((rows, rest, first.saturating_add(count)))
-}
-
-// A list with its length before it, and the number of the line behind it.
-fn read_sink(
-    alloc: Global,
-    text: &[u8],
-    line: u64,
-) -> Result<(Vec<SinkRow>, &[u8], u64), LineRefusal>
-    ensures ok { IfOk result (λ read. IsList IsSinkRow sink_order read.0.items × (text.now ≡ list_text sink_line sink_word read.0.items ++ read.1.now) × (read.2 ≡ line_after line (1 + length read.0.items))) }
-    ensures refused { IfErr result (λ r. WithMemory r (RefusedList IsSinkRow sink_line sink_order sink_word line text.now r)) }
-{
-    let (count, rest) = number_line(text, sink(), 0, u64::MAX, line)?;
-    let first = line.saturating_add(1);
-    let (rows, rest) = read_sink_rows(alloc, rest, count, first)?;
+    let (rows, rest) = read_rows(alloc, rest, count, first)?;
     Ok((rows, rest, first.saturating_add(count)))
 }
 
@@ -260,9 +147,9 @@ fn read_lines(alloc: Global, bytes: &[u8]) -> Result<Certificate, LineRefusal>
     };
     let line = counts_line(&stamp);
     let (heading, rest) = read_counts(rest, line)?;
-    let (inside, rest, line) = read_inside(alloc, rest, line + 6)?;
-    let (flow, rest, line) = read_flow(alloc, rest, line)?;
-    let (sink, rest, line) = read_sink(alloc, rest, line)?;
+    let (inside, rest, line) = read_list(alloc, rest, line + 6)?;
+    let (flow, rest, line) = read_list(alloc, rest, line)?;
+    let (sink, rest, line) = read_list(alloc, rest, line)?;
     let rest = word_line(rest, end_mark(), line)?;
     if !rest.is_empty() {
         return Err(LineRefusal::BadLine(line.saturating_add(1)));

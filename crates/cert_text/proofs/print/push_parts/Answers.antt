@@ -2,31 +2,31 @@ use Rattle.std.proofs.Common.{◌∙◌, ap, length, take}
 use Rattle.line_text.proofs.Kept.{OnErr-holds, front_of_more, front_of_front}
 use Rattle.cert_text.proofs.print.push_parts.Goals as goal
 
-pub returns-in_err-push_inside-clause-kept : goal.returns-in_err-push_inside-clause-kept
-returns-in_err-push_inside-clause-kept c =
+pub returns-in_err-push_list-clause-kept : goal.returns-in_err-push_list-clause-kept
+returns-in_err-push_list-clause-kept c =
     OnErr-holds _ _
     (front_of_front _ _ _
     (front_of_front _ _ _ (front_of_more _ _ _ c.in_ok-push_version.ensures.ok)
-    (front_of_more _ _ _ c.in_ok-push_counts.ensures.ok)) c.in_err-push_inside.ensures.kept)
+    (front_of_more _ _ _ c.in_ok-push_counts.ensures.ok)) c.in_err-push_list.ensures.kept)
 
-pub returns-in_err-push_flow-clause-kept : goal.returns-in_err-push_flow-clause-kept
-returns-in_err-push_flow-clause-kept c =
+pub returns-in_err-push_list-2-clause-kept : goal.returns-in_err-push_list-2-clause-kept
+returns-in_err-push_list-2-clause-kept c =
     OnErr-holds _ _
     (front_of_front _ _ _
     (front_of_front _ _ _
     (front_of_front _ _ _ (front_of_more _ _ _ c.in_ok-push_version.ensures.ok)
-    (front_of_more _ _ _ c.in_ok-push_counts.ensures.ok)) (front_of_more _ _ _ c.in_ok-push_inside.ensures.ok))
-    c.in_err-push_flow.ensures.kept)
+    (front_of_more _ _ _ c.in_ok-push_counts.ensures.ok)) (front_of_more _ _ _ c.in_ok-push_list.ensures.ok))
+    c.in_err-push_list-2.ensures.kept)
 
-pub returns-in_err-push_sink-clause-kept : goal.returns-in_err-push_sink-clause-kept
-returns-in_err-push_sink-clause-kept c =
+pub returns-in_err-push_list-3-clause-kept : goal.returns-in_err-push_list-3-clause-kept
+returns-in_err-push_list-3-clause-kept c =
     OnErr-holds _ _
     (front_of_front _ _ _
     (front_of_front _ _ _
     (front_of_front _ _ _
     (front_of_front _ _ _ (front_of_more _ _ _ c.in_ok-push_version.ensures.ok)
-    (front_of_more _ _ _ c.in_ok-push_counts.ensures.ok)) (front_of_more _ _ _ c.in_ok-push_inside.ensures.ok))
-    (front_of_more _ _ _ c.in_ok-push_flow.ensures.ok)) c.in_err-push_sink.ensures.kept)
+    (front_of_more _ _ _ c.in_ok-push_counts.ensures.ok)) (front_of_more _ _ _ c.in_ok-push_list.ensures.ok))
+    (front_of_more _ _ _ c.in_ok-push_list-2.ensures.ok)) c.in_err-push_list-3.ensures.kept)
 
 pub returns-in_err-extend_from_slice-clause-kept : goal.returns-in_err-extend_from_slice-clause-kept
 returns-in_err-extend_from_slice-clause-kept c =
@@ -36,5 +36,5 @@ returns-in_err-extend_from_slice-clause-kept c =
     (front_of_front _ _ _
     (front_of_front _ _ _
     (front_of_front _ _ _ (front_of_more _ _ _ c.in_ok-push_version.ensures.ok)
-    (front_of_more _ _ _ c.in_ok-push_counts.ensures.ok)) (front_of_more _ _ _ c.in_ok-push_inside.ensures.ok))
-    (front_of_more _ _ _ c.in_ok-push_flow.ensures.ok)) (front_of_more _ _ _ c.in_ok-push_sink.ensures.ok))
+    (front_of_more _ _ _ c.in_ok-push_counts.ensures.ok)) (front_of_more _ _ _ c.in_ok-push_list.ensures.ok))
+    (front_of_more _ _ _ c.in_ok-push_list-2.ensures.ok)) (front_of_more _ _ _ c.in_ok-push_list-3.ensures.ok))

@@ -1,5 +1,5 @@
 use Rattle.line_text.proofs.Kept.{OnErr-holds, front_of_more, front_of_front}
-use Rattle.cert_text.proofs.print.push_four.Goals as goal
+use Rattle.cert_text.proofs.fields.push_four.Goals as goal
 
 pub returns-in_err-push_number-3-clause-kept : goal.returns-in_err-push_number-3-clause-kept
 returns-in_err-push_number-3-clause-kept c =

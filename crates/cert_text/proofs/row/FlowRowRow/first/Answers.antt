@@ -1,6 +1,6 @@
 use Rattle.line_text.proofs.Kept.{IfNone-holds}
 use Rattle.cert_text.proofs.FieldForms.{no_flow_row}
-use Rattle.cert_text.proofs.fields.flow_line_first.Goals as goal
+use Rattle.cert_text.proofs.row.FlowRowRow.first.Goals as goal
 
 pub returns-in_err-amount-clause-none : goal.returns-in_err-amount-clause-none
 returns-in_err-amount-clause-none c =
