@@ -5,7 +5,8 @@ use Rattle.std.specs.Char.{is_ascii_digit, digit_value}
 use Rattle.std.specs.Str.Parse.{AllDigits, IsNumeral, digits_value, without_leading_plus}
 use Rattle.std.proofs.lemmas.Bool.Decides.{nat_tests}
 use Rattle.std.proofs.lemmas.Bool.{and_parts, le-leb}
-use Rattle.recon_cmd.specs.Options.{◌>>=◌, number_of, within}
+use Rattle.ply_head.specs.Optional.{◌>>=◌}
+use Rattle.recon_cmd.specs.Options.{number_of, within}
 use Rattle.recon_cmd.specs.Words.{seed_of}
 
 -- a digit is below ten

@@ -5,7 +5,8 @@ use Rattle.std.specs.Str.{bytes_eq}
 use Rattle.std.proofs.lemmas.Bool.{and_parts, false_from_ne_true}
 use Rattle.std.proofs.lemmas.Slice.Eq.{bytes_eq-Decides}
 use Rattle.scan.specs.ScanRows.{point_limit}
-use Rattle.recon_cmd.specs.Options.{◌>>=◌, Options, number_in, options_of}
+use Rattle.ply_head.specs.Optional.{◌>>=◌}
+use Rattle.recon_cmd.specs.Options.{Options, number_in, options_of}
 use Rattle.recon_cmd.specs.Words.{Asked, are_names, is_other, build, build_keys, build_of, cells, cells_keys, cells_of, check, check_of, command_of, demo, demo_of, height_of, seed_of, slice, slice_of, upgrade_of}
 
 pub same_name : (a b : List ℕ) → bytes_eq a b ≡ true → a ≡ b

@@ -1,6 +1,5 @@
 -- The options behind the names of a command.
 --
---   ◌>>=◌                      a value, and then another made of it, if there are both
 --   spelling key               how the word of an option begins: `KEY=`
 --   begins_with key word       the word begins so
 --   are_options keys words     each word is an option with one of these keys, and no two words have one
@@ -22,17 +21,12 @@ use Rattle.geo_sign.specs.Point.{Point, point}
 use Rattle.num_text.specs.WholeNumbers.{are_digits}
 use Rattle.num_text.specs.Decimals.{scaled_of}
 use Rattle.num_text.specs.declared.refusal.NumRefusal.{NumRefusal}
+use Rattle.ply_head.specs.Optional.{◌>>=◌}
 use Rattle.recon_cmd.specs.declared.options.keys.Key.{Key}
 use Rattle.recon_cmd.specs.declared.options.keys.Key.TheVariants.{Unit as unit_key, Vote as vote_key, Smooth as smooth_key, Scanner as scanner_key}
 use Rattle.flow_net.specs.declared.votes.TheConstants.{WEIGHT_LIMIT}
 use Rattle.num_text.specs.declared.decimal.TheConstants.{UNIT_LIMIT}
 use Rattle.recon_cmd.specs.declared.options.understood.TheConstants.{DEFAULT_SMOOTH, DEFAULT_UNIT, DEFAULT_VOTE}
-
--- a value, and then another made of it, if there are both
-infixl 10 ◌>>=◌
-abbrev pub ◌>>=◌ : {A B : Type 0} → Option A → (A → Option B) → Option B
-None >>= f = None
-(Some x) >>= f = f x
 
 -- how the word of an option begins
 abbrev pub spelling : Key → List ℕ

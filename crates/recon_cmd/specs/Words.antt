@@ -17,7 +17,8 @@ use Rattle.std.specs.Option.{option_map}
 use Rattle.std.specs.Str.{bytes_eq}
 use Rattle.num_text.specs.WholeNumbers.{is_minus, signed}
 use Rattle.scan.specs.ScanRows.{point_limit}
-use Rattle.recon_cmd.specs.Options.{◌>>=◌, Options, number_in, number_of, options_of, within}
+use Rattle.ply_head.specs.Optional.{◌>>=◌}
+use Rattle.recon_cmd.specs.Options.{Options, number_in, number_of, options_of, within}
 use Rattle.recon_cmd.specs.OptionViews.{options_view}
 use Rattle.recon_cmd.specs.declared.options.keys.Key.{Key}
 use Rattle.recon_cmd.specs.declared.options.keys.Key.TheVariants.{Unit as unit_key, Vote as vote_key, Smooth as smooth_key, Scanner as scanner_key}
