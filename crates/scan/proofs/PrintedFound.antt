@@ -16,6 +16,7 @@ use Rattle.num_text.specs.Decimals.{scaled_of}
 use Rattle.num_text.proofs.PrintedLemmas.{whole_of-signed_decimal, scaled_of-signed_decimal}
 use Rattle.ply_head.specs.declared.header.Kind.TheVariants.{Ascii}
 use Rattle.ply_head.specs.declared.header.Scalar.TheVariants.{Int}
+use Rattle.ply_head.proofs.Answers.{done}
 use Rattle.ply_rows.specs.declared.place.Field.{Field}
 use Rattle.ply_rows.specs.declared.place.Place as rows
 use Rattle.ply_rows.specs.declared.place.RowAt.{RowAt}
@@ -50,9 +51,6 @@ word_at bytes front word rest place is at =
     ∙ ap (λ (n : ℕ). take (length word) (drop n (front ++ (word ++ rest)))) at
     ∙ ap (take (length word)) (drop-append_seam front (word ++ rest))
     ∙ take-append_seam word rest
-
-abbrev read_as : ℤ → Result ℤ ScanRefusal
-read_as z = Ok z
 
 -- three coordinates one behind another
 record StandAt (bytes : List ℕ) (place : ℕ) (p : Point) (rest : List ℕ) : Type 0 where
@@ -95,7 +93,7 @@ z_stands bytes place p rest stand =
     ))
 
 scaled_word : (at : rows.Place) (bytes : List ℕ) (z : ℤ) → bytes ≡ signed_decimal z → unsigned_abs z ≤ DATA_LIMIT
-    → told at (scaled_of bytes 1) ≡ read_as z
+    → told at (scaled_of bytes 1) ≡ done z
 scaled_word at bytes z is small =
     ap (λ (b : List ℕ). told at (scaled_of b 1)) is ∙ ap (told at) (scaled_of-signed_decimal z small)
 
@@ -153,31 +151,24 @@ others_behind bytes place n ns rest stand = record {
 }
 
 whole_word : (at : rows.Place) (bytes : List ℕ) (n : ℕ) → bytes ≡ decimal n → n ≤ sight_limit
-    → told at (whole_of bytes) ≡ read_as (pos n)
+    → told at (whole_of bytes) ≡ done (pos n)
 whole_word at bytes n is small =
     ap (λ (b : List ℕ). told at (whole_of b)) is ∙ ap (told at) (whole_of-signed_decimal (pos n) (omega arith))
 
-abbrev number_done : ℕ → Result ℕ ScanRefusal
-number_done n = Ok n
-
-abbrev numbers_done : List ℕ → Result (List ℕ) ScanRefusal
-numbers_done ns = Ok ns
-
-one_there : (count row n : ℕ) → n < count → one_of count row (pos n) ≡ number_done n
-one_there count row n lt = ap (λ (b : Bool). cond b (number_done n) (Err (NoSuchScanner row (pos n)))) (lt-ltb n count lt)
+one_there : (count row n : ℕ) → n < count → one_of count row (pos n) ≡ done n
+one_there count row n lt = ap (λ (b : Bool). cond b (done n) (Err (NoSuchScanner row (pos n)))) (lt-ltb n count lt)
 
 -- the bytes of a scanner's number say it
 named_read : (bytes : List ℕ) (wide : Bool) (scanners : ℕ) (at : RowAt) (number : List ℕ) (k : ℕ) → number ≡ decimal k
     → k < scanners → scanners ≤ scanner_limit
-    → scanner_named (text_body bytes) at (printed_scanners wide scanners) number ≡ number_done k
+    → scanner_named (text_body bytes) at (printed_scanners wide scanners) number ≡ done k
 unfolding scanner_named
 named_read bytes wide scanners at number k is lt few =
     rw (whole_word _ number k is (omega (arith, lt, few))) (one_there scanners at.row k lt)
 
 all_named : (bytes : List ℕ) (wide : Bool) (scanners : ℕ) (at : RowAt) (ks : List ℕ) → All (λ k. k < scanners) ks
     → scanners ≤ scanner_limit
-    → each_of (scanner_named (text_body bytes) at (printed_scanners wide scanners)) (map (λ (k : ℕ). decimal k) ks)
-    ≡ numbers_done ks
+    → each_of (scanner_named (text_body bytes) at (printed_scanners wide scanners)) (map (λ (k : ℕ). decimal k) ks) ≡ done ks
 all_named bytes wide scanners at [] there few = refl
 all_named bytes wide scanners at (k ∷ ks) there few =
     rw (
@@ -211,19 +202,14 @@ items_read bytes place (n ∷ ns) rest fit stand =
 
 -- ---- rows
 
-few_there : (before row n : ℕ) → before + n ≤ sight_limit → few_sights before row n ≡ number_done n
-few_there before row n le =
-    ap (λ (b : Bool). cond b (Err (TooManySights row)) (number_done n)) (le-ltb sight_limit (before + n) le)
+few_there : (before row n : ℕ) → before + n ≤ sight_limit → few_sights before row n ≡ done n
+few_there before row n le = ap (λ (b : Bool). cond b (Err (TooManySights row)) (done n)) (le-ltb sight_limit (before + n) le)
 
 weight_fits : (w : ℕ) → 1 ≤ w → w ≤ weight_limit → ((w == 0) || ltb weight_limit w) ≡ false
 weight_fits w least most = grind (arith, nat_tests)
 
-weight_there : (row w : ℕ) → 1 ≤ w → w ≤ weight_limit → weighed row (pos w) ≡ number_done w
-weight_there row w least most =
-    ap (λ (b : Bool). cond b (Err (BadWeight row (pos w))) (number_done w)) (weight_fits w least most)
-
-abbrev said : ScanRows → Result ScanRows ScanRefusal
-said rows = Ok rows
+weight_there : (row w : ℕ) → 1 ≤ w → w ≤ weight_limit → weighed row (pos w) ≡ done w
+weight_there row w least most = ap (λ (b : Bool). cond b (Err (BadWeight row (pos w))) (done w)) (weight_fits w least most)
 
 abbrev LineAt : Bool → List ℕ → ℕ → List ℕ → VertexRow → Type 0
 LineAt wide bytes place rest row =
@@ -232,7 +218,7 @@ LineAt wide bytes place rest row =
 abbrev IsRead : Bool → List ℕ → ℕ → ℕ → ℕ → ℕ → VertexRow → Type 0
 IsRead wide bytes scanners before number place row =
     row_said (text_body bytes) (printed_plan wide scanners) before (row_at 0 number) (vertex_fields wide place row)
-    ≡ said (one_vertex row)
+    ≡ done (one_vertex row)
 
 once_read : (bytes : List ℕ) (scanners before number place : ℕ) (p : Point) (k : ℕ) (rest : List ℕ)
     → LineAt false bytes place rest (once_row p k) → IsWithin DATA_LIMIT p → k < scanners → scanners ≤ scanner_limit
@@ -294,7 +280,7 @@ vertex_read false bytes scanners before number place row rest stand printed few 
 place_read : (wide : Bool) (bytes : List ℕ) (scanners before number place : ℕ) (p : Point) (rest : List ℕ)
     → StandAt bytes place p rest → IsWithin DATA_LIMIT p
     → row_said (text_body bytes) (printed_plan wide scanners) before (row_at 1 number) (point_fields place p [])
-    ≡ said (one_scanner p)
+    ≡ done (one_scanner p)
 unfolding row_said scanner_said
 place_read wide bytes scanners before number place p rest stand within =
     rw (point_said bytes (row_at 1 number) place p [] rest stand within) refl
@@ -312,9 +298,9 @@ vertices_found : (wide : Bool) (bytes : List ℕ) (scanners before place number 
     (tail : List ℕ) (more : List Given) (end : Result ScanRows ScanRefusal) (others : ScanRows)
     → bytes ≡ front ++ (flat_map (vertex_line wide) rows ++ tail) → place ≡ length front → All (IsPrinted wide scanners) rows
     → scanners ≤ scanner_limit → before + sights_in rows ≤ sight_limit
-    → ((n : ℕ) → found_in (text_body bytes) (printed_plan wide scanners) n more end ≡ said others)
+    → ((n : ℕ) → found_in (text_body bytes) (printed_plan wide scanners) n more end ≡ done others)
     → found_in (text_body bytes) (printed_plan wide scanners) before (given_vertices wide place number rows ++ more) end
-    ≡ said (rows_are (rows ++ others.vertices) others.scanners)
+    ≡ done (rows_are (rows ++ others.vertices) others.scanners)
 unfolding found_in
 vertices_found wide bytes scanners before place number front [] tail more end others is at are few fit found = found before
 vertices_found wide bytes scanners before place number front (row ∷ rows) tail more end others is at are few fit found =
@@ -337,8 +323,8 @@ vertices_found wide bytes scanners before place number front (row ∷ rows) tail
 
 scanners_found : (wide : Bool) (bytes : List ℕ) (scanners before place number : ℕ) (front : List ℕ) (points : List Point)
     → bytes ≡ front ++ flat_map scanner_line points → place ≡ length front → All (IsWithin DATA_LIMIT) points
-    → found_in (text_body bytes) (printed_plan wide scanners) before (given_scanners place number points) (said no_rows)
-    ≡ said (rows_are [] points)
+    → found_in (text_body bytes) (printed_plan wide scanners) before (given_scanners place number points) (done no_rows)
+    ≡ done (rows_are [] points)
 unfolding found_in
 scanners_found wide bytes scanners before place number front [] is at are = refl
 scanners_found wide bytes scanners before place number front (p ∷ points) is at are =
@@ -369,15 +355,15 @@ pub printed_found : (wide : Bool) (vertices : List VertexRow) (scanners : List P
     → All (IsPrinted wide (length scanners)) vertices → All (IsWithin DATA_LIMIT) scanners → length scanners ≤ scanner_limit
     → sights_in vertices ≤ sight_limit
     → found_in (text_body (printed_body wide vertices scanners)) (printed_plan wide (length scanners)) 0
-    (given_rows wide vertices scanners) (said no_rows) ≡ said (rows_are vertices scanners)
+    (given_rows wide vertices scanners) (done no_rows) ≡ done (rows_are vertices scanners)
 printed_found wide vertices scanners are places few fit =
     vertices_found wide (printed_body wide vertices scanners) (length scanners) 0 0 0 [] vertices
-    (flat_map scanner_line scanners) (given_scanners (vertices_end wide 0 vertices) 0 scanners) (said no_rows)
+    (flat_map scanner_line scanners) (given_scanners (vertices_end wide 0 vertices) 0 scanners) (done no_rows)
     (rows_are [] scanners) refl refl are few (omega (arith, fit))
     (λ n. scanners_found wide (printed_body wide vertices scanners) (length scanners) n (vertices_end wide 0 vertices) 0
     (flat_map (vertex_line wide) vertices) scanners refl
     (lines_length wide 0 vertices ∙ zero_plus (length (flat_map (vertex_line wide) vertices))) places)
-    ∙ ap (λ (rows : List VertexRow). said (rows_are rows scanners)) (append-nil vertices)
+    ∙ ap (λ (rows : List VertexRow). done (rows_are rows scanners)) (append-nil vertices)
   where
     zero_plus : (n : ℕ) → 0 + n ≡ n
     zero_plus n = omega arith

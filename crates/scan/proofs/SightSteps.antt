@@ -2,6 +2,8 @@
 use Rattle.std.proofs.Common.{◌≡◌, ℕ, zero, suc, ◌+◌, ◌≤◌, List, [], ◌∷◌, ◌++◌, length, Result, Ok, Err, refl, sym, ap, subst}
 use Rattle.std.proofs.Common.{◌∙◌, arith, append_assoc}
 use Rattle.std.proofs.lemmas.List.{append-nil}
+use Rattle.ply_head.specs.Answers.{◌>>=◌}
+use Rattle.ply_head.proofs.Answers.{done}
 use Rattle.ply_head.specs.declared.header.Kind.{Kind}
 use Rattle.ply_head.specs.declared.header.Kind.TheVariants.{Ascii, BinaryLittle, BinaryBig}
 use Rattle.ply_head.specs.declared.header.Scalar.{Scalar}
@@ -14,7 +16,7 @@ use Rattle.ply_rows.proofs.Walks.{items_count}
 use Rattle.scan.specs.declared.refusal.ScanRefusal.{ScanRefusal}
 use Rattle.scan.specs.declared.refusal.ScanRefusal.TheVariants as refusals
 use Rattle.scan.specs.declared.scan.Seen.{Seen}
-use Rattle.scan.specs.ScanRefusals.{◌>>=◌, Fails}
+use Rattle.scan.specs.ScanRefusals.{Fails}
 use Rattle.scan.specs.Shown.{sights_of}
 use Rattle.scan.specs.Found.{Body, values_in, each_of}
 
@@ -24,12 +26,9 @@ Named = Result (List ℕ) ScanRefusal
 abbrev Sights : Type 0
 Sights = Result (List Seen) ScanRefusal
 
-abbrev sights_done : List Seen → Sights
-sights_done seen = Ok seen
-
 -- sights, and then those of a row from the scanners that it names
 abbrev pub seen_behind : List Seen → ℕ → ℕ → Named → Sights
-seen_behind seen row weight named = named >>= λ ks. sights_done (seen ++ sights_of row weight ks)
+seen_behind seen row weight named = named >>= λ ks. done (seen ++ sights_of row weight ks)
 
 abbrev a_sight : ℕ → ℕ → ℕ → Seen
 a_sight row weight k = record { row = row; scanner = k; weight = weight }
@@ -39,8 +38,7 @@ with_first k named = named >>= λ others. Ok (k ∷ others)
 
 one_more : (seen : List Seen) (row weight k : ℕ) (named : Named)
     → seen_behind (seen ++ a_sight row weight k ∷ []) row weight named ≡ seen_behind seen row weight (with_first k named)
-one_more seen row weight k (Ok others) =
-    ap sights_done (append_assoc seen (a_sight row weight k ∷ []) (sights_of row weight others))
+one_more seen row weight k (Ok others) = ap done (append_assoc seen (a_sight row weight k ∷ []) (sights_of row weight others))
 one_more seen row weight k (Err why) = refl
 
 first_read : (read : List ℕ → Result ℕ ScanRefusal) (items others : List (List ℕ)) (first : List ℕ) → items ≡ first ∷ others
@@ -78,8 +76,7 @@ named_refused why read before seen row weight first items others named is fails 
 pub all_named : (read : List ℕ → Result ℕ ScanRefusal) (seen : List Seen) (row weight : ℕ) (items : List (List ℕ))
     (total : Sights) → items ≡ [] → seen_behind seen row weight (each_of read items) ≡ total → total ≡ Ok seen
 all_named read seen row weight items total none so_far =
-    sym so_far ∙ ap (λ (xs : List (List ℕ)). seen_behind seen row weight (each_of read xs)) none
-    ∙ ap sights_done (append-nil seen)
+    sym so_far ∙ ap (λ (xs : List (List ℕ)). seen_behind seen row weight (each_of read xs)) none ∙ ap done (append-nil seen)
 
 pub no_items : (kind : Kind) (item : Scalar) (body : List ℕ) (place n : ℕ) → n ≤ 0 → items_from kind item body place n ≡ []
 no_items Ascii item body place zero none = refl
