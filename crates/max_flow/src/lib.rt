@@ -10,8 +10,28 @@
 //!
 //! `residual` holds the residual arcs, `incidence` finds those that enter a node, `searches` goes backwards from the
 //! sinks with room, `levels` tests levels that a hint gives in its place, `paths` sends more along augmenting paths,
-//! `phases` does so down the levels of a search, and `solving` has the two calls that stand on all these. The crate stands on `flow_net`, on `flow_hint` for the hint and on
-//! `flow_valid` for its test.
+//! `phases` does so down the levels of a search, and `solving` has the two calls that stand on all these. The crate stands
+//! on `flow_net`, on `flow_hint` for the hint and on `flow_valid` for its test.
+//!
+//! # Example
+//!
+//! What flows from a fixed node through a near one into the sink of a far one, in a network of `flow_net::NetBuilder`. The
+//! arc between the two free nodes is the bottleneck, and only the far node is inside:
+//!
+//! ```rust
+//! let mut builder = NetBuilder::new(rt.alloc());
+//! let outside = builder.add_fixed()?;
+//! let near = builder.add_free(0)?;
+//! let far = builder.add_free(9)?;
+//! builder.feed(outside, near, 5)?;
+//! builder.join(near, far, 3, 0)?;
+//! let net = builder.build();
+//! let flow = solve(rt.alloc(), &net)?;
+//! assert_eq!(rt; value(&net, &flow), 3);
+//! let labels = least_inside(rt.alloc(), &net, &flow)?;
+//! assert_eq!(rt; labels.inside.as_slice(), [false, false, true].as_slice());
+//! Ok(())
+//! ```
 #![tactic(auto)]
 
 mod incidence;
