@@ -330,7 +330,7 @@ impl Forest {
             self.burn(1);
             let along = self.preflow.wiring.slot(slot);
             let head = along.head as usize;
-            if self.branch[head].parent == FREE && self.preflow.room[slot] > 0 {
+            if self.preflow.room[slot] > 0 && self.branch[head].parent == FREE {
                 self.branch[head] = Branch {
                     parent: along.twin,
                     distance: parent.distance.saturating_add(1),

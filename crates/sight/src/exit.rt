@@ -3,6 +3,8 @@
 //! Let the line come in through the facet a b c of a cell with fourth vertex d, and look along it from its point p. The planes through
 //! p, d and each of a, b, c cut what lies ahead into three parts, one before each other facet of the cell. So the sides of two of the
 //! planes on which the scanner is leave one facet. In the cell at the vertex that facet is the one opposite to the vertex.
+//!
+//! The functions of a step are inlined, so that its two signs share one product and no point goes through memory between them.
 
 ghost use Rattle.std.specs.Prelude.{◌≡◌, ◌<◌, ◌<ℤ◌, ◌↔◌, ℕ, pos, true, IsTrue, IfSome, IfNone, length, get_or, slice_index};
 ghost use Rattle.geo_sign.specs.declared.point.TheConstants.{BOX_LIMIT, DATA_LIMIT};
@@ -70,6 +72,7 @@ fn is_before_displaced(p: Point, a: Point, b: Point, s: Point) -> bool
 
 /// Whether the scanner is on the inner side of the facet p a b. It is so where a is before the plane of p, b and the scanner's point:
 /// that plane is the same for each a, so a step that asks for two computes it once. Only where a is in it the displacement decides.
+#[inline(always)]
 fn is_before(p: Point, a: Point, b: Point, s: Point) -> bool
     requires p_within { IsWithin BOX_LIMIT p }
     requires a_within { IsWithin BOX_LIMIT a }
@@ -96,6 +99,7 @@ fn is_behind(a: Point, b: Point, c: Point, s: Point) -> bool
 
 /// Whether the scanner is on the inner side of the plane through a sight's vertex and two vertices of a cell, each given by the side
 /// opposite to it: first the other one's, then the entered one's. Where the sight's vertex and the entered one's are was read before.
+#[inline(always)]
 fn is_past(
     t: &Tetra,
     v: [u32; 4],
@@ -130,6 +134,7 @@ fn is_beyond(t: &Tetra, v: [u32; 4], s: Point, side: usize) -> bool
 }
 
 /// The one side through which a sight can go out of a cell, by two signs, or by none in the cell at its vertex.
+#[inline(always)]
 fn side_ahead(t: &Tetra, v: [u32; 4], entered: usize, vertex: u32, s: Point) -> usize
     requires cell { IsCell (vertices_of t.now) (slice_index v 0) (slice_index v 1) (slice_index v 2) (slice_index v 3) }
     requires distinct { (j k : ℕ) → j < 4 → k < 4 → slice_index v j ≡ slice_index v k → j ≡ k }
