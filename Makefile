@@ -18,8 +18,8 @@ recon:
 	cd crates/recon_main && rt run -- demo 1 7
 	cp $(PROGRAM) recon
 
-# All tests, as the gate runs them: every proof of every crate and its tests from nothing, the edits that must be refused, every
-# test and the program, each time; then the tests of tools/ and of the built program. About an hour on four processors.
+# All tests, as the gate runs them, anew each time: every proof and every test of every crate, the edits that must be refused, the
+# program; then what the documents name, the tests of tools/ and those of the built program. About an hour on four processors.
 test:
 	@echo "rt ci (every proof, every edit that must be refused, every test), then the tests of tools/: about an hour"
 	bash .ci/run
