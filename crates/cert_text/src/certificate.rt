@@ -12,7 +12,9 @@ pub type NoMemory = AllocError;
 /// smallest first, and the amount is at least 1.
 #[derive(Clone, Copy, Debug, PartialEq, Eq)]
 pub struct FlowRow {
+    /// The facet, by its three vertex numbers.
     pub facet: [u32; 3],
+    /// What flows over it.
     pub amount: u64,
 }
 
@@ -22,7 +24,9 @@ pub struct FlowRow {
 /// least 1.
 #[derive(Clone, Copy, Debug, PartialEq, Eq)]
 pub struct SinkRow {
+    /// The cell, by its four vertex numbers.
     pub cell: [u32; 4],
+    /// What flows into its sink.
     pub amount: u64,
 }
 

@@ -3,8 +3,8 @@
 --   IsMergeOf rows points   the points are distinct, they are the rows', and stand in the order of their first rows
 --   PointsAreMerged         the distinct points of rows are so
 --   MergedPointsAreOne      and no other list is
---   StandsAt points p       a point stands at its place
---   EachRowHasAPlace        each row's point stands at its place among the distinct points
+--   StandsAt points p       a point stands at its index
+--   EachRowHasAnIndex       each row's point stands at its index among the distinct points
 --   MergedPointsAreFew      there are no more distinct points than rows
 --   MergedPointsAreWithin   no coordinate of a distinct point is over what none of a row's point is over
 use Rattle.std.specs.Prelude.{ℕ, ◌≡◌, ◌≢◌, ◌<◌, ◌≤◌, Some, List, length, slice_get, All, AllPairs, Contains}
@@ -25,7 +25,7 @@ PointsAreMerged = (rows : List Point) → IsMergeOf rows (distinct_points rows)
 abbrev pub MergedPointsAreOne : Type 0
 MergedPointsAreOne = (rows points : List Point) → IsMergeOf rows points → points ≡ distinct_points rows
 
--- the point is in the list, and stands at its place
+-- the point is in the list, and stands at its index
 abbrev pub StandsAt : List Point → Point → Type 0
 StandsAt points p = (index_among points p < length points) × (slice_get points (index_among points p) ≡ Some p)
 

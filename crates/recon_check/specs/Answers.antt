@@ -3,7 +3,8 @@
 --
 --   best_surface scan complex inside              the surface of labels
 --   surface_text surface                          its text
---   IsShown scan settings mesh claim              a surface whose text the mesh is and the claim are a solution
+--   IsShown scan settings mesh claim              a surface whose text the mesh is and the claim are a solution (`IsShown` of
+--                                                 `scan` is another: what a scan may show)
 --   stated_count, count_here which ..             a number that a certificate states, and the scan's
 --   earlier which                                 the numbers that are compared before
 --   IsOtherCount scan settings claim which a b    the first number that differs

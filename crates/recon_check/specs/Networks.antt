@@ -1,9 +1,9 @@
 -- The linked cells of a scan, the network over them, and the surface of the labels that a certificate shows best.
 --
---   IsNetworkOfScan scan settings network           the cells are those of the scan's points, and the network is that of its
---   scene cutting_of scan settings network                the scene of the scan and the complex of its network
---   IsBestSurface scan settings claim surface       a certificate shows its labels best and states their cost, and this is
---   their surface
+--   IsNetworkOfScan scan settings network     the cells are those of the scan's points, and the network is that of its scene
+--   cutting_of scan settings network          the scene of the scan and the complex of its network
+--   IsBestSurface scan settings claim surface a certificate shows its labels best and states their cost, and this is their
+--                                             surface
 use Rattle.std.specs.Prelude.{◌≡◌, ◌++◌}
 use Rattle.cert_text.specs.Certificates.{Claim}
 use Rattle.flow_net.specs.declared.votes.Settings.{Settings}

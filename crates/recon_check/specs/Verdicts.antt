@@ -1,6 +1,6 @@
 -- A verdict by number, said over cells and facets.
 --
---   cell_at, facet_at_arc      the cell of a node and the facet of an arc
+--   cell_at, facet_of_arc      the cell of a node and the facet of an arc
 --   IsAt voted verdict         the node or the arc of a verdict is there
 --   reason_at voted verdict    the reason that a verdict is, and none for Yes
 use Rattle.std.specs.Prelude.{ℕ, ◌<◌, List, [], Option, Some, None, length, slice_index_or, ⊤}

@@ -9,7 +9,7 @@ pub enum Which {
     Points,
     /// How many scanners.
     Scanners,
-    /// How many lines of sight: one a point's row.
+    /// How many lines of sight: one for each scanner that a point's row names, or one a row from a fixed scanner.
     Sights,
     /// The weight of one sight.
     Vote,

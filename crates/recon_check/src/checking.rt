@@ -188,7 +188,8 @@ fn shown_by_texts(
 /// mesh has the directed facets between outside and inside Delaunay cells, under the least-inside labels of smallest
 /// sight-line cost, and the certificate has the scan's numbers, that cost, the inside cells, and a valid flow of that value.
 /// A stamp is compared before anything else that the certificate states. Nothing about either text is assumed. So whatever
-/// `solve_scan` makes without a stamp or with this one, printed by `push_mesh` and `push_cert`, is answered by `Yes`. The only error is want of memory.
+/// `solve_scan` makes without a stamp or with this one, printed by `push_mesh` and `push_cert`, is answered by `Yes`. The only
+/// error is want of memory.
 pub fn check_all(
     alloc: Global,
     scan: &Scan,

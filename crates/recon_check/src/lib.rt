@@ -7,9 +7,10 @@
 //! `answer` holds the answers, `counts` compares the numbers that a certificate states with the scan's, `network` links the scan's
 //! cells and makes the network over them, `rows` turns the certificate's rows into flags and amounts by number, `flows` checks the
 //! labels and the flow that they state, `verdicts` says a verdict by number with cells and facets, `texts` finds where two texts
-//! differ, `checking` puts them together, `stamps` compares the stamp of a certificate with that of the run, `stop` is why a check stops, and `laws` says what holds of all answers. The crate stands on
-//! `cert_text` (certificates), `solution` (points, sights, and what a solution is), `delaunay`, `votes` and `surface` (the cells, their
-//! network, and the mesh of labels) and `flow_check` (labels and a flow by number).
+//! differ, `stamps` compares the stamp of a certificate with that of the run, `stop` is why a check stops, `checking` puts them
+//! together, and `laws` says what holds of all answers. The crate stands on `cert_text` (certificates), `solution` (points,
+//! sights, and what a solution is), `delaunay`, `votes` and `surface` (the cells, their network, and the mesh of labels) and
+//! `flow_check` (labels and a flow by number).
 #![tactic(auto)]
 
 mod answer;

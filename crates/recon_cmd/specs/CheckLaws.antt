@@ -4,11 +4,12 @@
 --   IsShownAt options stamp scan mesh cert      the mesh and the certificate are a solution at the weights of these options, and
 --                                               the certificate has no stamp or this one
 --   CheckEnds options bytes mesh cert status    what holds of the three files where a run ended so
---   ChecksOn names output options bytes ..      a run of `check` or `upgrade` over a host that tells these bytes of its files, in which no call failed
+--   ChecksOn names output options bytes ..      a run of `check` or `upgrade` over a host that tells these bytes of its files, in
+--                                               which no call failed
 --   CheckIsExact                                each such run ended as its files say, or there was no memory
 --   RefusedIsNotChecked                         a refused scan: it is refused, or there was no memory
 --   BuiltIsAccepted                             what `build` wrote is accepted
---   CheckAnswerIsOne, DemoAnswerIsOne           `check` and `upgrade` have one answer where the files are given, and `demo` has one
+--   CheckAnswerIsOne, DemoAnswerIsOne           `check` and `upgrade` have no two answers where the files are given, nor has `demo`
 --   StampedIsKept                               a certificate that has this run's stamp is written as it is
 use Rattle.std.specs.Prelude.{◌≡◌, ◌⊎◌, ℕ, ◌≤◌, List, [], ◌∷◌, length, ⊤, Option, Some, Ok}
 use Rattle.cert_text.specs.Stamps.{StampView}
@@ -52,7 +53,8 @@ CheckEnds options bytes mesh cert NoMemory = ⊤
 CheckEnds options bytes mesh cert BadWords = ⊥
 CheckEnds options bytes mesh cert Failed = ⊥
 
--- a run of `check`, or of `upgrade` where there is a file to write, over a host that tells its files, where the three files have these bytes and no call failed
+-- a run of `check`, or of `upgrade` where there is a file to write, over a host that tells its files, where the three files have
+-- these bytes and no call failed
 pub record ChecksOn (names : SurfaceNames) (output : Option (List ℕ)) (options : Options) (bytes mesh cert : List ℕ) (status : Status) (before after : State) : Type 0 where
   pub told : Told
   pub tells : before.told ≡ Some told

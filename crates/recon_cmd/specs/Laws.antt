@@ -6,7 +6,7 @@
 --   RefusedIsRefused              `cells`, a refused scan: it is refused, or there was no memory
 --   AcceptedIsBuilt               `build`, an accepted scan: the surface is written, or there was no memory
 --   RefusedIsNotBuilt             `build`, a refused scan: it is refused, or there was no memory
---   CellsAnswerIsOne              `cells` has one answer where the files are given
+--   CellsAnswerIsOne              `cells` has no two answers where the files are given
 --   DifferInFlows                 two answers write one surface, with certificates that differ in their flows alone
 --   BuildAnswerIsOneButForFlows   and so do two answers of `build`, or they are one
 use Rattle.std.specs.Prelude.{◌≡◌, ◌⊎◌, ℕ, ◌<◌, ◌≤◌, List, length, Some, Ok, Err}

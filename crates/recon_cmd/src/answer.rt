@@ -1,4 +1,5 @@
-//! What a command comes to, in memory, and the writing and saying of it. It stands on `host` alone.
+//! What a command comes to, in memory, and the writing and saying of it. It stands on the words, and on `host`; what each
+//! command comes to stands in a file of its own.
 ghost use Rattle.std.specs.Prelude.{◌≡◌, false, Some, IfOk};
 ghost use Rattle.recon_cmd.specs.Answers.{file_limit};
 ghost use Rattle.recon_cmd.specs.Replies.{line_bytes, texts_of};

@@ -19,7 +19,7 @@ use std::alloc::Global;
 /// the program's name.
 ///
 /// `export` reads the mesh, hands it to each form, in order, and writes the text of the form `k` to `OUTk`, in order. It opens
-/// one file, and no file is made before all texts stand in memory.
+/// one file to be read, and no file is made before all texts stand in memory.
 ///
 /// | Status of `export` | When | The forms |
 /// |---|---|---|

@@ -24,7 +24,7 @@ pub fn a_surface_that_was_built_is_best()
     ensures { DoneIsBest }
 {}
 
-/// Where the files are given, `cells` has one answer, and so have `check`, `upgrade` and `demo`. Two answers of `build` are one,
+/// Where the files are given, `cells` has no two answers, nor have `check`, `upgrade` and `demo`. Two answers of `build` are one,
 /// or write one surface and say one line, and their certificates have one stamp and state the same counts, cost and inside
 /// cells: only the flows may differ.
 pub fn a_command_has_one_answer()

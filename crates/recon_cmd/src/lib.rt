@@ -3,8 +3,10 @@
 //!
 //! `run` is the program apart from the system: it works over any `Host`. Which words are a command, with its names and
 //! options, stands in `specs/Words` and `specs/Options`. What a command answers, a status, files and a line, is a relation
-//! on bytes (`specs/Answers`), and the line of each refusal is in `specs/Refusals`, that of each verdict in
-//! `specs/Verdicts`. What a run does to its host with an answer is said once for all commands (`specs/Outcome`).
+//! on bytes (`specs/Answers`), and the line of each refusal is in `specs/Refusals` and `specs/MeshLines`, that of each
+//! verdict in `specs/Verdicts`, the other lines in `specs/Lines`. What a run does to its host with an answer is said once
+//! for all commands (`specs/Outcome`). `run_forms` takes the forms of a mesh besides, and the command `export`, which
+//! writes their texts (`specs/Exports`).
 #![tactic(auto)]
 
 mod answer;

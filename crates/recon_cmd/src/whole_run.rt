@@ -19,10 +19,10 @@ use std::alloc::Global;
 ///
 /// | Status | When |
 /// |---|---|
-/// | 0 | the command is done, or `check` says yes |
-/// | 1 | `check` says no |
+/// | 0 | the command is done, and `check` and `upgrade` say yes |
+/// | 1 | `check` or `upgrade` says no |
 /// | 2 | the words are no command |
-/// | 3 | the scan is refused, or a file that is read is longer than 4,294,967,296 bytes |
+/// | 3 | the scan, or the mesh of `slice`, is refused, or a file that is read is longer than 4,294,967,296 bytes |
 /// | 4 | a call of the host failed |
 /// | 5 | there was no memory |
 ///
@@ -30,10 +30,11 @@ use std::alloc::Global;
 /// file is created before all texts stand in memory, and no part of the line is said before all files are whole. No
 /// file but the command's outputs ever changes; `check` and `demo` have none.
 ///
-/// | Command | Files that are opened, in order |
+/// | Command | Files that are opened to be read, in order |
 /// |---|---|
 /// | `cells`, `build` | the scan |
-/// | `check` | the scan, then the mesh if the scan is not refused, then the certificate if the mesh is not too long |
+/// | `check`, `upgrade` | the scan, then the mesh if the scan is not refused, then the certificate if the mesh is not too long |
+/// | `slice` | the mesh |
 /// | `demo` | none |
 pub fn run<H: Host>(alloc: Global, words: &[String], host: &mut H) -> u8
     requires { (H.state host.old).writing ≡ false }

@@ -4,10 +4,10 @@
 --     FormatsAnswer names ..              a refusal of the mesh, or this answer
 --     RunsFor export words status ..      what a run on these words does to its host
 --     RunsOn words status before after    a run on these words ended with this status
---     DoesNothing status before after     there was no memory for the words
+--     DoesNothing status before after     there was no memory for the words or for the forms
 --     RunsOrIdles words status ..         one of the two
 --     words_behind_name args              the words but the first
---     EndsOn args status before after     the program ended so on what the system handed in
+--     EndsOn args status before after     the program ended so on what the system handed in as words
 --     fresh, EndsAfterARun status         a host that was not used; the program ended so on something, over that host
 use Rattle.std.specs.Prelude.{◌≡◌, ◌≢◌, ◌⊎◌, ℕ, List, [], ◌∷◌, length, map, drop, Result, Ok, Err, Option, Some, None, false, string_bytes}
 use Rattle.std.specs.IoError.{error_kind}
@@ -54,7 +54,7 @@ RunsFor None words status before after = Outcome (command_of words) status befor
 abbrev pub RunsOn : List (List ℕ) → ℕ → State → State → Type 0
 RunsOn words code before after = (status : Status) × (code ≡ code_of status) × RunsFor (export_of 3 words) words status before after
 
--- there was no memory for the words, and nothing is done
+-- there was no memory for the words or for the forms, and nothing is done
 abbrev pub DoesNothing : ℕ → State → State → Type 0
 DoesNothing code before after = (code ≡ code_of NoMemory) × (after ≡ before)
 
@@ -66,7 +66,7 @@ RunsOrIdles words code before after = RunsOn words code before after ⊎ DoesNot
 abbrev pub words_behind_name : {A : Type 0} → IntoIter (String A) A → List (List ℕ)
 words_behind_name args = map string_bytes (drop 1 (into_iter_items args))
 
--- a run on the words behind the program's name, where there is memory for them; words that are not text are no words
+-- a run on the words behind the program's name, where there is memory for them and for the forms; words that are not text are no words
 abbrev pub EndsOn : {A : Type 0} → Result (IntoIter (String A) A) Error → ℕ → State → State → Type 0
 EndsOn (Ok args) code before after = RunsOrIdles (words_behind_name args) code before after
 EndsOn (Err error) code before after =

@@ -1,5 +1,5 @@
-//! `recon`, the program: it hands the words of its command line and the system to `recon_cmd::run`, and ends with the
-//! status that this answers (`ends`).
+//! `recon`, the program: it hands the words of its command line, three forms of a mesh and the system to
+//! `recon_cmd::run_forms`, and ends with the status that this answers (`ends`).
 #![tactic(auto)]
 
 mod ends;

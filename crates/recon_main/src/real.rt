@@ -14,7 +14,7 @@ use std::rt::Files;
 
 /// The files and the standard output of the system, over its runtime.
 ///
-/// A call that is interrupted is made again, 1,000 times at most. Each other error is a fault, and so are the last of
+/// A call that is interrupted is made again, 1,000 times in all at most. Each other error is a fault, and so are the last of
 /// these interruptions and a write that takes nothing of bytes that are not empty.
 #[derive(Drop)]
 pub struct RealHost<R: Drop, F: Drop> {

@@ -5,7 +5,6 @@
 --   the_crossed c                its face
 --   crossings_at edge f          the crossing of face f on this edge, if there is one
 --   listed k crossings           the faces of the crossings whose edge has this number
---   faces_up, faces_down         the first n faces that go up, or down, on the edge from u below to v above
 --   AreCrossings points faces h n ups downs   the crossings of the first n faces, upwards and downwards
 use Rattle.std.specs.Prelude.{ℕ, ◌≡◌, ◌<◌, ◌^◌, ◌==◌, ◌&&◌, not, Bool, Option, None, Some, List, [], ◌∷◌, map, filter, ℤ}
 use Rattle.geo_sign.specs.Point.{Point}
