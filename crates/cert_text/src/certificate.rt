@@ -47,7 +47,7 @@ pub struct Certificate {
     pub scanners: u32,
     /// How many lines of sight.
     pub sights: u32,
-    /// The weight of one sight.
+    /// What a sight of weight 1 weighs.
     pub vote: u32,
     /// The weight of one facet of the surface.
     pub smooth: u32,

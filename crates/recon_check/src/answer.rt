@@ -11,7 +11,7 @@ pub enum Which {
     Scanners,
     /// How many lines of sight: one for each scanner that a point's row names, or one a row from a fixed scanner.
     Sights,
-    /// The weight of one sight.
+    /// What a sight of weight 1 weighs.
     Vote,
     /// The weight of one facet of the surface.
     Smooth,

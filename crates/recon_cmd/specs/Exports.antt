@@ -4,7 +4,7 @@
 --   ExportNames                      the name of the mesh, and the names of the outputs
 --   export_of forms words            what the words ask for, if they are `export` with so many outputs
 --   export_names words               the names that the program holds
---   exported_line forms mesh         the line of `export`
+--   exported_line forms points faces the line of `export`
 --   WritesForms outputs ..           the answer that writes the forms' texts
 --   ExportAnswer names ..            a refusal of the mesh, or this answer
 --   ExportFits status                the statuses that `export` may end with at all

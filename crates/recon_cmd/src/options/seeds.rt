@@ -1,4 +1,4 @@
-//! What the seed of a generated scan says. It stands on nothing.
+//! What the seed of a generated scan says. It stands on the digits of `values`.
 ghost use Rattle.std.specs.Prelude.{◌≡◌};
 ghost use Rattle.recon_cmd.specs.Words.{seed_of};
 
