@@ -18,7 +18,9 @@
 --   IsConcluded output ..            what follows from a verdict: it is said, or a certificate is written
 --   CheckAnswer names output ..      the answer of `check` and of `upgrade` to a scan
 --   default_options                  what a command is told where no word says otherwise
---   IsUnreadMesh bytes answer        the file of the mesh that is read first is too long, or is no mesh
+--   MeshRefused bytes answer         the file of the mesh that is read first is no mesh
+--   IsUnreadMesh bytes answer        it is too long, or is no mesh
+--   MeshAnswered Answers bytes ..    it is a mesh, which is answered so
 --   MeshFileAnswer Answers bytes ..  the answer of a command to the bytes of that file
 --   slice_done output rings          the answer that writes loops
 --   RefusesSlice, WritesSlice        the mesh has no slice, or its slice is written
