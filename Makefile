@@ -25,7 +25,7 @@ test:
 	bash .ci/run
 
 # Times calls of linked cells and walks along sights at 100,000 points, then build and check on scans of 10,000 to 1,000,000 points,
-# and prints the table of docs/performance.md (some tens of minutes; the scans are made the first time). BESIDE=PROGRAM times another
+# and prints a table like those of docs/performance.md (some tens of minutes; the scans are made the first time). BESIDE=PROGRAM times another
 # program of the same words run by run with it.
 bench: recon
 	@echo "times of calls of linked cells and of walks along sights, 100,000 points"
