@@ -113,8 +113,8 @@ fn solve_over(
 ///
 /// The surface is the mesh of the directed facets between outside and inside cells, under the labels of least sight-line cost whose
 /// inside is smallest. The certificate has these labels and a flow whose value is that cost, so that no labels can cost less. Points
-/// that stand in several rows are one vertex, which has the sights of all of them. The surface is closed: each directed edge of its
-/// faces is there as often as its reverse. The only error is want of memory.
+/// that stand in several rows are one vertex, which has the sights of all of them. The surface is closed: each directed edge of
+/// its faces is there as often as its reverse. The only error is want of memory.
 pub fn solve_scan(
     alloc: Global,
     scan: &Scan,

@@ -9,7 +9,7 @@
 --   CheckIsExact                                each such run ended as its files say, or there was no memory
 --   RefusedIsNotChecked                         a refused scan: it is refused, or there was no memory
 --   BuiltIsAccepted                             what `build` wrote is accepted
---   CheckAnswerIsOne, DemoAnswerIsOne           `check` and `upgrade` have no two answers where the files are given, nor has `demo`
+--   CheckAnswerIsOne, DemoAnswerIsOne           where the files are given, `check`, `upgrade` and `demo` have no two answers
 --   StampedIsKept                               a certificate that has this run's stamp is written as it is
 use Rattle.std.specs.Prelude.{◌≡◌, ◌⊎◌, ℕ, ◌≤◌, List, [], ◌∷◌, length, ⊤, Option, Some, Ok}
 use Rattle.cert_text.specs.Stamps.{StampView}

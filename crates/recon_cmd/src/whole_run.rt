@@ -19,7 +19,7 @@ use std::alloc::Global;
 ///
 /// | Status | When |
 /// |---|---|
-/// | 0 | the command is done, and `check` and `upgrade` say yes |
+/// | 0 | the command is done, or `check` or `upgrade` says yes |
 /// | 1 | `check` or `upgrade` says no |
 /// | 2 | the words are no command |
 /// | 3 | the scan, or the mesh of `slice`, is refused, or a file that is read is longer than 4,294,967,296 bytes |

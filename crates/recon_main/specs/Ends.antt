@@ -66,7 +66,8 @@ RunsOrIdles words code before after = RunsOn words code before after ⊎ DoesNot
 abbrev pub words_behind_name : {A : Type 0} → IntoIter (String A) A → List (List ℕ)
 words_behind_name args = map string_bytes (drop 1 (into_iter_items args))
 
--- a run on the words behind the program's name, where there is memory for them and for the forms; words that are not text are no words
+-- a run on the words behind the program's name, where there is memory for them and for the forms; words that are not text are
+-- no words
 abbrev pub EndsOn : {A : Type 0} → Result (IntoIter (String A) A) Error → ℕ → State → State → Type 0
 EndsOn (Ok args) code before after = RunsOrIdles (words_behind_name args) code before after
 EndsOn (Err error) code before after =
