@@ -7,8 +7,8 @@
 --   is_behind_at s p q id                         the number has a cell, and it is behind the sight
 --   IsScannerCell s q id                          the cell is that of the scanner at q, and the only one
 --   AreScannerCells s scanners cells              the cells are those of the scanners, in their order
---   AreCounted s scanners sights crossed behind   the counters are what the sights add that cross each facet, and are before
---   each cell
+--   AreCounted s scanners sights crossed behind   the counters are what the sights add that cross each facet, and those that
+--                                                 each cell is behind
 use Rattle.std.specs.Prelude.{ℕ, ◌≡◌, ◌<◌, ◌≤◌, ◌+◌, ◌*◌, ◌&&◌, Bool, true, List, length, slice_index, slice_index_or}
 use Rattle.std.specs.Prelude.{if◌then◌else◌}
 use Rattle.std.specs.List.{sum_by}
