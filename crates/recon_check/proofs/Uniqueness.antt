@@ -26,8 +26,8 @@ use Rattle.visibility.specs.Votes.{is_fixed, capacity, sink}
 use Rattle.visibility.specs.Cuts.{cost, IsAdmissible, IsLeastInside}
 use Rattle.visibility.specs.Flows.{value, IsValidFlow}
 use Rattle.visibility.proofs.Ordered.{one_complex}
-use Rattle.recon_check.specs.Answers.{best_surface, surface_text, IsShown, stated_count, count_here, earlier, IsOtherCount}
-use Rattle.recon_check.specs.Answers.{IsReason, IsFault, IsFaultOver, IsFaultHere, HasCertificate, IsShownWith, IsAnswer}
+use Rattle.recon_check.specs.Answers.{best_surface, surface_text, IsSolved, stated_count, count_here, earlier, IsOtherCount}
+use Rattle.recon_check.specs.Answers.{IsReason, IsFault, IsFaultOver, IsFaultHere, HasCertificate, IsSolvedWith, IsAnswer}
 use Rattle.recon_check.specs.Stamps.{IsStampedFor}
 use Rattle.recon_check.proofs.OneStamp.{not_other, one_stamp}
 use Rattle.recon_check.specs.Claims.{is_inside, facets_of, cells_of, IsStray, AreThere, NoneOf}
@@ -423,7 +423,7 @@ one_fault scan settings mesh claim reason other h k =
 
 -- a solution has no fault
 shown_no_fault : (scan : Shown) (settings : Settings) (mesh : List ℕ) (claim : Claim) (reason : Reason)
-    → IsShown scan settings mesh claim → IsFault scan settings mesh claim reason → ⊥
+    → IsSolved scan settings mesh claim → IsFault scan settings mesh claim reason → ⊥
 shown_no_fault scan settings mesh claim reason shown h = by (count_or_over scan settings mesh claim reason h)
   where
     known : IsBestSurface scan settings claim shown.surface
@@ -444,11 +444,11 @@ shown_no_fault scan settings mesh claim reason shown h = by (count_or_over scan 
 -- what an answer says of what a certificate states
 abbrev Holds : Shown → Settings → StampView → List ℕ → Claim → Answer → Type 0
 Holds scan settings stamp mesh claim (Yes inside faces least) =
-    IsStampedFor stamp claim × IsShownWith scan settings mesh inside faces least claim
+    IsStampedFor stamp claim × IsSolvedWith scan settings mesh inside faces least claim
 Holds scan settings stamp mesh claim (No reason) = IsFaultHere scan settings stamp mesh claim reason
 
 one_shown : (scan : Shown) (settings : Settings) (mesh : List ℕ) (claim : Claim) (a b c a' b' c' : ℕ)
-    → IsShownWith scan settings mesh a b c claim → IsShownWith scan settings mesh a' b' c' claim → Yes a b c ≡ Yes a' b' c'
+    → IsSolvedWith scan settings mesh a b c claim → IsSolvedWith scan settings mesh a' b' c' claim → Yes a b c ≡ Yes a' b' c'
 one_shown scan settings mesh claim a b c a' b' c' h k =
     let inside : a ≡ a' = h.inside_is ∙ sym k.inside_is in
     let same : h.shown.surface ≡ k.shown.surface =

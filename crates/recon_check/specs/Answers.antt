@@ -3,8 +3,7 @@
 --
 --   best_surface scan complex inside              the surface of labels
 --   surface_text surface                          its text
---   IsShown scan settings mesh claim              a surface whose text the mesh is and the claim are a solution (`IsShown` of
---                                                 `scan` is another: what a scan may show)
+--   IsSolved scan settings mesh claim             a surface whose text the mesh is and the claim are a solution
 --   stated_count, count_here which ..             a number that a certificate states, and the scan's
 --   earlier which                                 the numbers that are compared before
 --   IsOtherCount scan settings claim which a b    the first number that differs
@@ -13,7 +12,7 @@
 --   IsFaultHere scan settings stamp mesh ..       its stamp is another, or this is the first fault of what it states
 --   HasCertificate cert P                         a certificate has the text, and something holds of what it states
 --   IsAccepted scan settings stamp mesh cert      the two texts are those of a solution, and the stamp is this one
---   IsShownWith scan settings mesh a b c claim    and these are its inside cells, faces and cost
+--   IsSolvedWith scan settings mesh a b c claim   and these are its inside cells, faces and cost
 --   IsAnswer scan settings stamp mesh cert ..     the answer
 --   IsYes answer                                  the answer is Yes
 use Rattle.std.specs.Prelude.{ℕ, ◌≡◌, ◌≢◌, ◌⊎◌, ◌++◌, Bool, List, [], ◌∷◌, All, Contains, length, ⊤}
@@ -60,7 +59,7 @@ abbrev pub surface_text : Surface → List ℕ
 surface_text surface = mesh_text surface.points surface.faces
 
 -- a surface whose text the mesh is and a certificate that states this claim are a solution of the scan
-pub record IsShown (scan : Shown) (settings : Settings) (mesh : List ℕ) (claim : Claim) : Type 0 where
+pub record IsSolved (scan : Shown) (settings : Settings) (mesh : List ℕ) (claim : Claim) : Type 0 where
   pub surface : Surface
   pub mesh_is : mesh ≡ surface_text surface
   pub solution : IsSolution scan settings surface claim
@@ -156,12 +155,12 @@ pub record HasCertificate (cert : List ℕ) (P : Claim → Type 0) : Type 0 wher
 -- has no stamp or this one
 abbrev pub IsAccepted : Shown → Settings → StampView → (mesh cert : List ℕ) → Type 0
 IsAccepted scan settings stamp mesh cert =
-    HasCertificate cert (λ claim. IsStampedFor stamp claim × IsShown scan settings mesh claim)
+    HasCertificate cert (λ claim. IsStampedFor stamp claim × IsSolved scan settings mesh claim)
 
 -- the two texts are those of a solution with so many inside cells and faces, and of this cost
-pub record IsShownWith (scan : Shown) (settings : Settings) (mesh : List ℕ) (inside faces least : ℕ)
+pub record IsSolvedWith (scan : Shown) (settings : Settings) (mesh : List ℕ) (inside faces least : ℕ)
     (claim : Claim) : Type 0 where
-  pub shown : IsShown scan settings mesh claim
+  pub shown : IsSolved scan settings mesh claim
   pub inside_is : inside ≡ length claim.inside
   pub faces_is : faces ≡ length shown.surface.faces
   pub cost_is : least ≡ claim.counts.cost
@@ -170,7 +169,7 @@ pub record IsShownWith (scan : Shown) (settings : Settings) (mesh : List ℕ) (i
 -- reason: the certificate is no text of a certificate, its stamp is another, or the first fault of what it states.
 abbrev pub IsAnswer : Shown → Settings → StampView → (mesh cert : List ℕ) → Answer → Type 0
 IsAnswer scan settings stamp mesh cert (Yes inside faces least) =
-    HasCertificate cert (λ claim. IsStampedFor stamp claim × IsShownWith scan settings mesh inside faces least claim)
+    HasCertificate cert (λ claim. IsStampedFor stamp claim × IsSolvedWith scan settings mesh inside faces least claim)
 IsAnswer scan settings stamp mesh cert (No (CertLine n)) = IsRefused cert (refusals.BadLine n)
 IsAnswer scan settings stamp mesh cert (No (CertOrder n)) = IsRefused cert (refusals.Order n)
 IsAnswer scan settings stamp mesh cert (No CertCut) = IsRefused cert refusals.CertCut

@@ -13,7 +13,7 @@ ghost use Rattle.surface.specs.Labelled.{Cutting};
 ghost use Rattle.visibility.specs.Cuts.{cost as cost_over};
 ghost use Rattle.visibility.specs.Laws.{labels_of};
 ghost use Rattle.visibility.specs.Networks.{complex_of, IsNetworkOf};
-ghost use Rattle.recon_check.specs.Answers.{surface_text, IsFault, IsShownWith, IsAccepted, IsYes, IsAnswer};
+ghost use Rattle.recon_check.specs.Answers.{surface_text, IsFault, IsSolvedWith, IsAccepted, IsYes, IsAnswer};
 ghost use Rattle.recon_check.specs.Claims.{is_inside};
 ghost use Rattle.recon_check.specs.Faults.{IsBest};
 ghost use Rattle.recon_check.specs.Networks.{cutting_of, IsBestSurface, IsNetworkOfScan};
@@ -125,7 +125,7 @@ fn shown_over(
     requires network { IsNetworkOfScan (shown_of scan.now) settings network }
     requires formed { IsWellFormed (claim_of cert.now) }
     requires counts { HasCounts (claim_of cert.now) (shown_of scan.now) settings }
-    ensures shown { IfOk result (λ shown. IsShownWith (shown_of scan.now) settings mesh.now shown.inside shown.faces shown.cost (claim_of cert.now)) }
+    ensures shown { IfOk result (λ shown. IsSolvedWith (shown_of scan.now) settings mesh.now shown.inside shown.faces shown.cost (claim_of cert.now)) }
     ensures fault { IfErr result (StopsFor (IsFault (shown_of scan.now) settings mesh.now (claim_of cert.now))) }
 {
     let surface = best_surface(alloc, scan, settings, network, cert)?;
@@ -150,7 +150,7 @@ fn shown_by_certificate(
     cert: &Certificate,
 ) -> Result<Accepted, Stop>
     requires { IsWellFormed (claim_of cert.now) }
-    ensures shown { IfOk result (λ shown. IsShownWith (shown_of scan.now) settings mesh.now shown.inside shown.faces shown.cost (claim_of cert.now)) }
+    ensures shown { IfOk result (λ shown. IsSolvedWith (shown_of scan.now) settings mesh.now shown.inside shown.faces shown.cost (claim_of cert.now)) }
     ensures fault { IfErr result (StopsFor (IsFault (shown_of scan.now) settings mesh.now (claim_of cert.now))) }
 {
     let seen = seen_in(alloc, scan)?;

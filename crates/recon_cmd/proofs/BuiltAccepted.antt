@@ -7,7 +7,7 @@ use Rattle.host.specs.Counts.{Rose}
 use Rattle.host.specs.State.{State, Told}
 use Rattle.scan.specs.Shown.{Shown}
 use Rattle.recon_cmd.specs.Answers.{file_limit}
-use Rattle.recon_cmd.specs.CheckLaws.{AreReadable, IsShownAt, CheckEnds, BuiltIsAccepted}
+use Rattle.recon_cmd.specs.CheckLaws.{AreReadable, IsSolvedAt, CheckEnds, BuiltIsAccepted}
 use Rattle.recon_cmd.specs.Headline.{HoldsTheBest}
 use Rattle.recon_cmd.specs.Options.{Options}
 use Rattle.recon_cmd.specs.Outcome.{Outcome}
@@ -35,7 +35,7 @@ some_same e = cc
 
 -- the files that were written are those of a solution
 shown_after : (names : SurfaceNames) (options : Options) (old new : Told) (mesh cert : List ℕ) (best : HoldsTheBest names options old new)
-    → new.files names.mesh ≡ Some mesh → new.files names.cert ≡ Some cert → IsShownAt options (stamp_for options best.bytes) best.scan mesh cert
+    → new.files names.mesh ≡ Some mesh → new.files names.cert ≡ Some cert → IsSolvedAt options (stamp_for options best.bytes) best.scan mesh cert
 shown_after names options old new mesh cert best mesh_file cert_file =
     record {
       settings = best.settings;
@@ -50,12 +50,12 @@ shown_after names options old new mesh cert best mesh_file cert_file =
     }
 
 -- a run that ended as the files say is done
-ends_done : (options : Options) (bytes mesh cert : List ℕ) (scan : Shown) (status : Status) → AreReadable options bytes mesh cert scan → IsShownAt options (stamp_for options bytes) scan mesh cert
+ends_done : (options : Options) (bytes mesh cert : List ℕ) (scan : Shown) (status : Status) → AreReadable options bytes mesh cert scan → IsSolvedAt options (stamp_for options bytes) scan mesh cert
     → CheckEnds options bytes mesh cert status → (status ≡ Done) ⊎ (status ≡ NoMemory)
 ends_done options bytes mesh cert scan Done readable shown ends = inl refl
 ends_done options bytes mesh cert scan No readable shown (other, there, none) =
     let same : scan ≡ other = cc (readable.read, there.read) in
-    absurd (none (subst (λ (s : Shown). IsShownAt options (stamp_for options bytes) s mesh cert) same shown))
+    absurd (none (subst (λ (s : Shown). IsSolvedAt options (stamp_for options bytes) s mesh cert) same shown))
 ends_done options bytes mesh cert scan BadWords readable shown ends = absurd ends
 ends_done options bytes mesh cert scan Refused readable shown ends = absurd (ends scan readable)
 ends_done options bytes mesh cert scan Failed readable shown ends = absurd ends

@@ -11,7 +11,7 @@ use Rattle.recon_check.specs.declared.answer.Answer.TheVariants as verdicts
 use Rattle.recon_check.specs.declared.answer.Reason.{Reason}
 use Rattle.recon_check.proofs.Uniqueness.{one_answer}
 use Rattle.recon_cmd.specs.Answers.{Answer, AnswerOf, CertAnswer, CheckAnswer, FileTooLong, HasVerdict, ScanAnswer, file_limit, read_as}
-use Rattle.recon_cmd.specs.CheckLaws.{AreReadable, IsShownAt, CheckEnds, CheckIsExact, RefusedIsNotChecked}
+use Rattle.recon_cmd.specs.CheckLaws.{AreReadable, IsSolvedAt, CheckEnds, CheckIsExact, RefusedIsNotChecked}
 use Rattle.recon_cmd.specs.Lines.{too_long_cert_line, too_long_mesh_line}
 use Rattle.recon_cmd.specs.Options.{Options}
 use Rattle.recon_cmd.specs.Outcome.{FaultsFit, StatusFits, Tells}
@@ -87,7 +87,7 @@ no_is_not_yes reason inside faces cost e = cc
 
 -- a reason says that there is none
 no_is_not_shown : (options : Options) (stamp : StampView) (scan : Shown) (settings : Settings) (mesh cert : List ℕ) (reason : Reason) → settings.vote ≡ options.vote → settings.smooth ≡ options.smooth
-    → IsAnswer scan settings stamp mesh cert (verdicts.No reason) → ¬ IsShownAt options stamp scan mesh cert
+    → IsAnswer scan settings stamp mesh cert (verdicts.No reason) → ¬ IsSolvedAt options stamp scan mesh cert
 no_is_not_shown options stamp scan settings mesh cert reason vote smooth is shown =
     let same : shown.settings ≡ settings = same_settings shown.settings settings (shown.vote ∙ sym vote) (shown.smooth ∙ sym smooth) in
     let accepted : IsAccepted scan settings stamp mesh cert = subst (λ (s : Settings). IsAccepted scan s stamp mesh cert) same shown.accepted in
@@ -105,18 +105,18 @@ not_refused (verdicts.Yes inside faces cost) e = cc
 not_refused (verdicts.No reason) e = cc
 
 -- the verdict of each status
-yes_ends : (output : Option (List ℕ)) (options : Options) (stamp : StampView) (scan : Shown) (mesh cert : List ℕ) (answer : Answer) → answer.status ≡ Done → HasVerdict output options stamp scan mesh cert answer → IsShownAt options stamp scan mesh cert
+yes_ends : (output : Option (List ℕ)) (options : Options) (stamp : StampView) (scan : Shown) (mesh cert : List ℕ) (answer : Answer) → answer.status ≡ Done → HasVerdict output options stamp scan mesh cert answer → IsSolvedAt options stamp scan mesh cert
 yes_ends output options stamp scan mesh cert answer done verdict = by_cases verdict.verdict verdict.holds (sym (concluded_status output stamp cert verdict.verdict answer verdict.is) ∙ done)
   where
-    by_cases : (v : Verdict) → IsAnswer scan verdict.settings stamp mesh cert v → verdict_status v ≡ Done → IsShownAt options stamp scan mesh cert
+    by_cases : (v : Verdict) → IsAnswer scan verdict.settings stamp mesh cert v → verdict_status v ≡ Done → IsSolvedAt options stamp scan mesh cert
     by_cases (verdicts.Yes inside faces cost) is status =
         record { settings = verdict.settings; vote = verdict.vote; smooth = verdict.smooth; accepted = yes_is_accepted scan verdict.settings stamp mesh cert inside faces cost is }
     by_cases (verdicts.No reason) is status = absurd (not_done reason status)
 
-no_ends : (output : Option (List ℕ)) (options : Options) (stamp : StampView) (scan : Shown) (mesh cert : List ℕ) (answer : Answer) → answer.status ≡ No → HasVerdict output options stamp scan mesh cert answer → ¬ IsShownAt options stamp scan mesh cert
+no_ends : (output : Option (List ℕ)) (options : Options) (stamp : StampView) (scan : Shown) (mesh cert : List ℕ) (answer : Answer) → answer.status ≡ No → HasVerdict output options stamp scan mesh cert answer → ¬ IsSolvedAt options stamp scan mesh cert
 no_ends output options stamp scan mesh cert answer says_no verdict = by_cases verdict.verdict verdict.holds (sym (concluded_status output stamp cert verdict.verdict answer verdict.is) ∙ says_no)
   where
-    by_cases : (v : Verdict) → IsAnswer scan verdict.settings stamp mesh cert v → verdict_status v ≡ No → ¬ IsShownAt options stamp scan mesh cert
+    by_cases : (v : Verdict) → IsAnswer scan verdict.settings stamp mesh cert v → verdict_status v ≡ No → ¬ IsSolvedAt options stamp scan mesh cert
     by_cases (verdicts.Yes inside faces cost) is status = absurd (not_no inside faces cost status)
     by_cases (verdicts.No reason) is status = no_is_not_shown options stamp scan verdict.settings mesh cert reason verdict.vote verdict.smooth is
 

@@ -1,7 +1,7 @@
 -- Laws of `check` and `upgrade` over the definitions of a run, for a reader of its contract.
 --
 --   AreReadable options bytes mesh cert scan    no file is too long, and the first is this scan
---   IsShownAt options stamp scan mesh cert      the mesh and the certificate are a solution at the weights of these options, and
+--   IsSolvedAt options stamp scan mesh cert     the mesh and the certificate are a solution at the weights of these options, and
 --                                               the certificate has no stamp or this one
 --   CheckEnds options bytes mesh cert status    what holds of the three files where a run ended so
 --   ChecksOn names output options bytes ..      a run of `check` or `upgrade` over a host that tells these bytes of its files, in
@@ -37,7 +37,7 @@ pub record AreReadable (options : Options) (bytes mesh cert : List ℕ) (scan : 
   pub read : read_as options bytes ≡ Ok scan
 
 -- the mesh and the certificate are those of a solution of the scan at the weights of these options, and no stamp is another
-pub record IsShownAt (options : Options) (stamp : StampView) (scan : Shown) (mesh cert : List ℕ) : Type 0 where
+pub record IsSolvedAt (options : Options) (stamp : StampView) (scan : Shown) (mesh cert : List ℕ) : Type 0 where
   pub settings : Settings
   pub vote : settings.vote ≡ options.vote
   pub smooth : settings.smooth ≡ options.smooth
@@ -46,8 +46,8 @@ pub record IsShownAt (options : Options) (stamp : StampView) (scan : Shown) (mes
 -- Done where the files are readable and a solution is shown, No where they are readable and none is, and Refused where they
 -- are not readable
 abbrev pub CheckEnds : Options → (bytes mesh cert : List ℕ) → Status → Type 0
-CheckEnds options bytes mesh cert Done = (scan : Shown) × AreReadable options bytes mesh cert scan × IsShownAt options (stamp_for options bytes) scan mesh cert
-CheckEnds options bytes mesh cert No = (scan : Shown) × AreReadable options bytes mesh cert scan × (¬ IsShownAt options (stamp_for options bytes) scan mesh cert)
+CheckEnds options bytes mesh cert Done = (scan : Shown) × AreReadable options bytes mesh cert scan × IsSolvedAt options (stamp_for options bytes) scan mesh cert
+CheckEnds options bytes mesh cert No = (scan : Shown) × AreReadable options bytes mesh cert scan × (¬ IsSolvedAt options (stamp_for options bytes) scan mesh cert)
 CheckEnds options bytes mesh cert Refused = (scan : Shown) → ¬ AreReadable options bytes mesh cert scan
 CheckEnds options bytes mesh cert NoMemory = ⊤
 CheckEnds options bytes mesh cert BadWords = ⊥
