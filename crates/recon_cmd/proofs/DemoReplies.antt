@@ -1,5 +1,6 @@
 -- The answer of `demo`, from what the calls below it answer.
-use Rattle.std.proofs.Common.{◌≡◌, ℕ, ◌≤◌, List, [], ◌∷◌, length, Option, Some, None, IfSome, Result, Ok, inr, refl, sym, ap, subst, ◌∙◌}
+use Rattle.std.proofs.Common.{◌≡◌, ℕ, ◌≤◌, List, [], ◌∷◌, length, Option, Some, None, IfSome, Result, Ok, inr, refl, sym, ap}
+use Rattle.std.proofs.Common.{subst, ◌∙◌}
 use Rattle.cert_text.specs.Certificates.{claim_of, IsWellFormed}
 use Rattle.cert_text.specs.Texts.{cert_text}
 use Rattle.flow_net.specs.declared.votes.Settings.{Settings}
@@ -33,11 +34,15 @@ use Rattle.recon_cmd.specs.declared.status.Status.TheVariants.{Done}
 use Rattle.recon_cmd.proofs.ScanTextLengths.{scan_text_fits}
 
 -- the text of a generated scan is within the limit of files
-pub generated_fits : (count seed : ℕ) (scan : Scan) → shown_of scan ≡ shown_by (generated count seed) → length (generated_text count seed) ≤ file_limit
-generated_fits count seed scan same = subst (λ (shown : Shown). length (scan_text shown) ≤ file_limit) same (scan_text_fits (shown_of scan) (rows_are_scan (shown_of scan) (scan_is_shown scan)))
+pub generated_fits : (count seed : ℕ) (scan : Scan) → shown_of scan ≡ shown_by (generated count seed)
+    → length (generated_text count seed) ≤ file_limit
+generated_fits count seed scan same =
+    subst (λ (shown : Shown). length (scan_text shown) ≤ file_limit) same
+    (scan_text_fits (shown_of scan) (rows_are_scan (shown_of scan) (scan_is_shown scan)))
 
 -- what is read is not refused
-not_refused : (scan : Shown) (read : Result Shown ScanRefusal) (why : ScanRefusal) → read ≡ Ok scan → (why ≡ refusals.NoMemory → ⊥) → Fails why read → ⊥
+not_refused : (scan : Shown) (read : Result Shown ScanRefusal) (why : ScanRefusal) → read ≡ Ok scan
+    → (why ≡ refusals.NoMemory → ⊥) → Fails why read → ⊥
 not_refused scan read (refusals.Head why) is other fails = cc
 not_refused scan read (refusals.Missing need) is other fails = cc
 not_refused scan read (refusals.ListProperty need) is other fails = cc
@@ -56,7 +61,8 @@ not_refused scan read (refusals.Trailing place) is other fails = cc
 not_refused scan read refusals.NoMemory is other fails = other refl
 
 -- a printed scan is refused for want of memory alone
-pub printed_is_read : (scan : Scan) (text : List ℕ) (why : ScanRefusal) → text ≡ scan_text (shown_of scan) → (why ≡ refusals.NoMemory → ⊥) → Fails why (shown_in text 1 None) → ⊥
+pub printed_is_read : (scan : Scan) (text : List ℕ) (why : ScanRefusal) → text ≡ scan_text (shown_of scan)
+    → (why ≡ refusals.NoMemory → ⊥) → Fails why (shown_in text 1 None) → ⊥
 printed_is_read scan text why is other fails =
     not_refused (shown_of scan) (shown_in text 1 None) why
     (ap (λ (t : List ℕ). shown_in t 1 None) is ∙ scan_read (shown_of scan) (scan_is_shown scan)) other fails
@@ -65,7 +71,8 @@ printed_is_read scan text why is other fails =
 pub demonstrated : (count seed : ℕ) (scan : Shown) (settings : Settings) (solved : Solved) (built line : List ℕ)
     → length (generated_text count seed) ≤ file_limit → read_as default_options (generated_text count seed) ≡ Ok scan
     → settings.vote ≡ 8 → settings.smooth ≡ 1
-    → IsSolution scan settings (surface_of solved.mesh) (claim_of solved.cert) → IsMesh solved.mesh.points.items solved.mesh.faces.items → IsWellFormed (claim_of solved.cert)
+    → IsSolution scan settings (surface_of solved.mesh) (claim_of solved.cert)
+    → IsMesh solved.mesh.points.items solved.mesh.faces.items → IsWellFormed (claim_of solved.cert)
     → (claim_of solved.cert).stamp ≡ Some (stamp_for default_options (generated_text count seed))
     → built ≡ build_line (claim_of solved.cert).counts (length solved.cert.inside.items) (length solved.mesh.faces.items)
     → line ≡ demo_line count seed built
@@ -99,11 +106,14 @@ demonstrated count seed scan settings solved built line within read vote smooth 
         };
       });
       done = refl;
-      is = ap (λ (text : List ℕ). record { status = Done; reads = 0; writes = []; line = text }) (is ∙ ap (demo_line count seed) said);
+      is =
+          ap (λ (text : List ℕ). record { status = Done; reads = 0; writes = []; line = text })
+          (is ∙ ap (demo_line count seed) said);
     }
 
 -- a demonstration is done
-pub demo_replied : (count seed : ℕ) (reply : Reply) (before : State) → Demonstrates count seed (answer_of 0 reply) → IsReplied (demo count seed) reply before
+pub demo_replied : (count seed : ℕ) (reply : Reply) (before : State) → Demonstrates count seed (answer_of 0 reply)
+    → IsReplied (demo count seed) reply before
 demo_replied count seed reply before shown =
     record {
       fits = subst (λ (s : Status). StatusFits s (Some (demo count seed))) (sym (ap (λ (a : Answer). a.status) shown.is)) tt;
@@ -111,6 +121,7 @@ demo_replied count seed reply before shown =
       answers = by_cases before.told;
     }
   where
-    by_cases : (o : Option Told) → IfSome o (λ told. (reads : ℕ) × AnswerOf (Some (demo count seed)) told.files (answer_of reads reply))
+    by_cases : (o : Option Told)
+        → IfSome o (λ told. (reads : ℕ) × AnswerOf (Some (demo count seed)) told.files (answer_of reads reply))
     by_cases None = tt
     by_cases (Some told) = (0, shown)

@@ -10,6 +10,7 @@ pub mod DemoReplies
 pub mod ExportReplies
 pub mod MeshReplies
 pub mod OneAnswer
+pub mod OneMeshAnswer
 pub mod OneVerdict
 pub mod OptionLemmas
 pub mod Outcomes

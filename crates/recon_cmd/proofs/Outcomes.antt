@@ -1,13 +1,15 @@
 -- The outcome of a run, from what its steps do.
 use Rattle.std.specs.Prelude.{⊤}
-use Rattle.std.proofs.Common.{◌≡◌, ◌⊎◌, inl, inr, ℕ, ◌+◌, ◌≤◌, List, [], ◌∷◌, ◌++◌, take, Option, Some, None, IfSome, false, refl, sym, ap, subst, ◌∙◌, arith}
+use Rattle.std.proofs.Common.{◌≡◌, ◌⊎◌, inl, inr, ℕ, ◌+◌, ◌≤◌, List, [], ◌∷◌, ◌++◌, take, Option, Some, None, IfSome, false}
+use Rattle.std.proofs.Common.{refl, sym, ap, subst, ◌∙◌, arith}
 use Rattle.std.specs.Option.{IsSomeAnd}
 use Rattle.host.specs.Counts.{Rose}
 use Rattle.host.specs.State.{State, Told, Files, with_file}
 use Rattle.host.specs.Whole.{apart_from_left}
 use Rattle.recon_cmd.specs.Answers.{Answer, AnswerOf, Write, most_reads}
 use Rattle.recon_cmd.specs.Lines.{bad_words_line}
-use Rattle.recon_cmd.specs.Outcome.{Outcome, Run, TellsBy, EndsBy, IsCarriedOut, IsUntouched, StoppedIn, StatusFits, FaultsFit, OpensNoMore, all_written}
+use Rattle.recon_cmd.specs.Outcome.{Outcome, Run, TellsBy, EndsBy, IsCarriedOut, IsUntouched, StoppedIn, StatusFits, FaultsFit}
+use Rattle.recon_cmd.specs.Outcome.{OpensNoMore, all_written}
 use Rattle.recon_cmd.specs.Steps.{IsAnswered, ReadsBy, ReadsFor, CarriesOut}
 use Rattle.recon_cmd.specs.Words.{Asked}
 use Rattle.recon_cmd.specs.declared.status.Status.{Status}
@@ -16,7 +18,8 @@ use Rattle.recon_cmd.specs.declared.status.Status.TheVariants.{Done, No, BadWord
 -- what is told before and after, from a fact of what is told before
 told_so : (before after : Option Told) (A : Told → Type 0) (P Q : Told → Told → Type 0)
     → ((old new : Told) → A old → P old new → Q old new)
-    → IfSome before A → IfSome before (λ old. IsSomeAnd after (λ new. P old new)) → IfSome before (λ old. IsSomeAnd after (λ new. Q old new))
+    → IfSome before A → IfSome before (λ old. IsSomeAnd after (λ new. P old new))
+    → IfSome before (λ old. IsSomeAnd after (λ new. Q old new))
 told_so None after A P Q each a p = tt
 told_so (Some old) None A P Q each a p = p
 told_so (Some old) (Some new) A P Q each a p = each old new a p
@@ -44,30 +47,45 @@ told_after_reading (Some old) (Some now) None P Q each only p = p
 told_after_reading (Some old) (Some now) (Some new) P Q each only p = each old now new (same_told now old only) p
 
 -- only readings: all else is as it was
-untouched : (before after : Option Told) → apart_from_left after ≡ apart_from_left before → IfSome before (λ old. IsSomeAnd after (λ new. IsUntouched old new))
+untouched : (before after : Option Told) → apart_from_left after ≡ apart_from_left before
+    → IfSome before (λ old. IsSomeAnd after (λ new. IsUntouched old new))
 untouched None after only = tt
 untouched (Some old) None only = cc
 untouched (Some old) (Some new) only = same_told new old only
 
 -- an answer is carried out after a reading as before it
-carried_after : (writes : List Write) (line : List ℕ) (old now new : Told) → IsUntouched old now → IsCarriedOut writes line now new → IsCarriedOut writes line old new
+carried_after : (writes : List Write) (line : List ℕ) (old now new : Told) → IsUntouched old now
+    → IsCarriedOut writes line now new → IsCarriedOut writes line old new
 carried_after writes line old now new same carried =
-    record { files = carried.files ∙ ap (all_written writes) same.files; said = carried.said ∙ ap (λ (said : List ℕ). said ++ line) same.said }
+    record {
+      files = carried.files ∙ ap (all_written writes) same.files;
+      said = carried.said ∙ ap (λ (said : List ℕ). said ++ line) same.said;
+    }
 
 -- a call fails on the way after a reading as before it
-stopped_after : (writes : List Write) (line : List ℕ) (old now new : Told) → IsUntouched old now → StoppedIn writes line now new → StoppedIn writes line old new
+stopped_after : (writes : List Write) (line : List ℕ) (old now new : Told) → IsUntouched old now → StoppedIn writes line now new
+    → StoppedIn writes line old new
 stopped_after [] line old now new same stopped =
-    record { files = stopped.files ∙ same.files; length = stopped.length; said = stopped.said ∙ ap (λ (said : List ℕ). said ++ take stopped.length line) same.said }
-stopped_after ((name, bytes) ∷ rest) line old now new same (inl front) = inl (record { said = front.said ∙ same.said; files = in_files front.files })
+    record {
+      files = stopped.files ∙ same.files;
+      length = stopped.length;
+      said = stopped.said ∙ ap (λ (said : List ℕ). said ++ take stopped.length line) same.said;
+    }
+stopped_after ((name, bytes) ∷ rest) line old now new same (inl front) =
+    inl (record { said = front.said ∙ same.said; files = in_files front.files })
   where
-    in_files : ((new.files ≡ now.files) ⊎ ((length : ℕ) × (new.files ≡ with_file name (take length bytes) now.files))) → ((new.files ≡ old.files) ⊎ ((length : ℕ) × (new.files ≡ with_file name (take length bytes) old.files)))
+    in_files : ((new.files ≡ now.files) ⊎ ((length : ℕ) × (new.files ≡ with_file name (take length bytes) now.files)))
+        → ((new.files ≡ old.files) ⊎ ((length : ℕ) × (new.files ≡ with_file name (take length bytes) old.files)))
     in_files (inl e) = inl (e ∙ same.files)
     in_files (inr (length, e)) = inr (length, e ∙ ap (with_file name (take length bytes)) same.files)
 stopped_after ((name, bytes) ∷ rest) line old now new same (inr stopped) =
-    inr (stopped_after rest line (record old { files = with_file name bytes old.files }) (record now { files = with_file name bytes now.files }) new (record { files = ap (with_file name bytes) same.files; said = same.said }) stopped)
+    inr (stopped_after rest line (record old { files = with_file name bytes old.files })
+    (record now { files = with_file name bytes now.files }) new
+    (record { files = ap (with_file name bytes) same.files; said = same.said }) stopped)
 
 -- an answer has a status with which a command ends
-tells_end : (Answers : Files → Answer → Type 0) (status : Status) (old new : Told) → IsAnswered status → EndsBy Answers status old new → TellsBy Answers status old new
+tells_end : (Answers : Files → Answer → Type 0) (status : Status) (old new : Told) → IsAnswered status
+    → EndsBy Answers status old new → TellsBy Answers status old new
 tells_end Answers Done old new answered ends = ends
 tells_end Answers No old new answered ends = ends
 tells_end Answers BadWords old new answered ends = ends
@@ -85,13 +103,18 @@ no_fault Failed before after answered same = absurd answered
 no_fault NoMemory before after answered same = absurd answered
 
 -- no more files were opened
-opens_as : (Answers : Files → Answer → Type 0) (before mid after : State) → after.opens ≡ mid.opens → OpensNoMore Answers before mid → OpensNoMore Answers before after
-opens_as Answers before mid after same reads = subst (λ (n : ℕ). IfSome before.told (λ old. (answer : Answer) → Answers old.files answer → n ≤ before.opens + answer.reads)) (sym same) reads
+opens_as : (Answers : Files → Answer → Type 0) (before mid after : State) → after.opens ≡ mid.opens
+    → OpensNoMore Answers before mid → OpensNoMore Answers before after
+opens_as Answers before mid after same reads =
+    subst (λ (n : ℕ). IfSome before.told
+    (λ old. (answer : Answer) → Answers old.files answer → n ≤ before.opens + answer.reads)) (sym same) reads
 
 -- one of the answers is carried out, or a call fails on the way
-pub obeyed_by : (Fits : Status → Type 0) (most : ℕ) (Answers : Files → Answer → Type 0) (status : Status) (writes : List Write) (line : List ℕ) (result : Status) (before mid after : State)
+pub obeyed_by : (Fits : Status → Type 0) (most : ℕ) (Answers : Files → Answer → Type 0) (status : Status) (writes : List Write)
+    (line : List ℕ) (result : Status) (before mid after : State)
     → Fits Failed → Fits status → IsAnswered status
-    → IfSome before.told (λ told. (reads : ℕ) × Answers told.files (record { status = status; reads = reads; writes = writes; line = line }))
+    → IfSome before.told
+    (λ told. (reads : ℕ) × Answers told.files (record { status = status; reads = reads; writes = writes; line = line }))
     → ReadsBy most Answers before mid → mid.faults ≡ before.faults
     → CarriesOut writes line status result mid after
     → Run Fits most Answers result before after
@@ -101,34 +124,58 @@ obeyed_by Fits most Answers status writes line result before mid after fails fit
       faults = no_fault status before.faults after.faults answered (all.faults ∙ same);
       opens = subst (λ (n : ℕ). n ≤ before.opens + most) (sym all.opens) reads.opens;
       writing = all.writing;
-      tells = told_so before.told after.told (λ old. (reads : ℕ) × Answers old.files (record { status = status; reads = reads; writes = writes; line = line })) (IsCarriedOut writes line) (TellsBy Answers status)
-          (λ old new (reads, answers) carried. tells_end Answers status old new answered (record { answer = record { status = status; reads = reads; writes = writes; line = line }; answers = answers; status_is = refl; carried_out = carried }))
+      tells =
+          told_so before.told after.told
+          (λ old. (reads : ℕ) × Answers old.files (record { status = status; reads = reads; writes = writes; line = line }))
+          (IsCarriedOut writes line) (TellsBy Answers status)
+          (λ old new (reads, answers) carried.
+          tells_end Answers status old new answered
+          (record {
+            answer = record { status = status; reads = reads; writes = writes; line = line };
+            answers = answers;
+            status_is = refl;
+            carried_out = carried;
+          }))
           answers
-          (told_after_reading before.told mid.told after.told (IsCarriedOut writes line) (IsCarriedOut writes line) (carried_after writes line) reads.told all.told);
+          (told_after_reading before.told mid.told after.told (IsCarriedOut writes line) (IsCarriedOut writes line)
+          (carried_after writes line) reads.told all.told);
       reads = opens_as Answers before mid after all.opens reads.no_more;
     })
-obeyed_by Fits most Answers status writes line result before mid after fails fits answered answers reads same (inr (is, stopped)) =
+obeyed_by Fits most Answers status writes line result before mid after fails fits answered answers reads same
+    (inr (is, stopped)) =
     subst (λ (s : Status). Run Fits most Answers s before after) (sym is) (record {
       fits = fails;
       faults = subst (λ (n : ℕ). Rose n after.faults) same stopped.faults;
       opens = subst (λ (n : ℕ). n ≤ before.opens + most) (sym stopped.opens) reads.opens;
       writing = stopped.writing;
-      tells = told_so before.told after.told (λ old. (reads : ℕ) × Answers old.files (record { status = status; reads = reads; writes = writes; line = line })) (StoppedIn writes line) (TellsBy Answers Failed)
-          (λ old new (reads, answers) on_the_way. inr (record { answer = record { status = status; reads = reads; writes = writes; line = line }; answers = answers; stopped = on_the_way }))
+      tells =
+          told_so before.told after.told
+          (λ old. (reads : ℕ) × Answers old.files (record { status = status; reads = reads; writes = writes; line = line }))
+          (StoppedIn writes line) (TellsBy Answers Failed)
+          (λ old new (reads, answers) on_the_way.
+          inr (record {
+            answer = record { status = status; reads = reads; writes = writes; line = line };
+            answers = answers;
+            stopped = on_the_way;
+          }))
           answers
-          (told_after_reading before.told mid.told after.told (StoppedIn writes line) (StoppedIn writes line) (stopped_after writes line) reads.told stopped.told);
+          (told_after_reading before.told mid.told after.told (StoppedIn writes line) (StoppedIn writes line)
+          (stopped_after writes line) reads.told stopped.told);
       reads = opens_as Answers before mid after stopped.opens reads.no_more;
     })
 
 -- a call failed while a run read
-pub failed_by : (Fits : Status → Type 0) (most : ℕ) (Answers : Files → Answer → Type 0) (before after : State) → Fits Failed → ReadsBy most Answers before after → Rose before.faults after.faults → Run Fits most Answers Failed before after
+pub failed_by : (Fits : Status → Type 0) (most : ℕ) (Answers : Files → Answer → Type 0) (before after : State) → Fits Failed
+    → ReadsBy most Answers before after → Rose before.faults after.faults → Run Fits most Answers Failed before after
 failed_by Fits most Answers before after fits reads rose =
     record {
       fits = fits;
       faults = rose;
       opens = reads.opens;
       writing = reads.writing;
-      tells = told_so before.told after.told (λ old. ⊤) IsUntouched (TellsBy Answers Failed) (λ old new a same. inl same) (nothing before.told) (untouched before.told after.told reads.told);
+      tells =
+          told_so before.told after.told (λ old. ⊤) IsUntouched (TellsBy Answers Failed) (λ old new a same. inl same)
+          (nothing before.told) (untouched before.told after.told reads.told);
       reads = reads.no_more;
     }
   where
@@ -137,7 +184,8 @@ failed_by Fits most Answers before after fits reads rose =
     nothing (Some old) = tt
 
 -- there was no memory for an answer
-pub starved_by : (Fits : Status → Type 0) (most : ℕ) (Answers : Files → Answer → Type 0) (before after : State) → Fits NoMemory → ReadsBy most Answers before after → after.faults ≡ before.faults → Run Fits most Answers NoMemory before after
+pub starved_by : (Fits : Status → Type 0) (most : ℕ) (Answers : Files → Answer → Type 0) (before after : State) → Fits NoMemory
+    → ReadsBy most Answers before after → after.faults ≡ before.faults → Run Fits most Answers NoMemory before after
 starved_by Fits most Answers before after fits reads same =
     record {
       fits = fits;
@@ -149,31 +197,43 @@ starved_by Fits most Answers before after fits reads same =
     }
 
 -- ---- the same of commands
-pub obeyed : (asked : Option Asked) (status : Status) (writes : List Write) (line : List ℕ) (result : Status) (before mid after : State)
+pub obeyed : (asked : Option Asked) (status : Status) (writes : List Write) (line : List ℕ) (result : Status)
+    (before mid after : State)
     → StatusFits status asked → IsAnswered status
-    → IfSome before.told (λ told. (reads : ℕ) × AnswerOf asked told.files (record { status = status; reads = reads; writes = writes; line = line }))
+    → IfSome before.told
+    (λ told. (reads : ℕ) × AnswerOf asked told.files (record { status = status; reads = reads; writes = writes; line = line }))
     → ReadsFor asked before mid → mid.faults ≡ before.faults
     → CarriesOut writes line status result mid after
     → Outcome asked result before after
 obeyed asked status writes line result before mid after fits answered answers reads same carried =
-    obeyed_by (λ s. StatusFits s asked) (most_reads asked) (AnswerOf asked) status writes line result before mid after tt fits answered answers reads same carried
+    obeyed_by (λ s. StatusFits s asked) (most_reads asked) (AnswerOf asked) status writes line result before mid after tt fits
+    answered answers reads same carried
 
-pub reading_failed : (asked : Asked) (before after : State) → ReadsFor (Some asked) before after → Rose before.faults after.faults → Outcome (Some asked) Failed before after
-reading_failed asked before after reads rose = failed_by (λ s. StatusFits s (Some asked)) (most_reads (Some asked)) (AnswerOf (Some asked)) before after tt reads rose
+pub reading_failed : (asked : Asked) (before after : State) → ReadsFor (Some asked) before after
+    → Rose before.faults after.faults → Outcome (Some asked) Failed before after
+reading_failed asked before after reads rose =
+    failed_by (λ s. StatusFits s (Some asked)) (most_reads (Some asked)) (AnswerOf (Some asked)) before after tt reads rose
 
-pub no_memory : (asked : Asked) (before after : State) → ReadsFor (Some asked) before after → after.faults ≡ before.faults → Outcome (Some asked) NoMemory before after
-no_memory asked before after reads same = starved_by (λ s. StatusFits s (Some asked)) (most_reads (Some asked)) (AnswerOf (Some asked)) before after tt reads same
+pub no_memory : (asked : Asked) (before after : State) → ReadsFor (Some asked) before after → after.faults ≡ before.faults
+    → Outcome (Some asked) NoMemory before after
+no_memory asked before after reads same =
+    starved_by (λ s. StatusFits s (Some asked)) (most_reads (Some asked)) (AnswerOf (Some asked)) before after tt reads same
 
 -- words that are no command
-pub words_refused : (result : Status) (before after : State) → before.writing ≡ false → CarriesOut [] bad_words_line BadWords result before after → Outcome None result before after
+pub words_refused : (result : Status) (before after : State) → before.writing ≡ false
+    → CarriesOut [] bad_words_line BadWords result before after → Outcome None result before after
 words_refused result before after closed carried =
     obeyed None BadWords [] bad_words_line result before before after tt tt (answers before.told)
     (record { told = refl; writing = closed; opens = omega arith; no_more = no_more before.told }) refl carried
   where
-    answers : (o : Option Told) → IfSome o (λ told. (reads : ℕ) × AnswerOf None told.files (record { status = BadWords; reads = reads; writes = []; line = bad_words_line }))
+    answers : (o : Option Told)
+        → IfSome o
+        (λ told. (reads : ℕ)
+        × AnswerOf None told.files (record { status = BadWords; reads = reads; writes = []; line = bad_words_line }))
     answers None = tt
     answers (Some told) = (0, refl)
 
-    no_more : (o : Option Told) → IfSome o (λ old. (answer : Answer) → AnswerOf None old.files answer → before.opens ≤ before.opens + answer.reads)
+    no_more : (o : Option Told)
+        → IfSome o (λ old. (answer : Answer) → AnswerOf None old.files answer → before.opens ≤ before.opens + answer.reads)
     no_more None = tt
     no_more (Some old) = λ answer is. omega arith

@@ -55,7 +55,8 @@ use Rattle.solution.specs.Solutions.{IsSolution}
 use Rattle.recon_check.specs.Answers.{HasCertificate, IsAnswer}
 use Rattle.recon_check.specs.declared.answer.Answer.{Answer as Verdict}
 use Rattle.recon_check.specs.declared.answer.Answer.TheVariants as verdicts
-use Rattle.recon_cmd.specs.Lines.{bad_words_line, too_long_scan_line, too_long_mesh_line, too_long_cert_line, cells_line, cells_text, build_line, upgraded_line, demo_line}
+use Rattle.recon_cmd.specs.Lines.{bad_words_line, too_long_scan_line, too_long_mesh_line, too_long_cert_line, cells_line}
+use Rattle.recon_cmd.specs.Lines.{cells_text, build_line, upgraded_line, demo_line}
 use Rattle.recon_cmd.specs.MeshLines.{mesh_refusal_line, slice_line, unbalanced_line}
 use Rattle.recon_cmd.specs.Options.{Options}
 use Rattle.recon_cmd.specs.Refusals.{refusal_line}
@@ -88,7 +89,8 @@ refusal reads line = record { status = Refused; reads = reads; writes = []; line
 abbrev pub file_limit : ℕ
 file_limit = 4294967296
 
--- what the scan shows that the bytes of a file are, in the unit and with the fixed scanner of these options, or why they are none
+-- what the scan shows that the bytes of a file are, in the unit and with the fixed scanner of these options, or why they are
+-- none
 abbrev pub read_as : Options → List ℕ → Result Shown ScanRefusal
 read_as options bytes = shown_in bytes options.unit options.fixed
 
@@ -111,7 +113,8 @@ abbrev pub IsUnread : Options → (bytes : List ℕ) → Answer → Type 0
 IsUnread options bytes answer = ScanTooLong bytes answer ⊎ ScanRefused options bytes answer
 
 -- the bytes are a scan, and the two are answered so
-pub record ScanAnswered (options : Options) (Answers : List ℕ → Shown → Answer → Type 0) (bytes : List ℕ) (answer : Answer) : Type 0 where
+pub record ScanAnswered (options : Options) (Answers : List ℕ → Shown → Answer → Type 0) (bytes : List ℕ)
+    (answer : Answer) : Type 0 where
   pub within : length bytes ≤ file_limit
   pub scan : Shown
   pub read : read_as options bytes ≡ Ok scan
@@ -132,9 +135,10 @@ pub record WritesCells (output : List ℕ) (scan : Shown) (answer : Answer) : Ty
     line = cells_line (length (points_of scan)) (length rows);
   }
 
--- the best surface of the scan at the weights of these options is written, with the certificate that shows it best and is stamped
--- with the scan's file: the mesh first
-pub record WritesSurface (names : SurfaceNames) (options : Options) (bytes : List ℕ) (scan : Shown) (answer : Answer) : Type 0 where
+-- the best surface of the scan at the weights of these options is written, with the certificate that shows it best and is
+-- stamped with the scan's file: the mesh first
+pub record WritesSurface (names : SurfaceNames) (options : Options) (bytes : List ℕ) (scan : Shown)
+    (answer : Answer) : Type 0 where
   pub settings : Settings
   pub vote : settings.vote ≡ options.vote
   pub smooth : settings.smooth ≡ options.smooth
@@ -164,12 +168,20 @@ restamped stamp claim = record claim { stamp = Some stamp }
 -- cost is said.
 abbrev pub IsConcluded : (output : Option (List ℕ)) → StampView → (cert : List ℕ) → Verdict → Answer → Type 0
 IsConcluded (Some output) stamp cert (verdicts.Yes inside faces cost) answer =
-    HasCertificate cert (λ claim. answer ≡ record { status = Done; reads = 3; writes = (output, cert_text (restamped stamp claim)) ∷ []; line = upgraded_line cost })
-IsConcluded output stamp cert verdict answer = answer ≡ record { status = verdict_status verdict; reads = 3; writes = []; line = verdict_line verdict }
+    HasCertificate cert
+    (λ claim. answer ≡ record {
+      status = Done;
+      reads = 3;
+      writes = (output, cert_text (restamped stamp claim)) ∷ [];
+      line = upgraded_line cost;
+    })
+IsConcluded output stamp cert verdict answer =
+    answer ≡ record { status = verdict_status verdict; reads = 3; writes = []; line = verdict_line verdict }
 
 -- the mesh and the certificate are the best surface of the scan at the weights of these options and the certificate that
 -- shows it best, without a stamp or with this one, or the first reason why they are not is said
-pub record HasVerdict (output : Option (List ℕ)) (options : Options) (stamp : StampView) (scan : Shown) (mesh cert : List ℕ) (answer : Answer) : Type 0 where
+pub record HasVerdict (output : Option (List ℕ)) (options : Options) (stamp : StampView) (scan : Shown) (mesh cert : List ℕ)
+    (answer : Answer) : Type 0 where
   pub settings : Settings
   pub vote : settings.vote ≡ options.vote
   pub smooth : settings.smooth ≡ options.smooth
@@ -178,20 +190,25 @@ pub record HasVerdict (output : Option (List ℕ)) (options : Options) (stamp : 
   pub is : IsConcluded output stamp cert verdict answer
 
 -- the file of the certificate is too long, or it decides
-pub record CertAnswer (names : SurfaceNames) (Decides : (cert : List ℕ) → Answer → Type 0) (files : Files) (answer : Answer) : Type 0 where
+pub record CertAnswer (names : SurfaceNames) (Decides : (cert : List ℕ) → Answer → Type 0) (files : Files)
+    (answer : Answer) : Type 0 where
   pub cert : List ℕ
   pub there : files names.cert ≡ Some cert
   pub answers : FileTooLong 3 too_long_cert_line cert answer ⊎ ((length cert ≤ file_limit) × Decides cert answer)
 
 -- the file of the mesh is too long, or it and the certificate decide
-pub record MeshAnswer (names : SurfaceNames) (Decide : (mesh cert : List ℕ) → Answer → Type 0) (files : Files) (answer : Answer) : Type 0 where
+pub record MeshAnswer (names : SurfaceNames) (Decide : (mesh cert : List ℕ) → Answer → Type 0) (files : Files)
+    (answer : Answer) : Type 0 where
   pub mesh : List ℕ
   pub there : files names.mesh ≡ Some mesh
-  pub answers : FileTooLong 2 too_long_mesh_line mesh answer ⊎ ((length mesh ≤ file_limit) × CertAnswer names (Decide mesh) files answer)
+  pub answers : FileTooLong 2 too_long_mesh_line mesh answer
+      ⊎ ((length mesh ≤ file_limit) × CertAnswer names (Decide mesh) files answer)
 
 -- the mesh and the certificate decide which verdict there is
-abbrev pub CheckAnswer : SurfaceNames → (output : Option (List ℕ)) → Options → Files → (bytes : List ℕ) → Shown → Answer → Type 0
-CheckAnswer names output options files bytes scan = MeshAnswer names (HasVerdict output options (stamp_for options bytes) scan) files
+abbrev pub CheckAnswer : SurfaceNames → (output : Option (List ℕ)) → Options → Files → (bytes : List ℕ) → Shown → Answer
+    → Type 0
+CheckAnswer names output options files bytes scan =
+    MeshAnswer names (HasVerdict output options (stamp_for options bytes) scan) files
 
 -- the bytes are no mesh, and the first reason why is said
 pub record MeshRefused (bytes : List ℕ) (answer : Answer) : Type 0 where
@@ -272,7 +289,8 @@ AnswerOf (Some (cells names options)) files answer =
 AnswerOf (Some (build names options)) files answer =
     (bytes : List ℕ) × (files names.input ≡ Some bytes) × ScanAnswer options (WritesSurface names options) bytes answer
 AnswerOf (Some (check names output options)) files answer =
-    (bytes : List ℕ) × (files names.input ≡ Some bytes) × ScanAnswer options (CheckAnswer names output options files) bytes answer
+    (bytes : List ℕ) × (files names.input ≡ Some bytes)
+    × ScanAnswer options (CheckAnswer names output options files) bytes answer
 AnswerOf (Some (slice names height)) files answer =
     (bytes : List ℕ) × (files names.input ≡ Some bytes) × MeshFileAnswer (SliceAnswer names.output height) bytes answer
 AnswerOf (Some (demo count seed)) files answer = Demonstrates count seed answer

@@ -13,7 +13,8 @@
 --   FormsAfter name status ..        what the forms have received after a run that ended so
 --   FormsHandOut outputs mesh ..     what follows where the mesh was read
 --   ExportOutcome names status ..    what a run of `export` does to its host and to the forms
-use Rattle.std.specs.Prelude.{◌≡◌, ◌⊎◌, ℕ, List, [], ◌∷◌, ◌++◌, ◌&&◌, ◌==◌, nat_le, length, map, codes, string_bytes, All, Option, Some, None, IfSome, ⊤, if◌then◌else◌}
+use Rattle.std.specs.Prelude.{◌≡◌, ◌⊎◌, ℕ, List, [], ◌∷◌, ◌++◌, ◌&&◌, ◌==◌, nat_le, length, map, codes, string_bytes, All}
+use Rattle.std.specs.Prelude.{Option, Some, None, IfSome, ⊤, if◌then◌else◌}
 use Rattle.std.specs.List.{zip}
 use Rattle.std.specs.Str.{bytes_eq}
 use Rattle.host.specs.State.{State, Files}
@@ -49,7 +50,8 @@ export_names words = record { mesh = words.mesh.now; outputs = map string_bytes 
 -- `exported n points N faces M`
 unfoldable pub exported_line : (forms points faces : ℕ) → List ℕ
 exported_line forms points faces =
-    labelled (codes "exported ") forms ++ (labelled (codes " points ") points ++ (labelled (codes " faces ") faces ++ (10 ∷ [])))
+    labelled (codes "exported ") forms
+    ++ (labelled (codes " points ") points ++ (labelled (codes " faces ") faces ++ (10 ∷ [])))
 
 -- each form has received the whole mesh
 abbrev pub HaveAll : Surface → List Received → Type 0
@@ -60,7 +62,8 @@ abbrev pub HaveFronts : Surface → List Received → Type 0
 HaveFronts mesh forms = All (λ r. HasFront r mesh.points mesh.faces) forms
 
 -- each form has received the whole mesh, and their texts are written to the outputs, in order
-pub record WritesForms (outputs : List (List ℕ)) (forms : List Received) (texts : List (List ℕ)) (mesh : Surface) (answer : Answer) : Type 0 where
+pub record WritesForms (outputs : List (List ℕ)) (forms : List Received) (texts : List (List ℕ)) (mesh : Surface)
+    (answer : Answer) : Type 0 where
   pub each : HaveAll mesh forms
   pub is : answer ≡ record {
     status = Done;
@@ -102,12 +105,15 @@ FormsAfter name BadWords before old new = ⊥
 
 -- What follows where the mesh was read: there was no memory, and each form has received a front of it; or each has received the
 -- whole, and their texts are written up to a call that failed.
-abbrev pub FormsHandOut : (outputs : List (List ℕ)) → Surface → Status → State → State → (new : List Received) → (texts : List (List ℕ)) → Type 0
+abbrev pub FormsHandOut : (outputs : List (List ℕ)) → Surface → Status → State → State → (new : List Received)
+    → (texts : List (List ℕ)) → Type 0
 FormsHandOut outputs mesh status before after new texts =
     ((status ≡ NoMemory) × HaveFronts mesh new × (after ≡ before))
-    ⊎ (HaveAll mesh new × CarriesOut (zip outputs texts) (exported_line (length outputs) (length mesh.points) (length mesh.faces)) Done status before after)
+    ⊎ (HaveAll mesh new × CarriesOut (zip outputs texts)
+    (exported_line (length outputs) (length mesh.points) (length mesh.faces)) Done status before after)
 
 -- what a run of `export` does to its host, and to forms that had received `old`, have received `new` and have these texts
-pub record ExportOutcome (names : ExportNames) (status : Status) (before after : State) (old new : List Received) (texts : List (List ℕ)) : Type 0 where
+pub record ExportOutcome (names : ExportNames) (status : Status) (before after : State) (old new : List Received)
+    (texts : List (List ℕ)) : Type 0 where
   pub run : Run ExportFits 1 (ExportAnswer names new texts) status before after
   pub forms : FormsAfter names.mesh status before old new

@@ -1,6 +1,7 @@
 -- What stands after a run of `build` that is done.
 --
---   HoldsTheBest names options old new    mesh and certificate are those of a solution of the scan that was read, and it is stamped so
+--   HoldsTheBest names options old new    mesh and certificate are those of a solution of the scan that was read, and it is
+--   stamped so
 --   DoneIsBest                            a run of `build` that is done leaves such files
 use Rattle.std.specs.Prelude.{◌≡◌, ◌≢◌, ℕ, ◌≤◌, List, ◌++◌, length, Some, Ok}
 use Rattle.cert_text.specs.Certificates.{Claim, IsWellFormed}
@@ -45,6 +46,7 @@ pub record HoldsTheBest (names : SurfaceNames) (options : Options) (old new : To
 -- where the words are `build` and the host tells its files, a run that is done leaves the best surface and its certificate
 abbrev pub DoneIsBest : Type 0
 DoneIsBest =
-    (words : List (List ℕ)) (names : SurfaceNames) (options : Options) (before after : State) (old : Told) → command_of words ≡ Some (build names options)
+    (words : List (List ℕ)) (names : SurfaceNames) (options : Options) (before after : State) (old : Told)
+    → command_of words ≡ Some (build names options)
     → Outcome (command_of words) Done before after → before.told ≡ Some old
     → (new : Told) × (after.told ≡ Some new) × HoldsTheBest names options old new

@@ -9,18 +9,24 @@
 --   CellsAnswerIsOne              `cells` has no two answers where the files are given
 --   DifferInFlows                 two answers write one surface, with certificates that differ in their flows alone
 --   BuildAnswerIsOneButForFlows   and so do two answers of `build`, or they are one
-use Rattle.std.specs.Prelude.{◌≡◌, ◌⊎◌, ℕ, ◌<◌, ◌≤◌, List, length, Some, Ok, Err}
+--   SliceAnswerIsOne              `slice` has one answer where the files are given
+--   texts_by makes forms          the texts that forms make of what they have received
+--   ExportAnswerIsOne             `export` has one answer where the files are given, and what the forms make
+use Rattle.std.specs.Prelude.{◌≡◌, ◌⊎◌, ℕ, ℤ, ◌<◌, ◌≤◌, List, length, map, Some, Ok, Err}
+use Rattle.std.specs.List.{zip}
 use Rattle.cert_text.specs.Certificates.{Claim}
 use Rattle.host.specs.Counts.{Rose}
 use Rattle.host.specs.State.{Files, State, Told}
+use Rattle.mesh_form.specs.Received.{Received}
 use Rattle.mesh_ply.specs.Meshes.{Surface}
 use Rattle.scan.specs.Shown.{Shown}
 use Rattle.scan.specs.declared.refusal.ScanRefusal.{ScanRefusal}
 use Rattle.recon_cmd.specs.Answers.{Answer, AnswerOf, file_limit, read_as}
+use Rattle.recon_cmd.specs.Exports.{ExportNames, ExportAnswer}
 use Rattle.recon_cmd.specs.Options.{Options}
 use Rattle.recon_cmd.specs.Outcome.{Outcome}
 use Rattle.recon_cmd.specs.Replies.{Shows}
-use Rattle.recon_cmd.specs.Words.{Asked, Names, SurfaceNames, cells, build}
+use Rattle.recon_cmd.specs.Words.{Asked, Names, SurfaceNames, cells, build, slice}
 use Rattle.recon_cmd.specs.declared.status.Status.{Status}
 use Rattle.recon_cmd.specs.declared.status.Status.TheVariants.{Done, Refused, NoMemory}
 
@@ -42,7 +48,8 @@ IsDoneIfAccepted asked options input =
 abbrev pub IsRefusedIfRefused : Asked → Options → (input : List ℕ) → Type 0
 IsRefusedIfRefused asked options input =
     (bytes : List ℕ) (status : Status) (before after : State) → RunsOn asked input bytes status before after
-    → (file_limit < length bytes) ⊎ ((why : ScanRefusal) × (read_as options bytes ≡ Err why)) → (status ≡ Refused) ⊎ (status ≡ NoMemory)
+    → (file_limit < length bytes) ⊎ ((why : ScanRefusal) × (read_as options bytes ≡ Err why))
+    → (status ≡ Refused) ⊎ (status ≡ NoMemory)
 
 abbrev pub AcceptedIsDone : Type 0
 AcceptedIsDone = (names : Names) (options : Options) → IsDoneIfAccepted (cells names options) options names.input
@@ -58,7 +65,8 @@ RefusedIsNotBuilt = (names : SurfaceNames) (options : Options) → IsRefusedIfRe
 
 abbrev pub CellsAnswerIsOne : Type 0
 CellsAnswerIsOne =
-    (names : Names) (options : Options) (files : Files) (answer other : Answer) → AnswerOf (Some (cells names options)) files answer
+    (names : Names) (options : Options) (files : Files) (answer other : Answer)
+    → AnswerOf (Some (cells names options)) files answer
     → AnswerOf (Some (cells names options)) files other → answer ≡ other
 
 -- the answers write one surface, and certificates that have the same stamp and state the same counts, cost and inside cells
@@ -74,5 +82,23 @@ pub record DifferInFlows (names : SurfaceNames) (answer other : Answer) : Type 0
 
 abbrev pub BuildAnswerIsOneButForFlows : Type 0
 BuildAnswerIsOneButForFlows =
-    (names : SurfaceNames) (options : Options) (files : Files) (answer other : Answer) → AnswerOf (Some (build names options)) files answer
+    (names : SurfaceNames) (options : Options) (files : Files) (answer other : Answer)
+    → AnswerOf (Some (build names options)) files answer
     → AnswerOf (Some (build names options)) files other → (answer ≡ other) ⊎ DifferInFlows names answer other
+
+abbrev pub SliceAnswerIsOne : Type 0
+SliceAnswerIsOne =
+    (names : Names) (height : ℤ) (files : Files) (answer other : Answer) → AnswerOf (Some (slice names height)) files answer
+    → AnswerOf (Some (slice names height)) files other → answer ≡ other
+
+-- the texts of forms, each made of what the form has received
+abbrev pub texts_by : (makes : List (Received → List ℕ)) → (forms : List Received) → List (List ℕ)
+texts_by makes forms = map (λ pair. pair.0 pair.1) (zip makes forms)
+
+-- Two runs may hand in other forms. Where these are as many, and make their texts of what they have received in the same ways,
+-- the answers are one.
+abbrev pub ExportAnswerIsOne : Type 0
+ExportAnswerIsOne =
+    (names : ExportNames) (makes : List (Received → List ℕ)) (forms others : List Received) (files : Files)
+    (answer other : Answer) → length forms ≡ length others → ExportAnswer names forms (texts_by makes forms) files answer
+    → ExportAnswer names others (texts_by makes others) files other → answer ≡ other

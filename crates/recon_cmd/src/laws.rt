@@ -2,7 +2,7 @@
 //! laws.
 ghost use Rattle.recon_cmd.specs.CheckLaws.{CheckIsExact, RefusedIsNotChecked, BuiltIsAccepted, CheckAnswerIsOne, DemoAnswerIsOne, StampedIsKept};
 ghost use Rattle.recon_cmd.specs.Headline.{DoneIsBest};
-ghost use Rattle.recon_cmd.specs.Laws.{AcceptedIsDone, RefusedIsRefused, AcceptedIsBuilt, RefusedIsNotBuilt, CellsAnswerIsOne, BuildAnswerIsOneButForFlows};
+ghost use Rattle.recon_cmd.specs.Laws.{AcceptedIsDone, RefusedIsRefused, AcceptedIsBuilt, RefusedIsNotBuilt, CellsAnswerIsOne, BuildAnswerIsOneButForFlows, SliceAnswerIsOne, ExportAnswerIsOne};
 
 /// Where the host tells its files and no call fails, `cells` on a scan that is accepted is done, or finds no memory, and
 /// so is `build`.
@@ -24,14 +24,16 @@ pub fn a_surface_that_was_built_is_best()
     ensures { DoneIsBest }
 {}
 
-/// Where the files are given, `cells` has no two answers, nor have `check`, `upgrade` and `demo`. Two answers of `build` are one,
-/// or write one surface and say one line, and their certificates have one stamp and state the same counts, cost and inside
-/// cells: only the flows may differ.
+/// Where the files are given, `cells` has no two answers, nor have `check`, `upgrade`, `slice` and `demo`. Two answers of `build`
+/// are one, or write one surface and say one line, and their certificates have one stamp and state the same counts, cost and
+/// inside cells: only the flows may differ. `export` has no two where each form makes its text of what it has received alone.
 pub fn a_command_has_one_answer()
     ensures cells { CellsAnswerIsOne }
     ensures build { BuildAnswerIsOneButForFlows }
     ensures check { CheckAnswerIsOne }
     ensures demo { DemoAnswerIsOne }
+    ensures slice { SliceAnswerIsOne }
+    ensures export { ExportAnswerIsOne }
 {}
 
 /// Where the host tells its files and no call fails, `check` says yes exactly where none of its three files is longer than

@@ -9,7 +9,8 @@
 --     words_behind_name args              the words but the first
 --     EndsOn args status before after     the program ended so on what the system handed in as words
 --     fresh, EndsAfterARun status         a host that was not used; the program ended so on something, over that host
-use Rattle.std.specs.Prelude.{◌≡◌, ◌≢◌, ◌⊎◌, ℕ, List, [], ◌∷◌, length, map, drop, Result, Ok, Err, Option, Some, None, false, string_bytes}
+use Rattle.std.specs.Prelude.{◌≡◌, ◌≢◌, ◌⊎◌, ℕ, List, [], ◌∷◌, length, map, drop, Result, Ok, Err, Option, Some, None, false}
+use Rattle.std.specs.Prelude.{string_bytes}
 use Rattle.std.specs.IoError.{error_kind}
 use Rattle.std.specs.List.{zip}
 use Rattle.host.specs.State.{State, Files}
@@ -36,7 +37,9 @@ WritesFormats outputs mesh answer =
     answer ≡ record {
       status = Done;
       reads = 1;
-      writes = zip outputs (mesh_text mesh.points mesh.faces ∷ off_text mesh.points mesh.faces ∷ obj_text mesh.points mesh.faces ∷ []);
+      writes =
+          zip outputs
+          (mesh_text mesh.points mesh.faces ∷ off_text mesh.points mesh.faces ∷ obj_text mesh.points mesh.faces ∷ []);
       line = exported_line (length outputs) (length mesh.points) (length mesh.faces);
     }
 
@@ -52,7 +55,8 @@ RunsFor None words status before after = Outcome (command_of words) status befor
 
 -- a run on these words ended with this status
 abbrev pub RunsOn : List (List ℕ) → ℕ → State → State → Type 0
-RunsOn words code before after = (status : Status) × (code ≡ code_of status) × RunsFor (export_of 3 words) words status before after
+RunsOn words code before after =
+    (status : Status) × (code ≡ code_of status) × RunsFor (export_of 3 words) words status before after
 
 -- there was no memory for the words or for the forms, and nothing is done
 abbrev pub DoesNothing : ℕ → State → State → Type 0

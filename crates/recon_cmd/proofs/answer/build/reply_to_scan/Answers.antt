@@ -6,5 +6,7 @@ use Rattle.recon_cmd.proofs.answer.build.reply_to_scan.Goals as goal
 
 pub returns : goal.returns
 returns c =
-    built (build_names c.args.names.now) (options_view c.args.options.now) c.args.bytes.items c.args.scan.now c.args.options.now.settings c.in_ok-solved.solved c.reply_of.result refl refl
-    c.in_ok-solved.ensures.solution c.in_ok-solved.ensures.valid c.in_ok-solved.ensures.well_formed (c.in_ok-solved.ensures.stamp ∙ ap Some c.stamp_of-stamp.ensures) c.reply_of.ensures
+    built (build_names c.args.names.now) (options_view c.args.options.now) c.args.bytes.items c.args.scan.now
+    c.args.options.now.settings c.in_ok-solved.solved c.reply_of.result refl refl
+    c.in_ok-solved.ensures.solution c.in_ok-solved.ensures.valid c.in_ok-solved.ensures.well_formed
+    (c.in_ok-solved.ensures.stamp ∙ ap Some c.stamp_of-stamp.ensures) c.reply_of.ensures

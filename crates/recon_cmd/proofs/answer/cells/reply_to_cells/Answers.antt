@@ -12,5 +12,8 @@ pub returns-clause-replied : goal.returns-clause-replied
 returns-clause-replied g c = λ at.
     let names : Names = cells_names c.args.names.now in
     let options : Options = options_view c.args.options.now in
-    refused_reply (cells names options) names.input options (λ _. WritesCells names.output) (cells_scan names options) c.in-Refused.line c.refusal.result (g.H.Host.state c.args.host.now)
-    (c.refusal.ensures 1) (subst (λ (reading : Reading). IfSome (g.H.Host.state c.args.host.now).told (IsReading names.input options reading)) c.in-Refused.is (c.in-Ok.ensures.read at))
+    refused_reply (cells names options) names.input options (λ _. WritesCells names.output) (cells_scan names options)
+    c.in-Refused.line c.refusal.result (g.H.Host.state c.args.host.now)
+    (c.refusal.ensures 1)
+    (subst (λ (reading : Reading). IfSome (g.H.Host.state c.args.host.now).told (IsReading names.input options reading))
+    c.in-Refused.is (c.in-Ok.ensures.read at))

@@ -16,9 +16,13 @@ returns-in-Err-TooLong-clause-replied g c = λ at.
     let names : SurfaceNames = check_names c.args.names.now in
     let output : Option (List ℕ) = output_of c.args.names.now in
     let options : Options = options_view c.args.options.now in
-    too_long names output options (CertAnswer names (HasVerdict output options (stamp_view c.args.stamp.now) (shown_of c.args.scan.now) c.args.mesh.now)) names.cert too_long_cert_line 3 c.refusal.result (g.H.Host.state c.args.host.now)
+    too_long names output options
+    (CertAnswer names (HasVerdict output options (stamp_view c.args.stamp.now) (shown_of c.args.scan.now) c.args.mesh.now))
+    names.cert too_long_cert_line 3 c.refusal.result (g.H.Host.state c.args.host.now)
     (c.refusal.ensures 3 ∙ ap (λ (line : List ℕ). refusal 3 line) c.line_of_too_long_cert.ensures)
-    (subst (λ (limit : ℕ). IfSome (g.H.Host.state c.args.host.now).told (λ told. limit < length (file_bytes told.files names.cert))) at (c.in-Err-TooLong.ensures.longer (search rules)))
+    (subst (λ (limit : ℕ).
+    IfSome (g.H.Host.state c.args.host.now).told (λ told. limit < length (file_bytes told.files names.cert))) at
+    (c.in-Err-TooLong.ensures.longer (search rules)))
     (λ files bytes has long. record { cert = bytes; there = has; answers = inl long })
 
 pub returns-in-Ok-reply_to_texts-clause-replied : goal.returns-in-Ok-reply_to_texts-clause-replied
@@ -26,10 +30,15 @@ returns-in-Ok-reply_to_texts-clause-replied g c = λ at.
     let names : SurfaceNames = check_names c.args.names.now in
     let output : Option (List ℕ) = output_of c.args.names.now in
     let options : Options = options_view c.args.options.now in
-    cert_reply names output options (stamp_view c.args.stamp.now) (shown_of c.args.scan.now) c.args.mesh.now c.in-Ok.cert.items c.in-Ok-reply_to_texts.reply (g.H.Host.state c.args.host.now)
+    cert_reply names output options (stamp_view c.args.stamp.now) (shown_of c.args.scan.now) c.args.mesh.now c.in-Ok.cert.items
+    c.in-Ok-reply_to_texts.reply (g.H.Host.state c.args.host.now)
     c.in-Ok.ensures.bytes (subst (λ (limit : ℕ). length c.in-Ok.cert.items ≤ limit) at c.in-Ok.ensures.within)
-    (subst (λ (cert : List ℕ). HasVerdict output options (stamp_view c.args.stamp.now) (shown_of c.args.scan.now) c.args.mesh.now cert (answer_of 3 c.in-Ok-reply_to_texts.reply)) c.deref.ensures.value c.in-Ok-reply_to_texts.ensures)
+    (subst (λ (cert : List ℕ).
+    HasVerdict output options (stamp_view c.args.stamp.now) (shown_of c.args.scan.now) c.args.mesh.now cert
+    (answer_of 3 c.in-Ok-reply_to_texts.reply)) c.deref.ensures.value c.in-Ok-reply_to_texts.ensures)
 
 pub returns-in-Ok-reply_to_texts-clause-reads : goal.returns-in-Ok-reply_to_texts-clause-reads
 returns-in-Ok-reply_to_texts-clause-reads g c = λ at.
-    cert_reads (check_names c.args.names.now) (output_of c.args.names.now) (options_view c.args.options.now) (stamp_view c.args.stamp.now) (shown_of c.args.scan.now) c.args.mesh.now (g.H.Host.state c.args.host.now) (g.H.Host.state c.read_all.new.host) c.requires c.in-Ok.ensures.only_reads
+    cert_reads (check_names c.args.names.now) (output_of c.args.names.now) (options_view c.args.options.now)
+    (stamp_view c.args.stamp.now) (shown_of c.args.scan.now) c.args.mesh.now (g.H.Host.state c.args.host.now)
+    (g.H.Host.state c.read_all.new.host) c.requires c.in-Ok.ensures.only_reads
