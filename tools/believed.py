@@ -3,6 +3,7 @@
 
 usage: tools/believed.py [CRATE FILE CALL]      (a call, as recon_cmd src/whole_run.rt run)
        tools/believed.py [CRATE MODULE NAME]    (a definition, as recon_cmd CheckLaws CheckEnds)
+       tools/believed.py write                  (puts what it prints by default into docs/promises.md)
 
 By default: what an answer of `recon check` says of its files, and then all of the contract of the top call. A contract rests on the
 definitions of specs/ that its clauses name, these on those that they name, and so on. Comments, imports and blank lines are not
@@ -13,6 +14,7 @@ import re
 import sys
 
 CRATES = pathlib.Path(__file__).resolve().parent.parent / "crates"
+PROMISES = CRATES.parent / "docs" / "promises.md"
 CHECK = ("recon_cmd", "CheckLaws", "CheckEnds")
 ALL = ("recon_cmd", "src/whole_run.rt", "run")
 IMPORT = re.compile(r"(?ms)^[ ]*(?:pub |ghost )*use Rattle\.(\w+)\.specs\.(\w+)(?:\.\{(.*?)\}|(?: as (\w+))?)[;\s]")
@@ -96,7 +98,18 @@ def told(crate, place, name):
     return head + "; ".join(parts)
 
 
+def put(line):
+    """Puts a line into docs/promises.md, in the place of the one that begins with the same name."""
+    name = line.split(":")[0]
+    text = PROMISES.read_text()
+    PROMISES.write_text(re.sub(rf"(?m)^( *){re.escape(name)}: .*$", lambda old: old[1] + line, text))
+
+
 def main(words):
+    if words == ["write"]:
+        for call in (CHECK, ALL):
+            put(told(*call))
+        return 0
     for call in [tuple(words)] if words else [CHECK, ALL]:
         print(told(*call))
     return 0

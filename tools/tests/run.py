@@ -13,6 +13,7 @@ import tempfile
 import traceback
 
 import test_all
+import test_believed
 import test_examples
 import test_points
 import test_program
@@ -37,7 +38,7 @@ def passes(name, test):
 
 def main():
     part = sys.argv[1] if len(sys.argv) > 1 else ''
-    modules = [test_points, test_stations, test_all, test_examples] + ([test_program] if RECON else [])
+    modules = [test_points, test_stations, test_all, test_examples, test_believed] + ([test_program] if RECON else [])
     tests = [(name, test) for module in modules for name, test in vars(module).items()
              if name.startswith('test_') and part in name]
     passed = sum(passes(name, test) for name, test in tests)
