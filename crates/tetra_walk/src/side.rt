@@ -1,6 +1,6 @@
 //! Sides of cells: side k is that of the facet opposite to vertex k.
 
-ghost use Rattle.std.specs.Prelude.{◌≡◌, ◌<◌, Some, None, slice_index_or};
+ghost use Rattle.std.specs.Prelude.{◌≡◌, ◌≢◌, ◌<◌, ℕ, Some, None, slice_index_or};
 ghost use Rattle.geo_sign.specs.Tetrahedron.{facet_of, facet_at};
 ghost use Rattle.tetra_store.specs.Links.{tetrahedron_from};
 ghost use Rattle.tetra_walk.specs.Walks.{HasNamed};
@@ -35,6 +35,7 @@ pub fn side_to(cell: &Cell, other: CellId) -> usize
     requires { HasNamed cell.now.next other }
     ensures side { result < 4 }
     ensures named { slice_index_or cell.now.next result None ≡ Some other }
+    ensures first { (k : ℕ) → k < result → slice_index_or cell.now.next k None ≢ Some other }
 {
     if cell.next[0] == Some(other) {
         return 0;
