@@ -88,15 +88,16 @@ not_end s p o x v k j i w h = by (is_cell_of (vertices_of s) (displaced o) ((lin
     by false e = e
 
 -- ---- the sight
-pub sight : (s : Store) (p : ℕ) (o : Point) (x k : ℕ) → IsGiven s p o → IsLive (links_of s.slots) x
+pub sight : (s : Store) (p : ℕ) (o : Point) (x : ℕ) → IsGiven s p o → IsLive (links_of s.slots) x
     → is_towards (vertices_of s) p (displaced o) ((links_of s.slots).at x) ≡ true
-    → IsSight (record { store = s; vertex = p; scanner = o; at = x; entered = k; to_come = sides_from s p o x })
-sight s p o x k g l h =
+    → IsSight (record { store = s; vertex = p; scanner = o; at = x; entered = 4; to_come = sides_from s p o x })
+sight s p o x g l h =
     let laws = paths s p o g in
     let path : (cs : List Side) × IsPathOf s p o x cs = laws.some x (listed s.slots x l) (inl h) in
-    subst (λ (cs : List Side). IsSight (record { store = s; vertex = p; scanner = o; at = x; entered = k; to_come = cs }))
+    subst (λ (cs : List Side). IsSight (record { store = s; vertex = p; scanner = o; at = x; entered = 4; to_come = cs }))
     (sym (sides_are s p o g path.0 x l path.1))
     (record {
+      begun = refl;
       live = l;
       towards = h;
       path = path.1;

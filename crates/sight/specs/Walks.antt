@@ -108,6 +108,8 @@ sides_from s p o x = sides_within s p o (length s.slots) x
 -- ---- what they are
 -- the walk before its first step: exactly the facets that the sight crosses are to come
 pub record IsSight (w : Walk) : Type 0 where
+  -- it came through no side yet
+  pub begun : w.entered ≡ 4
   -- the cell reached is the one at the vertex that is towards the scanner
   pub live : IsLive (links_of w.store.slots) w.at
   pub towards : is_towards (vertices_of w.store) w.vertex (displaced w.scanner) ((links_of w.store.slots).at w.at) ≡ true
