@@ -7,10 +7,12 @@
 --   with_join       parts with an arc and its reverse more
 --   IsEither        a number is one of two
 --   IsNode          a node is there, and is fixed or free
+--   CanFeed         nothing is wrong with an arc from a fixed node
+--   CanJoin         nothing is wrong with an arc and its reverse
 --   RefusesSink     what a refusal says of a sink
 --   RefusesFeed     what a refusal says of an arc from a fixed node
 --   RefusesJoin     what a refusal says of an arc and its reverse
-use Rattle.std.specs.Prelude.{ℕ, ◌≡◌, ◌<◌, ◌≤◌, ◌+◌, ◌⊎◌, ⊤, Bool, true, false, List, [], ◌∷◌, ◌++◌, length, Some, None}
+use Rattle.std.specs.Prelude.{ℕ, ◌≡◌, ◌≢◌, ◌<◌, ◌≤◌, ◌+◌, ◌⊎◌, Bool, true, false, List, [], ◌∷◌, ◌++◌, length, Some, None}
 use Rattle.flow_net.specs.declared.Arc.{Arc}
 use Rattle.flow_net.specs.declared.builder.NetRefusal.{NetRefusal}
 use Rattle.flow_net.specs.declared.builder.NetRefusal.TheVariants.{NoNode, SameNode, EntersFixed, LeavesFree, OverLimit}
@@ -55,26 +57,40 @@ pub record IsNode (parts : Parts) (v : ℕ) (is_fixed : Bool) : Type 0 where
   pub there : v < length parts.fixed
   pub flag : flag_at parts.fixed v ≡ is_fixed
 
--- what a refusal says of a sink
+-- it leaves a fixed node, enters a free one, and its capacity is within the limit
+pub record CanFeed (parts : Parts) (from to cap : ℕ) : Type 0 where
+  pub from_fixed : IsNode parts from true
+  pub to_free : IsNode parts to false
+  pub small : cap ≤ AMOUNT_LIMIT
+
+-- they join two free nodes, and their capacities are within the limit
+pub record CanJoin (parts : Parts) (from to cap back_cap : ℕ) : Type 0 where
+  pub from_free : IsNode parts from false
+  pub to_free : IsNode parts to false
+  pub apart : from ≢ to
+  pub small : cap ≤ AMOUNT_LIMIT
+  pub back_small : back_cap ≤ AMOUNT_LIMIT
+
+-- what a refusal says of a sink; for want of memory alone, that nothing is wrong with it
 abbrev pub RefusesSink : ℕ → NetRefusal → Type 0
 RefusesSink sink (OverLimit amount) = (amount ≡ sink) × AMOUNT_LIMIT < amount
-RefusesSink sink NoMemory = ⊤
+RefusesSink sink NoMemory = sink ≤ AMOUNT_LIMIT
 RefusesSink sink why = ⊥
 
--- what a refusal says of an arc from a fixed node
+-- what a refusal says of an arc from a fixed node; for want of memory alone, that nothing is wrong with it
 abbrev pub RefusesFeed : Parts → ℕ → ℕ → ℕ → NetRefusal → Type 0
 RefusesFeed parts from to cap (NoNode v) = IsEither v from to × length parts.fixed ≤ v
 RefusesFeed parts from to cap (SameNode v) = ⊥
 RefusesFeed parts from to cap (EntersFixed v) = (v ≡ to) × IsNode parts v true
 RefusesFeed parts from to cap (LeavesFree v) = (v ≡ from) × IsNode parts v false
 RefusesFeed parts from to cap (OverLimit amount) = (amount ≡ cap) × AMOUNT_LIMIT < amount
-RefusesFeed parts from to cap NoMemory = ⊤
+RefusesFeed parts from to cap NoMemory = CanFeed parts from to cap
 
--- what a refusal says of an arc and its reverse
+-- what a refusal says of an arc and its reverse; for want of memory alone, that nothing is wrong with them
 abbrev pub RefusesJoin : Parts → ℕ → ℕ → ℕ → ℕ → NetRefusal → Type 0
 RefusesJoin parts from to cap back_cap (NoNode v) = IsEither v from to × length parts.fixed ≤ v
 RefusesJoin parts from to cap back_cap (SameNode v) = (v ≡ from) × (v ≡ to)
 RefusesJoin parts from to cap back_cap (EntersFixed v) = IsEither v from to × IsNode parts v true
 RefusesJoin parts from to cap back_cap (LeavesFree v) = ⊥
 RefusesJoin parts from to cap back_cap (OverLimit amount) = IsEither amount cap back_cap × AMOUNT_LIMIT < amount
-RefusesJoin parts from to cap back_cap NoMemory = ⊤
+RefusesJoin parts from to cap back_cap NoMemory = CanJoin parts from to cap back_cap
