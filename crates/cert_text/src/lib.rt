@@ -32,4 +32,5 @@ pub use laws::certificate_texts_are_distinct;
 pub use print::push_cert;
 pub use read::read_cert;
 pub use refusal::CertRefusal;
+pub use row::Row;
 pub use stamp::Stamp;

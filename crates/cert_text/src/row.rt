@@ -10,7 +10,7 @@ use crate::words::{flow, inside, sink};
 use crate::{FlowRow, NoMemory, SinkRow};
 use line_text::{facet_first, push_number};
 
-// A row of one of a certificate's lists.
+/// A row of one of a certificate's three lists: an inside cell, a [`FlowRow`] or a [`SinkRow`].
 pub trait Row: Copy {
     // What holds of the row in a well-formed certificate.
     ghost is_row: { Self → Type 0 };
@@ -24,21 +24,21 @@ pub trait Row: Copy {
     // The word before the length of its list.
     ghost word: { List ℕ };
 
-    // That word.
+    /// That word.
     fn word() -> &'static [u8]
         ensures { result.now ≡ word };
 
-    // The row whose line stands at the front of a text, and what stands behind. None where no such line stands there.
+    /// The row whose line stands at the front of a text, and what stands behind. None where no such line stands there.
     fn first(text: &[u8]) -> Option<(Self, &[u8])>
         ensures some { IfSome result (λ read. is_row read.0 × (text.now ≡ line read.0 ++ read.1.now)) }
         ensures none { IfNone result (BeginsWithNone is_row line text.now) };
 
-    // Adds its line. After `NoMemory` the bytes that `out` held are still at its front, and more may follow.
+    /// Adds its line. After `NoMemory` the bytes that `out` held are still at its front, and more may follow.
     fn push(self, out: &mut Vec<u8>) -> Result<(), NoMemory>
         ensures ok { OnOk result (out.new.items ≡ out.old.items ++ line self) }
         ensures kept { OnErr result (take (length out.old.items) out.new.items ≡ out.old.items) };
 
-    // The numbers by which it rises.
+    /// The numbers by which it rises.
     fn key(&self) -> &[u32]
         ensures { result.now ≡ key self.now };
 }

@@ -75,15 +75,6 @@ walk_missed {Row} {X} about value none say says keys rows at found said rising l
       ∙ said_more (say (take found rows)) keys at said l walked.said_is;
 }
 
--- the same of the next row as it stands, where there is one
-pub walk_other : {Row X : Type 0} (about : Row → List ℕ) (value : Row → X) (none : X) (say : List Row → List ℕ → X)
-    → Says about value none say → (keys : List (List ℕ)) (rows : List Row) (at found : ℕ) (said : List X) (d : Row)
-    → AllPairs IsBefore keys → at < length keys → (found < length rows → about (get_or rows found d) ≢ get_or keys at [])
-    → IsWalked about say keys rows at found said → IsWalked about say keys rows (at + 1) found (said ++ none ∷ [])
-walk_other about value none say says keys rows at found said d rising l differs walked =
-    walk_missed about value none say says keys rows at found said rising l
-    (λ m e. differs m (sym (get_or-map about rows found d [] m) ∙ e)) walked
-
 -- a row that is about another key says nothing of these
 said_same : {Row X : Type 0} (about : Row → List ℕ) (value : Row → X) (none : X) (say : List Row → List ℕ → X)
     → Says about value none say → (rows : List Row) (row : Row) (keys : List (List ℕ))

@@ -3,7 +3,7 @@
 //! The rows rise, and so do the cells and facets, so one walk along both finds the rows that are there, and the first that
 //! isn't.
 
-ghost use Rattle.std.specs.Prelude.{◌≡◌, IfOk, IfErr, All, AllPairs, Contains, OnOk, map};
+ghost use Rattle.std.specs.Prelude.{◌≡◌, ◌≢◌, ◌<◌, [], IfOk, IfErr, IfSome, IfNone, All, AllPairs, Contains, OnOk, length, map, slice_index_or};
 ghost use Rattle.line_text.specs.Rising.{IsBefore};
 ghost use Rattle.solution.specs.Solutions.{stated};
 ghost use Rattle.recon_check.specs.Claims.{is_among};
@@ -12,8 +12,19 @@ ghost use Rattle.recon_check.specs.Strays.{IsStrayCell, IsStrayFacet, IsStraySin
 
 use crate::Reason;
 use crate::stop::Stop;
-use cert_text::{FlowRow, SinkRow};
+use cert_text::{FlowRow, Row, SinkRow};
 use std::alloc::Global;
+
+// The row at this place, if it is about the key.
+fn row_about<R: Row>(rows: &[R], place: usize, key: &[u32]) -> Option<R>
+    ensures some { IfSome result (λ row. (place < length rows.now) × (row ≡ slice_index_or rows.now place row) × (R.key row ≡ key.now)) }
+    ensures none { IfNone result (place < length rows.now → slice_index_or (map R.key rows.now) place [] ≢ key.now) }
+{
+    match rows.get(place) {
+        Some(row) if row.key() == key => Some(*row),
+        _ => None,
+    }
+}
 
 /// Which of the cells have a row. Each row has to be one of the cells.
 pub fn inside_flags(alloc: Global, cells: &[[u32; 4]], rows: &[[u32; 4]]) -> Result<Vec<bool>, Stop>
@@ -26,11 +37,12 @@ pub fn inside_flags(alloc: Global, cells: &[[u32; 4]], rows: &[[u32; 4]]) -> Res
     let mut flags = Vec::with_capacity(alloc, cells.len())?;
     let mut found = 0;
     for cell in cells {
-        if found < rows.len() && rows[found] == *cell {
-            flags.push(true)?;
-            found += 1;
-        } else {
-            flags.push(false)?;
+        match row_about(rows, found, cell) {
+            Some(_) => {
+                flags.push(true)?;
+                found += 1;
+            }
+            None => flags.push(false)?,
         }
     }
     if found < rows.len() {
@@ -50,11 +62,12 @@ pub fn flow_amounts(alloc: Global, facets: &[[u32; 3]], rows: &[FlowRow]) -> Res
     let mut amounts = Vec::with_capacity(alloc, facets.len())?;
     let mut found = 0;
     for facet in facets {
-        if found < rows.len() && rows[found].facet == *facet {
-            amounts.push(rows[found].amount)?;
-            found += 1;
-        } else {
-            amounts.push(0)?;
+        match row_about(rows, found, facet) {
+            Some(row) => {
+                amounts.push(row.amount)?;
+                found += 1;
+            }
+            None => amounts.push(0)?,
         }
     }
     if found < rows.len() {
@@ -75,11 +88,12 @@ pub fn sink_amounts(alloc: Global, cells: &[[u32; 4]], rows: &[SinkRow]) -> Resu
     let mut amounts = Vec::with_capacity(alloc, cells.len())?;
     let mut found = 0;
     for cell in cells {
-        if found < rows.len() && rows[found].cell == *cell {
-            amounts.push(rows[found].amount)?;
-            found += 1;
-        } else {
-            amounts.push(0)?;
+        match row_about(rows, found, cell) {
+            Some(row) => {
+                amounts.push(row.amount)?;
+                found += 1;
+            }
+            None => amounts.push(0)?,
         }
     }
     if found < rows.len() {

@@ -1,13 +1,9 @@
-use Rattle.std.proofs.Common.{ℕ, [], List, get_or, arith}
-use Rattle.std.specs.Cmp.Lexicographic.{same_text, other_text}
-use Rattle.std.proofs.lemmas.List.{get_or_default}
+use Rattle.std.proofs.Common.{ℕ, List, arith}
 use Rattle.cert_text.specs.declared.certificate.FlowRow.{FlowRow}
 use Rattle.solution.specs.Solutions.{stated}
-use Rattle.recon_check.proofs.Walks.{stated_says, walk_found, walk_other, walked_there, walked_stray}
+use Rattle.recon_check.proofs.Walks.{stated_says, walk_found, walk_missed, walked_there, walked_stray}
 use Rattle.recon_check.proofs.rows.flow_amounts.Goals as goal
-use Rattle.recon_check.proofs.rows.flow_amounts.Goals.{then-found-rows+then-eq+in_ok-push, else-found-rows+in_ok-push-2}
-use Rattle.recon_check.proofs.rows.flow_amounts.Goals.{else-found-rows-via-then-found-rows+else-eq}
-use Rattle.recon_check.proofs.rows.flow_amounts.Goals.{else-found-rows-via-else-found-rows}
+use Rattle.recon_check.proofs.rows.flow_amounts.Goals.{in-Some+in_ok-push-in-Some, in-None+in_ok-push-in-None}
 
 abbrev about : FlowRow → List ℕ
 about row = row.facet
@@ -15,44 +11,26 @@ about row = row.facet
 abbrev amount : FlowRow → ℕ
 amount row = row.amount
 
--- what stands past the end of a list of rows
-abbrev no_row : FlowRow
-no_row = record { facet = []; amount = 0 }
-
 pub loop-facet-preserved : goal.loop-facet-preserved
 loop-facet-preserved c =
-    let keys : List (List ℕ) = c.args.facets.now in
-    let rows : List FlowRow = c.args.rows.now in
-    let row : FlowRow = get_or rows c.loop-facet.found no_row in
-    elim c.if-found-rows.branch [
-      | then-found-rows+then-eq+in_ok-push w ↦
-          rw (w.amounts-is, w.found-is, w.in_ok-push.ensures.items)
-          (walk_found about amount 0 (stated about amount) (stated_says about amount) keys rows c.loop-facet.facet-index
-          c.loop-facet.found c.loop-facet.amounts.items row
-          c.requires.facets c.requires.rows c.loop-facet-test.true w.if-found-rows.true
-          (get_or_default rows c.loop-facet.found no_row row w.if-found-rows.true) (same_text _ _ w.if-eq.ensures)
-          c.loop-facet.invariant)
-      | else-found-rows+in_ok-push-2 w ↦ elim w.else-found-rows.branch [
-        | else-found-rows-via-then-found-rows+else-eq v ↦
-            rw (w.amounts-is, w.found-is, w.in_ok-push-2.ensures.items)
-            (walk_other about amount 0 (stated about amount) (stated_says about amount) keys rows c.loop-facet.facet-index
-            c.loop-facet.found c.loop-facet.amounts.items no_row
-            c.requires.facets c.loop-facet-test.true (λ _. other_text _ _ v.if-eq.ensures) c.loop-facet.invariant)
-        | else-found-rows-via-else-found-rows v ↦
-            rw (w.amounts-is, w.found-is, w.in_ok-push-2.ensures.items)
-            (walk_other about amount 0 (stated about amount) (stated_says about amount) keys rows c.loop-facet.facet-index
-            c.loop-facet.found c.loop-facet.amounts.items no_row
-            c.requires.facets c.loop-facet-test.true (λ l. absurd (omega (arith, l, v.if-found-rows.false)))
-            c.loop-facet.invariant)
-      ]
+    elim c.match-row_about.branch [
+      | in-Some+in_ok-push-in-Some w ↦
+          rw (w.amounts-is, w.found-is, w.in_ok-push-in-Some.ensures.items)
+          (walk_found about amount 0 (stated about amount) (stated_says about amount) _ _ _ _ _ w.in-Some.row
+          c.requires.facets c.requires.rows c.loop-facet-test.true w.in-Some.ensures.some.0 w.in-Some.ensures.some.1
+          w.in-Some.ensures.some.2 c.loop-facet.invariant)
+      | in-None+in_ok-push-in-None w ↦
+          rw (w.amounts-is, w.found-is, w.in_ok-push-in-None.ensures.items)
+          (walk_missed about amount 0 (stated about amount) (stated_says about amount) _ _ _ _ _
+          c.requires.facets c.loop-facet-test.true w.in-None.ensures.none c.loop-facet.invariant)
     ]
 
-pub returns-then-found-rows-2-clause-stray : goal.returns-then-found-rows-2-clause-stray
-returns-then-found-rows-2-clause-stray c =
+pub returns-then-found-rows-clause-stray : goal.returns-then-found-rows-clause-stray
+returns-then-found-rows-clause-stray c =
     walked_stray about (stated about amount) c.args.facets.now c.args.rows.now c.loop-facet.facet-index c.loop-facet.found
-    c.loop-facet.amounts.items (omega arith) c.if-found-rows-2.true c.loop-facet.invariant
+    c.loop-facet.amounts.items (omega arith) c.if-found-rows.true c.loop-facet.invariant
 
 pub returns-clause-there : goal.returns-clause-there
 returns-clause-there c =
     walked_there about (stated about amount) c.args.facets.now c.args.rows.now c.loop-facet.facet-index c.loop-facet.found
-    c.loop-facet.amounts.items (omega arith) c.if-found-rows-2.false c.loop-facet.invariant
+    c.loop-facet.amounts.items (omega arith) c.if-found-rows.false c.loop-facet.invariant
