@@ -46,11 +46,12 @@ void *malloc(size_t size) { return fails(__builtin_return_address(0)) ? 0 : __li
 void *realloc(void *old, size_t size) { return fails(__builtin_return_address(0)) ? 0 : __libc_realloc(old, size); }
 """
 AGAINST = "against the promise"
-NAMES = ("in", "out", "mesh", "cert", "new", "ply", "off", "obj")
+NAMES = ("in", "out", "mesh", "cert", "new")
 COMMANDS = (("cells", "in", "out"), ("build", "in", "mesh", "cert"), ("check", "in", "mesh", "cert"),
-            ("upgrade", "in", "mesh", "cert", "new"), ("slice", "mesh", "3", "out"), ("export", "mesh", "ply", "off", "obj"),
-            ("demo", "7", "1"))
-TESTS = ("tests::memory::a_command_without_memory_leaves_all_as_it_was", "tests::memory::a_text_without_memory_is_as_it_was")
+            ("upgrade", "in", "mesh", "cert", "new"), ("demo", "7", "1"), ("slice", "mesh", "0", "out"),
+            ("export", "mesh", "out", "cert", "new"))
+TESTS = tuple("tests::memory::" + name for name in ("a_command_without_memory_leaves_all_as_it_was",
+              "an_export_without_memory_leaves_all_as_it_was", "a_text_without_memory_is_as_it_was"))
 
 
 def ran(folder, program, words, number):

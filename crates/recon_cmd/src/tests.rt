@@ -1,6 +1,6 @@
 //! Runs over a host in memory: which words are understood, what is done and said, what is refused, and that a run stops at
 //! a failure.
-ghost use Rattle.std.specs.Prelude.{◌<◌};
+ghost use Rattle.std.specs.Prelude.{◌≡◌, ◌<◌, false};
 ghost use Rattle.host.specs.Memory.{AreNumbers};
 
 mod build;
@@ -9,6 +9,7 @@ mod check;
 mod demo;
 mod export;
 mod failures;
+mod forms;
 mod limits;
 mod memory;
 mod refusals;
@@ -20,8 +21,9 @@ mod watched;
 mod weights;
 mod words;
 
-use crate::run;
-use host::{HostCall, MemHost};
+use crate::{NoMemory, run, run_forms};
+use host::{Host, HostCall, MemHost};
+use mesh_form::{Form, ObjForm, OffForm, PlyForm};
 use std::alloc::Global;
 use std::test::Fail;
 
@@ -84,6 +86,17 @@ fn run_with(
 // A run in which no call is to fail.
 fn run_on(alloc: Global, words: &[&str], input: Option<&[u8]>) -> Result<Ran, Fail> {
     run_with(alloc, words, input, PIECE, Vec::new(alloc))
+}
+
+// The status of a run on these words, where `export` writes PLY, OFF and OBJ.
+fn in_three_forms<H: Host>(alloc: Global, words: &[String], host: &mut H) -> Result<u8, NoMemory>
+    requires { (H.state host.old).writing ≡ false }
+{
+    let mut forms: Vec<Box<dyn Form>> = Vec::new(alloc);
+    forms.push(Box::new(alloc, PlyForm::new(alloc))?)?;
+    forms.push(Box::new(alloc, OffForm::new(alloc))?)?;
+    forms.push(Box::new(alloc, ObjForm::new(alloc))?)?;
+    Ok(run_forms(alloc, words, host, &mut forms))
 }
 
 // The file of this name, if there is one.

@@ -7,7 +7,8 @@ ghost use Rattle.mesh_ply.specs.Meshes.{IsMesh};
 ghost use Rattle.std.specs.Prelude.{◌≡◌, false, IfOk};
 ghost use Rattle.host.specs.Memory.{state_of};
 
-use super::{FOUR, FOUR_CERT, FOUR_DIGEST, FOUR_MESH};
+use super::forms::{FOUR_OBJ, FOUR_OFF, LINE};
+use super::{FOUR, FOUR_CERT, FOUR_DIGEST, FOUR_MESH, in_three_forms};
 use crate::{NoMemory, run};
 use cert_text::push_cert;
 use flow_net::Settings;
@@ -114,6 +115,74 @@ fn a_command_without_memory_leaves_all_as_it_was(rt: HostRuntime) -> Result<(), 
         status = run(alloc, &before.check, &mut before.host);
     }
     assert!(rt; status == 0 && shows(&before.host, FOUR_MESH, &before.cert, CHECKED));
+    Ok(())
+}
+
+const EXPORT: [&str; 5] = ["export", "mesh", "a", "b", "c"];
+
+// The mesh of the four points, and outputs that hold something else.
+fn begin_export(alloc: Global) -> Result<MemHost, NoMemory>
+    ensures { IfOk result (λ host. (state_of host).writing ≡ false) }
+{
+    let files = vec![in alloc;
+        (
+            String::from_str(alloc, "mesh")?,
+            Some(FOUR_MESH.as_bytes().to_vec(alloc)?)
+        ),
+        (String::from_str(alloc, "a")?, Some(b"old".to_vec(alloc)?)),
+        (String::from_str(alloc, "b")?, Some(b"old".to_vec(alloc)?)),
+        (String::from_str(alloc, "c")?, Some(b"old".to_vec(alloc)?)),
+    ]?;
+    MemHost::new(alloc, files, 100, 4096, Vec::new(alloc))
+}
+
+// The same, made again where there was no memory.
+fn begin_export_or_again(alloc: Global) -> Result<MemHost, NoMemory>
+    ensures { IfOk result (λ host. (state_of host).writing ≡ false) }
+{
+    match begin_export(alloc) {
+        Ok(host) => Ok(host),
+        Err(_) => begin_export(alloc),
+    }
+}
+
+// Whether the outputs have these bytes, and this was said.
+fn shows_forms(host: &MemHost, texts: [&str; 3], said: &str) -> bool {
+    let [a, b, c] = texts;
+    host.file("a") == Some(a.as_bytes())
+        && host.file("b") == Some(b.as_bytes())
+        && host.file("c") == Some(c.as_bytes())
+        && host.file("mesh") == Some(FOUR_MESH.as_bytes())
+        && host.said() == said.as_bytes()
+        && host.fault_count() == 0
+}
+
+// The status of an export, which is 5 too where there is no memory for the forms.
+fn export_on(alloc: Global, words: &[String], host: &mut MemHost) -> u8
+    requires { (state_of host.old).writing ≡ false }
+{
+    match in_three_forms(alloc, words, host) {
+        Ok(status) => status,
+        Err(_) => 5,
+    }
+}
+
+#[test]
+fn an_export_without_memory_leaves_all_as_it_was(rt: HostRuntime) -> Result<(), Fail> {
+    let alloc = rt.alloc();
+    let words = match words_of(alloc, &EXPORT) {
+        Ok(words) => words,
+        Err(_) => words_of(alloc, &EXPORT)?,
+    };
+    let mut host = begin_export_or_again(alloc)?;
+    let mut status = export_on(alloc, &words, &mut host);
+    if status == 5 {
+        assert!(rt; shows_forms(&host, ["old", "old", "old"], ""));
+        host = begin_export_or_again(alloc)?;
+        status = export_on(alloc, &words, &mut host);
+    }
+    let texts = [FOUR_MESH, FOUR_OFF, FOUR_OBJ];
+    assert!(rt; status == 0 && shows_forms(&host, texts, LINE));
     Ok(())
 }
 

@@ -1,14 +1,16 @@
-//! Each call of the host fails in turn: the first of its kind, the second, and so on until a run ends without a fault.
+//! Each call of the host fails in turn: the first of its kind, the second, and so on until a run ends without a fault. On many
+//! points in small pieces there are thousands of calls, and of those the first ones fail, some in the middle and the last ones.
 //!
-//! What then stands is compared with what a run without a fault leaves. Of the texts that it writes, in their order, those that
-//! were whole before the failed call are there, the next one as far as it was written, and all else is as it was. Nothing is
-//! called after the failed call but the one that closes the file which is being written.
+//! A scan is a text, or binary in either byte order, and calls move 1, 7 or 65,536 bytes at most. What stands after a failure
+//! is compared with what a run without a fault leaves. Of the texts that it writes, in their order, those that were whole before
+//! the failed call are there, the next one as far as it was written, and all else is as it was. Nothing is called after the
+//! failed call but the one that closes the file which is being written.
 ghost use Rattle.std.specs.Prelude.{◌<◌};
 
 use super::watched::{Files, Watched};
-use super::{owned, plain};
-use crate::run;
+use super::{in_three_forms, owned, plain};
 use gen_scan::gen_scan;
+use geo_sign::Point;
 use host::HostCall;
 use scan::{Scan, push_scan, read_scan};
 use std::alloc::Global;
@@ -30,8 +32,11 @@ struct Command {
     outputs: &'static [&'static str],
 }
 
-// The commands that read a scan. Each finds the files that those before it leave.
-const COMMANDS: [Command; 4] = [
+// How many bytes a call moves at most.
+const PIECES: [usize; 3] = [1, 7, 65_536];
+
+// All commands that read a file. Each finds the files that those before it leave.
+const COMMANDS: [Command; 6] = [
     Command {
         words: &["cells", "in", "out"],
         outputs: &["out"],
@@ -48,6 +53,14 @@ const COMMANDS: [Command; 4] = [
         words: &["upgrade", "in", "mesh", "cert", "out"],
         outputs: &["out"],
     },
+    Command {
+        words: &["slice", "mesh", "0", "out"],
+        outputs: &["out"],
+    },
+    Command {
+        words: &["export", "mesh", "out", "cert", "in"],
+        outputs: &["out", "cert", "in"],
+    },
 ];
 
 const DEMO: Command = Command {
@@ -63,6 +76,13 @@ struct Case<'a> {
     before: &'a Files,
     whole: &'a Files,
     said: &'a str,
+}
+
+// The calls of one kind, and how many there are of them where none fails.
+#[derive(Clone, Copy)]
+struct Calls {
+    call: HostCall,
+    count: u32,
 }
 
 // What stands after a failed call.
@@ -124,14 +144,15 @@ fn is_whole(host: &Watched, whole: &Files, said: &str) -> bool {
     host.host.fault_count() == 0 && host.has(whole) && host.host.said() == said.as_bytes()
 }
 
-// One call fails behind so many of its kind. The answer says whether there was such a call.
-fn fail_once(alloc: Global, case: Case, call: HostCall, behind: u32) -> Result<bool, Fail>
+// One call fails behind so many of its kind. Behind the last one, none does.
+fn fail_once(alloc: Global, case: Case, calls: Calls, behind: u32) -> Result<(), Fail>
     requires { 0 < case.piece }
 {
+    let Calls { call, count } = calls;
     let mut host = Watched::new(alloc, case.before, case.piece, Some((call, behind)))?;
-    let status = run(alloc, &owned(alloc, case.command.words)?, &mut host);
+    let status = in_three_forms(alloc, &owned(alloc, case.command.words)?, &mut host)?;
     let left = match call {
-        HostCall::Open | HostCall::Read if status == 4 => Some(Left {
+        HostCall::Open | HostCall::Read if behind < count => Some(Left {
             files: case.before.copied(alloc)?,
             said: 0,
         }),
@@ -139,42 +160,64 @@ fn fail_once(alloc: Global, case: Case, call: HostCall, behind: u32) -> Result<b
         _ => left_by(alloc, case, call, behind)?,
     };
     let is_right = match &left {
-        Some(left) => status == 4 && is_left(&host, call, left, case.said),
-        None => status == 0 && is_whole(&host, case.whole, case.said),
+        Some(left) => behind < count && status == 4 && is_left(&host, call, left, case.said),
+        None => behind >= count && status == 0 && is_whole(&host, case.whole, case.said),
     };
     if !is_right {
         let words = case.command.words;
         return Err(Fail::new(format_args!(
-            "{words:?}: {call:?} behind {behind} ends with {status}"
+            "{words:?}: {call:?} behind {behind} of {count} ends with {status}"
         )));
     }
-    Ok(left.is_some())
+    Ok(())
 }
 
-// Calls of one kind fail, the first, the second and so on, until there are no more.
-fn fail_in_turn(alloc: Global, case: Case, call: HostCall) -> Result<(), Fail>
+// Calls of one kind fail, each in turn.
+fn fail_each(alloc: Global, case: Case, calls: Calls) -> Result<(), Fail>
     requires { 0 < case.piece }
 {
-    for behind in 0..1_000_000 {
-        if !fail_once(alloc, case, call, behind)? {
-            return Ok(());
-        }
+    for behind in 0..calls.count {
+        fail_once(alloc, case, calls, behind)?;
     }
-    Err(Fail::new("a run without an end"))
+    fail_once(alloc, case, calls, calls.count)
 }
 
-// Each call of a command fails in turn. The answer is what a run leaves in which none fails.
+// Of many calls of one kind the first ones fail, some in the middle and the last ones.
+fn fail_some(alloc: Global, case: Case, calls: Calls) -> Result<(), Fail>
+    requires { 0 < case.piece }
+{
+    let count = calls.count;
+    let (last, before) = (count.saturating_sub(1), count.saturating_sub(2));
+    for behind in [
+        0,
+        1,
+        2,
+        count / 4,
+        count / 3,
+        count / 2,
+        before,
+        last,
+        count,
+    ] {
+        fail_once(alloc, case, calls, behind)?;
+    }
+    Ok(())
+}
+
+// Calls of a command fail, each in turn where there are no more of a kind than `few`. The answer is what a run leaves in which
+// none fails.
 fn sweep(
     alloc: Global,
     command: Command,
     piece: usize,
+    few: u32,
     before: &Files,
     said: &str,
 ) -> Result<Files, Fail>
     requires { 0 < piece }
 {
     let mut host = Watched::new(alloc, before, piece, None)?;
-    let status = run(alloc, &owned(alloc, command.words)?, &mut host);
+    let status = in_three_forms(alloc, &owned(alloc, command.words)?, &mut host)?;
     let whole = host.files(alloc)?;
     if status != 0 || !is_whole(&host, &whole, said) {
         let words = command.words;
@@ -188,14 +231,25 @@ fn sweep(
         said,
     };
     for call in CALLS {
-        fail_in_turn(alloc, case, call)?;
+        let count = host.count_of(call);
+        let calls = Calls { call, count };
+        if count <= few {
+            fail_each(alloc, case, calls)?;
+        } else {
+            fail_some(alloc, case, calls)?;
+        }
     }
     Ok(whole)
 }
 
-// The commands on a scan, in their order, where all outputs hold something before. Each says its line; one without a line is
-// left out.
-fn sweep_all(alloc: Global, input: &[u8], piece: usize, lines: [&str; 4]) -> Result<(), Fail> {
+// The commands on a scan, in their order, where all outputs hold something before. Each says its line.
+fn sweep_all(
+    alloc: Global,
+    input: &[u8],
+    piece: usize,
+    few: u32,
+    lines: [&str; 6],
+) -> Result<(), Fail> {
     if piece == 0 {
         return Err(Fail::new("calls that move nothing"));
     }
@@ -206,49 +260,63 @@ fn sweep_all(alloc: Global, input: &[u8], piece: usize, lines: [&str; 4]) -> Res
         cert: b"old certificate".to_vec(alloc)?,
     };
     for (command, said) in COMMANDS.iter().zip(lines) {
-        if !said.is_empty() {
-            files = sweep(alloc, *command, piece, &files, said)?;
-        }
+        files = sweep(alloc, *command, piece, few, &files, said)?;
     }
     Ok(())
 }
 
-// The binary form of a scan, of which each number has its lowest byte first.
-fn binary(alloc: Global, scan: &Scan) -> Result<Vec<u8>, Fail> {
+// Four bytes, of which the lowest comes first, in a byte order.
+fn push_four(bytes: &mut Vec<u8>, four: [u8; 4], is_big: bool) -> Result<(), Fail> {
+    let [a, b, c, d] = four;
+    let ordered = if is_big { [d, c, b, a] } else { four };
+    bytes.extend_from_slice(&ordered)?;
+    Ok(())
+}
+
+// The place of a point or a scanner.
+fn push_place(bytes: &mut Vec<u8>, place: &Point, is_big: bool) -> Result<(), Fail> {
+    push_four(bytes, place.x().to_le_bytes(), is_big)?;
+    push_four(bytes, place.y().to_le_bytes(), is_big)?;
+    push_four(bytes, place.z().to_le_bytes(), is_big)
+}
+
+// The binary form of a scan in a byte order.
+fn binary(alloc: Global, scan: &Scan, is_big: bool) -> Result<Vec<u8>, Fail> {
+    let order = if is_big { "big" } else { "little" };
     let points = scan.points.len();
     let scanners = scan.scanners.len();
     let header = format!(in alloc;
-        "ply\nformat binary_little_endian 1.0\nelement vertex {points}\nproperty int x\nproperty int y\nproperty int z\nproperty uint scanner\nelement scanner {scanners}\nproperty int x\nproperty int y\nproperty int z\nend_header\n"
+        "ply\nformat binary_{order}_endian 1.0\nelement vertex {points}\nproperty int x\nproperty int y\nproperty int z\nproperty uint scanner\nelement scanner {scanners}\nproperty int x\nproperty int y\nproperty int z\nend_header\n"
     )?;
     let mut bytes = header.as_bytes().to_vec(alloc)?;
     for (point, seen) in scan.points.iter().zip(scan.seen.iter()) {
-        bytes.extend_from_slice(&point.x().to_le_bytes())?;
-        bytes.extend_from_slice(&point.y().to_le_bytes())?;
-        bytes.extend_from_slice(&point.z().to_le_bytes())?;
-        bytes.extend_from_slice(&seen.scanner.to_le_bytes())?;
+        push_place(&mut bytes, point, is_big)?;
+        push_four(&mut bytes, seen.scanner.to_le_bytes(), is_big)?;
     }
     for place in &scan.scanners {
-        bytes.extend_from_slice(&place.x().to_le_bytes())?;
-        bytes.extend_from_slice(&place.y().to_le_bytes())?;
-        bytes.extend_from_slice(&place.z().to_le_bytes())?;
+        push_place(&mut bytes, place, is_big)?;
     }
     Ok(bytes)
 }
 
-// The text of a scan in pieces of one size, its binary form in pieces of another, and both at once.
-fn sweep_forms(
-    alloc: Global,
-    text: &[u8],
-    text_piece: usize,
-    binary_piece: usize,
-    lines: [&str; 4],
-) -> Result<(), Fail> {
-    let bytes = binary(alloc, &read_scan(alloc, text, 1, None)?)?;
-    sweep_all(alloc, text, text_piece, lines)?;
-    sweep_all(alloc, &bytes, binary_piece, lines)?;
-    sweep_all(alloc, text, 65_536, lines)?;
-    sweep_all(alloc, &bytes, 65_536, lines)
+// A scan in pieces of each size.
+fn sweep_pieces(alloc: Global, input: &[u8], few: u32, lines: [&str; 6]) -> Result<(), Fail> {
+    for piece in PIECES {
+        sweep_all(alloc, input, piece, few, lines)?;
+    }
+    Ok(())
 }
+
+// The text of a scan, and its binary form in both byte orders.
+fn sweep_forms(alloc: Global, text: &[u8], few: u32, lines: [&str; 6]) -> Result<(), Fail> {
+    let scan = read_scan(alloc, text, 1, None)?;
+    sweep_pieces(alloc, text, few, lines)?;
+    sweep_pieces(alloc, &binary(alloc, &scan, false)?, few, lines)?;
+    sweep_pieces(alloc, &binary(alloc, &scan, true)?, few, lines)
+}
+
+// More calls of a kind than a scan of five points takes in pieces of one byte.
+const ALL: u32 = 10_000;
 
 #[test]
 fn each_call_fails_on_no_point(rt: HostRuntime) -> Result<(), Fail> {
@@ -259,8 +327,10 @@ fn each_call_fails_on_no_point(rt: HostRuntime) -> Result<(), Fail> {
         "points 0 scanners 1 sights 0 inside 0 faces 0 cost 0\n",
         "yes inside 0 faces 0 cost 0\n",
         "upgraded cost 0\n",
+        "loops 0 steps 0\n",
+        "exported 3 points 0 faces 0\n",
     ];
-    sweep_forms(alloc, text.as_bytes(), 1, 7, lines)
+    sweep_forms(alloc, text.as_bytes(), ALL, lines)
 }
 
 #[test]
@@ -272,10 +342,10 @@ fn each_call_fails_on_one_point(rt: HostRuntime) -> Result<(), Fail> {
         "points 1 scanners 1 sights 1 inside 0 faces 0 cost 8\n",
         "yes inside 0 faces 0 cost 8\n",
         "upgraded cost 8\n",
+        "loops 0 steps 0\n",
+        "exported 3 points 0 faces 0\n",
     ];
-    sweep_forms(alloc, text.as_bytes(), 7, 7, lines)?;
-    let bytes = binary(alloc, &read_scan(alloc, text.as_bytes(), 1, None)?)?;
-    sweep_all(alloc, &bytes, 1, [lines[0], "", "", ""])
+    sweep_forms(alloc, text.as_bytes(), ALL, lines)
 }
 
 #[test]
@@ -294,8 +364,10 @@ fn each_call_fails_on_five_points(rt: HostRuntime) -> Result<(), Fail> {
         "points 5 scanners 2 sights 5 inside 2 faces 6 cost 22\n",
         "yes inside 2 faces 6 cost 22\n",
         "upgraded cost 22\n",
+        "loops 1 steps 5\n",
+        "exported 3 points 5 faces 6\n",
     ];
-    sweep_forms(alloc, text.as_bytes(), 7, 7, lines)
+    sweep_forms(alloc, text.as_bytes(), ALL, lines)
 }
 
 #[test]
@@ -305,13 +377,14 @@ fn each_call_fails_on_many_points(rt: HostRuntime) -> Result<(), Fail> {
     let mut text = Vec::new(alloc);
     push_scan(&mut text, &scan)?;
     let lines = [
-        "",
+        "points 56 cells 365\n",
         "points 56 scanners 6 sights 56 inside 61 faces 92 cost 196\n",
         "yes inside 61 faces 92 cost 196\n",
-        "",
+        "upgraded cost 196\n",
+        "loops 2 steps 27\n",
+        "exported 3 points 48 faces 92\n",
     ];
-    sweep_all(alloc, &text, 65_536, lines)?;
-    sweep_all(alloc, &binary(alloc, &scan)?, 65_536, lines)
+    sweep_forms(alloc, &text, 50, lines)
 }
 
 #[test]
@@ -324,8 +397,10 @@ fn each_say_of_a_demonstration_fails(rt: HostRuntime) -> Result<(), Fail> {
         cert: Vec::new(alloc),
     };
     let said = "demo 5 3 points 5 scanners 6 sights 5 inside 1 faces 4 cost 36\n";
-    sweep(alloc, DEMO, 1, &before, said)?;
-    sweep(alloc, DEMO, 7, &before, said)?;
-    sweep(alloc, DEMO, 65_536, &before, said)?;
+    for piece in PIECES {
+        if piece > 0 {
+            sweep(alloc, DEMO, piece, ALL, &before, said)?;
+        }
+    }
     Ok(())
 }

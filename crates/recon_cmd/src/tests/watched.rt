@@ -1,4 +1,4 @@
-//! A host in memory that counts what is called after a call has failed.
+//! A host in memory that counts its calls, and what is called after a call has failed.
 ghost use Rattle.std.specs.Prelude.{◌≡◌, ◌<◌, false, All, length, IfOk};
 ghost use Rattle.host.specs.Memory.{state_of, AreNumbers};
 
@@ -53,13 +53,28 @@ impl Files {
     }
 }
 
-/// A host in memory, and what was called after its first fault.
+// The place of the count of a kind of call.
+fn place_of(call: HostCall) -> usize
+    ensures { result < 6 }
+{
+    match call {
+        HostCall::Open => 0,
+        HostCall::Read => 1,
+        HostCall::Create => 2,
+        HostCall::Append => 3,
+        HostCall::Finish => 4,
+        HostCall::Say => 5,
+    }
+}
+
+/// A host in memory, how often it was called, and what was called after its first fault.
 #[derive(Drop)]
 pub struct Watched {
     pub host: MemHost,
-    /// Calls that closed a file.
+    counts: [u32; 6],
+    /// Calls after the first fault that closed a file.
     pub closed: u32,
-    /// All others.
+    /// All others after it.
     pub later: u32,
 }
 
@@ -100,6 +115,7 @@ impl Watched {
         };
         Ok(Watched {
             host: MemHost::new(alloc, files, piece, ROOM, failing)?,
+            counts: [0; 6],
             closed: 0,
             later: 0,
         })
@@ -125,11 +141,23 @@ impl Watched {
         true
     }
 
-    // A call is made, which closes no file.
-    fn watch(&mut self)
+    /// How many calls of this kind there were.
+    pub fn count_of(&self, call: HostCall) -> u32 {
+        self.counts[place_of(call)]
+    }
+
+    // A call of this kind is made.
+    fn watch(&mut self, call: HostCall)
         ensures { self.new.host ≡ self.old.host }
     {
-        if self.host.fault_count() > 0 {
+        let place = place_of(call);
+        self.counts[place] = self.counts[place].saturating_add(1);
+        if self.host.fault_count() == 0 {
+            return;
+        }
+        if call == HostCall::Finish {
+            self.closed = self.closed.saturating_add(1);
+        } else {
             self.later = self.later.saturating_add(1);
         }
     }
@@ -144,34 +172,32 @@ impl Host for Watched {
     ghost coherent = { λ watched. coherent watched.host.files.items watched.host.activity watched.host.said.bytes.items };
 
     fn open(&mut self, name: &str) -> Result<(), Failed> {
-        self.watch();
+        self.watch(HostCall::Open);
         self.host.open(name)
     }
 
     fn read(&mut self, buffer: &mut [u8]) -> Result<usize, Failed> {
-        self.watch();
+        self.watch(HostCall::Read);
         self.host.read(buffer)
     }
 
     fn create(&mut self, name: &str) -> Result<(), Failed> {
-        self.watch();
+        self.watch(HostCall::Create);
         self.host.create(name)
     }
 
     fn append(&mut self, bytes: &[u8]) -> Result<usize, Failed> {
-        self.watch();
+        self.watch(HostCall::Append);
         self.host.append(bytes)
     }
 
     fn finish(&mut self) -> Result<(), Failed> {
-        if self.host.fault_count() > 0 {
-            self.closed = self.closed.saturating_add(1);
-        }
+        self.watch(HostCall::Finish);
         self.host.finish()
     }
 
     fn say(&mut self, bytes: &[u8]) -> Result<usize, Failed> {
-        self.watch();
+        self.watch(HostCall::Say);
         self.host.say(bytes)
     }
 }
