@@ -10,7 +10,8 @@ import subprocess
 from helpers import RECON, ROOT, equal, read, write
 
 EXAMPLES = os.path.join(ROOT, 'examples')
-LIMIT = 200 * 2 ** 20
+LIMIT = 64 * 2 ** 20
+STEP = 64 * 2 ** 10
 # What may stand behind a number that a command ends with, where no host fails and there is memory.
 LINES = {0: ('points ', 'yes ', 'demo ', 'upgraded ', 'loops ', 'exported '), 1: ('no ',), 2: ('refused words\n',), 3: ('refused ',)}
 
@@ -25,14 +26,25 @@ def data(name):
         return file.read()
 
 
-def limited():
-    resource.setrlimit(resource.RLIMIT_AS, (LIMIT, LIMIT))
-
-
-def recon(*words, limit=False):
-    """Status and line of a run, which ends by itself."""
+def recon(*words, limit=None):
+    """Status and line of a run, which ends by itself, with at most so many bytes of memory of its own."""
+    def limited():
+        resource.setrlimit(resource.RLIMIT_DATA, (limit, limit))
     done = subprocess.run([RECON, *words], capture_output=True, timeout=10, preexec_fn=limited if limit else None)
     return done.returncode, done.stdout.decode('ascii')
+
+
+def least_memory(*words):
+    """The least memory, in steps of 64 KiB, with which a run ends as it does with all of it."""
+    wanted, low, high = recon(*words), 0, LIMIT // STEP
+    equal(recon(*words, limit=LIMIT), wanted)
+    while high - low > 1:
+        middle = (low + high) // 2
+        if recon(*words, limit=middle * STEP) == wanted:
+            high = middle
+        else:
+            low = middle
+    return high
 
 
 def ends(words, status, line, kept=()):
@@ -355,22 +367,48 @@ def test_spoiled_bytes():
         equal((status, line[:3], line.count('\n')), (1, 'no ', 1))
 
 
+def stated(file, small, large, words, line):
+    """A file that states more than it has is refused by this line, with no more memory than where it states a little more."""
+    least = []
+    for count in (small, large):
+        write('stated', file(count))
+        least.append(least_memory(*words))
+    equal(recon(*words)[1], line)
+    if least[1] > least[0] + 1:
+        raise AssertionError(f'{words} took {least} steps where the file states {small} and {large}')
+
+
+def scan_of_counts(others=0, points=1, scanners=1):
+    """The head of a scan that states these counts, and its first row."""
+    return header('ascii', [('other', others, ['int a']), ('vertex', points, POINT + ['int scanner']), ('scanner', scanners, POINT)]) + b'1 2 3 0\n'
+
+
+def with_items(elements, count):
+    """The head of a binary scan of these elements, and a number of items that are not there."""
+    return header('binary_little_endian', elements) + struct.pack('<I', count)
+
+
 def test_memory_follows_the_bytes():
-    rows = 4294967295
-    write('rows', header('binary_little_endian', [('other', rows, ['int a'])] + WITH_LIST))
-    equal(recon('cells', 'rows', 'out', limit=True), (3, 'refused 17 cut element 0 row 0 property 0\n'))
-    write('list', header('binary_little_endian', [('other', 1, ['list uint double a'])] + WITH_LIST) + struct.pack('<I', 2 ** 31))
-    equal(recon('cells', 'list', 'out', limit=True), (3, 'refused 17 cut element 0 row 0 property 0\n'))
-    write('seen', header('binary_little_endian', [('vertex', 1, ['list uint uchar scanner'] + POINT), ('scanner', 1, POINT)]) + struct.pack('<I', 2 ** 31))
-    equal(recon('cells', 'seen', 'out', limit=True), (3, 'refused 17 cut element 0 row 0 property 0\n'))
-    write('many', header('ascii', [('vertex', rows, POINT + ['int scanner']), ('scanner', 1, POINT)]))
-    equal(recon('cells', 'many', 'out', limit=True), (3, f'refused 10 too_many vertex count {rows}\n'))
+    cells = ['cells', 'stated', 'out']
+    stated(lambda n: scan_of_counts(others=n), 5, 2 ** 32 - 1, cells, 'refused 17 cut element 0 row 4 property 0\n')
+    stated(lambda n: scan_of_counts(points=n), 2, 2 ** 20, cells, 'refused 17 cut element 1 row 1 property 0\n')
+    stated(lambda n: scan_of_counts(points=n), 2 ** 20 + 1, 2 ** 32 - 1, cells, 'refused 10 too_many vertex count 4294967295\n')
+    stated(lambda n: scan_of_counts(scanners=n), 1, 2 ** 16, cells, 'refused 17 cut element 2 row 0 property 0\n')
+    other = [('other', 1, ['list uint double a'])] + WITH_LIST
+    stated(lambda n: with_items(other, n), 1, 2 ** 31, cells, 'refused 17 cut element 0 row 0 property 0\n')
+    seen = [('vertex', 1, ['list uint uchar scanner'] + POINT), ('scanner', 1, POINT)]
+    stated(lambda n: with_items(seen, n), 1, 2 ** 31, cells, 'refused 17 cut element 0 row 0 property 0\n')
     write('scan', example('tetrahedron.ply'))
     recon('build', 'scan', 'mesh', 'cert')
-    cert = data('cert')
-    for count in (10 ** 8, 4 * 10 ** 8, 2 ** 64 - 1):
-        write('counted', cert.replace(b'inside 1\n', b'inside %d\n' % count))
-        equal(recon('check', 'scan', 'mesh', 'counted', limit=True)[0], 1)
+    mesh, cert = data('mesh'), data('cert')
+    check, slice_ = ['check', 'scan', 'mesh', 'stated'], ['slice', 'stated', '0', 'out']
+    for name, line in ((b'inside 1', 'no 1 cert_line line 13\n'), (b'flow 4', 'no 1 cert_line line 18\n'), (b'sink 1', 'no 1 cert_line line 20\n')):
+        word = name.split()[0]
+        for count in (10 ** 6, 10 ** 8, 2 ** 64 - 1):
+            stated(lambda n: cert.replace(name + b'\n', b'%s %d\n' % (word, n)), 5, count, check, line)
+    for count in (10 ** 6, 2 ** 32 - 1):
+        stated(lambda n: mesh.replace(b'vertex 4', b'vertex %d' % n), 5, count, slice_, 'refused 29 mesh_line line 14\n')
+        stated(lambda n: mesh.replace(b'face 4', b'face %d' % n), 5, count, slice_, 'refused 30 mesh_cut\n')
 
 
 def test_long_headers():
