@@ -7,7 +7,9 @@
 --   AreFixed                which cells are fixed
 --   AreIdsOf                the cells' numbers in the store, in the order of their rows
 --   AreCountsOf             what a network is made of: all cells, not too many, and their counts
-use Rattle.std.specs.Prelude.{ℕ, ◌≡◌, ◌<◌, ◌≤◌, ◌+◌, ◌*◌, ◌^◌, Bool, List, [], Option, length, slice_index, slice_index_or}
+--   IsInStoreOrder          nodes by rising number of their cells, arcs by rising cell and side
+use Rattle.std.specs.Prelude.{ℕ, ◌≡◌, ◌<◌, ◌≤◌, ◌+◌, ◌*◌, ◌^◌, Bool, List, [], Option, length, map, slice_index}
+use Rattle.std.specs.Prelude.{slice_index_or}
 use Rattle.geo_sign.specs.Tetrahedron.{DirectedFacet, facet_of, IsRotated}
 use Rattle.flow_net.specs.Nets.{flag_at}
 use Rattle.flow_net.specs.Weights.{IsSightList}
@@ -17,6 +19,8 @@ use Rattle.cell_laws.specs.LinkLaws.{AreAllCells}
 use Rattle.tetra_store.specs.declared.link.Cell.{Cell}
 use Rattle.tetra_store.specs.Links.{links_of, IsLive}
 use Rattle.vote_net.specs.CellRows.{risen, row_from}
+use Rattle.vote_net.specs.Gathered.{all_rows, all_open}
+use Rattle.vote_net.specs.Tables.{id_of_row, facet_of_side}
 use Rattle.tetra_store.specs.Stored.{live_of}
 
 -- the store's cells are all cells of the scene
@@ -58,3 +62,10 @@ pub record AreCountsOf (s : Scene) (slots : List (Option Cell)) (crossed behind 
   pub crossings : AreCrossings s slots crossed
   pub before : AreBehind s slots behind
   pub flags : AreFixed s slots fixed
+
+-- nodes by rising number of their cells, arcs by rising number of the cell and by its sides
+pub record IsInStoreOrder (s : Scene) (slots : List (Option Cell)) (facets : List (List ℕ)) (ids : List ℕ) : Type 0 where
+  pub nodes : ids ≡ map id_of_row (all_rows slots)
+  pub flags : List Bool
+  pub flags_are : AreFixed s slots flags
+  pub arcs : facets ≡ map facet_of_side (all_open flags slots)

@@ -5,7 +5,7 @@ ghost use Rattle.std.specs.List.Sorted.{IsPermutation};
 ghost use Rattle.flow_net.specs.Nets.{flag_at};
 ghost use Rattle.visibility.specs.Scenes.{Scene};
 ghost use Rattle.visibility.specs.Networks.{IsNetworkInAnyOrder, IsNetworkOf};
-ghost use Rattle.vote_net.specs.Counts.{AreCountsOf, AreIdsOf};
+ghost use Rattle.vote_net.specs.Counts.{AreCountsOf, AreIdsOf, IsInStoreOrder};
 ghost use Rattle.vote_net.specs.Gathered.{all_rows, all_open};
 ghost use Rattle.vote_net.specs.Tables.{id_of_row, cell_of_row, facet_of_side};
 
@@ -86,6 +86,7 @@ fn network_over(
     ensures ids { IfOk result (λ counted. AreIdsOf t.now.slots counted.voted.cells counted.ids.items) }
     ensures cells { IfOk result (λ counted. counted.voted.cells ≡ map cell_of_row rows.now) }
     ensures facets { IfOk result (λ counted. counted.voted.facets ≡ map facet_of_side sides.items) }
+    ensures numbers { IfOk result (λ counted. counted.ids.items ≡ map id_of_row rows.now) }
 {
     if rows.len() > u32::MAX as usize || sides.len() > u32::MAX as usize {
         return Err(AllocError);
@@ -125,6 +126,7 @@ pub fn assemble(
     requires settings { scene.settings ≡ settings }
     ensures network { IfOk result (λ counted. IsNetworkInAnyOrder scene counted.voted) }
     ensures ids { IfOk result (λ counted. AreIdsOf t.now.slots counted.voted.cells counted.ids.items) }
+    ensures order { IfOk result (λ counted. IsInStoreOrder scene t.now.slots counted.voted.facets counted.ids.items) }
 {
     let rows = rows(alloc, t)?;
     let sides = open_sides(alloc, t, fixed, crossed.len())?;
