@@ -10,7 +10,7 @@ ghost use Rattle.visibility.specs.Networks.{IsNetworkInAnyOrder, IsNetworkOf};
 ghost use Rattle.tetra_store.specs.Delaunay.{IsDelaunay};
 ghost use Rattle.tetra_store.specs.Links.{links_of};
 ghost use Rattle.tetra_store.specs.Store.{vertices_of};
-ghost use Rattle.vote_net.specs.Counts.{AreCountsOf, AreIdsOf};
+ghost use Rattle.vote_net.specs.Counts.{AreCountsOf, AreIdsOf, IsInStoreOrder};
 ghost use Rattle.votes.specs.Counts.{IsInRange, AreScannerCells, AreCounted};
 
 use crate::NoMemory;
@@ -102,6 +102,7 @@ pub fn count_votes(
     requires data_points { All (IsWithin DATA_LIMIT) scanners.now }
     ensures network { IfOk result (λ counted. IsNetworkInAnyOrder scene counted.voted) }
     ensures ids { IfOk result (λ counted. AreIdsOf t.now.slots counted.voted.cells counted.ids.items) }
+    ensures order { IfOk result (λ counted. IsInStoreOrder scene t.now.slots counted.voted.facets counted.ids.items) }
 {
     let votes = votes_of(alloc, t, points, sights, scanners, settings)?;
     assemble(
