@@ -1,5 +1,5 @@
 //! Each call of the host fails in turn: the first of its kind, the second, and so on until a run ends without a fault. On many
-//! points in small pieces there are thousands of calls, and of those the first ones fail, some in the middle and the last ones.
+//! points in pieces of one byte there are thousands of calls, and of those the first fail, some in the middle and the last.
 //!
 //! A scan is a text, or binary in either byte order, and calls move 1, 7 or 65,536 bytes at most. What stands after a failure
 //! is compared with what a run without a fault leaves. Of the texts that it writes, in their order, those that were whole before
@@ -384,7 +384,7 @@ fn each_call_fails_on_many_points(rt: HostRuntime) -> Result<(), Fail> {
         "loops 2 steps 27\n",
         "exported 3 points 48 faces 92\n",
     ];
-    sweep_forms(alloc, &text, 50, lines)
+    sweep_forms(alloc, &text, 2_000, lines)
 }
 
 #[test]
