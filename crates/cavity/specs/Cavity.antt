@@ -1,8 +1,7 @@
 -- The cavity of a vertex.
 --
---   IsCavity s p cells fan    the cells are exactly the live ones in conflict with p, each once, and the fan is the rim over
---   which
---                             Delaunay cells with p stand; the store can put these in place of those
+--   IsCavity s p cells fan    the cells are exactly the live ones in conflict with p, each once, and the fan is the rim
+--                             over which Delaunay cells with p stand; the store can put these in place of those
 use Rattle.std.specs.Prelude.{ℕ, ◌<◌, ◌≤◌, List, length, Contains}
 use Rattle.tetra_store.specs.declared.fan.Facet.{Facet}
 use Rattle.tetra_store.specs.Links.{links_of, IsLive}

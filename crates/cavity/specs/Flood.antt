@@ -1,14 +1,13 @@
 -- A flood over the links of cells, from cell to cell across facets. Sides are counted through the list of cells that were
--- reached:
--- side k of the cell at index j is number 4 * j + k.
+-- reached: side k of the cell at index j is number 4 * j + k.
 --
 --   AreMarked stamps round cells             exactly the cells reached are marked
 --   facet_on f across                        a facet with the cell across it
---   IsReached, IsEntered, IsLeft             the three ways to cross a facet: the cell across was reached before; it is reached
---   now;
---                                            none in conflict is across, and the facet goes into the fan
---   IsCrossed v links p f across c g c' g'   the facet f was crossed in one of the three ways, from cells c and fan g to c' and
---   g' IsRimAt v links p cells fan n i          fan facet i is that of a side that was crossed
+--   IsReached, IsEntered, IsLeft             the three ways to cross a facet: the cell across was reached before; it is
+--                                            reached now; none in conflict is across, and the facet goes into the fan
+--   IsCrossed v links p f across c g c' g'   the facet f was crossed in one of the three ways, from cells c and fan g to
+--                                            c' and g'
+--   IsRimAt v links p cells fan n i          fan facet i is that of a side that was crossed
 --   IsInFan fan f across                     the fan has the facet f, with this cell across
 --   IsPassed cells fan f across              the cell across was reached, or the facet is in the fan
 --   IsFlooding v links p from cells fan n    the first n sides of the cells reached were crossed

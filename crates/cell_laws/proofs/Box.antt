@@ -3,8 +3,8 @@
 -- facet has that corner in its plane or before it; then each of the facet's own vertices is as low along each axis as the box,
 -- or the facet is level there.
 -- A facet of a cell is not level along all axes, so along some axis all three vertices are on one wall: they are corners, since
--- data points are strictly inside. So an outer facet of a cell is on a wall, and each data point is strictly before every outer
--- facet.
+-- data points are strictly inside. So an outer facet of a cell is on a wall, and each data point is strictly before every
+-- outer facet.
 -- Stands on: Order, Writing, and geo_sign's places.
 use Rattle.std.proofs.Common.{ℕ, zero, suc, ◌≡◌, ◌≢◌, ◌<◌, ◌≤◌, refl, ap, ap₂, sym, subst, ◌∙◌, ◌⊎◌, inl, inr, ⊎_elim, arith}
 use Rattle.std.proofs.Common.{Bool, true, false, int_lt, bit_and, cond, ◌==◌, unsigned_abs, ℤ, pos, negsuc, neg_ℤ, ◌+ℤ◌, ◌-ℤ◌}

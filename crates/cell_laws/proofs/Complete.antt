@@ -1,8 +1,8 @@
 -- The way of a sight has each facet that the sight crosses. Just past the place at which a facet is crossed there is a place
 -- that lies strictly in the cell behind the crossing. The way has a cell with that place: its cells have the stretches of the
 -- sight between entry and exit, and these stretches follow one another from the vertex to s. The place lies strictly in one
--- cell alone, so this cell is on the way, and as a cell is entered through one facet at most, the crossing is the one by which
--- the way comes in.
+-- cell alone, so this cell is on the way, and as a cell is entered through one facet at most, the crossing is the one by
+-- which the way comes in.
 -- Stands on: SightSteps, SightTests, Near (places just past a crossing), and Flood (a place lies strictly in one cell).
 use Rattle.std.proofs.Common.{ℕ, ◌<◌, ◌≡◌, ◌≢◌, refl, ap, sym, subst, ◌∙◌, inl, inr, ⊎_elim, arith, ℤ, pos, neg_ℤ, ◌+ℤ◌, ◌-ℤ◌}
 use Rattle.std.proofs.Common.{◌*ℤ◌, ◌≤ℤ◌, ◌<ℤ◌, unsigned_abs, List, [], ◌∷◌}

@@ -1,6 +1,6 @@
 -- The six cells over the corners are cells, whatever the number of vertices. All eight corners are on one sphere, so each plain
--- power is zero, and the sign of the power is that of the term with the greatest number, which is computed for each of the six
--- and each other corner.
+-- power is zero, and the sign of the power is that of the term with the greatest number, which is computed for each of the
+-- six and each other corner.
 -- Stands on: Heights (the power by the tie rule).
 use Rattle.std.proofs.Common.{ℕ, zero, suc, ◌≡◌, ◌<◌, ◌≤◌, ◌^◌, refl, ap, ap₂, sym, subst, ◌∙◌, inl, inr, ⊎_elim, arith, Bool}
 use Rattle.std.proofs.Common.{true, not, ◌&&◌, ◌==◌, int_lt, unsigned_abs, ℤ, pos, ◌*ℤ◌, ◌+ℤ◌, ◌≤ℤ◌, ◌<ℤ◌, [], ◌∷◌}

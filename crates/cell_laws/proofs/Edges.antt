@@ -1,7 +1,7 @@
 -- New cells over facets: a reversed edge makes them neighbours, and a common side makes a common edge. The side e of the cell
 -- over f with apex p is the edge e of f with p, so two such sides are turned facets of each other exactly where the edges are
--- reversed. In a list of the fan's facets, each once, the facet with the reversed edge is there since the fan's edges meet, and
--- it is the only one.
+-- reversed. In a list of the fan's facets, each once, the facet with the reversed edge is there since the fan's edges meet,
+-- and it is the only one.
 -- Stands on: LinkedCells (the twelve writings by sides).
 use Rattle.std.proofs.Common.{ℕ, zero, suc, ◌≡◌, ◌≢◌, ◌<◌, refl, ap, sym, subst, ◌∙◌, ◌⊎◌, inl, inr, ⊎_elim, arith}
 use Rattle.geo_sign.specs.Tetrahedron.{DirectedFacet, facet, facet_of, IsRotated, IsTurned, Tetrahedron, tetrahedron, vertex_of}

@@ -1,9 +1,8 @@
 -- Places as near to a vertex p as is wanted, on the way to a place s or away from it, and the one cell that has one. The side
--- of the near place is a large multiple of the side of p and once that of s, so the side of p decides, and where p is on the
--- facet that of s does.
--- A cell with the near place therefore has p, and since the cell's own vertices alone lie in it, p is one of its four; at the
--- facets with p the place s is on the inner side. So it is the cell at p towards s; and no other is, since the near place lies
--- strictly in it.
+-- of the near place is a large multiple of the side of p and once that of s, so the side of p decides, and where p is on
+-- the facet that of s does. A cell with the near place therefore has p, and since the cell's own vertices alone lie in it,
+-- p is one of its four; at the facets with p the place s is on the inner side. So it is the cell at p towards s; and no
+-- other is, since the near place lies strictly in it.
 -- Stands on: Sides, Cover (a vertex in a cell is its own) and Flood (a place lies strictly in one cell).
 use Rattle.std.proofs.Common.{ℕ, zero, suc, ◌<◌, ◌≡◌, ◌≢◌, ap, ◌∙◌, ⊎_elim, arith, mul-suc, ℤ, pos, negsuc, ◌+ℤ◌, ◌*ℤ◌, ◌≤ℤ◌}
 use Rattle.std.proofs.Common.{◌<ℤ◌, unsigned_abs, [], ◌∷◌}

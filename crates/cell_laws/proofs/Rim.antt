@@ -1,8 +1,8 @@
 -- There is a facet of the fan, it can be rotated, and with the new cells each vertex is still one of a cell's. Of the cells in
 -- conflict take the one that is lowest over the new vertex. The vertex is on the inner side of one of its facets, since the
--- four sides sum to the cell.
--- A cell across that facet would be lower there, for a step away from a place goes down; so it is not in conflict, and the
--- facet is the fan's. A vertex is one of some cell's with the new one in, and that is a cell that stays, or one over the fan.
+-- four sides sum to the cell. A cell across that facet would be lower there, for a step away from a place goes down; so it
+-- is not in conflict, and the facet is the fan's. A vertex is one of some cell's with the new one in, and that is a cell
+-- that stays, or one over the fan.
 -- Stands on: Cover, Insert and Fan.
 use Rattle.std.proofs.Common.{ℕ, ◌≡◌, ◌<◌, refl, ap, sym, subst, ◌∙◌, ◌⊎◌, inl, inr, ⊎_elim, arith, true, false, int_lt}
 use Rattle.std.proofs.Common.{true≢false, pos, ◌+ℤ◌, ◌*ℤ◌, ◌≤ℤ◌, ◌<ℤ◌, [], ◌∷◌}

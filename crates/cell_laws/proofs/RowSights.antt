@@ -1,6 +1,6 @@
 -- Of the rows of the list of all cells exactly one is the cell of a scanner, and for each data point exactly one is towards the
--- scanner and one behind the sight. Some cell has the place in question, its row has it too, and two rows that pass the test
--- are one cell.
+-- scanner and one behind the sight. Some cell has the place in question, its row has it too, and two rows that pass the
+-- test are one cell.
 -- Stands on: RisingRows (rows stand for cells), SomeCell (a place lies in a cell), SightLaws and Sums.
 use Rattle.std.proofs.Common.{ℕ, ◌+◌, ◌≡◌, refl, ap, ◌∙◌, Bool, true, cond, List, [], ◌∷◌, count_by}
 use Rattle.std.proofs.lemmas.List.Sums.{sum_by-cons}

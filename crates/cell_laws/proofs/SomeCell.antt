@@ -1,7 +1,7 @@
 -- There is a cell, whatever data points are in. With the corners alone there are the six cells of the box. The data points then
 -- come in one after another by their numbers: a new one lies in a cell, that cell is in conflict with it, so the fan has a
--- facet, and over it there is a cell of the vertices with the new one. So each place of the box lies in a cell, without more
--- ado.
+-- facet, and over it there is a cell of the vertices with the new one. So each place of the box lies in a cell, without
+-- more ado.
 -- Stands on: BoxLinks (the corners alone) and Laws (a place lies in a cell, where there is one; the fan).
 use Rattle.std.proofs.Common.{ℕ, zero, suc, ◌+◌, ◌-◌, ◌<◌, ◌≤◌, ◌≡◌, refl, sym, ap, subst, ◌∙◌, inl, ⊎_elim, arith, Bool, true}
 use Rattle.std.proofs.Common.{false, true≢false, ◌&&◌, ◌||◌, nat_lt, eqb}

@@ -1,6 +1,6 @@
 -- The power of a fifth vertex is settled: the base decides its sign by the plain power and, where that is zero, by the term
--- with the greatest number, and neither knows the exponent. So at any two exponents both powers are below zero, or both above
--- it.
+-- with the greatest number, and neither knows the exponent. So at any two exponents both powers are below zero, or both
+-- above it.
 -- Stands on: geo_sign's law of ties, Heights (the power by numbered points) and Box (vertices are points of the box).
 use Rattle.std.proofs.Common.{ℕ, ◌≡◌, ◌≢◌, refl, sym, ◌∙◌, inl, inr, arith, Bool, true, false, IsTrue, IsFalse, ◌↔◌, ℤ, pos}
 use Rattle.std.proofs.Common.{◌<ℤ◌}

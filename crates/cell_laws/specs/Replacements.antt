@@ -1,7 +1,7 @@
--- Taking some linked cells out and putting new ones in: over each facet at the rim of those taken out, the cell with the apex
--- p.
--- The facets are fan 0 to fan (n - 1), each written from any of its vertices on, and outer i is what is across fan i. The names
--- of the new cells, fresh 0 to fresh (n - 1), may be ones that were taken out, as a store that uses its slots again gives them.
+-- Taking some linked cells out and putting new ones in: over each facet at the rim of those taken out, the cell with the
+-- apex p. The facets are fan 0 to fan (n - 1), each written from any of its vertices on, and outer i is what is across fan
+-- i. The names of the new cells, fresh 0 to fresh (n - 1), may be ones that were taken out, as a store that uses its slots
+-- again gives them.
 --
 --   IsAtRim next removed x k                                 across facet k of x nothing is taken out
 --   IsRimList live cell next removed n fan outer             the facets at the rim, each once

@@ -4,7 +4,7 @@
 ghost use Rattle.cell_laws.specs.RowLaws.{RowSightLaw};
 ghost use Rattle.cell_laws.specs.WalkLaws.{StepLaw, NearLaw, SpreadLaw, ScannerLaw, VertexSightLaw, SightLaw, PathLaw};
 
-/// A visibility walk ends (Devillers, Pion and Teillaud 2001): a step of it goes across any facet that has the goal behind it. For a
+/// A visibility walk ends (Devillers, Pion and Teillaud 2002): a step of it goes across any facet that has the goal behind it. For a
 /// place of the box there is a cell across, fewer cells are higher over the goal than that one, and where no facet has the goal
 /// behind it the goal lies in the cell.
 pub fn step_law()

@@ -1,8 +1,8 @@
 -- Linked cells part the box.
 --
---   IsPartition s    each place of the box lies in a live cell, a place strictly inside a live cell lies in no other, and a
---   facet of a
---                    live cell has exactly one live cell across it, which the store names, but on a wall, where it has none
+--   IsPartition s    each place of the box lies in a live cell, a place strictly inside a live cell lies in no other, and
+--                    a facet of a live cell has exactly one live cell across it, which the store names, but on a wall,
+--                    where it has none
 use Rattle.std.specs.Prelude.{ℕ, ◌≡◌, ◌<◌, ◌⊎◌, Some, None}
 use Rattle.geo_sign.specs.Rational.{RationalPoint}
 use Rattle.geo_sign.specs.Tetrahedron.{facet_of}

@@ -1,8 +1,7 @@
 -- That the term with the greatest number gives a sum its sign, so that it decides a tie.
 --
---   Worth w i s v    v is a sum that a term with number i and sign s leads: zero where s is Zero, and else of that sign and of
---   about
---                    the size of the i-th power of the base, w being what the coefficients of its terms come to
+--   Worth w i s v    v is a sum that a term with number i and sign s leads: zero where s is Zero, and else of that sign and
+--                    of about the size of the i-th power of the base, w being what the coefficients of its terms come to
 --   Led w t v        the same of a term
 --   ties a b c d p   the five terms of the power beside the plain power
 use Rattle.std.proofs.Common.{IsTrue, IsFalse, ◌↔◌, true≢false, ℕ, zero, suc, ◌+◌, ◌*◌, ◌<◌, ◌≤◌, ◌^◌, ◌≡◌, ◌≢◌, refl, ap, sym}

@@ -7,7 +7,7 @@
 --   IsNew v p                        p is a data point that is not in yet
 --   IsInConflict v p t               p is in conflict with t
 --   IsClearOf v p t                  it is not
---   Agree v w                        the same vertices are in, at the same places and heights
+--   Agree v w                        the same vertices are in, at the same points and heights
 use Rattle.std.specs.Prelude.{ℕ, ◌<◌, ◌≤◌, ◌≡◌, ◌↔◌, ◌+◌, ◌==◌, ◌||◌, Bool, false, pos, ◌<ℤ◌, ◌≤ℤ◌, List, length, get_or}
 use Rattle.geo_sign.specs.declared.point.TheConstants.{DATA_LIMIT}
 use Rattle.geo_sign.specs.Point.{Point, IsWithin, corner_point}

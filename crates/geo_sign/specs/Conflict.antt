@@ -1,4 +1,4 @@
--- When five numbered places may be tested for conflict.
+-- When five numbered points may be tested for conflict.
 --
 --   OfFour cell P           P holds of the four vertices of a cell
 --   AreApart a b c d p      the five numbers are distinct
@@ -6,7 +6,7 @@
 use Rattle.std.specs.Prelude.{ℕ, ◌<◌, ◌≢◌, List, [], ◌∷◌}
 use Rattle.geo_sign.specs.Point.{Point}
 
--- the list has four vertices, each a number and its place, and P holds of them
+-- the list has four vertices, each a number and its point, and P holds of them
 abbrev pub OfFour : List (ℕ × Point) → ((a b c d : ℕ × Point) → Type 0) → Type 0
 OfFour (a ∷ b ∷ c ∷ d ∷ []) P = P a b c d
 OfFour _ P = ⊥

@@ -1,6 +1,6 @@
--- Places with whole coordinates, in scaled whole units, and the vectors between them.
+-- Points with whole coordinates, in scaled whole units, and the vectors between them.
 --
---   Place, place, origin    three whole numbers: a place, or a vector
+--   Point, point, origin    three whole numbers: a point, or a vector
 --   IsWithin m p            no coordinate of p has an absolute value over m
 --   step a b                the vector from a to b
 --   cross u v, dot u v      the two products of vectors

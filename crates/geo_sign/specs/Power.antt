@@ -1,8 +1,8 @@
--- The power of a fifth place at four: where it lies by the sphere through them (the empty-sphere definition of a
+-- The power of a fifth point at four: where it lies by the sphere through them (the empty-sphere definition of a
 -- Delaunay tetrahedrization, lifted to one more dimension).
 --
 --   power a b c d p ha hb hc hd hp    with any heights
---   plain_power a b c d p             with the square of each place's distance from the origin as its height
+--   plain_power a b c d p             with the square of each point's distance from the origin as its height
 use Rattle.std.specs.Prelude.{ℤ, ◌+ℤ◌, ◌-ℤ◌, ◌*ℤ◌}
 use Rattle.geo_sign.specs.Point.{Point, square}
 use Rattle.geo_sign.specs.Orientation.{orientation}
@@ -13,6 +13,6 @@ power a b c d p ha hb hc hd hp =
     orientation a b c d *ℤ hp
     -ℤ (ha *ℤ orientation p b c d +ℤ hb *ℤ orientation a p c d +ℤ hc *ℤ orientation a b p d +ℤ hd *ℤ orientation a b c p)
 
--- For four places written positively: negative where p is inside the sphere through them, zero where it is on it.
+-- For four points written positively: negative where p is inside the sphere through them, zero where it is on it.
 abbrev pub plain_power : (a b c d p : Point) → ℤ
 plain_power a b c d p = power a b c d p (square a) (square b) (square c) (square d) (square p)

@@ -1,18 +1,18 @@
--- Places with coordinates over a common number, and the side of a facet on which one lies.
+-- Points with coordinates over a common number, and the side of a facet on which one lies.
 --
---   RationalPoint               whole coordinates over a whole number
---   point p             a place, over 1
---   displaced s         the place that stands for a scanner at s
+--   RationalPoint       whole coordinates over a whole number
+--   rational p          a point with whole coordinates, over 1
+--   displaced s         the point that stands for a scanner at s
 --   side a b c q        the side of the facet a b c on which q lies
 use Rattle.std.specs.Prelude.{ℤ, pos, ◌^◌, ◌+ℤ◌, ◌-ℤ◌, ◌*ℤ◌}
 use Rattle.geo_sign.specs.Point.{Point, point, step, cross, dot}
 
--- the place whose coordinates are those of `at`, each over the number `over`
+-- the point whose coordinates are those of `at`, each over the number `over`
 pub record RationalPoint : Type 0 where
   pub at : Point
   pub over : ℤ
 
--- a place with whole coordinates
+-- a point with whole coordinates
 abbrev pub rational : Point → RationalPoint
 rational p = record { at = p; over = pos 1 }
 

@@ -3,8 +3,9 @@
 --   Term                       an exponent, and the sign of a coefficient
 --   leading_term leader t      the one that gives a sum of both its sign, where the leader is not zero
 --   term i coefficient         the term with exponent i
---   deciding_term a b c d p    the term that decides whether p is in conflict with the cell a b c d where the plain power is
---   zero is_below_zero s            whether a sign is Neg
+--   deciding_term a b c d p    the term that decides whether p is in conflict with the cell a b c d where the plain power
+--                              is zero
+--   is_below_zero s            whether a sign is Neg
 use Rattle.std.specs.Prelude.{ℕ, ℤ, cond, nat_lt, Bool, true, false}
 use Rattle.geo_sign.specs.Point.{Point}
 use Rattle.geo_sign.specs.Orientation.{orientation}

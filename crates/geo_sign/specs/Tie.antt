@@ -1,7 +1,7 @@
 -- The written tie rule: each vertex is lifted by its number too, so that no five vertices lie on one sphere.
 --
 --   height n i p                the height of vertex i at p among fewer than n vertices
---   tied_power n a b c d p      the power of five numbered places at these heights
+--   tied_power n a b c d p      the power of five numbered points at these heights
 use Rattle.std.specs.Prelude.{ℕ, ◌^◌, ℤ, pos, ◌+ℤ◌, ◌*ℤ◌}
 use Rattle.geo_sign.specs.Point.{Point, square}
 use Rattle.geo_sign.specs.Power.{power}
@@ -11,7 +11,7 @@ use Rattle.geo_sign.specs.Power.{power}
 abbrev pub height : (n i : ℕ) → Point → ℤ
 height n i p = square p *ℤ pos ((2 ^ 80) ^ n) +ℤ pos ((2 ^ 80) ^ i)
 
--- the power of p at the cell a b c d, each a number and its place; p is in conflict with the cell where it is negative
+-- the power of p at the cell a b c d, each a number and its point; p is in conflict with the cell where it is negative
 abbrev pub tied_power : ℕ → (a b c d p : ℕ × Point) → ℤ
 tied_power n a b c d p =
     power a.1 b.1 c.1 d.1 p.1 (height n a.0 a.1) (height n b.0 b.1) (height n c.0 c.1) (height n d.0 d.1) (height n p.0 p.1)

@@ -3,8 +3,9 @@
 --     SaysFront, AppendsFront, WritesFront    what stands after a failure: a front of the bytes went out
 --     writes name bytes state                 the named file holds the bytes, and no file is open
 --     reads_whole name state                  the named file was opened and read to its end
---     TakesFront, ReadFails                   what stands after a reading for which there was no memory, or in which a call
---     failed OnlyReads before after                  what a reading leaves as it was, and that it opens one file
+--     TakesFront, ReadFails                   what stands after a reading for which there was no memory, or in which a
+--                                             call failed
+--     OnlyReads before after                  what a reading leaves as it was, and that it opens one file
 --     HasCause result before after            the count of faults, by the answer of a reading
 use Rattle.std.specs.Prelude.{◌≡◌, ℕ, ◌≤◌, List, [], length, take, false, true, Option, Result, Ok, Err, ◌⊎◌}
 use Rattle.host.specs.Counts.{next, Rose}

@@ -1,7 +1,7 @@
 -- Rows in rising order, compared number by number.
 --
---   IsBefore xs ys        xs is smaller where the two differ first
---   AllPairs IsBefore xss (of std) the rows rise strictly
+--   IsBefore xs ys           xs is smaller where the two differ first
+--   AllPairs IsBefore xss    (of std) the rows rise strictly
 use Rattle.std.specs.Prelude.{ℕ, ◌<◌, ◌≡◌, ◌⊎◌, List, ◌∷◌}
 
 -- the first list comes before the second where they differ first

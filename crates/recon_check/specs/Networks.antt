@@ -2,7 +2,8 @@
 --
 --   IsNetworkOfScan scan settings network     the cells are those of the scan's points, and the network is that of its scene
 --   cutting_of scan settings network          the scene of the scan and the complex of its network
---   IsBestSurface scan settings claim surface a certificate shows its labels best and states their cost, and this is their
+--   IsBestSurface scan settings claim surface
+--                                             a certificate shows its labels best and states their cost, and this is their
 --                                             surface
 use Rattle.std.specs.Prelude.{◌≡◌, ◌++◌}
 use Rattle.cert_text.specs.Certificates.{Claim}

@@ -1,7 +1,7 @@
 -- What stands after a run of `build` that is done.
 --
---   HoldsTheBest names options old new    mesh and certificate are those of a solution of the scan that was read, and it is
---   stamped so
+--   HoldsTheBest names options old new    mesh and certificate are those of a solution of the scan that was read, and it
+--                                         is stamped so
 --   DoneIsBest                            a run of `build` that is done leaves such files
 use Rattle.std.specs.Prelude.{◌≡◌, ◌≢◌, ℕ, ◌≤◌, List, ◌++◌, length, Some, Ok}
 use Rattle.cert_text.specs.Certificates.{Claim, IsWellFormed}

@@ -13,9 +13,9 @@
 --   IsEndCell s o e             the cell e is the scanner's
 --   IsWalking s p o x v k       what is kept of each walk
 --
--- The list to come follows from the store, the sight and the cell reached, so it is no field of a walk: `sides_from` is that
--- list.
--- What a reader has to believe of it is `IsSight` alone, which leaves one list: the crossed facets, each once, in their order.
+-- The list to come follows from the store, the sight and the cell reached, so it is no field of a walk: `sides_from` is
+-- that list. What a reader has to believe of it is `IsSight` alone, which leaves one list: the crossed facets, each once,
+-- in their order.
 use Rattle.std.specs.Prelude.{ℕ, zero, suc, ◌≡◌, ◌<◌, ◌==◌, Bool, true, false, List, [], ◌∷◌, Option, Some, None, length}
 use Rattle.geo_sign.specs.declared.point.TheConstants.{DATA_LIMIT}
 use Rattle.geo_sign.specs.Point.{Point, IsWithin}

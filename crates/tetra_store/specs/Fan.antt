@@ -104,7 +104,7 @@ pub record IsOver (links : Links) (fan : List Facet) (p id : ℕ) : Type 0 where
   pub is : links.at id ≡ over (fan_facet fan facet) p
 
 -- The cells old are out, and there is one over each fan facet, with p. All other cells keep their numbers and vertices, all
--- vertices their places, and all but p whether they are inserted.
+-- vertices their points, and all but p whether they are inserted.
 pub record IsReplaced (s t : Store) (old : List ℕ) (fan : List Facet) (p : ℕ) : Type 0 where
   pub points : t.points ≡ s.points
   pub inserted : t.inserted ≡ slice_set s.inserted p true

@@ -6,7 +6,8 @@
 --   links_of slots            the links of a list of slots
 --   IsLive links id           the number has a cell
 --   IsBack links id k z       the live cell z names the cell id back, across the facet of its side k turned round
---   IsOnlyAcross links id k z no other live cell has that turned facet
+--   IsOnlyAcross links id k z
+--                             no other live cell has that turned facet
 --   IsLinked vertices links   what is kept of them
 use Rattle.std.specs.Prelude.{ℕ, ◌≡◌, ◌<◌, ◌<ℤ◌, pos, Bool, true, List, Option, Some, None, is_some, slice_index}
 use Rattle.std.specs.Prelude.{slice_index_or}

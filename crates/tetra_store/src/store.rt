@@ -112,7 +112,7 @@ impl Tetra {
         self.kept[v as usize].id()
     }
 
-    /// A number above those of all cells, now and until the store has to grow, as for a list with an entry for each cell.
+    /// A number above those of all cells, as for a list with an entry for each cell.
     pub fn number_limit(&self) -> usize
         ensures slots { length self.now.slots ≤ result }
         ensures above { (id : ℕ) → IsLive (links_of self.now.slots) id → id < result }

@@ -1,10 +1,9 @@
 -- A scene over vertices that agree says the same.
 --
 -- The four vertices of a cell are in. So each cell is written as the same tetrahedron over both, and belongs to the same
--- facets;
--- the first cell that has a facet is the same, listed or not. The tests of a cell and of a facet whose vertices are in are the
--- same, so are the amounts, and what is said of labels and flows rests on these alone. Each step leads from the one scene to
--- the other; the way back is the same step, since the scene over the first vertices again is the first scene.
+-- facets; the first cell that has a facet is the same, listed or not. The tests of a cell and of a facet whose vertices are
+-- in are the same, so are the amounts, and what is said of labels and flows rests on these alone. Each step leads from the
+-- one scene to the other; the way back is the same step, since the scene over the first vertices again is the first scene.
 use Rattle.std.proofs.Common.{ℕ, ◌+◌, ◌*◌, ◌≡◌, ap, sym, subst, ◌∙◌, inl, inr, ⊎_elim, Bool, cond, ◌||◌, List, [], ◌∷◌}
 use Rattle.std.proofs.Common.{slice_index_or, Contains}
 use Rattle.std.specs.List.{list_any}

@@ -1,7 +1,7 @@
 -- Rows are the list of cells and sides the list of facets with a capacity, in whatever order they stand, and what the tables
 -- give are the arcs. A cell is searched for by a facet that it alone has, so what the search finds is the index that the table
--- of nodes has; and so for facets and the table of arcs. Rows and facets are apart, and keys keep their order, so sorted lists
--- rise strictly.
+-- of nodes has; and so for facets and the table of arcs. Rows and facets are apart, and keys keep their order, so sorted
+-- lists rise strictly.
 -- Stands on: CellRows, CellSides, Entries, KeyOrders.
 use Rattle.std.proofs.Common.{ℕ, zero, suc, ◌+◌, ◌*◌, ◌<◌, ◌≤◌, ◌^◌, ◌≡◌, ◌≢◌, refl, sym, ap, subst, ◌∙◌, inl, inr, ⊎_elim}
 use Rattle.std.proofs.Common.{arith, Bool, true, false, true≢false, cond, Option, Some, None, List, [], length, get_or, map}
