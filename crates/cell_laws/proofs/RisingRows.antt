@@ -12,7 +12,8 @@ use Rattle.std.proofs.Common.{ℕ, zero, suc, ◌<◌, ◌≡◌, ◌≢◌, sub
 use Rattle.std.proofs.Common.{AllPairs, Contains}
 use Rattle.geo_sign.specs.Tetrahedron.{Tetrahedron, tetrahedron}
 use Rattle.geo_sign.specs.Vertices.{Vertices}
-use Rattle.geo_sign.specs.Cells.{IsBefore, IsCellList, IsRisingCell, written}
+use Rattle.geo_sign.specs.Cells.{IsCellList, IsRisingCell, written}
+use Rattle.geo_sign.specs.Rising.{IsBefore}
 use Rattle.geo_sign.specs.RowLaws.{IsRowOf}
 use Rattle.geo_sign.specs.Writings.{IsRewritten}
 use Rattle.cell_laws.specs.Lists.{IsIn}

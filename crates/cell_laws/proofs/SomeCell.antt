@@ -6,6 +6,7 @@
 use Rattle.std.proofs.Common.{ℕ, zero, suc, ◌+◌, ◌-◌, ◌<◌, ◌≤◌, ◌≡◌, refl, sym, ap, subst, ◌∙◌, inl, ⊎_elim, arith, Bool, true}
 use Rattle.std.proofs.Common.{false, true≢false, ◌&&◌, ◌||◌, nat_lt, eqb}
 use Rattle.std.proofs.lemmas.Bool.{ltb-true, lt-ltb, eqb-true, eq-eqb, and_parts, and_from, or_cases}
+use Rattle.geo_sign.proofs.Booleans.{same_bools}
 use Rattle.geo_sign.specs.Rational.{rational}
 use Rattle.geo_sign.specs.Tetrahedron.{Tetrahedron, tetrahedron}
 use Rattle.geo_sign.specs.Vertices.{Vertices, Has}
@@ -36,11 +37,6 @@ same_in v f g e t k =
       positive = k.positive;
       clear = λ u h. k.clear u (h.0, e u h.0 ∙ h.1);
     }
-
-same_bools : (a b : Bool) → (a ≡ true → b ≡ true) → (b ≡ true → a ≡ true) → a ≡ b
-same_bools true b f g = sym (f refl)
-same_bools false true f g = g refl
-same_bools false false f g = refl
 
 or_left : (a b : Bool) → a ≡ true → (a || b) ≡ true
 or_left true b h = refl

@@ -3,7 +3,7 @@ use Rattle.std.proofs.Common.{ℕ, ◌≡◌, ◌+◌, ◌-◌, ◌^◌, refl, a
 use Rattle.std.specs.List.{AllPairs, flat_map}
 use Rattle.std.proofs.lemmas.List.{map-id, append-nil}
 use Rattle.line_text.specs.Numbers.{counted, BeginsWithNone}
-use Rattle.line_text.specs.Rising.{IsBefore}
+use Rattle.geo_sign.specs.Rising.{IsBefore}
 use Rattle.line_text.specs.declared.refusal.LineRefusal.{LineRefusal}
 use Rattle.line_text.specs.declared.refusal.LineRefusal.TheVariants as lines
 use Rattle.line_text.specs.Refusals.{line_after, WithMemory, RefusedNumber, AreRows, AtNumber, IsBehindEnd}

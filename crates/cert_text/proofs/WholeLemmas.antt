@@ -2,7 +2,7 @@
 use Rattle.std.proofs.Common.{ℕ, Option, ◌≡◌, ◌+◌, inr, ap, sym, subst, ◌∙◌, List, [], ◌++◌, length}
 use Rattle.std.specs.List.{AllPairs}
 use Rattle.std.proofs.lemmas.List.{map-id, append-nil}
-use Rattle.line_text.specs.Rising.{IsBefore}
+use Rattle.geo_sign.specs.Rising.{IsBefore}
 use Rattle.line_text.specs.declared.refusal.LineRefusal.{LineRefusal}
 use Rattle.line_text.specs.declared.refusal.LineRefusal.TheVariants.{BadLine}
 use Rattle.line_text.specs.Refusals.{line_after, list_text, IsList, IsBehindEnd}

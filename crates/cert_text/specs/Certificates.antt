@@ -6,7 +6,7 @@
 --   IsWellFormed c  the rows are of their forms and rise
 use Rattle.std.specs.Prelude.{ℕ, ◌<◌, ◌^◌, List, Option, All, AllPairs, length, map}
 use Rattle.std.specs.Option.{option_map}
-use Rattle.line_text.specs.Rising.{IsBefore}
+use Rattle.geo_sign.specs.Rising.{IsBefore}
 use Rattle.cert_text.specs.declared.certificate.Certificate.{Certificate}
 use Rattle.cert_text.specs.declared.certificate.FlowRow.{FlowRow}
 use Rattle.cert_text.specs.declared.certificate.SinkRow.{SinkRow}

@@ -9,6 +9,7 @@ pub mod Sizes
 pub mod Ties
 pub mod Own
 pub mod Rising
+pub mod Booleans
 pub mod Exchanges
 pub mod Rotations
 pub mod Rewritings

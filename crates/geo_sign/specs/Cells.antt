@@ -6,6 +6,7 @@
 --   written vertices row           a cell's four rising numbers in an order in which it is positive
 use Rattle.std.specs.Prelude.{ℕ, ◌<◌, ◌≡◌, ◌⊎◌, pos, ◌<ℤ◌, ◌≤ℤ◌, int_lt, List, [], ◌∷◌, slice_index, AllPairs, Contains}
 use Rattle.std.specs.Prelude.{if◌then◌else◌}
+use Rattle.geo_sign.specs.Rising.{IsBefore}
 use Rattle.geo_sign.specs.Tetrahedron.{Tetrahedron, tetrahedron}
 use Rattle.geo_sign.specs.Vertices.{Vertices, Has, orientation_of, power_of}
 
@@ -27,11 +28,6 @@ FormCell v a b c d = IsCell v a b c d ⊎ IsCell v a b d c
 abbrev pub IsRisingCell : Vertices → List ℕ → Type 0
 IsRisingCell v (a ∷ b ∷ c ∷ d ∷ []) = (a < b) × (b < c) × (c < d) × FormCell v a b c d
 IsRisingCell v _ = ⊥
-
--- the first list comes before the second where they differ first
-abbrev pub IsBefore : List ℕ → List ℕ → Type 0
-IsBefore (a ∷ xs) (b ∷ ys) = (a < b) ⊎ ((a ≡ b) × IsBefore xs ys)
-IsBefore _ _ = ⊥
 
 -- the list of all cells: each once, its numbers rising, in rising order
 pub record IsCellList (v : Vertices) (rows : List (List ℕ)) : Type 0 where

@@ -8,6 +8,7 @@ pub mod Tie
 pub mod Terms
 pub mod Conflict
 pub mod Vertices
+pub mod Rising
 pub mod Cells
 pub mod Sights
 pub mod Polynomial

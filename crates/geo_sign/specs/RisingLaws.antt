@@ -4,7 +4,8 @@
 --   CellListLaw    so are two lists of all cells
 use Rattle.std.specs.Prelude.{ℕ, ◌≡◌, ◌↔◌, List, AllPairs, Contains}
 use Rattle.geo_sign.specs.Vertices.{Vertices}
-use Rattle.geo_sign.specs.Cells.{IsBefore, IsCellList}
+use Rattle.geo_sign.specs.Cells.{IsCellList}
+use Rattle.geo_sign.specs.Rising.{IsBefore}
 
 -- two rising lists with the same members are equal
 abbrev pub RisingLaw : Type 0

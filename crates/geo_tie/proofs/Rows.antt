@@ -7,7 +7,8 @@ use Rattle.std.proofs.lemmas.List.Elements.{Contains-append_left, Contains-appen
 use Rattle.std.proofs.lemmas.List.Quantifiers.{all_pairs_push}
 use Rattle.std.proofs.lemmas.List.{get_or_default}
 use Rattle.geo_sign.specs.Vertices.{Vertices}
-use Rattle.geo_sign.specs.Cells.{IsBefore, IsRisingCell, IsCellList, FormCell}
+use Rattle.geo_sign.specs.Cells.{IsRisingCell, IsCellList, FormCell}
+use Rattle.geo_sign.specs.Rising.{IsBefore}
 use Rattle.geo_sign.proofs.Rising.{not_before_none, before_trans, contains_none, contains_cases, contains_head}
 use Rattle.geo_tie.specs.Rising.{IsCellListBefore}
 

@@ -6,7 +6,8 @@ use Rattle.std.specs.Prelude.{ℕ, true, List, length, get_or, AllPairs, Contain
 use Rattle.geo_sign.specs.Point.{Point, origin}
 use Rattle.geo_sign.specs.Tie.{height}
 use Rattle.geo_sign.specs.Vertices.{Vertices}
-use Rattle.geo_sign.specs.Cells.{IsRisingCell, IsBefore}
+use Rattle.geo_sign.specs.Cells.{IsRisingCell}
+use Rattle.geo_sign.specs.Rising.{IsBefore}
 
 -- the vertices at these points, numbered in order, all of them in
 abbrev pub all_at : List Point → Vertices

@@ -20,7 +20,7 @@ use Rattle.std.specs.Prelude.{ℕ, ◌≡◌, ◌⊎◌, ◌+◌, ◌-◌, ◌<�
 use Rattle.std.specs.Prelude.{Contains, length, map}
 use Rattle.std.specs.List.{flat_map}
 use Rattle.line_text.specs.Numbers.{line_feed, counted, Lacks, BeginsWithNone, IsBetween}
-use Rattle.line_text.specs.Rising.{IsBefore}
+use Rattle.geo_sign.specs.Rising.{IsBefore}
 use Rattle.line_text.specs.declared.refusal.LineRefusal.{LineRefusal}
 use Rattle.line_text.specs.declared.refusal.LineRefusal.TheVariants.{BadLine, Order, Cut, NoMemory}
 

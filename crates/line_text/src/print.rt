@@ -3,21 +3,11 @@
 ghost use Rattle.std.specs.Prelude.{◌≡◌, ◌++◌, OnOk, OnErr, length, take};
 ghost use Rattle.line_text.specs.Numbers.{ended, counted, signed_ended};
 
-use num_text::push_whole;
+use num_text::push_ended;
 use std::alloc::AllocError;
 
 /// Want of memory.
 pub type NoMemory = AllocError;
-
-// A number and the byte that ends it.
-fn push_ended(out: &mut Vec<u8>, z: i128, end: u8) -> Result<(), NoMemory>
-    ensures ok { OnOk result (out.new.items ≡ out.old.items ++ signed_ended z end) }
-    ensures kept { OnErr result (take (length out.old.items) out.new.items ≡ out.old.items) }
-{
-    push_whole(out, z)?;
-    out.push(end)?;
-    Ok(())
-}
 
 /// Adds the decimal text of `n` and the byte `end` at the end of `out`.
 ///

@@ -6,7 +6,7 @@ use Rattle.std.proofs.lemmas.Bool.{or_left, or_right, eq-eqb, cases_lt}
 use Rattle.std.proofs.lemmas.List.{get_or-map, length-map}
 use Rattle.std.proofs.lemmas.List.Elements.{All-map, filter-append}
 use Rattle.std.proofs.lemmas.List.Folds.{list_any_at}
-use Rattle.line_text.specs.Rising.{IsBefore}
+use Rattle.geo_sign.specs.Rising.{IsBefore}
 use Rattle.geo_sign.specs.Point.{Point}
 use Rattle.mesh_ply.specs.Meshes.{below, is_vertex_of, is_used, used, new_number, point_at, mesh_of, IsFace, IsFaceList, IsMesh}
 use Rattle.mesh_ply.proofs.Vertices.{length_filter_below}

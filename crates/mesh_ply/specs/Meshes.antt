@@ -14,7 +14,7 @@
 use Rattle.std.specs.Prelude.{ℕ, zero, suc, ◌≡◌, ◌<◌, ◌==◌, ◌^◌, Bool, false, List, [], ◌∷◌, ◌++◌, length, slice_index_or, map}
 use Rattle.std.specs.Prelude.{filter, All, AllPairs}
 use Rattle.std.specs.List.{list_any}
-use Rattle.line_text.specs.Rising.{IsBefore}
+use Rattle.geo_sign.specs.Rising.{IsBefore}
 use Rattle.geo_sign.specs.Point.{Point, origin}
 
 -- the numbers below n, rising

@@ -5,7 +5,7 @@
 //! work is linear in the numbers of points and of facets. It stands on `geo_sign`'s points.
 
 ghost use Rattle.std.specs.Prelude.{◌≡◌, ◌<◌, ◌^◌, ◌||◌, ℕ, false, IfOk, All, AllPairs, length, map, slice_index, slice_index_or};
-ghost use Rattle.line_text.specs.Rising.{IsBefore};
+ghost use Rattle.geo_sign.specs.Rising.{IsBefore};
 ghost use Rattle.mesh_ply.specs.Meshes.{below, is_vertex_of, is_used, marked, number_among, point_at, mesh_of, IsFace, IsFaceList, IsMesh};
 
 use crate::{Mesh, NoMemory};

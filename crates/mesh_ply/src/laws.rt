@@ -3,7 +3,7 @@
 
 ghost use Rattle.std.specs.Prelude.{◌≡◌, ◌<◌, ◌^◌, ◌++◌, [], ℕ, List, AllPairs, length};
 ghost use Rattle.geo_sign.specs.Point.{Point};
-ghost use Rattle.line_text.specs.Rising.{IsBefore};
+ghost use Rattle.geo_sign.specs.Rising.{IsBefore};
 ghost use Rattle.mesh_ply.specs.Meshes.{mesh_of, IsFaceList, IsMesh};
 ghost use Rattle.mesh_ply.specs.Texts.{mesh_text, IsPrinted};
 

@@ -4,7 +4,7 @@ use Rattle.std.proofs.Common.{[], ◌∷◌, ◌++◌, length, get_or, take, ref
 use Rattle.std.specs.List.{list_all}
 use Rattle.std.specs.Char.{is_ascii_digit, digit_value}
 use Rattle.std.specs.Str.Parse.{digits_value_after}
-use Rattle.std.proofs.lemmas.Bool.{le-ltb, lt-ltb, eqb-true}
+use Rattle.std.proofs.lemmas.Bool.{le-ltb, lt-ltb, eqb-true, and_parts}
 use Rattle.std.proofs.lemmas.Bool.Decides.{nat_tests}
 use Rattle.std.proofs.lemmas.List.{take_more}
 use Rattle.std.proofs.Math.Nat.{mul-le-mul_left, mul-le-mul_right, mul_assoc, pow-succ', le_trans, lt_of_lt_of_le, one-le-pow}
@@ -23,23 +23,17 @@ value_after_more start (x ∷ ds) d = value_after_more (start * 10 + digit_value
 abbrev pub done : ℤ → Result ℤ NumRefusal
 done z = Ok z
 
-pub both_true : (a b : Bool) → (a && b) ≡ true → (a ≡ true) × (b ≡ true)
-both_true true true e = (refl, refl)
-both_true true false e = cc
-both_true false true e = cc
-both_true false false e = cc
-
 pub digit_bounds : (b : ℕ) → is_ascii_digit b ≡ true → (48 ≤ b) × (b ≤ 57)
 digit_bounds b e =
-    let both = both_true (leb 48 b) (leb b 57) e in
+    let both = and_parts (leb 48 b) (leb b 57) e in
     (grind (arith, nat_tests, both.0), grind (arith, nat_tests, both.1))
 
 pub digit_there : (ds : List ℕ) (i : ℕ) → list_all is_ascii_digit ds ≡ true → i < length ds
     → (48 ≤ get_or ds i 0) × (get_or ds i 0 ≤ 57)
 digit_there [] i all lt = absurd (omega arith)
-digit_there (d ∷ ds) zero all lt = digit_bounds d (both_true (is_ascii_digit d) (list_all is_ascii_digit ds) all).0
+digit_there (d ∷ ds) zero all lt = digit_bounds d (and_parts (is_ascii_digit d) (list_all is_ascii_digit ds) all).0
 digit_there (d ∷ ds) (suc i) all lt =
-    digit_there ds i (both_true (is_ascii_digit d) (list_all is_ascii_digit ds) all).1 (omega arith)
+    digit_there ds i (and_parts (is_ascii_digit d) (list_all is_ascii_digit ds) all).1 (omega arith)
 
 -- one factor of ten taken out of a power
 pub ten_out : (v n : ℕ) → v * 10 ^ suc n ≡ v * 10 * 10 ^ n
@@ -86,7 +80,7 @@ pub value_below : (start : ℕ) (ds : List ℕ) → list_all is_ascii_digit ds �
     → digits_value_after 10 start ds < (start + 1) * 10 ^ length ds
 value_below start [] all = omega arith
 value_below start (d ∷ ds) all =
-    let both = both_true (is_ascii_digit d) (list_all is_ascii_digit ds) all in
+    let both = and_parts (is_ascii_digit d) (list_all is_ascii_digit ds) all in
     let bounds = digit_bounds d both.0 in
     let is : digit_value d ≡ d - 48 = digit_is d bounds.0 bounds.1 in
     let more : start * 10 + digit_value d + 1 ≤ (start + 1) * 10 = omega (arith, is, bounds.0, bounds.1) in
@@ -104,7 +98,7 @@ digits_by_zero false d ds rest all = all
 pub significant_digits : (ds : List ℕ) → list_all is_ascii_digit ds ≡ true → list_all is_ascii_digit (significant ds) ≡ true
 significant_digits [] all = refl
 significant_digits (d ∷ ds) all =
-    digits_by_zero (eqb d 48) d ds (significant_digits ds (both_true (is_ascii_digit d) (list_all is_ascii_digit ds) all).1) all
+    digits_by_zero (eqb d 48) d ds (significant_digits ds (and_parts (is_ascii_digit d) (list_all is_ascii_digit ds) all).1) all
 
 value_by_zero : (z : Bool) (d : ℕ) (ds : List ℕ) → eqb d 48 ≡ z
     → digits_value_after 10 0 (significant ds) ≡ digits_value_after 10 0 ds
@@ -137,7 +131,7 @@ whole_is token v digits short is =
 
 pub taken_digits : (digits ds : List ℕ) → ds ≡ significant digits → are_digits digits ≡ true → list_all is_ascii_digit ds ≡ true
 taken_digits digits ds is all =
-    rw is (significant_digits digits (both_true (leb 1 (length digits)) (list_all is_ascii_digit digits) all).1)
+    rw is (significant_digits digits (and_parts (leb 1 (length digits)) (list_all is_ascii_digit digits) all).1)
 
 -- a sign does not change a number's size
 pub signed_size : (is_negative : Bool) (n : ℕ) → unsigned_abs (signed is_negative n) ≡ n

@@ -4,7 +4,7 @@ use Rattle.std.proofs.Common.{List, [], ◌∷◌, ◌++◌, length, refl, sym, 
 use Rattle.std.specs.List.{list_all}
 use Rattle.std.specs.Char.{is_ascii_digit, digit_value}
 use Rattle.std.specs.Str.Parse.{digits_value_after}
-use Rattle.std.proofs.lemmas.Bool.{le-ltb, lt-ltb, ltb-false, cases_lt, cond-true}
+use Rattle.std.proofs.lemmas.Bool.{le-ltb, lt-ltb, ltb-false, cases_lt, cond-true, and_parts}
 use Rattle.std.proofs.lemmas.Nat.{pow-add}
 use Rattle.std.proofs.lemmas.List.{length-append}
 use Rattle.std.proofs.lemmas.List.Folds.{list_all-append}
@@ -12,7 +12,7 @@ use Rattle.std.proofs.Math.Nat.{mul-le-mul_left, mul-le-mul_right, mul_assoc, on
 use Rattle.std.proofs.Math.Nat.{div-eq_of_lt, le_trans}
 use Rattle.num_text.specs.WholeNumbers.{significant, are_digits}
 use Rattle.num_text.specs.Decimals.{nearest, within_limit, DecimalParts, is_decimal, is_long, exponent_of}
-use Rattle.num_text.proofs.DigitLemmas.{both_true, value_below, value_small, significant_value, significant_digits}
+use Rattle.num_text.proofs.DigitLemmas.{value_below, value_small, significant_value, significant_digits}
 use Rattle.num_text.specs.declared.decimal.TheConstants.{SCALED_LIMIT}
 
 pub either_false : (a b : Bool) → (a || b) ≡ false → (a ≡ false) × (b ≡ false)
@@ -58,7 +58,7 @@ pub record TwoParts (xs ys : List ℕ) : Type 0 where
 pub two_parts : (xs ys : List ℕ) → list_all is_ascii_digit (xs ++ ys) ≡ true → TwoParts xs ys
 two_parts xs ys all =
     let both =
-    both_true (list_all is_ascii_digit xs) (list_all is_ascii_digit ys) (sym (list_all-append is_ascii_digit xs ys) ∙ all) in
+    and_parts (list_all is_ascii_digit xs) (list_all is_ascii_digit ys) (sym (list_all-append is_ascii_digit xs ys) ∙ all) in
     record { first = both.0; second = both.1 }
 
 pub value_of_second : (xs ys : List ℕ) → length (significant xs) ≡ 0
@@ -183,8 +183,8 @@ within_limit_none n lt = rw (lt-ltb SCALED_LIMIT n lt) refl
 pub exponent_digits : (p : DecimalParts) → is_decimal p ≡ true → p.has_exponent ≡ true
     → list_all is_ascii_digit p.exponent ≡ true
 exponent_digits p decimal marked =
-    let both = both_true (are_digits (p.whole ++ p.fraction)) (not p.has_exponent || are_digits p.exponent) decimal in
-    (both_true (leb 1 (length p.exponent)) (list_all is_ascii_digit p.exponent)
+    let both = and_parts (are_digits (p.whole ++ p.fraction)) (not p.has_exponent || are_digits p.exponent) decimal in
+    (and_parts (leb 1 (length p.exponent)) (list_all is_ascii_digit p.exponent)
     (marked_digits p.has_exponent (are_digits p.exponent) both.1 marked)).1
 
 pub exponent_short : (p : DecimalParts) → is_long p ≡ false → length (significant p.exponent) ≤ 4

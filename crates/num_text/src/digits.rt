@@ -31,7 +31,7 @@ pub(crate) fn without_sign(text: &[u8]) -> &[u8]
 }
 
 /// Whether each byte is a digit.
-pub(crate) fn all_digits(text: &[u8]) -> bool
+pub fn all_digits(text: &[u8]) -> bool
     ensures { result ≡ list_all is_ascii_digit text.now }
 {
     text.iter().all(|byte| b'0' <= *byte && *byte <= b'9')

@@ -19,7 +19,8 @@ mod tests;
 mod whole_number;
 
 pub use decimal::{SCALED_LIMIT, UNIT_LIMIT, scaled};
+pub use digits::all_digits;
 pub use laws::printed_numbers_are_read;
-pub use print::{NoMemory, push_natural, push_whole};
+pub use print::{NoMemory, push_ended, push_natural, push_whole};
 pub use refusal::NumRefusal;
 pub use whole_number::whole;

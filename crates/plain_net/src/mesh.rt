@@ -3,7 +3,7 @@
 ghost use Rattle.std.specs.Prelude.{◌≡◌, ◌<◌, ◌≤◌, ◌++◌, IfOk, AllPairs, length};
 ghost use Rattle.flow_net.specs.Flows.{IsAdmissible};
 ghost use Rattle.geo_sign.specs.Vertices.{corners, vertices_of};
-ghost use Rattle.line_text.specs.Rising.{IsBefore};
+ghost use Rattle.geo_sign.specs.Rising.{IsBefore};
 ghost use Rattle.mesh_ply.specs.Meshes.{mesh_of, IsMesh};
 ghost use Rattle.visibility.specs.Cuts.{cut_facets};
 ghost use Rattle.visibility.specs.Laws.{test_of};

@@ -12,6 +12,8 @@ use Rattle.std.proofs.lemmas.List.{get_or_append_left}
 use Rattle.std.proofs.lemmas.List.Elements.{All-append, All-cons, filter_passes}
 use Rattle.std.proofs.lemmas.List.Folds.{list_any_at}
 use Rattle.std.proofs.lemmas.List.Quantifiers.{all_pairs_push}
+use Rattle.std.proofs.lemmas.Bool.{and_parts}
+use Rattle.std.proofs.lemmas.Option.{same_Some}
 use Rattle.ply_head.specs.declared.header.Scalar.{Scalar}
 use Rattle.ply_head.specs.declared.header.Scalar.TheVariants.{Char, Uchar, Short, Ushort, Int, Uint, Float, Double}
 use Rattle.ply_head.specs.declared.header.Shape.TheVariants.{One, Many}
@@ -26,7 +28,7 @@ use Rattle.ply_head.specs.Statements.{finish_line, statement_of_words}
 use Rattle.ply_head.specs.Headers.{has_property, has_element}
 use Rattle.ply_head.specs.Grammar.{Adds, AddsProperty, Leads, HasHeader}
 use Rattle.ply_head.specs.Readable.{IsName, HasWholeCount, IsReadableProperty, IsReadable}
-use Rattle.ply_head.proofs.Optional.{bind_some, same_some}
+use Rattle.ply_head.proofs.Optional.{bind_some}
 use Rattle.ply_head.proofs.SpellingLeads.{before_here}
 
 -- ---- what a statement's words tell
@@ -39,12 +41,6 @@ choice : {A : Type 0} (b : Bool) (x y : Option A) (s : A) → cond b x y ≡ Som
 choice true x y s e = inl e
 choice false x y s e = inr e
 
-both_true : (a b : Bool) → (a && b) ≡ true → (a ≡ true) × (b ≡ true)
-both_true true true e = (refl, refl)
-both_true true false e = cc
-both_true false true e = cc
-both_true false false e = cc
-
 abbrev Stated : Statement → Type 0
 Stated nothing = Unit {0}
 Stated (format kind) = Unit {0}
@@ -56,7 +52,7 @@ name_told : (word name : List ℕ) → 0 < length word → name_of word ≡ Some
 unfolding name_of
 name_told word name some e =
     let g = guard_some (list_all is_name_byte word) (Some word) name e in
-    let is : word ≡ name = same_some word name g.1 in
+    let is : word ≡ name = same_Some word name g.1 in
     subst IsName is (record { some = some; visible = g.0 })
 
 count_told : (word : List ℕ) (count : ℕ) → count_of word ≡ Some count → count ≤ 4294967295
@@ -67,23 +63,23 @@ count_told word count e =
     (leb 1 (length word) && (leb (length word) 10 && (list_all is_ascii_digit word && leb (digits_value 10 word) 4294967295)))
     (Some (digits_value 10 word)) count e in
     let b =
-    both_true (leb 1 (length word))
+    and_parts (leb 1 (length word))
     (leb (length word) 10 && (list_all is_ascii_digit word && leb (digits_value 10 word) 4294967295)) g.0 in
-    let c = both_true (leb (length word) 10) (list_all is_ascii_digit word && leb (digits_value 10 word) 4294967295) b.1 in
-    let d = both_true (list_all is_ascii_digit word) (leb (digits_value 10 word) 4294967295) c.1 in
-    let is : digits_value 10 word ≡ count = same_some (digits_value 10 word) count g.1 in
+    let c = and_parts (leb (length word) 10) (list_all is_ascii_digit word && leb (digits_value 10 word) 4294967295) b.1 in
+    let d = and_parts (list_all is_ascii_digit word) (leb (digits_value 10 word) 4294967295) c.1 in
+    let is : digits_value 10 word ≡ count = same_Some (digits_value 10 word) count g.1 in
     subst (λ n. n ≤ 4294967295) is (within (digits_value 10 word) d.1)
   where
     within : (n : ℕ) → leb n 4294967295 ≡ true → n ≤ 4294967295
     within n h = grind (arith, nat_tests)
 
 whole_told : (scalar count : Scalar) → whole_scalar scalar ≡ Some count → whole_scalar count ≡ Some count
-whole_told Char count e = subst (λ s. whole_scalar s ≡ Some s) (same_some Char count e) refl
-whole_told Uchar count e = subst (λ s. whole_scalar s ≡ Some s) (same_some Uchar count e) refl
-whole_told Short count e = subst (λ s. whole_scalar s ≡ Some s) (same_some Short count e) refl
-whole_told Ushort count e = subst (λ s. whole_scalar s ≡ Some s) (same_some Ushort count e) refl
-whole_told Int count e = subst (λ s. whole_scalar s ≡ Some s) (same_some Int count e) refl
-whole_told Uint count e = subst (λ s. whole_scalar s ≡ Some s) (same_some Uint count e) refl
+whole_told Char count e = subst (λ s. whole_scalar s ≡ Some s) (same_Some Char count e) refl
+whole_told Uchar count e = subst (λ s. whole_scalar s ≡ Some s) (same_Some Uchar count e) refl
+whole_told Short count e = subst (λ s. whole_scalar s ≡ Some s) (same_Some Short count e) refl
+whole_told Ushort count e = subst (λ s. whole_scalar s ≡ Some s) (same_Some Ushort count e) refl
+whole_told Int count e = subst (λ s. whole_scalar s ≡ Some s) (same_Some Int count e) refl
+whole_told Uint count e = subst (λ s. whole_scalar s ≡ Some s) (same_Some Uint count e) refl
 whole_told Float count e = absurd cc
 whole_told Double count e = absurd cc
 
@@ -94,7 +90,7 @@ format_told (a ∷ []) s e = absurd cc
 format_told (kind ∷ version ∷ []) s e =
     let g = guard_some (bytes_eq version (codes "1.0")) (kind_of kind >>= λ k. Some (format k)) s e in
     let b = bind_some (kind_of kind) (λ k. Some (format k)) s g.1 in
-    subst Stated (same_some (format b.0) s b.2) tt
+    subst Stated (same_Some (format b.0) s b.2) tt
 format_told (a ∷ b ∷ c ∷ words) s e = absurd cc
 
 element_told : (words : List (List ℕ)) (s : Statement) → All (λ w. 0 < length w) words → element_line words ≡ Some s → Stated s
@@ -104,7 +100,7 @@ element_told (a ∷ []) s some e = absurd cc
 element_told (name ∷ count ∷ []) s some e =
     let b = bind_some (name_of name) (λ n. count_of count >>= λ c. Some (element n c)) s e in
     let c = bind_some (count_of count) (λ c. Some (element b.0 c)) s b.2 in
-    subst Stated (same_some (element b.0 c.0) s c.2)
+    subst Stated (same_Some (element b.0 c.0) s c.2)
     (name_told name b.0 (some 0 name (omega arith)) b.1, count_told count c.0 c.1)
 element_told (a ∷ b ∷ c ∷ words) s some e = absurd cc
 
@@ -116,7 +112,7 @@ property_told (a ∷ []) s some e = absurd cc
 property_told (type ∷ name ∷ []) s some e =
     let b = bind_some (scalar_of type) (λ scalar. name_of name >>= λ n. Some (property n (One scalar))) s e in
     let c = bind_some (name_of name) (λ n. Some (property n (One b.0))) s b.2 in
-    subst Stated (same_some (property c.0 (One b.0)) s c.2) (name_told name c.0 (some 1 name (omega arith)) c.1, tt)
+    subst Stated (same_Some (property c.0 (One b.0)) s c.2) (name_told name c.0 (some 1 name (omega arith)) c.1, tt)
 property_told (a ∷ b ∷ c ∷ []) s some e = absurd cc
 property_told (list ∷ count ∷ item ∷ name ∷ []) s some e =
     let g =
@@ -130,22 +126,22 @@ property_told (list ∷ count ∷ item ∷ name ∷ []) s some e =
     bind_some (whole_scalar t.0) (λ w. scalar_of item >>= λ i. name_of name >>= λ n. Some (property n (Many w i))) s t.2 in
     let i = bind_some (scalar_of item) (λ i. name_of name >>= λ n. Some (property n (Many w.0 i))) s w.2 in
     let n = bind_some (name_of name) (λ n. Some (property n (Many w.0 i.0))) s i.2 in
-    subst Stated (same_some (property n.0 (Many w.0 i.0)) s n.2)
+    subst Stated (same_Some (property n.0 (Many w.0 i.0)) s n.2)
     (name_told name n.0 (some 3 name (omega arith)) n.1, whole_told t.0 w.0 w.1)
 property_told (a ∷ b ∷ c ∷ d ∷ f ∷ words) s some e = absurd cc
 
 finish_told : (words : List (List ℕ)) (s : Statement) → finish_line words ≡ Some s → Stated s
 unfolding finish_line
-finish_told [] s e = subst Stated (same_some finish s e) tt
+finish_told [] s e = subst Stated (same_Some finish s e) tt
 finish_told (a ∷ words) s e = absurd cc
 
 told : (words : List (List ℕ)) (s : Statement) → All (λ w. 0 < length w) words → statement_of_words words ≡ Some s → Stated s
 unfolding statement_of_words
-told [] s some e = subst Stated (same_some nothing s e) tt
+told [] s some e = subst Stated (same_Some nothing s e) tt
 told (word ∷ words) s some e =
     let rest : All (λ w. 0 < length w) words = λ i d lt. some (suc i) d (omega arith) in
     elim (choice (either_word word (codes "comment") (codes "obj_info")) (Some nothing) _ s e) [
-      | inl skipped ↦ subst Stated (same_some nothing s skipped) tt
+      | inl skipped ↦ subst Stated (same_Some nothing s skipped) tt
       | inr e1 ↦ elim (choice (bytes_eq word (codes "format")) (format_line words) _ s e1) [
         | inl is ↦ format_told words s is
         | inr e2 ↦ elim (choice (bytes_eq word (codes "element")) (element_line words) _ s e2) [

@@ -7,6 +7,7 @@ use Rattle.std.specs.Char.{is_ascii_digit}
 use Rattle.std.proofs.lemmas.Bool.Decides.{nat_tests}
 use Rattle.std.proofs.lemmas.Fmt.{decimal_is_IsNumeral, length-decimal-le}
 use Rattle.std.proofs.lemmas.List.Folds.{list_all-append}
+use Rattle.std.proofs.lemmas.Bool.{and_parts}
 use Rattle.num_text.proofs.PrintedLemmas.{decimal_digits}
 use Rattle.ply_head.specs.declared.header.Kind.{Kind}
 use Rattle.ply_head.specs.declared.header.Kind.TheVariants.{Ascii, BinaryLittle, BinaryBig}
@@ -30,12 +31,6 @@ use Rattle.ply_head.proofs.WordLemmas.{words_word, words_last}
 abbrev pub is_plain : ℕ → Bool
 is_plain b = nat_le 32 b && nat_le b 126
 
-both_true : (a b : Bool) → (a && b) ≡ true → (a ≡ true) × (b ≡ true)
-both_true true true e = (refl, refl)
-both_true true false e = cc
-both_true false true e = cc
-both_true false false e = cc
-
 visible_plain : (b : ℕ) → is_name_byte b ≡ true → is_plain b ≡ true
 visible_plain b e = grind (arith, nat_tests)
 
@@ -54,20 +49,20 @@ plain_no_return b e = grind (arith, nat_tests)
 each : (p q : ℕ → Bool) → ((b : ℕ) → p b ≡ true → q b ≡ true) → (bs : List ℕ) → list_all p bs ≡ true → list_all q bs ≡ true
 each p q follows [] all = refl
 each p q follows (b ∷ bs) all =
-    let parts = both_true (p b) (list_all p bs) all in
+    let parts = and_parts (p b) (list_all p bs) all in
     rw (follows b parts.0, each p q follows bs parts.1) refl
 
 none_of : (p q : ℕ → Bool) → ((b : ℕ) → p b ≡ true → q b ≡ false) → (bs : List ℕ) → list_all p bs ≡ true
     → All (λ b. q b ≡ false) bs
 none_of p q follows [] all i d lt = absurd (omega arith)
-none_of p q follows (b ∷ bs) all zero d lt = follows b (both_true (p b) (list_all p bs) all).0
-none_of p q follows (b ∷ bs) all (suc i) d lt = none_of p q follows bs (both_true (p b) (list_all p bs) all).1 i d (omega arith)
+none_of p q follows (b ∷ bs) all zero d lt = follows b (and_parts (p b) (list_all p bs) all).0
+none_of p q follows (b ∷ bs) all (suc i) d lt = none_of p q follows bs (and_parts (p b) (list_all p bs) all).1 i d (omega arith)
 
 text_same : (line : List ℕ) → list_all is_plain line ≡ true → line_text line ≡ line
 text_same [] all = refl
-text_same (b ∷ []) all = rw (plain_no_return b (both_true (is_plain b) true all).0) refl
+text_same (b ∷ []) all = rw (plain_no_return b (and_parts (is_plain b) true all).0) refl
 text_same (b ∷ c ∷ bs) all =
-    ap (λ (r : List ℕ). b ∷ r) (text_same (c ∷ bs) (both_true (is_plain b) (list_all is_plain (c ∷ bs)) all).1)
+    ap (λ (r : List ℕ). b ∷ r) (text_same (c ∷ bs) (and_parts (is_plain b) (list_all is_plain (c ∷ bs)) all).1)
 
 pub line_plain : (line : List ℕ) → list_all is_plain line ≡ true → length line ≤ 1000 → IsLine line
 line_plain line all le = record {

@@ -14,8 +14,8 @@ use Rattle.line_text.specs.Facets.{IsFacetRow}
 use Rattle.cert_text.specs.declared.certificate.FlowRow.{FlowRow}
 use Rattle.cert_text.specs.declared.certificate.SinkRow.{SinkRow}
 use Rattle.geo_sign.specs.Vertices.{Vertices}
-use Rattle.geo_sign.specs.Cells.{IsBefore, IsRisingCell}
-use Rattle.line_text.specs.Rising.{IsBefore as IsRowBefore}
+use Rattle.geo_sign.specs.Cells.{IsRisingCell}
+use Rattle.geo_sign.specs.Rising.{IsBefore}
 use Rattle.visibility.specs.Scenes.{Scene}
 use Rattle.geo_sign.specs.Tetrahedron.{facet_at}
 use Rattle.visibility.specs.Complexes.{Complex}
@@ -31,17 +31,6 @@ use Rattle.scan.specs.declared.scan.Scan.{Scan}
 use Rattle.solution.proofs.SightLists.{few_points}
 use Rattle.solution.specs.Solutions.{HasCounts, IsCertificate, flow_on, sink_at, flow_row, sink_row, flow_rows, sink_rows}
 use Rattle.flow_net.specs.Weights.{IsSightList}
-
--- the two orders of rows are one
-same_before : (xs ys : List ℕ) → IsBefore xs ys → IsRowBefore xs ys
-same_before [] [] h = h
-same_before [] (y ∷ ys) h = h
-same_before (x ∷ xs) [] h = h
-same_before (x ∷ xs) (y ∷ ys) h =
-    ⊎_elim (λ (l : x < y). inl l) (λ (p : (x ≡ y) × IsBefore xs ys). inr (p.0, same_before xs ys p.1)) h
-
-pub rise_so : (rows : List (List ℕ)) → AllPairs IsBefore rows → AllPairs IsRowBefore rows
-rise_so rows rising = λ i j d l m. same_before (get_or rows i d) (get_or rows j d) (rising i j d l m)
 
 -- an element that was kept: it is in the list and passes the test
 record IsKept (test : List ℕ → Bool) (rows : List (List ℕ)) (row : List ℕ) : Type 0 where
@@ -114,8 +103,8 @@ flow_list s complex claim is few few_sights short valid =
                 );
           });
       rising =
-          subst (λ (rows : List (List ℕ)). AllPairs IsRowBefore rows) (sym (keys_of keys))
-          (rise_so keys (AllPairs-filter IsBefore test complex.facets is.facets_are.rising));
+          subst (λ (rows : List (List ℕ)). AllPairs IsBefore rows) (sym (keys_of keys))
+          (AllPairs-filter IsBefore test complex.facets is.facets_are.rising);
     }
   where
     keys_of : (keys : List (List ℕ))
@@ -141,8 +130,8 @@ sink_list s complex claim is few few_sights short valid =
             fits = omega (arith, valid.within_sink (get_or keys k []) h.there, sink_fits s (get_or keys k []) few_sights);
           });
       rising =
-          subst (λ (rows : List (List ℕ)). AllPairs IsRowBefore rows) (sym (keys_of keys))
-          (rise_so keys (AllPairs-filter IsBefore test complex.cells is.cells_are.rising));
+          subst (λ (rows : List (List ℕ)). AllPairs IsBefore rows) (sym (keys_of keys))
+          (AllPairs-filter IsBefore test complex.cells is.cells_are.rising);
     }
   where
     keys_of : (keys : List (List ℕ))
@@ -158,7 +147,7 @@ cell_list s complex inside is few short =
       few = short;
       each =
           λ k d l. a_cell s complex is few (get_or (filter inside complex.cells) k d) (kept inside complex.cells k d l).there;
-      rising = rise_so (filter inside complex.cells) (AllPairs-filter IsBefore inside complex.cells is.cells_are.rising);
+      rising = AllPairs-filter IsBefore inside complex.cells is.cells_are.rising;
     }
 
 -- the three lists of a certificate have lengths of 64 bits

@@ -8,7 +8,7 @@ use Rattle.std.proofs.lemmas.List.Elements.{All-contains, All-contains_itself, A
 use Rattle.std.proofs.lemmas.List.Folds.{list_any-from_Any, Any-from_list_any}
 use Rattle.std.proofs.lemmas.List.Kept.{AllPairs-filter}
 use Rattle.std.proofs.lemmas.List.Sums.{sum_by-cons}
-use Rattle.geo_sign.specs.Cells.{IsBefore}
+use Rattle.geo_sign.specs.Rising.{IsBefore}
 use Rattle.geo_sign.proofs.Rising.{rising_law}
 use Rattle.solution.specs.Solutions.{stated, listed}
 use Rattle.visibility.specs.Flows.{is_equal}

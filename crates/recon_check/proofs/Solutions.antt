@@ -12,7 +12,8 @@ use Rattle.geo_sign.specs.Vertices.{corners}
 use Rattle.mesh_ply.specs.Meshes.{Surface, mesh_of}
 use Rattle.solution.specs.Scans.{points_of, scene_of_scan}
 use Rattle.solution.specs.Solutions.{flow_on, sink_at, flow_row, sink_row, HasCounts, IsSolution}
-use Rattle.solution.proofs.Uniqueness.{same_bools, filter_same}
+use Rattle.geo_sign.proofs.Booleans.{same_bools}
+use Rattle.solution.proofs.Uniqueness.{filter_same}
 use Rattle.scan.specs.Shown.{Shown}
 use Rattle.visibility.specs.Scenes.{Scene}
 use Rattle.geo_sign.specs.Tetrahedron.{facet_at, turned}

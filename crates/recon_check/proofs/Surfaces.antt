@@ -9,7 +9,7 @@ use Rattle.flow_net.specs.Nets.{flag_at}
 use Rattle.flow_net.specs.Flows.{cost_of, IsLeastInside as IsLeastInsideNet}
 use Rattle.geo_sign.specs.Point.{Point}
 use Rattle.geo_sign.specs.Vertices.{Vertices, corners, vertices_of}
-use Rattle.geo_sign.specs.Cells.{IsBefore}
+use Rattle.geo_sign.specs.Rising.{IsBefore}
 use Rattle.mesh_ply.specs.Meshes.{mesh_of}
 use Rattle.mesh_ply.specs.declared.mesh.Mesh.{Mesh}
 use Rattle.solution.specs.Scans.{points_of, scene_of_scan}

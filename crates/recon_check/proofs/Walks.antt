@@ -6,7 +6,7 @@ use Rattle.std.proofs.lemmas.List.{take_more, take-map, length-take-le, get_or-t
 use Rattle.std.proofs.lemmas.List.{map-append}
 use Rattle.line_text.proofs.Rows.{before_trans}
 use Rattle.flow_check.specs.Firsts.{IsFirst}
-use Rattle.line_text.specs.Rising.{IsBefore}
+use Rattle.geo_sign.specs.Rising.{IsBefore}
 use Rattle.solution.specs.Solutions.{stated}
 use Rattle.visibility.specs.Flows.{is_equal}
 use Rattle.visibility.proofs.Indices.{is_equal_itself, is_equal_means, not_before_itself}

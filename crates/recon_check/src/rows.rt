@@ -4,7 +4,7 @@
 //! isn't.
 
 ghost use Rattle.std.specs.Prelude.{◌≡◌, ◌≢◌, ◌<◌, [], IfOk, IfErr, IfSome, IfNone, All, AllPairs, Contains, OnOk, length, map, slice_index_or};
-ghost use Rattle.line_text.specs.Rising.{IsBefore};
+ghost use Rattle.geo_sign.specs.Rising.{IsBefore};
 ghost use Rattle.solution.specs.Solutions.{stated};
 ghost use Rattle.recon_check.specs.Claims.{is_among};
 ghost use Rattle.recon_check.specs.Stops.{StopsFor};

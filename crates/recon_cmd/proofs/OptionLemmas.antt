@@ -15,7 +15,7 @@ use Rattle.num_text.specs.Decimals.{scaled_of}
 use Rattle.recon_cmd.specs.Options.{number_of, is_comma, point_in}
 use Rattle.geo_sign.specs.declared.point.TheConstants.{DATA_LIMIT}
 
-no_plus : (d : ℕ) → is_ascii_digit d ≡ true → eqb d 43 ≡ false
+pub no_plus : (d : ℕ) → is_ascii_digit d ≡ true → eqb d 43 ≡ false
 no_plus d is = grind (arith, nat_tests)
 
 no_minus : (d : ℕ) → is_ascii_digit d ≡ true → eqb d 45 ≡ false

@@ -12,7 +12,7 @@ mod verdicts;
 use crate::NoMemory;
 use cert_text::Certificate;
 pub use meshes::{line_of_export, line_of_mesh_refusal, line_of_slice, line_of_unbalanced_edge};
-use num_text::push_whole;
+use num_text::{push_ended, push_whole};
 pub use refusals::line_of_refusal;
 use std::alloc::Global;
 pub use verdicts::{line_of_reason, line_of_yes};
@@ -119,8 +119,7 @@ pub fn text_of_cells(alloc: Global, cells: &[[u32; 4]]) -> Result<Vec<u8>, NoMem
 {
     let mut text = Vec::new(alloc);
     text.extend_from_slice(b"cells ")?;
-    push_whole(&mut text, cells.len() as i128)?;
-    text.push(b'\n')?;
+    push_ended(&mut text, cells.len() as i128, b'\n')?;
     push_rows(&mut text, cells)?;
     Ok(text)
 }
@@ -141,17 +140,8 @@ fn push_row(text: &mut Vec<u8>, cell: [u32; 4]) -> Result<(), NoMemory>
     ensures { OnOk result (text.new.items ≡ text.old.items ++ row_line cell) }
 {
     let [a, b, c, d] = cell;
-    push_number(text, a, b' ')?;
-    push_number(text, b, b' ')?;
-    push_number(text, c, b' ')?;
-    push_number(text, d, b'\n')
-}
-
-// Adds a number and the byte behind it.
-fn push_number(text: &mut Vec<u8>, number: u32, behind: u8) -> Result<(), NoMemory>
-    ensures { OnOk result (text.new.items ≡ text.old.items ++ (decimal number ++ behind ∷ [])) }
-{
-    push_whole(text, i128::from(number))?;
-    text.push(behind)?;
-    Ok(())
+    push_ended(text, i128::from(a), b' ')?;
+    push_ended(text, i128::from(b), b' ')?;
+    push_ended(text, i128::from(c), b' ')?;
+    push_ended(text, i128::from(d), b'\n')
 }

@@ -3,7 +3,7 @@ use Rattle.std.proofs.Common.{ℕ, ◌≡◌, ◌+◌, ◌<◌, ◌^◌, ◌==�
 use Rattle.std.proofs.Common.{[], ◌∷◌, ◌++◌, length, get_or, map, filter, Option, Some, None, ℤ, inl, inr}
 use Rattle.std.specs.Prelude.{IfSome, IfNone}
 use Rattle.std.specs.List.{list_any}
-use Rattle.std.proofs.lemmas.Bool.{false≢true, eqb-true, cases_lt}
+use Rattle.std.proofs.lemmas.Bool.{false≢true, eqb-true, cases_lt, and_parts}
 use Rattle.std.proofs.lemmas.List.{map-append, append-nil, get_or_past, get_or_default}
 use Rattle.std.proofs.lemmas.List.Elements.{filter-append}
 use Rattle.geo_sign.specs.Point.{Point}
@@ -16,7 +16,8 @@ use Rattle.solid_slice.specs.Crossings.{goes_up, key_of_crossing, the_crossed, c
 use Rattle.solid_slice.specs.Crossings.{AreCrossings}
 use Rattle.solid_slice.specs.declared.pair.Pair.{Pair}
 use Rattle.solid_slice.specs.declared.crossings.Crossing.{Crossing}
-use Rattle.solid_slice.proofs.FaceEdges.{both_true, not_true, same_bools, same_number, same_edge, ends_in, edge_within}
+use Rattle.geo_sign.proofs.Booleans.{same_bools}
+use Rattle.solid_slice.proofs.FaceEdges.{not_true, same_number, same_edge, ends_in, edge_within}
 use Rattle.solid_slice.proofs.FaceEdges.{key_parts}
 
 -- A face with an edge between a vertex above and one below is cut.
@@ -48,8 +49,8 @@ cut_within points faces h f cut =
 pub goes_parts : (points : List Point) (h : ℤ) (u v : ℕ) (b : Bool) → (goes_up points h u v && b) ≡ true
     → (is_above points h u ≡ false) × (is_above points h v ≡ true) × (b ≡ true)
 goes_parts points h u v b e =
-    let p = both_true (goes_up points h u v) b e in
-    let q = both_true (not (is_above points h u)) (is_above points h v) p.0 in
+    let p = and_parts (goes_up points h u v) b e in
+    let q = and_parts (not (is_above points h u)) (is_above points h v) p.0 in
     (not_true (is_above points h u) q.0, q.1, p.1)
 
 pub goes_so : (points : List Point) (h : ℤ) (u v : ℕ) (b : Bool) → is_above points h u ≡ false → is_above points h v ≡ true

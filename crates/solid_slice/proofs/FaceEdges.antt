@@ -2,44 +2,25 @@
 use Rattle.std.proofs.Common.{ℕ, ◌≡◌, ◌<◌, ◌≤◌, ◌^◌, ◌==◌, ◌&&◌, ◌||◌, ◌⊎◌, refl, ap, sym, ◌∙◌, arith, Bool, true, false, not}
 use Rattle.std.proofs.Common.{List, [], ◌∷◌, inl, inr}
 use Rattle.std.specs.List.{list_any}
-use Rattle.std.proofs.lemmas.Bool.{false≢true, eqb-true}
+use Rattle.std.proofs.lemmas.Bool.{false≢true, eqb-true, and_parts, or_left, or_right}
 use Rattle.std.proofs.lemmas.Bool.Decides.{nat_tests}
 use Rattle.mesh_ply.specs.Meshes.{IsFace}
 use Rattle.solid_slice.specs.Edges.{is_edge, has_edge}
 use Rattle.solid_slice.specs.Pairs.{key_of}
 
-pub both_true : (p q : Bool) → (p && q) ≡ true → (p ≡ true) × (q ≡ true)
-both_true true true e = (refl, refl)
-both_true true false e = absurd (false≢true e)
-both_true false q e = absurd (false≢true e)
-
 pub one_true : (p q : Bool) → (p || q) ≡ true → (p ≡ true) ⊎ (q ≡ true)
 one_true true q e = inl refl
 one_true false q e = inr e
-
-pub or_left : (p q : Bool) → p ≡ true → (p || q) ≡ true
-or_left true q e = refl
-or_left false q e = absurd (false≢true e)
-
-pub or_right : (p q : Bool) → q ≡ true → (p || q) ≡ true
-or_right true q e = refl
-or_right false q e = e
 
 pub not_true : (p : Bool) → not p ≡ true → p ≡ false
 not_true true e = absurd (false≢true e)
 not_true false e = refl
 
-pub same_bools : (p q : Bool) → (p ≡ true → q ≡ true) → (q ≡ true → p ≡ true) → p ≡ q
-same_bools true true h k = refl
-same_bools true false h k = absurd (false≢true (h refl))
-same_bools false true h k = absurd (false≢true (k refl))
-same_bools false false h k = refl
-
 pub same_number : (a : ℕ) → (a == a) ≡ true
 same_number a = grind (arith, nat_tests)
 
 edge_parts : (u v a b : ℕ) → is_edge u v a b ≡ true → (u ≡ a) × (v ≡ b)
-edge_parts u v a b e = let p = both_true (u == a) (v == b) e in (eqb-true u a p.0, eqb-true v b p.1)
+edge_parts u v a b e = let p = and_parts (u == a) (v == b) e in (eqb-true u a p.0, eqb-true v b p.1)
 
 edge_itself : (a b : ℕ) → is_edge a b a b ≡ true
 edge_itself a b = ap (λ (p : Bool). p && (b == b)) (same_number a) ∙ same_number b

@@ -10,7 +10,7 @@ use Rattle.flow_net.specs.declared.Flow.{Flow}
 use Rattle.flow_net.specs.declared.Labels.{Labels}
 use Rattle.flow_net.specs.declared.Voted.{Voted}
 use Rattle.flow_net.specs.Flows.{cost_of, value_of, IsLeastInside as IsLeastInsideNet, IsValidFlow as IsValidFlowNet}
-use Rattle.geo_sign.specs.Cells.{IsBefore}
+use Rattle.geo_sign.specs.Rising.{IsBefore}
 use Rattle.visibility.specs.Scenes.{Scene}
 use Rattle.visibility.specs.Cuts.{IsLeastInside, cost}
 use Rattle.visibility.specs.Laws.{flow_of, test_of, amount_of, AgreeAsLabels, AgreeAsFlows}

@@ -3,19 +3,11 @@ use Rattle.std.proofs.Common.{ℕ, zero, suc, ◌≡◌, ◌≢◌, ◌+◌, ◌
 use Rattle.std.proofs.Common.{cond, List, [], ◌∷◌, length, get_or, take, map, filter, eqb, AllPairs}
 use Rattle.std.proofs.lemmas.Bool.{eq-eqb, ne_eqb, eqb-true, false_from_ne_true}
 use Rattle.std.proofs.lemmas.List.{take_more, map-append, get_or-map, length-map, same_lists}
-use Rattle.geo_sign.specs.Cells.{IsBefore}
+use Rattle.std.proofs.lemmas.List.Elements.{filter-append}
+use Rattle.geo_sign.specs.Rising.{IsBefore}
 use Rattle.visibility.specs.Flows.{is_equal}
 use Rattle.visibility.proofs.Indices.{not_before_itself, is_equal_itself, is_equal_means}
 use Rattle.solution.specs.Solutions.{stated, listed}
-
-filter-append : {X : Type 0} (p : X → Bool) (xs ys : List X) → filter p (xs ++ ys) ≡ filter p xs ++ filter p ys
-filter-append p [] ys = refl
-filter-append {X = X} p (x ∷ xs) ys = by (p x) (filter-append p xs ys)
-  where
-    by : (b : Bool) → filter p (xs ++ ys) ≡ filter p xs ++ filter p ys
-        → cond b (x ∷ filter p (xs ++ ys)) (filter p (xs ++ ys)) ≡ cond b (x ∷ filter p xs) (filter p xs) ++ filter p ys
-    by true e = ap (λ (zs : List X). x ∷ zs) e
-    by false e = e
 
 -- an element more that passes the test
 pub filter_more_yes : (test : List ℕ → Bool) (rows : List (List ℕ)) (i : ℕ) → i < length rows → test (get_or rows i []) ≡ true

@@ -1,6 +1,7 @@
 -- Two solutions of one scan are the same but for their flows.
 use Rattle.std.proofs.Common.{ℕ, suc, ◌≡◌, ◌&&◌, ◌++◌, not, refl, ap, sym, subst, ◌∙◌, arith, Bool, true, false, cond, List, []}
 use Rattle.std.proofs.Common.{◌∷◌, filter, Contains}
+use Rattle.geo_sign.proofs.Booleans.{same_bools}
 use Rattle.cert_text.specs.Certificates.{Counts}
 use Rattle.geo_sign.specs.Vertices.{corners}
 use Rattle.mesh_ply.specs.Meshes.{mesh_of}
@@ -14,11 +15,6 @@ use Rattle.visibility.proofs.Ordered.{one_complex}
 use Rattle.visibility.proofs.Indices.{index_has}
 use Rattle.solution.specs.Scans.{points_of, scene_of_scan}
 use Rattle.solution.specs.Laws.{SolutionLaw}
-
-pub same_bools : (a b : Bool) → (a ≡ true → b ≡ true) → (b ≡ true → a ≡ true) → a ≡ b
-same_bools true b f g = sym (f refl)
-same_bools false true f g = g refl
-same_bools false false f g = refl
 
 -- tests that agree on a list keep the same of it
 pub filter_same : (p q : List ℕ → Bool) (rows : List (List ℕ)) → ((row : List ℕ) → Contains rows row → p row ≡ q row)

@@ -13,7 +13,8 @@ use Rattle.std.proofs.lemmas.List.Sorted.{IsPermutation-sym, Contains-permutatio
 use Rattle.std.proofs.lemmas.List.Sums.{passes_at_first}
 use Rattle.flow_net.specs.Nets.{flag_at}
 use Rattle.geo_sign.specs.Tetrahedron.{Tetrahedron, DirectedFacet, facet_of, facet_at, numbers_of, turned}
-use Rattle.geo_sign.specs.Cells.{IsBefore, written}
+use Rattle.geo_sign.specs.Cells.{written}
+use Rattle.geo_sign.specs.Rising.{IsBefore}
 use Rattle.geo_sign.specs.RowLaws.{IsPositive}
 use Rattle.geo_sign.specs.Writings.{IsRewritten}
 use Rattle.geo_sign.proofs.Among.{found}
@@ -21,7 +22,6 @@ use Rattle.geo_sign.proofs.Rising.{rising_law}
 use Rattle.geo_sign.proofs.RowLaws.{one_row}
 use Rattle.cell_laws.proofs.RimLists.{facet_law}
 use Rattle.cell_laws.proofs.RisingRows.{row_law, list_law, is_listed}
-use Rattle.line_text.specs.Rising.{IsBefore as IsRowBefore}
 use Rattle.mesh_ply.specs.Meshes.{IsFace, IsFaceList}
 use Rattle.visibility.specs.Scenes.{Scene}
 use Rattle.visibility.specs.Complexes.{Complex, has_facet, HasFacet, cell_index, cell_of}
@@ -272,13 +272,6 @@ module _ (s : Scene) (slots : List (Option Cell)) (cells : AreCellsOf s slots) (
     cut_is_facets outside facets flags h = h.facets_are ∙ list_is outside flags h.sides h.moved h.sorted
 
 -- ---- a list of faces
-same_before : (xs ys : List ℕ) → IsBefore xs ys → IsRowBefore xs ys
-same_before [] [] h = h
-same_before [] (y ∷ ys) h = h
-same_before (x ∷ xs) [] h = h
-same_before (x ∷ xs) (y ∷ ys) h =
-    ⊎_elim (λ (l : x < y). inl l) (λ (p : (x ≡ y) × IsBefore xs ys). inr (p.0, same_before xs ys p.1)) h
-
 is_face : (n : ℕ) (f : List ℕ) → IsOrdered n f → IsFace n f
 is_face n f o = subst (IsFace n) (sym o.three) (o.first_second, o.first_third, o.apart, o.second_below, o.third_below)
 
@@ -292,7 +285,5 @@ cut_is_list s complex all inside =
           λ k d l. is_face s.vertices.count (get_or cut k d)
           (facets_are_ordered s complex all (get_or cut k d)
           (filter_in test complex.facets (get_or cut k d) (Contains-get_or cut k d l)).0);
-      rising =
-          λ i j d l m. same_before (get_or cut i d) (get_or cut j d)
-          (AllPairs-filter IsBefore test complex.facets all.facets_are.rising i j d l m);
+      rising = AllPairs-filter IsBefore test complex.facets all.facets_are.rising;
     }

@@ -1,7 +1,7 @@
 //! The mesh of labels.
 
 ghost use Rattle.std.specs.Prelude.{◌≡◌, IfOk, AllPairs, length};
-ghost use Rattle.line_text.specs.Rising.{IsBefore};
+ghost use Rattle.geo_sign.specs.Rising.{IsBefore};
 ghost use Rattle.mesh_ply.specs.Meshes.{mesh_of, IsMesh};
 ghost use Rattle.visibility.specs.Complexes.{Complex};
 ghost use Rattle.visibility.specs.Listings.{IsListingOf};

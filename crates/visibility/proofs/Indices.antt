@@ -11,8 +11,9 @@ use Rattle.std.specs.List.Sorted.{IsPermutation}
 use Rattle.std.proofs.lemmas.Map.Keys.{IsDistinct-IsPermutation}
 use Rattle.std.proofs.lemmas.Map.Made.{AllPairs-from_IsDistinct, IsDistinct-from_AllPairs}
 use Rattle.std.proofs.lemmas.List.Sums.{position_or_len_is, fails_before_first, sum_by_more}
+use Rattle.geo_sign.proofs.Booleans.{same_bools}
 use Rattle.flow_net.specs.Sums.{sum_below}
-use Rattle.geo_sign.specs.Cells.{IsBefore}
+use Rattle.geo_sign.specs.Rising.{IsBefore}
 use Rattle.visibility.specs.Flows.{is_equal}
 use Rattle.visibility.specs.Laws.{row_index}
 use Rattle.visibility.specs.Listings.{AreOnce}
@@ -35,11 +36,6 @@ is_equal_means (x ∷ xs) [] h = absurd (cc)
 is_equal_means (x ∷ xs) (y ∷ ys) h =
     let p = and_parts (eqb x y) (is_equal xs ys) h in
     ap (λ (n : ℕ). n ∷ xs) (eqb-true x y p.0) ∙ ap (λ (t : List ℕ). y ∷ t) (is_equal_means xs ys p.1)
-
-same_bools : (a b : Bool) → (a ≡ true → b ≡ true) → (b ≡ true → a ≡ true) → a ≡ b
-same_bools true b f g = sym (f refl)
-same_bools false true f g = g refl
-same_bools false false f g = refl
 
 -- rising rows stand once
 pub once_rising : (rows : List (List ℕ)) → AllPairs IsBefore rows → AreOnce rows

@@ -16,7 +16,8 @@ use Rattle.geo_sign.specs.Point.{Point}
 use Rattle.geo_sign.specs.Rational.{displaced}
 use Rattle.geo_sign.specs.Tetrahedron.{Tetrahedron, DirectedFacet, facet_at, numbers_of, turned}
 use Rattle.geo_sign.specs.Vertices.{Vertices}
-use Rattle.geo_sign.specs.Cells.{IsBefore, IsCellList, written}
+use Rattle.geo_sign.specs.Cells.{IsCellList, written}
+use Rattle.geo_sign.specs.Rising.{IsBefore}
 use Rattle.geo_sign.specs.Sights.{is_crossed, is_behind, is_cell_of}
 use Rattle.visibility.specs.Scenes.{Scene, scanner_point}
 use Rattle.visibility.specs.Complexes.{Complex, HasFacet, cell_of}

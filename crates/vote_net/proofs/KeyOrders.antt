@@ -2,7 +2,7 @@
 -- first digits decide unless they are equal.
 use Rattle.std.proofs.Common.{ℕ, ◌+◌, ◌*◌, ◌<◌, ◌≤◌, ◌≡◌, ◌⊎◌, inl, inr, ⊎_elim, ap, ◌∙◌, arith}
 use Rattle.std.proofs.lemmas.Bool.{cases_lt}
-use Rattle.geo_sign.specs.Cells.{IsBefore}
+use Rattle.geo_sign.specs.Rising.{IsBefore}
 use Rattle.geo_sign.specs.Tetrahedron.{Tetrahedron, DirectedFacet, facet, numbers_of}
 use Rattle.vote_net.specs.CellRows.{row_from}
 use Rattle.vote_net.specs.Gathered.{row_key, facet_key}

@@ -16,7 +16,8 @@ use Rattle.flow_net.specs.Nets.{flag_at}
 use Rattle.flow_net.specs.declared.Arc.{Arc}
 use Rattle.geo_sign.specs.Tetrahedron.{Tetrahedron, DirectedFacet, facet_of, facet_at, numbers_of, turned, is_same_facet}
 use Rattle.geo_sign.specs.Tetrahedron.{IsRotated}
-use Rattle.geo_sign.specs.Cells.{FormCell, IsBefore, IsRisingCell, IsCellList}
+use Rattle.geo_sign.specs.Cells.{FormCell, IsRisingCell, IsCellList}
+use Rattle.geo_sign.specs.Rising.{IsBefore}
 use Rattle.visibility.specs.Scenes.{Scene}
 use Rattle.visibility.specs.Complexes.{has_facet, HasFacet, cell_index, cell_of, Complex}
 use Rattle.visibility.specs.Votes.{is_fixed, capacity, HasCapacity, IsFacetList, IsComplexOf}

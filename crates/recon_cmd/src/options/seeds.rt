@@ -1,8 +1,8 @@
-//! What the seed of a generated scan says. It stands on the digits of `values`.
+//! What the seed of a generated scan says. It stands on the digits of `num_text`.
 ghost use Rattle.std.specs.Prelude.{◌≡◌};
 ghost use Rattle.recon_cmd.specs.Words.{seed_of};
 
-use crate::options::values::are_all_digits;
+use num_text::all_digits;
 
 // The most digits of a seed.
 const MOST_DIGITS: usize = 20;
@@ -11,7 +11,7 @@ const MOST_DIGITS: usize = 20;
 pub fn seed_in(text: &str) -> Option<u64>
     ensures { result ≡ seed_of text.now }
 {
-    if text.len() > MOST_DIGITS || !are_all_digits(text.as_bytes()) {
+    if text.len() > MOST_DIGITS || !all_digits(text.as_bytes()) {
         return None;
     }
     match text.parse::<u64>() {

@@ -1,15 +1,14 @@
 //! What the values of options say. It stands on `num_text`, which reads numbers, and on the points of `geo_sign`.
 ghost use Rattle.std.specs.Prelude.{◌≡◌, ◌≤◌, IfSome};
-ghost use Rattle.std.specs.List.{list_all, before_first, after_first, position_or_len};
+ghost use Rattle.std.specs.List.{before_first, after_first, position_or_len};
 ghost use Rattle.std.specs.Option.{option_map};
-ghost use Rattle.std.specs.Char.{is_ascii_digit};
 ghost use Rattle.geo_sign.specs.Point.{IsWithin};
 ghost use Rattle.recon_cmd.specs.Options.{number_in as the_number_in, number_of as the_number_of, is_comma, point_in, chosen};
 ghost use Rattle.num_text.specs.declared.decimal.TheConstants.{UNIT_LIMIT};
 ghost use Rattle.geo_sign.specs.declared.point.TheConstants.{DATA_LIMIT};
 
 use geo_sign::Point;
-use num_text::{scaled, whole};
+use num_text::{all_digits, scaled, whole};
 
 // The most digits of an option's number.
 const MOST_DIGITS: usize = 10;
@@ -40,20 +39,13 @@ pub fn number_in(text: &[u8], least: u32, most: u32) -> Option<u32>
 fn number_of(text: &[u8]) -> Option<u64>
     ensures { result ≡ the_number_of 10 text.now }
 {
-    if text.is_empty() || text.len() > MOST_DIGITS || !are_all_digits(text) {
+    if text.is_empty() || text.len() > MOST_DIGITS || !all_digits(text) {
         return None;
     }
     match whole(text) {
         Ok(number) => Some(number.unsigned_abs()),
         Err(_) => None,
     }
-}
-
-/// Whether each byte is a digit.
-pub fn are_all_digits(text: &[u8]) -> bool
-    ensures { result ≡ list_all is_ascii_digit text.now }
-{
-    text.iter().all(|byte| b'0' <= *byte && *byte <= b'9')
 }
 
 /// The point that three decimals between exactly two commas are, in units.

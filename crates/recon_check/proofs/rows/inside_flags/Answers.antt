@@ -1,7 +1,7 @@
 use Rattle.std.proofs.Common.{List, ℕ, Bool, true, false, length, sym, subst, arith, All, AllPairs, Contains}
 use Rattle.std.proofs.lemmas.List.{map-id}
 use Rattle.flow_check.specs.Firsts.{IsFirst}
-use Rattle.line_text.specs.Rising.{IsBefore}
+use Rattle.geo_sign.specs.Rising.{IsBefore}
 use Rattle.recon_check.specs.Claims.{is_among, IsStray}
 use Rattle.recon_check.proofs.Walks.{among_says, walk_found, walk_missed, walked_there, walked_stray}
 use Rattle.recon_check.proofs.rows.inside_flags.Goals as goal
