@@ -39,7 +39,7 @@ pub struct SinkRow {
 /// number.
 #[derive(Debug, Drop)]
 pub struct Certificate {
-    /// Which scan it belongs to. A certificate of the first version doesn't say.
+    /// Which scan it belongs to. A certificate of the first version does not say.
     pub stamp: Option<Stamp>,
     /// How many distinct points the scan has.
     pub points: u32,

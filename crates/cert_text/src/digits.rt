@@ -18,8 +18,8 @@ pub fn digits_of(digest: &[u8; 32]) -> [u8; 64]
     }
 }
 
-// The digest whose digits these are. `hex` reads upper-case letters too, so the digits are
-// made anew and compared.
+/// The digest whose digits these are. `hex` reads upper-case letters too, so the digits are
+/// made anew and compared.
 pub fn digest_of(token: &[u8]) -> Option<[u8; 32]>
     ensures some { IfSome result (λ digest. IsDigest digest × (token.now ≡ encode_lower digest)) }
     ensures none { IfNone result ((digest : List ℕ) → IsDigest digest → ¬ (token.now ≡ encode_lower digest)) }

@@ -12,7 +12,7 @@ use crate::words::{cost, end_mark, points, scanners, sights, smooth, vote};
 use crate::{Certificate, NoMemory};
 use line_text::push_counted;
 
-// The lines of the counts, the weights and the cost.
+/// The lines of the counts, the weights and the cost.
 fn push_counts(out: &mut Vec<u8>, cert: &Certificate) -> Result<(), NoMemory>
     ensures ok { OnOk result (out.new.items ≡ out.old.items ++ counts_text (claim_of cert.now).counts) }
     ensures kept { OnErr result (take (length out.old.items) out.new.items ≡ out.old.items) }
@@ -26,7 +26,7 @@ fn push_counts(out: &mut Vec<u8>, cert: &Certificate) -> Result<(), NoMemory>
     Ok(())
 }
 
-// The lines of rows.
+/// The lines of rows.
 fn push_rows<R: Row>(out: &mut Vec<u8>, rows: &[R]) -> Result<(), NoMemory>
     ensures ok { OnOk result (out.new.items ≡ out.old.items ++ flat_map R.line rows.now) }
     ensures kept { OnErr result (take (length out.old.items) out.new.items ≡ out.old.items) }
@@ -37,7 +37,7 @@ fn push_rows<R: Row>(out: &mut Vec<u8>, rows: &[R]) -> Result<(), NoMemory>
     Ok(())
 }
 
-// A list with its length before it.
+/// A list with its length before it.
 fn push_list<R: Row>(out: &mut Vec<u8>, rows: &[R]) -> Result<(), NoMemory>
     ensures ok { OnOk result (out.new.items ≡ out.old.items ++ list_text R.line R.word rows.now) }
     ensures kept { OnErr result (take (length out.old.items) out.new.items ≡ out.old.items) }

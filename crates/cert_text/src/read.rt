@@ -22,7 +22,7 @@ use crate::{CertRefusal, Certificate};
 use line_text::{LineRefusal, number_line, refusal_of, word_line};
 use std::alloc::Global;
 
-// The counts, the weights and the cost.
+/// The counts, the weights and the cost.
 #[derive(Clone, Copy)]
 struct Heading {
     points: u32,
@@ -33,7 +33,7 @@ struct Heading {
     cost: u64,
 }
 
-// A line of a word and a number of 32 bits.
+/// A line of a word and a number of 32 bits.
 fn small_line<'a>(text: &'a [u8], word: &[u8], line: u64) -> Result<(u32, &'a [u8]), LineRefusal>
     ensures ok { IfOk result (λ read. IsBetween 0 4294967295 read.0 × (text.now ≡ counted word.now read.0 ++ read.1.now)) }
     ensures refused { IfErr result (RefusedNumber word.now 0 4294967295 line text.now) }
@@ -42,7 +42,7 @@ fn small_line<'a>(text: &'a [u8], word: &[u8], line: u64) -> Result<(u32, &'a [u
     Ok((n as u32, rest))
 }
 
-// The six lines of numbers, which begin at this line.
+/// The six lines of numbers, which begin at this line.
 fn read_counts(text: &[u8], line: u64) -> Result<(Heading, &[u8]), LineRefusal>
     requires { line < 6 }
     ensures ok { IfOk result (λ read. FitCounts (counts_of read.0) × (text.now ≡ counts_text (counts_of read.0) ++ read.1.now)) }
@@ -65,7 +65,7 @@ fn read_counts(text: &[u8], line: u64) -> Result<(Heading, &[u8]), LineRefusal>
     Ok((heading, rest))
 }
 
-// Whether a row comes before another one, compared number by number.
+/// Whether a row comes before another one, compared number by number.
 #[tactic(auto, using(line_text::proofs::Rows::before_nil))]
 fn is_before(before: &[u32], row: &[u32]) -> bool
     ensures yes { OnTrue result (IsBefore before.now row.now) }
@@ -80,7 +80,7 @@ fn is_before(before: &[u32], row: &[u32]) -> bool
     }
 }
 
-// Whether the row rises above the last of these.
+/// Whether the row rises above the last of these.
 fn rises<R: Row>(rows: &[R], row: R) -> bool
     ensures yes { OnTrue result (RisesAbove (Some R.key) rows.now row) }
     ensures no { OnFalse result (¬ RisesAbove (Some R.key) rows.now row) }
@@ -91,7 +91,7 @@ fn rises<R: Row>(rows: &[R], row: R) -> bool
     }
 }
 
-// The lines of so many rows, which begin at this line.
+/// The lines of so many rows, which begin at this line.
 fn read_rows<R: Row>(
     alloc: Global,
     text: &[u8],
@@ -121,7 +121,7 @@ fn read_rows<R: Row>(
     Ok((rows, rest))
 }
 
-// A list with its length before it, and the number of the line behind it.
+/// A list with its length before it, and the number of the line behind it.
 fn read_list<R: Row>(
     alloc: Global,
     text: &[u8],
@@ -136,7 +136,7 @@ fn read_list<R: Row>(
     Ok((rows, rest, first.saturating_add(count)))
 }
 
-// The certificate, or the first refusal.
+/// The certificate, or the first refusal.
 fn read_lines(alloc: Global, bytes: &[u8]) -> Result<Certificate, LineRefusal>
     ensures ok { IfOk result (λ cert. IsWellFormed (claim_of cert) × (bytes.now ≡ cert_text (claim_of cert))) }
     ensures refused { IfErr result (λ r. WithMemory r (AtCertificate bytes.now r)) }
@@ -168,7 +168,7 @@ fn read_lines(alloc: Global, bytes: &[u8]) -> Result<Certificate, LineRefusal>
     })
 }
 
-// The certificate, or the first refusal as one of a certificate.
+/// The certificate, or the first refusal as one of a certificate.
 fn read_or_refuse(alloc: Global, bytes: &[u8]) -> Result<Certificate, CertRefusal>
     ensures ok { IfOk result (λ cert. IsWellFormed (claim_of cert) × (bytes.now ≡ cert_text (claim_of cert))) }
     ensures refused { IfErr result (λ r. OrNoMemory r (IsRefused bytes.now r)) }
@@ -183,9 +183,9 @@ fn read_or_refuse(alloc: Global, bytes: &[u8]) -> Result<Certificate, CertRefusa
 ///
 /// Ok exactly for the texts that [`push_cert`](crate::push_cert) writes. Otherwise the first
 /// refusal, line by line: `CertCut` where the bytes end before the line feed of an expected
-/// line, `BadLine` where the line isn't of the form that stands there, which includes any
+/// line, `BadLine` where the line is not of the form that stands there, which includes any
 /// byte behind the last line, as a line of its own, and `Order` where the row of the line
-/// doesn't rise above the row before it in its list. Lines are counted from 1, and a number
+/// does not rise above the row before it in its list. Lines are counted from 1, and a number
 /// that would pass the end of 64 bits stays there. `NoMemory` says nothing of the text.
 pub fn read_cert(alloc: Global, bytes: &[u8]) -> Result<Certificate, CertRefusal>
     ensures ok { IfOk result (λ cert. IsWellFormed (claim_of cert) × (bytes.now ≡ cert_text (claim_of cert))) }

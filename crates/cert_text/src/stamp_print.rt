@@ -13,7 +13,7 @@ use geo_sign::Point;
 use line_text::push_counted;
 use mesh_ply::push_point;
 
-// The line of a digest.
+/// The line of a digest.
 fn push_digest(out: &mut Vec<u8>, digest: &[u8; 32]) -> Result<(), NoMemory>
     ensures ok { OnOk result (out.new.items ≡ out.old.items ++ scan_line digest.now) }
     ensures kept { OnErr result (take (length out.old.items) out.new.items ≡ out.old.items) }
@@ -25,7 +25,7 @@ fn push_digest(out: &mut Vec<u8>, digest: &[u8; 32]) -> Result<(), NoMemory>
     Ok(())
 }
 
-// A point, or the word that there is none, and the end of the line.
+/// A point, or the word that there is none, and the end of the line.
 fn push_place(out: &mut Vec<u8>, place: Option<Point>) -> Result<(), NoMemory>
     ensures ok { OnOk result (out.new.items ≡ out.old.items ++ place_line place) }
     ensures kept { OnErr result (take (length out.old.items) out.new.items ≡ out.old.items) }
@@ -36,7 +36,7 @@ fn push_place(out: &mut Vec<u8>, place: Option<Point>) -> Result<(), NoMemory>
     }
 }
 
-// The line of the fixed scanner.
+/// The line of the fixed scanner.
 fn push_fixed(out: &mut Vec<u8>, fixed: Option<Point>) -> Result<(), NoMemory>
     ensures ok { OnOk result (out.new.items ≡ out.old.items ++ fixed_line fixed) }
     ensures kept { OnErr result (take (length out.old.items) out.new.items ≡ out.old.items) }
@@ -46,7 +46,7 @@ fn push_fixed(out: &mut Vec<u8>, fixed: Option<Point>) -> Result<(), NoMemory>
     Ok(())
 }
 
-// The three lines of a stamp.
+/// The three lines of a stamp.
 fn push_stamp(out: &mut Vec<u8>, stamp: &Stamp) -> Result<(), NoMemory>
     ensures ok { OnOk result (out.new.items ≡ out.old.items ++ stamp_text (stamp_view stamp.now)) }
     ensures kept { OnErr result (take (length out.old.items) out.new.items ≡ out.old.items) }
@@ -57,7 +57,7 @@ fn push_stamp(out: &mut Vec<u8>, stamp: &Stamp) -> Result<(), NoMemory>
     Ok(())
 }
 
-// The first line, and the stamp where there is one.
+/// The first line, and the stamp where there is one.
 pub fn push_version(out: &mut Vec<u8>, stamp: Option<Stamp>) -> Result<(), NoMemory>
     ensures ok { OnOk result (out.new.items ≡ out.old.items ++ version_text (option_map stamp_view stamp)) }
     ensures kept { OnErr result (take (length out.old.items) out.new.items ≡ out.old.items) }

@@ -4,7 +4,7 @@ use crate::{CertRefusal, Certificate, FlowRow, SinkRow, push_cert, read_cert};
 use std::alloc::Global;
 use std::test::Fail;
 
-// Four points seen from outside: the one inner cell is inside, at the cost of its facets.
+/// Four points seen from outside: the one inner cell is inside, at the cost of its facets.
 const TETRAHEDRON: &str = "recon certificate 1
 points 4
 scanners 4
@@ -87,7 +87,7 @@ fn the_printed_tetrahedron_is_read_back(rt: HostRuntime) -> Result<(), Fail> {
     Ok(())
 }
 
-// The tetrahedron's text with one part replaced.
+/// The tetrahedron's text with one part replaced.
 fn spoiled(alloc: Global, part: &str, other: &str) -> Result<String, Fail> {
     let (front, back) = TETRAHEDRON.split_once(part).ok_or("no such part")?;
     let mut text = String::from_str(alloc, front)?;
@@ -161,7 +161,7 @@ fn amounts_use_all_their_bits(rt: HostRuntime) -> Result<(), Fail> {
     Ok(())
 }
 
-// The tetrahedron's text in the second version, with these three lines behind its first.
+/// The tetrahedron's text in the second version, with these three lines behind its first.
 fn stamped(alloc: Global, scan: &str, unit: &str, scanner: &str) -> Result<String, Fail> {
     let mut text = String::from_str(alloc, "recon certificate 2\n")?;
     text.push_str(scan)?;
@@ -174,7 +174,7 @@ fn stamped(alloc: Global, scan: &str, unit: &str, scanner: &str) -> Result<Strin
     Ok(text)
 }
 
-// The line of the digest of the bytes `abc` (FIPS 180-4, example B.1).
+/// The line of the digest of the bytes `abc` (FIPS 180-4, example B.1).
 const ABC: &str = "scan ba7816bf8f01cfea414140de5dae2223b00361a396177a9cb410ff61f20015ad\n";
 
 #[test]

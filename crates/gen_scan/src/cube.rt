@@ -9,13 +9,13 @@ use crate::NoMemory;
 use geo_sign::Point;
 use std::alloc::Global;
 
-// How far the scanners are from the middle, in scaled whole units.
+/// How far the scanners are from the middle, in scaled whole units.
 const SCANNER_DISTANCE: i64 = 5_000;
 
 /// The number of faces.
 pub const FACES: u32 = 6;
 
-// The data point with these coordinates.
+/// The data point with these coordinates.
 fn data_point(x: i64, y: i64, z: i64) -> Point
     requires { IsWithin DATA_LIMIT (point x y z) }
     ensures { result ≡ point x y z }

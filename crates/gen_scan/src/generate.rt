@@ -14,10 +14,10 @@ use rand_pcg::Pcg32;
 use scan::{Scan, Seen};
 use std::alloc::Global;
 
-// How far the faces are from the middle, in scaled whole units.
+/// How far the faces are from the middle, in scaled whole units.
 const FACE_DISTANCE: i64 = 1_000;
 
-// The number from -1000 to 1000 that a word gives.
+/// The number from -1000 to 1000 that a word gives.
 fn spread(word: u32) -> i64
     ensures value { result ≡ spread_of word }
     ensures small { unsigned_abs result ≤ 1000 }
@@ -25,7 +25,7 @@ fn spread(word: u32) -> i64
     i64::from(word % 2_001) - 1_000
 }
 
-// The points of so many rows, and the sight of each.
+/// The points of so many rows, and the sight of each.
 fn vertices(alloc: Global, count: u32, seed: u64) -> Result<(Vec<Point>, Vec<Seen>), NoMemory>
     ensures points { IfOk result (λ made. made.0.items ≡ (shown_by (generated count seed)).points) }
     ensures seen { IfOk result (λ made. made.1.items ≡ (shown_by (generated count seed)).seen) }

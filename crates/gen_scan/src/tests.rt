@@ -5,7 +5,7 @@ use scan::{Scan, push_scan};
 use std::alloc::Global;
 use std::test::Fail;
 
-// Whether the plain form of a generated scan ends with these lines and those of the six scanners.
+/// Whether the plain form of a generated scan ends with these lines and those of the six scanners.
 fn ends_with(alloc: Global, scan: &Scan, vertices: &str) -> Result<bool, Fail> {
     let scanners = "5000 0 0\n-5000 0 0\n0 5000 0\n0 -5000 0\n0 0 5000\n0 0 -5000\n";
     let mut text = Vec::new(alloc);

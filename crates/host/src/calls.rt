@@ -11,7 +11,7 @@ use crate::host::{Failed, Host};
 use std::alloc::{AllocError, AllocFailed, Global};
 use thiserror::Error;
 
-// How many bytes of a file are read at a time.
+/// How many bytes of a file are read at a time.
 const BUFFER_LENGTH: usize = 4096;
 
 /// Says all the bytes. After `Failed` a front of them was said. It takes no memory.

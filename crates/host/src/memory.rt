@@ -26,7 +26,7 @@ pub enum Activity {
     Writing(usize),
 }
 
-// Whose turn it is after that one, among so many.
+/// Whose turn it is after that one, among so many.
 fn turn_after(turn: usize, count: usize) -> usize
     requires { turn < count }
     ensures next { result ≡ (turn + 1) % count }
@@ -325,7 +325,7 @@ impl MemHost {
         self.plan.faults
     }
 
-    // Counts a fault.
+    /// Counts a fault.
     fn fail<T: Drop>(&mut self) -> Result<T, Failed>
         ensures err { IsErr result }
         ensures rose { Rose self.old.plan.faults self.new.plan.faults }

@@ -19,7 +19,7 @@ pub enum HostCall {
     Say,
 }
 
-// The place of a call's count.
+/// The place of a call's count.
 fn place_of_call(call: HostCall) -> usize
     ensures place { result ≡ call_index call }
     ensures below { result < 6 }

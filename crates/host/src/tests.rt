@@ -8,7 +8,7 @@ use crate::{
 use std::alloc::Global;
 use std::test::Fail;
 
-// A host with a file `in` of five bytes and a name `out`, of pieces of two bytes.
+/// A host with a file `in` of five bytes and a name `out`, of pieces of two bytes.
 fn host_with(alloc: Global, room: usize, failing: Option<HostCall>) -> Result<MemHost, NoMemory>
     ensures { IfOk result (λ host. (state_of host).writing ≡ false) }
 {
@@ -108,7 +108,7 @@ fn each_listed_call_fails_once(rt: HostRuntime) -> Result<(), Fail> {
     Ok(())
 }
 
-// How many of the bytes are added, if any can be.
+/// How many of the bytes are added, if any can be.
 fn appended(host: &mut MemHost, bytes: &[u8]) -> Option<usize>
     requires { IsTrue (state_of host.old).writing }
     ensures { IsTrue (state_of host.new).writing }

@@ -7,7 +7,7 @@ ghost use Rattle.std.specs.Fmt.{signed_decimal};
 ghost use Rattle.std.specs.Int.Signed.{mag};
 ghost use Rattle.line_text.specs.Numbers.{ended, counted, signed_ended, BeginsWithNone, Lacks, IsPlain, IsBetween, IsSignedBetween};
 
-// The place of the first such byte, or the length where there is none.
+/// The place of the first such byte, or the length where there is none.
 fn place_of(text: &[u8], byte: u8) -> usize
     ensures within { result ≤ length text.now }
     ensures before { (k : ℕ) → k < result → slice_index text.now k ≡ byte → ⊥ }
@@ -35,7 +35,7 @@ pub fn cut_at(text: &[u8], byte: u8) -> Option<(&[u8], &[u8])>
     }
 }
 
-// Whether the first byte is one that a printed number may have.
+/// Whether the first byte is one that a printed number may have.
 fn is_plain(token: &[u8]) -> bool
     ensures yes { OnTrue result (IsPlain token.now) }
     ensures no { OnFalse result (¬ IsPlain token.now) }
@@ -114,7 +114,7 @@ pub fn counted_within<'a>(
     number_within(rest, b'\n', least, greatest)
 }
 
-// The number below zero of 64 bits whose digits these are.
+/// The number below zero of 64 bits whose digits these are.
 fn below_zero(digits: &[u8]) -> Option<i64>
     ensures some { IfSome result (λ z. (mag z < 2 ^ 63) × (45 ∷ digits.now ≡ signed_decimal z)) }
     ensures none { IfNone result ((z : ℤ) → mag z < 2 ^ 63 → ¬ (45 ∷ digits.now ≡ signed_decimal z)) }
@@ -127,8 +127,8 @@ fn below_zero(digits: &[u8]) -> Option<i64>
     }
 }
 
-// The signed number of 64 bits whose decimal text the token is, or None where it is the
-// text of none: no plus sign, no leading zero, no sign at zero.
+/// The signed number of 64 bits whose decimal text the token is, or None where it is the
+/// text of none: no plus sign, no leading zero, no sign at zero.
 fn signed_of(token: &[u8]) -> Option<i64>
     ensures some { IfSome result (λ z. (mag z < 2 ^ 63) × (token.now ≡ signed_decimal z)) }
     ensures none { IfNone result ((z : ℤ) → mag z < 2 ^ 63 → ¬ (token.now ≡ signed_decimal z)) }

@@ -7,9 +7,9 @@ ghost use Rattle.line_text.specs.Refusals.{IsCutOrBad};
 /// The texts that are read by this crate have refusals of their own, made from these.
 #[derive(Clone, Copy, Debug, PartialEq, Eq, Drop)]
 pub enum LineRefusal {
-    /// The line isn't of the form that stands there, or it begins behind the last line.
+    /// The line is not of the form that stands there, or it begins behind the last line.
     BadLine(u64),
-    /// The line is of its form, but its row doesn't rise above the row before it.
+    /// The line is of its form, but its row does not rise above the row before it.
     Order(u64),
     /// The bytes end before the end of an expected line.
     Cut,
@@ -17,7 +17,7 @@ pub enum LineRefusal {
     NoMemory,
 }
 
-/// How a line that isn't of its form is refused, where the text begins with it.
+/// How a line that is not of its form is refused, where the text begins with it.
 pub fn refusal_of(text: &[u8], line: u64) -> LineRefusal
     ensures { IsCutOrBad line text.now result }
 {

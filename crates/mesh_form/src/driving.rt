@@ -45,7 +45,7 @@ fn end(form: &mut Box<dyn Form>) -> Result<(), NoMemory>
     form.end()
 }
 
-// All the points, to a form that has begun.
+/// All the points, to a form that has begun.
 fn hand_points(form: &mut Box<dyn Form>, points: &[Point]) -> Result<(), NoMemory>
     requires { HasPoints 0 (received form.old) points.now }
     ensures all { OnOk result (HasPoints (length points.now) (received form.new) points.now) }
@@ -59,7 +59,7 @@ fn hand_points(form: &mut Box<dyn Form>, points: &[Point]) -> Result<(), NoMemor
     Ok(())
 }
 
-// All the faces, to a form that has all points.
+/// All the faces, to a form that has all points.
 fn hand_faces(
     form: &mut Box<dyn Form>,
     points: &[Point],

@@ -33,7 +33,7 @@ fn push_vertex(out: &mut Vec<u8>, point: Point) -> Result<(), NoMemory>
     push_point(out, point)
 }
 
-// The line of a face with these three places, which OBJ counts from 1.
+/// The line of a face with these three places, which OBJ counts from 1.
 fn push_places(out: &mut Vec<u8>, a: u32, b: u32, c: u32) -> Result<(), NoMemory>
     ensures ok { OnOk result (out.new.items ≡ out.old.items ++ triangle_line (a ∷ b ∷ c ∷ [])) }
     ensures kept { OnErr result (take (length out.old.items) out.new.items ≡ out.old.items) }
@@ -81,7 +81,7 @@ fn push_parts(out: &mut Vec<u8>, mesh: &Mesh) -> Result<(), NoMemory>
     push_triangles(out, &mesh.faces)
 }
 
-// The text of a mesh at the end of `out`; after `NoMemory` that is as it was.
+/// The text of a mesh at the end of `out`; after `NoMemory` that is as it was.
 fn push_obj(out: &mut Vec<u8>, mesh: &Mesh) -> Result<(), NoMemory>
     ensures printed { OnOk result (out.new.items ≡ out.old.items ++ obj_text mesh.now.points.items mesh.now.faces.items) }
     ensures kept { OnErr result (out.new.items ≡ out.old.items) }

@@ -17,7 +17,7 @@ fn name_line() -> &'static [u8]
     b"OFF\n"
 }
 
-// The number of edges, which is left uncounted.
+/// The number of edges, which is left uncounted.
 #[tactic(auto, unfolding(crate::specs::Texts::off_rest))]
 fn no_edges() -> &'static [u8]
     ensures { result.now ≡ off_rest }
@@ -46,7 +46,7 @@ fn push_parts(out: &mut Vec<u8>, mesh: &Mesh) -> Result<(), NoMemory>
     Ok(())
 }
 
-// The text of a mesh at the end of `out`; after `NoMemory` that is as it was.
+/// The text of a mesh at the end of `out`; after `NoMemory` that is as it was.
 fn push_off(out: &mut Vec<u8>, mesh: &Mesh) -> Result<(), NoMemory>
     ensures printed { OnOk result (out.new.items ≡ out.old.items ++ off_text mesh.now.points.items mesh.now.faces.items) }
     ensures kept { OnErr result (out.new.items ≡ out.old.items) }

@@ -7,7 +7,7 @@ use mesh_ply::read_mesh;
 use std::alloc::Global;
 use std::test::Fail;
 
-// Four points, all faces seen from outside.
+/// Four points, all faces seen from outside.
 const TETRAHEDRON: &str = "ply
 format ascii 1.0
 element vertex 4
@@ -27,7 +27,7 @@ end_header
 3 1 3 2
 ";
 
-// The same in OFF.
+/// The same in OFF.
 const OFF: &str = "OFF
 4 4 0
 100 100 100
@@ -40,7 +40,7 @@ const OFF: &str = "OFF
 3 1 3 2
 ";
 
-// The same in OBJ, where numbers count from 1.
+/// The same in OBJ, where numbers count from 1.
 const OBJ: &str = "v 100 100 100
 v 100 -100 -100
 v -100 100 -100
@@ -78,7 +78,7 @@ fn obj_counts_from_one(rt: HostRuntime) -> Result<(), Fail> {
     Ok(())
 }
 
-// A caller's own form: it says how much it has received.
+/// A caller's own form: it says how much it has received.
 #[derive(Drop)]
 struct Tally {
     receipt: Receipt,

@@ -12,7 +12,7 @@ use crate::{Mesh, NoMemory};
 use geo_sign::Point;
 use std::alloc::{AllocError, Global};
 
-// Marks the three vertices of a facet.
+/// Marks the three vertices of a facet.
 fn mark_facet(marks: &mut [bool], facet: [u32; 3])
     requires { IsFace (length marks.old) facet }
     ensures { (v : ℕ) → v < length marks.old → slice_index_or marks.new v false ≡ (slice_index_or marks.old v false || is_vertex_of v facet) }
@@ -23,7 +23,7 @@ fn mark_facet(marks: &mut [bool], facet: [u32; 3])
     marks[c as usize] = true;
 }
 
-// One mark for each of `count` vertices: whether some facet has it.
+/// One mark for each of `count` vertices: whether some facet has it.
 fn vertex_marks(alloc: Global, count: usize, facets: &[[u32; 3]]) -> Result<Vec<bool>, NoMemory>
     requires { All (IsFace count) facets.now }
     ensures { IfOk result (λ marks. marks.items ≡ map (is_used facets.now) (below count)) }
@@ -35,7 +35,7 @@ fn vertex_marks(alloc: Global, count: usize, facets: &[[u32; 3]]) -> Result<Vec<
     Ok(marks)
 }
 
-// The points of the marked vertices, and each vertex's new number.
+/// The points of the marked vertices, and each vertex's new number.
 #[derive(Drop)]
 struct Numbering {
     points: Vec<Point>,
@@ -59,7 +59,7 @@ fn numbering_of(alloc: Global, places: &[Point], marks: &[bool]) -> Result<Numbe
     Ok(Numbering { points, numbers })
 }
 
-// A facet with its vertices' new numbers.
+/// A facet with its vertices' new numbers.
 fn face_of(numbers: &[u32], facet: [u32; 3]) -> [u32; 3]
     requires { IsFace (length numbers.now) facet }
     ensures { result ≡ map (slice_index numbers.now) facet }

@@ -13,7 +13,7 @@ ghost use Rattle.geo_sign.specs.declared.point.TheConstants.{BOX_LIMIT};
 use geo_sign::{BOX_LIMIT, Point};
 use line_text::{behind, facet_first, signed_first};
 
-// A coordinate of the box, and what stands behind its end.
+/// A coordinate of the box, and what stands behind its end.
 fn coordinate_first(text: &[u8], end: u8) -> Option<(i64, &[u8])>
     requires { end < 45 }
     ensures some { IfSome result (λ read. IsCoordinate read.0 × (text.now ≡ signed_ended read.0 end ++ read.1.now)) }
@@ -22,7 +22,7 @@ fn coordinate_first(text: &[u8], end: u8) -> Option<(i64, &[u8])>
     signed_first(text, end, -(BOX_LIMIT as i64), BOX_LIMIT as i64)
 }
 
-// The line of a point of the box.
+/// The line of a point of the box.
 pub fn point_first(text: &[u8]) -> Option<(Point, &[u8])>
     ensures some { IfSome result (λ read. IsWithin BOX_LIMIT read.0 × (text.now ≡ point_line read.0 ++ read.1.now)) }
     ensures none { IfNone result (BeginsWithNone (IsWithin BOX_LIMIT) point_line text.now) }
@@ -34,7 +34,7 @@ pub fn point_first(text: &[u8]) -> Option<(Point, &[u8])>
     Some((point, rest))
 }
 
-// Whether a facet's numbers are places among `count` points.
+/// Whether a facet's numbers are places among `count` points.
 fn is_among(facet: [u32; 3], count: u64) -> bool
     requires { IsFacetRow facet }
     ensures yes { OnTrue result (IsFace count facet) }
@@ -44,7 +44,7 @@ fn is_among(facet: [u32; 3], count: u64) -> bool
     u64::from(b) < count && u64::from(c) < count
 }
 
-// The line of a face among `count` points.
+/// The line of a face among `count` points.
 pub fn face_first(text: &[u8], count: u64) -> Option<([u32; 3], &[u8])>
     requires { count < 2 ^ 32 }
     ensures some { IfSome result (λ read. IsFace count read.0 × (text.now ≡ face_line read.0 ++ read.1.now)) }

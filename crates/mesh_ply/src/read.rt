@@ -20,7 +20,7 @@ use geo_sign::Point;
 use line_text::{LineRefusal, number_line, refusal_of, word_line};
 use std::alloc::Global;
 
-// The lines of so many points, from this line on.
+/// The lines of so many points, from this line on.
 fn read_points(
     alloc: Global,
     text: &[u8],
@@ -47,7 +47,7 @@ fn read_points(
     Ok((rows, rest))
 }
 
-// The lines of so many faces among these many points, from this line on.
+/// The lines of so many faces among these many points, from this line on.
 fn read_faces(
     alloc: Global,
     text: &[u8],
@@ -76,7 +76,7 @@ fn read_faces(
     Ok((rows, rest))
 }
 
-// The points and faces from line 10 on, and nothing behind them.
+/// The points and faces from line 10 on, and nothing behind them.
 fn read_rows(alloc: Global, text: &[u8], points: u64, faces: u64) -> Result<Mesh, LineRefusal>
     requires { points < 2 ^ 32 }
     ensures ok { IfOk result (λ mesh. AreCounted (IsWithin BOX_LIMIT) None points mesh.points.items × AreCounted (IsFace points) None faces mesh.faces.items × (text.now ≡ flat_map point_line mesh.points.items ++ flat_map face_line mesh.faces.items)) }
@@ -94,7 +94,7 @@ fn read_rows(alloc: Global, text: &[u8], points: u64, faces: u64) -> Result<Mesh
     })
 }
 
-// What stands behind the number of points, from line 4 on.
+/// What stands behind the number of points, from line 4 on.
 fn read_from_face_count(alloc: Global, text: &[u8], points: u64) -> Result<Mesh, LineRefusal>
     requires { points < 2 ^ 32 }
     ensures ok { IfOk result (λ mesh. (length mesh.points.items ≡ points) × IsPrinted mesh.points.items mesh.faces.items × (text.now ≡ text_behind_count mesh.points.items mesh.faces.items)) }
@@ -109,7 +109,7 @@ fn read_from_face_count(alloc: Global, text: &[u8], points: u64) -> Result<Mesh,
     read_rows(alloc, rest, points, count)
 }
 
-// The mesh, or the first refusal.
+/// The mesh, or the first refusal.
 fn read_lines(alloc: Global, bytes: &[u8]) -> Result<Mesh, LineRefusal>
     ensures ok { IfOk result (λ mesh. IsPrinted mesh.points.items mesh.faces.items × (bytes.now ≡ mesh_text mesh.points.items mesh.faces.items)) }
     ensures refused { IfErr result (λ r. WithMemory r (AtMesh bytes.now r)) }
@@ -124,7 +124,7 @@ fn read_lines(alloc: Global, bytes: &[u8]) -> Result<Mesh, LineRefusal>
 ///
 /// Ok exactly for the texts that [`push_mesh`](crate::push_mesh) writes. Otherwise the first
 /// refusal, line by line: `MeshCut` where the bytes end before the line feed of an expected
-/// line, `BadLine` where the line isn't of the form that stands there, which includes any
+/// line, `BadLine` where the line is not of the form that stands there, which includes any
 /// byte behind the last line, as a line of its own. A count is at most 2^32 - 1, a point is
 /// one of the box, and a face has three distinct places among the points, the smallest
 /// first. Lines are counted from 1, and a number that would pass the end of 32 bits stays

@@ -10,7 +10,7 @@ use thiserror::Error;
 /// pass the end of 32 bits stays there.
 #[derive(Clone, Copy, Debug, PartialEq, Eq, Drop, Error)]
 pub enum MeshRefusal {
-    /// The line isn't of the form that stands there, or it begins behind the last line.
+    /// The line is not of the form that stands there, or it begins behind the last line.
     #[error("line {0} is not of its form")]
     BadLine(u32),
     /// The bytes end before the end of an expected line.
@@ -21,7 +21,7 @@ pub enum MeshRefusal {
     NoMemory,
 }
 
-// The refusal of a line as one of a mesh. No list of a mesh has an order.
+/// The refusal of a line as one of a mesh. No list of a mesh has an order.
 pub fn refusal_of_mesh(refusal: LineRefusal) -> MeshRefusal
     ensures { result ≡ mesh_refusal refusal }
 {

@@ -5,7 +5,7 @@ use geo_sign::{Point, corner};
 use std::alloc::Global;
 use std::test::Fail;
 
-// Four points, all faces seen from outside.
+/// Four points, all faces seen from outside.
 const TETRAHEDRON: &str = "ply
 format ascii 1.0
 element vertex 4
@@ -64,7 +64,7 @@ fn the_printed_tetrahedron_is_read_back(rt: HostRuntime) -> Result<(), Fail> {
     Ok(())
 }
 
-// The tetrahedron's text with one part replaced.
+/// The tetrahedron's text with one part replaced.
 fn spoiled(alloc: Global, part: &str, other: &str) -> Result<String, Fail> {
     let (front, back) = TETRAHEDRON.split_once(part).ok_or("no such part")?;
     let mut text = String::from_str(alloc, front)?;

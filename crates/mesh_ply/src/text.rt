@@ -11,7 +11,7 @@ use crate::{Mesh, NoMemory};
 use geo_sign::Point;
 use line_text::{push_counted, push_number, push_signed};
 
-// Three coordinates in a line.
+/// Three coordinates in a line.
 fn push_coordinates(out: &mut Vec<u8>, x: i64, y: i64, z: i64) -> Result<(), NoMemory>
     ensures ok { OnOk result (out.new.items ≡ out.old.items ++ point_line (point x y z)) }
     ensures kept { OnErr result (take (length out.old.items) out.new.items ≡ out.old.items) }
@@ -37,7 +37,7 @@ pub fn push_point(out: &mut Vec<u8>, point: Point) -> Result<(), NoMemory>
     )
 }
 
-// The line of a face with these three places.
+/// The line of a face with these three places.
 fn push_places(out: &mut Vec<u8>, a: u32, b: u32, c: u32) -> Result<(), NoMemory>
     ensures ok { OnOk result (out.new.items ≡ out.old.items ++ face_line (a ∷ b ∷ c ∷ [])) }
     ensures kept { OnErr result (take (length out.old.items) out.new.items ≡ out.old.items) }

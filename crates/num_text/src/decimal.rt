@@ -26,7 +26,7 @@ pub const UNIT_LIMIT: u32 = 1_000_000;
 /// The largest absolute value that [`scaled`] answers, in units.
 pub const SCALED_LIMIT: u64 = 2_097_151;
 
-// How many digits are read behind leading zeros: before the exponent, and in it.
+/// How many digits are read behind leading zeros: before the exponent, and in it.
 const MOST_DIGITS: usize = 30;
 
 const MOST_EXPONENT_DIGITS: usize = 4;
@@ -54,7 +54,7 @@ fn is_point_byte(byte: u8) -> bool
     byte == b'.'
 }
 
-// The position of the first `e` or `E`, or the length where there is none.
+/// The position of the first `e` or `E`, or the length where there is none.
 fn exponent_mark_position(text: &[u8]) -> usize
     ensures { result ≡ position_or_len is_exponent_mark text.now }
 {
@@ -66,7 +66,7 @@ fn exponent_mark_position(text: &[u8]) -> usize
     text.len()
 }
 
-// The position of the first point, or the length where there is none.
+/// The position of the first point, or the length where there is none.
 fn point_position(text: &[u8]) -> usize
     ensures { result ≡ position_or_len is_point text.now }
 {
@@ -78,7 +78,7 @@ fn point_position(text: &[u8]) -> usize
     text.len()
 }
 
-// What stands behind the byte at a position: nothing where the position is the length.
+/// What stands behind the byte at a position: nothing where the position is the length.
 fn behind(text: &[u8], position: usize) -> &[u8]
     ensures { result.now ≡ drop (position + 1) text.now }
 {
@@ -123,7 +123,7 @@ fn is_decimal_text(parts: &DecimalParts<'_>) -> bool
         && (!parts.has_exponent || some_digits(parts.exponent))
 }
 
-// Whether more than 30 digits follow the leading zeros of the two runs together.
+/// Whether more than 30 digits follow the leading zeros of the two runs together.
 fn has_many_digits(whole: &[u8], fraction: &[u8]) -> bool
     ensures { result ≡ nat_lt 30 (length (significant (whole.now ++ fraction.now))) }
 {
@@ -141,7 +141,7 @@ fn is_long_text(parts: &DecimalParts<'_>) -> bool
         || without_zeros(parts.exponent).len() > MOST_EXPONENT_DIGITS
 }
 
-// The number that the two runs of digits make together.
+/// The number that the two runs of digits make together.
 fn value_of_two(whole: &[u8], fraction: &[u8]) -> u128
     requires digits { list_all is_ascii_digit (whole.now ++ fraction.now) ≡ true }
     requires short { length (significant (whole.now ++ fraction.now)) ≤ 30 }
@@ -177,7 +177,7 @@ fn limited(units: u128) -> Option<u64>
     }
 }
 
-// A whole number of units times a power of ten.
+/// A whole number of units times a power of ten.
 fn units_times(units: u128, exponent: u128) -> Option<u64>
     ensures { result ≡ within_limit (units * 10 ^ exponent) }
 {
@@ -194,7 +194,7 @@ fn units_times(units: u128, exponent: u128) -> Option<u64>
     limited(units * power_of_ten(exponent as u32))
 }
 
-// A whole number of units divided by a power of ten, halves upwards.
+/// A whole number of units divided by a power of ten, halves upwards.
 fn units_over(units: u128, exponent: u128) -> Option<u64>
     requires { units < 10 ^ 36 }
     ensures { result ≡ within_limit ((2 * units + 10 ^ exponent) / (2 * 10 ^ exponent)) }
@@ -209,7 +209,7 @@ fn units_over(units: u128, exponent: u128) -> Option<u64>
     limited(rounded)
 }
 
-// The fraction `value · 10^up / 10^down` in units.
+/// The fraction `value · 10^up / 10^down` in units.
 fn nearest_units(value: u128, up: u128, down: u128, unit: u32) -> Option<u64>
     requires value { value < 10 ^ 30 }
     requires unit { unit ≤ UNIT_LIMIT }
@@ -239,7 +239,7 @@ fn units_of(parts: &DecimalParts<'_>, unit: u32) -> Option<u64>
     }
 }
 
-// The exponent's absolute value, 0 where there is none.
+/// The exponent's absolute value, 0 where there is none.
 fn exponent_value(parts: &DecimalParts<'_>) -> u128
     requires decimal { is_decimal (parts_view parts.now) ≡ true }
     requires short { is_long (parts_view parts.now) ≡ false }

@@ -5,7 +5,7 @@ use thiserror::Error;
 /// Why a token is refused, in the order in which the causes are looked for.
 #[derive(Clone, Copy, Debug, Drop, Error, PartialEq, Eq)]
 pub enum NumRefusal {
-    /// The token isn't spelled as a number of the kind that is read.
+    /// The token is not spelled as a number of the kind that is read.
     #[error("the token is no number")]
     NotANumber,
     /// It is a number, but has more digits behind its leading zeros than are read: over 18

@@ -6,7 +6,7 @@ ghost use Rattle.num_text.specs.WholeNumbers.{whole_of};
 use crate::digits::{has_minus, some_digits, value_after, with_sign, without_sign, without_zeros};
 use crate::refusal::NumRefusal;
 
-// How many digits are read behind leading zeros.
+/// How many digits are read behind leading zeros.
 const MOST_DIGITS: usize = 18;
 
 /// The whole number that a token is: an optional `+` or `-` and at least one digit.

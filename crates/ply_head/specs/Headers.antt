@@ -60,7 +60,7 @@ with_property n p (e ∷ []) =
     if has_property p.name e.properties then Err (Twice n) else Ok (record e { properties = e.properties ++ p ∷ [] } ∷ [])
 with_property n p (e ∷ next ∷ more) = with_property n p (next ∷ more) >>= λ es. Ok (e ∷ es)
 
--- the header after a line that isn't the last, or the whole header
+-- the header after a line that is not the last, or the whole header
 pub data Step : Type 0 where
   goes : Option Header → Step
   ends : Header → Step

@@ -3,7 +3,7 @@
 -- is_line_feed, is_blank   the byte LF, and the bytes space and tab
 -- parts_of     a text cut at each LF; all parts but the last are lines
 -- line_text    a line without its end
--- has_bytes    a list of bytes isn't empty
+-- has_bytes    a list of bytes is not empty
 -- words_of     the words of a line
 use Rattle.std.specs.Prelude.{ℕ, List, [], ◌∷◌, Bool, true, false, ◌==◌, ◌||◌, filter, if◌then◌else◌}
 use Rattle.std.specs.List.{slice_split}

@@ -1,7 +1,7 @@
 //! The header of a PLY file: read, and printed in its one spelling.
 //!
 //! The format is Greg Turk's PLY. A header is a sequence of lines, each ended by LF or by CR
-//! LF. The first is `ply`, the next that isn't skipped is `format KIND 1.0`, and the last is
+//! LF. The first is `ply`, the next that is not skipped is `format KIND 1.0`, and the last is
 //! `end_header`. Between them stand the elements, each an `element NAME COUNT` line with the
 //! `property` lines of its rows behind it. Lines that begin with the word `comment` or
 //! `obj_info`, and lines without words, are skipped. Lines are counted from 1. A line has at

@@ -6,14 +6,14 @@ ghost use Rattle.ply_head.specs.Headers.{Gives, line_at, IsEndOf};
 
 use crate::refusal::HeadRefusal;
 
-// How many bytes a line may have without its end.
+/// How many bytes a line may have without its end.
 const LINE_LIMIT: usize = 1_000;
 
-// How many bytes the longest line has with its end, CR LF. If none of as many bytes is LF,
-// the line is too long.
+/// How many bytes the longest line has with its end, CR LF. If none of as many bytes is LF,
+/// the line is too long.
 const LOOK_AHEAD: usize = 1_002;
 
-// A line without its end: a CR before the LF belongs to it.
+/// A line without its end: a CR before the LF belongs to it.
 fn without_end(line: &[u8]) -> &[u8]
     ensures { result.now ≡ line_text line.now }
 {

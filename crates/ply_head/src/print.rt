@@ -34,7 +34,7 @@ fn scalar_word(scalar: Scalar) -> &'static [u8]
     }
 }
 
-// Adds a word that more words of its line follow.
+/// Adds a word that more words of its line follow.
 fn push_word(text: &mut Vec<u8>, word: &[u8]) -> Result<(), NoMemory>
     ensures { OnOk result (text.new.items ≡ text.old.items ++ word.now ++ 32 ∷ []) }
 {
@@ -43,7 +43,7 @@ fn push_word(text: &mut Vec<u8>, word: &[u8]) -> Result<(), NoMemory>
     Ok(())
 }
 
-// Adds the last word of a line, and the line's end.
+/// Adds the last word of a line, and the line's end.
 fn push_last_word(text: &mut Vec<u8>, word: &[u8]) -> Result<(), NoMemory>
     ensures { OnOk result (text.new.items ≡ text.old.items ++ word.now ++ 10 ∷ []) }
 {
@@ -60,7 +60,7 @@ fn push_format(text: &mut Vec<u8>, kind: Kind) -> Result<(), NoMemory>
     push_last_word(text, b"1.0")
 }
 
-// Adds the words of a property's line that say what it holds.
+/// Adds the words of a property's line that say what it holds.
 fn push_shape(text: &mut Vec<u8>, shape: Shape) -> Result<(), NoMemory>
     ensures { OnOk result (text.new.items ≡ text.old.items ++ (shape_text shape ++ 32 ∷ [])) }
 {
@@ -82,7 +82,7 @@ fn push_property(text: &mut Vec<u8>, property: &Property) -> Result<(), NoMemory
     push_last_word(text, property.name.as_slice())
 }
 
-// Adds the line of an element, without those of its properties.
+/// Adds the line of an element, without those of its properties.
 fn push_element_line(text: &mut Vec<u8>, element: &Element) -> Result<(), NoMemory>
     ensures { OnOk result (text.new.items ≡ text.old.items ++ (element_text element.now.name element.now.count ++ 10 ∷ [])) }
 {

@@ -12,10 +12,10 @@ use crate::refusal::HeadRefusal;
 use crate::steps::{Step, next_step};
 use std::alloc::Global;
 
-// How many lines a header may have.
+/// How many lines a header may have.
 const LINES_LIMIT: u32 = 1_000;
 
-// The header whose lines from line 2 on begin the bytes, and what is behind it.
+/// The header whose lines from line 2 on begin the bytes, and what is behind it.
 fn lines_from(alloc: Global, bytes: &[u8]) -> Result<(Header, &[u8]), HeadRefusal>
     ensures head { Gives (λ found. (found.0, found.1.now)) result (header_from 2 None (parts_of bytes.now)) }
     ensures tail { IfOk result (λ found. IsEndOf found.1.now bytes.now) }
@@ -33,7 +33,7 @@ fn lines_from(alloc: Global, bytes: &[u8]) -> Result<(Header, &[u8]), HeadRefusa
     Err(HeadRefusal::LongHeader)
 }
 
-// The bytes behind the first line, if that is `ply`.
+/// The bytes behind the first line, if that is `ply`.
 #[tactic(auto, unfolding(crate::specs::Headers::header_of))]
 fn behind_first(bytes: &[u8]) -> Option<&[u8]>
     ensures some { IfSome result (λ rest. header_of bytes.now ≡ header_from 2 None (parts_of rest.now)) }

@@ -1,4 +1,4 @@
-//! Why a header can't be read.
+//! Why a header cannot be read.
 
 ghost use Rattle.std.specs.Prelude.{◌≡◌};
 ghost use Rattle.ply_head.specs.declared.refusal.HeadRefusal.TheVariants.{NoMemory};
@@ -11,7 +11,7 @@ use thiserror::Error;
 /// first of all. Lines are counted from 1.
 #[derive(Clone, Copy, Debug, Drop, Error, PartialEq, Eq)]
 pub enum HeadRefusal {
-    /// The bytes don't begin with the line `ply`.
+    /// The bytes do not begin with the line `ply`.
     #[error("the file does not begin with the line `ply`")]
     NotPly,
     /// The line is none that a header may have, or stands where it may not, or names an
@@ -21,7 +21,7 @@ pub enum HeadRefusal {
     /// The line has more than 1,000 bytes without its end.
     #[error("line {0} has more than 1,000 bytes")]
     LongLine(u32),
-    /// Line 1,000 isn't `end_header`.
+    /// Line 1,000 is not `end_header`.
     #[error("the header has more than 1,000 lines")]
     LongHeader,
     /// The line gives an element a name that stands before, or a property a name that

@@ -26,7 +26,7 @@ pub(crate) enum Statement<'a> {
     Finish,
 }
 
-// The kind of body that a word names.
+/// The kind of body that a word names.
 #[tactic(auto, unfolding(crate::specs::Statements::kind_of))]
 fn kind_in(word: &[u8]) -> Option<Kind>
     ensures { result ≡ kind_of word.now }
@@ -42,7 +42,7 @@ fn kind_in(word: &[u8]) -> Option<Kind>
     }
 }
 
-// The type that a word names.
+/// The type that a word names.
 #[tactic(auto, unfolding(crate::specs::Statements::scalar_of))]
 fn scalar_in(word: &[u8]) -> Option<Scalar>
     ensures { result ≡ scalar_of word.now }
@@ -68,7 +68,7 @@ fn scalar_in(word: &[u8]) -> Option<Scalar>
     }
 }
 
-// A type, if it is one of whole numbers.
+/// A type, if it is one of whole numbers.
 fn whole_type(scalar: Scalar) -> Option<Scalar>
     ensures { result ≡ whole_scalar scalar }
 {
@@ -90,7 +90,7 @@ fn is_name(word: &[u8]) -> bool
     word.iter().all(|byte| may_stand_in_name(*byte))
 }
 
-// The word, if it may be a name.
+/// The word, if it may be a name.
 #[tactic(auto, unfolding(crate::specs::Statements::name_of))]
 fn name_in(word: &[u8]) -> Option<&[u8]>
     ensures { option_map (λ name. name.now) result ≡ name_of word.now }
@@ -125,7 +125,7 @@ fn element_words<'a>(line: &'a [u8]) -> Option<Statement<'a>>
     Some(Statement::Element(name, count))
 }
 
-// The number of rows that a word is: 1 to 10 digits, within 32 bits.
+/// The number of rows that a word is: 1 to 10 digits, within 32 bits.
 #[tactic(auto, unfolding(crate::specs::Statements::count_of))]
 fn count_in(word: &[u8]) -> Option<u32>
     ensures { result ≡ count_of word.now }

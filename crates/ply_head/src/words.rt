@@ -25,7 +25,7 @@ fn is_blank_byte(byte: u8) -> bool
     byte == b' ' || byte == b'\t'
 }
 
-// What is left of a line behind its first blanks.
+/// What is left of a line behind its first blanks.
 fn behind_blanks(line: &[u8]) -> &[u8]
     ensures words { words_of result.now ≡ words_of line.now }
     ensures begins { (0 < length result.now) → is_blank (slice_index result.now 0) ≡ false }

@@ -25,7 +25,7 @@ pub fn size(scalar: Scalar) -> usize
     }
 }
 
-// The whole number that bytes in this order are.
+/// The whole number that bytes in this order are.
 fn number_in<Order: ByteOrder>(scalar: Scalar, bytes: &[u8]) -> i64
     requires whole { IsWhole scalar }
     requires size { length bytes.now ≡ size_of scalar }
@@ -57,7 +57,7 @@ pub fn binary_whole(kind: Kind, scalar: Scalar, bytes: &[u8]) -> i64
     }
 }
 
-// The number of items that some bytes say.
+/// The number of items that some bytes say.
 fn count_in_bytes(kind: Kind, scalar: Scalar, bytes: &[u8], at: Place) -> Result<u32, RowRefusal>
     requires kind { IsBinary kind }
     requires whole { IsWhole scalar }
@@ -67,7 +67,7 @@ fn count_in_bytes(kind: Kind, scalar: Scalar, bytes: &[u8], at: Place) -> Result
     count_of_number(binary_whole(kind, scalar, bytes), at)
 }
 
-// So many bytes from a place on, and the place behind them.
+/// So many bytes from a place on, and the place behind them.
 fn bytes_from(
     body: &[u8],
     at: Place,

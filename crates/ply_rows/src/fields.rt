@@ -12,7 +12,7 @@ use crate::refusal::RowRefusal;
 use crate::text::read_text_field;
 use ply_head::{Kind, Property, Shape};
 
-// The field of a property, and the place behind it.
+/// The field of a property, and the place behind it.
 #[tactic(auto, unfolding(crate::specs::Rests::field_of))]
 fn read_field(
     kind: Kind,

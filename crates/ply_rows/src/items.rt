@@ -11,7 +11,7 @@ use crate::binary::size;
 use crate::tokens::next_token;
 use ply_head::{Kind, Scalar};
 
-// The first of so many items of a text, and the place behind it.
+/// The first of so many items of a text, and the place behind it.
 fn first_token(body: &[u8], place: usize, items: u32) -> (&[u8], usize)
     requires some { 0 < items }
     requires place { place ≤ length body.now }
@@ -26,7 +26,7 @@ fn first_token(body: &[u8], place: usize, items: u32) -> (&[u8], usize)
     }
 }
 
-// The first of so many values of a binary body, and the place behind it.
+/// The first of so many values of a binary body, and the place behind it.
 fn first_value(kind: Kind, item: Scalar, body: &[u8], place: usize, items: u32) -> (&[u8], usize)
     requires kind { IsBinary kind }
     requires some { 0 < items }

@@ -2,7 +2,7 @@
 //!
 //! The format is Greg Turk's PLY. Behind the header stand the rows of its elements, in the
 //! header's order, and each row has its element's properties in order. An element without
-//! properties takes no bytes, and its rows aren't walked.
+//! properties takes no bytes, and its rows are not walked.
 //!
 //! In an `ascii` body a token is a run of bytes other than white space (space, tab, CR and
 //! LF), and line ends mean no more than that. A single value is one token. A list is a token

@@ -10,7 +10,7 @@ use thiserror::Error;
 /// Want of memory.
 pub type NoMemory = AllocError;
 
-/// Why the next row isn't read. The properties are looked at in the order of the rows.
+/// Why the next row is not read. The properties are looked at in the order of the rows.
 #[derive(Clone, Copy, Debug, Drop, Error, PartialEq, Eq)]
 pub enum RowRefusal {
     /// The count of this list is no number of items: in a text its token is no whole number,

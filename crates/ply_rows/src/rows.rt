@@ -46,7 +46,7 @@ impl<'a> Model for Rows<'a> {
     ghost invariant = { λ rows. (rows.place ≤ length rows.body.now) × (rows.element ≤ length rows.head.now.elements) × IsReadable rows.head.now };
 }
 
-// The next element that has a row to be read, and that row.
+/// The next element that has a row to be read, and that row.
 fn next_element(head: &Header, element: usize, row: u32) -> (usize, u32)
     requires { element ≤ length head.now.elements }
     ensures most { result.0 ≤ length head.now.elements }
@@ -67,7 +67,7 @@ fn next_element(head: &Header, element: usize, row: u32) -> (usize, u32)
     (elements.len(), row)
 }
 
-// What follows the last row of a binary body.
+/// What follows the last row of a binary body.
 fn end_of_bytes(kind: Kind, body: &[u8], place: usize) -> Result<(), RowRefusal>
     requires { place ≤ length body.now }
     ensures ends { Ends result (ending (raw kind place (drop place body.now))) }
@@ -79,7 +79,7 @@ fn end_of_bytes(kind: Kind, body: &[u8], place: usize) -> Result<(), RowRefusal>
     }
 }
 
-// What follows the last row.
+/// What follows the last row.
 fn end_of_rows(kind: Kind, body: &[u8], place: usize) -> Result<(), RowRefusal>
     requires { place ≤ length body.now }
     ensures ends { Ends result (ending (rest_at kind body.now place)) }
@@ -117,7 +117,7 @@ impl<'a> Rows<'a> {
     ///
     /// None comes where all rows were given and nothing but white space, in a binary body
     /// nothing, follows. After None and after a refusal `out` is empty and the reader is as
-    /// it was, so that the next call has the same answer, if memory doesn't run out.
+    /// it was, so that the next call has the same answer, if memory does not run out.
     pub fn next_row(&mut self, out: &mut Vec<Field>) -> Result<Option<RowAt>, RowRefusal>
         ensures next { NextRow result out.new.items self.old self.new }
         ensures row { IfOk result (λ found. IfSome found (λ at. IsRowOf self.old.head self.old.body at out.new.items)) }

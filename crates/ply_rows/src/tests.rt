@@ -5,7 +5,7 @@ use num_text::whole;
 use ply_head::{Kind, Scalar, read_head};
 use std::test::*;
 
-// The refusal that comes after all rows that are given, and how many they are.
+/// The refusal that comes after all rows that are given, and how many they are.
 fn end_of(rt: &HostRuntime, bytes: &[u8]) -> Result<(u32, Option<RowRefusal>), Fail> {
     let (head, start) = read_head(rt.alloc(), bytes)?;
     let mut rows = Rows::new(&head, &bytes[start..]);

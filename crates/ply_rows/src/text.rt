@@ -13,7 +13,7 @@ use crate::tokens::next_token;
 use num_text::whole;
 use ply_head::Shape;
 
-// The most items that a list may have.
+/// The most items that a list may have.
 const ITEMS_LIMIT: i64 = 4_294_967_295;
 
 /// A number of items, if a list may have so many.
@@ -26,7 +26,7 @@ pub(crate) fn count_of_number(number: i64, at: Place) -> Result<u32, RowRefusal>
     Ok(number as u32)
 }
 
-// The number of items that a token says.
+/// The number of items that a token says.
 fn count_in_token(token: &[u8], at: Place) -> Result<u32, RowRefusal>
     ensures { Gives (λ count. count) result (count_of at (whole_of token.now)) }
 {
@@ -36,7 +36,7 @@ fn count_in_token(token: &[u8], at: Place) -> Result<u32, RowRefusal>
     }
 }
 
-// Where so many more tokens end.
+/// Where so many more tokens end.
 fn end_of_items(body: &[u8], at: Place, more: u32, place: usize) -> Result<usize, RowRefusal>
     requires { place ≤ length body.now }
     ensures least { IfOk result (λ end. place ≤ end) }
@@ -53,7 +53,7 @@ fn end_of_items(body: &[u8], at: Place, more: u32, place: usize) -> Result<usize
     Ok(end)
 }
 
-// The items of a list, and the place behind them.
+/// The items of a list, and the place behind them.
 fn read_items(
     body: &[u8],
     at: Place,

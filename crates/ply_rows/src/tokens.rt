@@ -3,14 +3,14 @@
 ghost use Rattle.std.specs.Prelude.{◌≡◌, ◌≤◌, ◌<◌, ◌-◌, ℕ, true, [], ◌∷◌, length, take, drop, slice_index, false, IfSome, IfNone};
 ghost use Rattle.ply_rows.specs.Tokens.{is_white_space, tokens_at};
 
-// Whether a byte is space, tab, CR or LF.
+/// Whether a byte is space, tab, CR or LF.
 fn is_white_space_byte(byte: u8) -> bool
     ensures { result ≡ is_white_space byte }
 {
     byte == b' ' || byte == b'\t' || byte == b'\r' || byte == b'\n'
 }
 
-// The first place, from one on, that has no white space.
+/// The first place, from one on, that has no white space.
 fn token_start(body: &[u8], place: usize) -> usize
     requires { place ≤ length body.now }
     ensures least { place ≤ result }
@@ -26,7 +26,7 @@ fn token_start(body: &[u8], place: usize) -> usize
     body.len()
 }
 
-// The first place, from one on, that has white space, or else the body's end.
+/// The first place, from one on, that has white space, or else the body's end.
 fn token_end(body: &[u8], start: usize) -> usize
     requires { start ≤ length body.now }
     ensures least { start ≤ result }

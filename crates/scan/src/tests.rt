@@ -7,7 +7,7 @@ use ply_rows::Place;
 use std::alloc::{AllocError, Global};
 use std::test::Fail;
 
-// The header and the body of four points round the origin, each seen from ten times itself.
+/// The header and the body of four points round the origin, each seen from ten times itself.
 const HEAD: &str =
     "ply\nformat ascii 1.0\nelement vertex 4\nproperty int x\nproperty int y\nproperty int z\nproperty int scanner\nelement scanner 4\nproperty int x\nproperty int y\nproperty int z\nend_header\n";
 
@@ -18,21 +18,21 @@ const OTHER_ROWS: &str =
 
 const LAST_ROW: &str = "-1000 -1000 1000\n";
 
-// The same scan in binary, without its last byte.
+/// The same scan in binary, without its last byte.
 const BINARY: &[u8] =
     b"ply\nformat binary_big_endian 1.0\nelement vertex 4\nproperty int x\nproperty int y\nproperty int z\nproperty double quality\nproperty uchar scanner\nelement scanner 4\nproperty int x\nproperty int y\nproperty int z\nend_header\n\x00\x00\x00\x64\x00\x00\x00\x64\x00\x00\x00\x64\x00\x00\x00\x00\x00\x00\x00\x00\x00\x00\x00\x00\x64\xff\xff\xff\x9c\xff\xff\xff\x9c\x00\x00\x00\x00\x00\x00\x00\x00\x01\xff\xff\xff\x9c\x00\x00\x00\x64\xff\xff\xff\x9c\x00\x00\x00\x00\x00\x00\x00\x00\x02\xff\xff\xff\x9c\xff\xff\xff\x9c\x00\x00\x00\x64\x00\x00\x00\x00\x00\x00\x00\x00\x03\x00\x00\x03\xe8\x00\x00\x03\xe8\x00\x00\x03\xe8\x00\x00\x03\xe8\xff\xff\xfc\x18\xff\xff\xfc\x18\xff\xff\xfc\x18\x00\x00\x03\xe8\xff\xff\xfc\x18\xff\xff\xfc\x18\xff\xff\xfc\x18\x00\x00\x03";
 
-// A file as a scan tool writes it: lines of the header end by CR LF, the coordinates are
-// decimals, and the scanner isn't told.
+/// A file as a scan tool writes it: lines of the header end by CR LF, the coordinates are
+/// decimals, and the scanner is not told.
 const TOOL: &[u8] =
     b"ply\r\nformat ascii 1.0\r\ncomment made by a scan tool\r\nobj_info num_cols 2\r\nelement vertex 4\r\nproperty float x\r\nproperty float y\r\nproperty float z\r\nproperty float confidence\r\nelement face 1\r\nproperty list uchar int vertex_indices\r\nend_header\r\n0.1 0.1 0.1 0.5\n0.1 -0.1 -0.1 0.5\n-0.1 0.1 -0.1 1\n-1e-1 -0.1 0.1 1\n3 0 1 2\n";
 
-// Why the bytes are no scan at unit 1. None where they are one.
+/// Why the bytes are no scan at unit 1. None where they are one.
 fn refusal_of(alloc: Global, bytes: &[u8]) -> Option<ScanRefusal> {
     read_scan(alloc, bytes, 1, None).err()
 }
 
-// The plain form of the scan that the bytes are at unit 1.
+/// The plain form of the scan that the bytes are at unit 1.
 fn printed(alloc: Global, bytes: &[u8]) -> Result<Vec<u8>, ScanRefusal> {
     let scan = read_scan(alloc, bytes, 1, None)?;
     let mut text = Vec::new(alloc);
@@ -252,7 +252,7 @@ fn a_fixed_scanner_sees_each_point(rt: HostRuntime) -> Result<(), Fail> {
     Ok(())
 }
 
-// A file of the four points, with these properties behind their coordinates and these values of them.
+/// A file of the four points, with these properties behind their coordinates and these values of them.
 fn four_seen(alloc: Global, properties: &str, values: [&str; 4]) -> Result<String, AllocError> {
     let [a, b, c, d] = values;
     format!(in alloc;
@@ -395,7 +395,7 @@ fn a_fixed_scanner_sees_each_point_once_with_its_weight(rt: HostRuntime) -> Resu
     Ok(())
 }
 
-// A binary file of one point at the origin, which a scanner at the origin saw so often.
+/// A binary file of one point at the origin, which a scanner at the origin saw so often.
 fn seen_so_often(alloc: Global, count: u32) -> Result<Vec<u8>, AllocError> {
     let mut bytes =
         b"ply\nformat binary_little_endian 1.0\nelement vertex 1\nproperty int x\nproperty int y\nproperty int z\nproperty list uint uchar scanner\nelement scanner 1\nproperty int x\nproperty int y\nproperty int z\nend_header\n".to_vec(

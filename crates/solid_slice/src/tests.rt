@@ -5,7 +5,7 @@ use mesh_ply::read_mesh;
 use std::alloc::{AllocError, Global};
 use std::test::Fail;
 
-// Four points, all faces seen from outside.
+/// Four points, all faces seen from outside.
 const TETRAHEDRON: &str = "ply
 format ascii 1.0
 element vertex 4
@@ -25,7 +25,7 @@ end_header
 3 1 3 2
 ";
 
-// The same without its last face, so that three edges have no reverse.
+/// The same without its last face, so that three edges have no reverse.
 const OPEN: &str = "ply
 format ascii 1.0
 element vertex 4
@@ -44,7 +44,7 @@ end_header
 3 0 3 1
 ";
 
-// Each face of the first twice, so that each edge occurs twice in each direction.
+/// Each face of the first twice, so that each edge occurs twice in each direction.
 const DOUBLE: &str = "ply
 format ascii 1.0
 element vertex 4
@@ -68,7 +68,7 @@ end_header
 3 1 3 2
 ";
 
-// The slice of the first at height 0.
+/// The slice of the first at height 0.
 const SLICE: &str = "loops 1
 loop 4
 0 200 40000 400
@@ -77,7 +77,7 @@ loop 4
 1 -40000 -200 400
 ";
 
-// Each step's face and point, with the number of its ring.
+/// Each step's face and point, with the number of its ring.
 fn numbers(alloc: Global, rings: &[Ring]) -> Result<Vec<(usize, u32, i64, i64, i64)>, AllocError> {
     let mut numbers = Vec::new(alloc);
     for (k, ring) in rings.iter().enumerate() {

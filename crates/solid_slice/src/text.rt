@@ -23,7 +23,7 @@ fn one_loop() -> &'static [u8]
     b"loop "
 }
 
-// The line of a step with these numbers.
+/// The line of a step with these numbers.
 fn push_numbers(out: &mut Vec<u8>, face: u32, x: i64, y: i64, d: i64) -> Result<(), NoMemory>
     ensures ok { OnOk result (out.new.items ≡ out.old.items ++ numbers_line face x y d) }
     ensures kept { OnErr result (take (length out.old.items) out.new.items ≡ out.old.items) }
@@ -35,7 +35,7 @@ fn push_numbers(out: &mut Vec<u8>, face: u32, x: i64, y: i64, d: i64) -> Result<
     Ok(())
 }
 
-// The line of a step.
+/// The line of a step.
 fn push_step(out: &mut Vec<u8>, step: Step) -> Result<(), NoMemory>
     ensures ok { OnOk result (out.new.items ≡ out.old.items ++ step_line step) }
     ensures kept { OnErr result (take (length out.old.items) out.new.items ≡ out.old.items) }
@@ -43,7 +43,7 @@ fn push_step(out: &mut Vec<u8>, step: Step) -> Result<(), NoMemory>
     push_numbers(out, step.face, step.x, step.y, step.d)
 }
 
-// The lines of steps, in order.
+/// The lines of steps, in order.
 fn push_steps(out: &mut Vec<u8>, steps: &[Step]) -> Result<(), NoMemory>
     ensures ok { OnOk result (out.new.items ≡ out.old.items ++ flat_map step_line steps.now) }
     ensures kept { OnErr result (take (length out.old.items) out.new.items ≡ out.old.items) }
@@ -54,7 +54,7 @@ fn push_steps(out: &mut Vec<u8>, steps: &[Step]) -> Result<(), NoMemory>
     Ok(())
 }
 
-// The number of steps of a loop, and their lines.
+/// The number of steps of a loop, and their lines.
 fn push_ring(out: &mut Vec<u8>, steps: &[Step]) -> Result<(), NoMemory>
     ensures ok { OnOk result (out.new.items ≡ out.old.items ++ ring_text steps.now) }
     ensures kept { OnErr result (take (length out.old.items) out.new.items ≡ out.old.items) }
@@ -64,7 +64,7 @@ fn push_ring(out: &mut Vec<u8>, steps: &[Step]) -> Result<(), NoMemory>
     Ok(())
 }
 
-// The loops, in order.
+/// The loops, in order.
 fn push_rings(out: &mut Vec<u8>, rings: &[Ring]) -> Result<(), NoMemory>
     ensures ok { OnOk result (out.new.items ≡ out.old.items ++ flat_map ring_text (map steps_of rings.now)) }
     ensures kept { OnErr result (take (length out.old.items) out.new.items ≡ out.old.items) }

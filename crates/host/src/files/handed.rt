@@ -8,7 +8,7 @@ use crate::NoMemory;
 use crate::store::Store;
 use std::alloc::Global;
 
-// A file with room, of what was handed in.
+/// A file with room, of what was handed in.
 fn kept_file(
     alloc: Global,
     handed: (String, Option<Vec<u8>>),

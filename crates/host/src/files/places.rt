@@ -61,7 +61,7 @@ pub fn read_file(
     read_part(files[at].store.bytes.as_slice(), start, piece, buffer)
 }
 
-// Copies the next bytes, at most a piece.
+/// Copies the next bytes, at most a piece.
 fn read_part(bytes: &[u8], start: usize, piece: usize, buffer: &mut [u8]) -> usize
     requires { start ≤ length bytes.now }
     ensures count { result ≡ min piece (min (length buffer.old) (length bytes.now - start)) }
