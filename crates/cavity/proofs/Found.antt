@@ -24,6 +24,7 @@ use Rattle.tetra_store.specs.Store.{Store, IsStore, vertices_of}
 use Rattle.tetra_store.specs.Fan as fans
 use Rattle.tetra_store.specs.Fan.{fan_facet, fan_outer, IsOutside, IsHeld, HasEdge, CanReplace}
 use Rattle.tetra_store.specs.Delaunay.{IsDelaunay}
+use Rattle.tetra_store.specs.Stored.{live_of}
 use Rattle.geo_sign.specs.Writings as laws
 use Rattle.geo_sign.specs.Boxes.{IsNew, IsInConflict, IsClearOf}
 use Rattle.cell_laws.specs.Fans.{IsFan}
@@ -37,7 +38,7 @@ use Rattle.geo_sign.proofs.Rewritings.{rewritten_back, same_power, same_vertex}
 use Rattle.cell_laws.proofs.Laws.{fan_law, vertex_law, cavity_law, rim_law, linked_law, edge_law}
 use Rattle.cavity.specs.Flood.{IsInFan, IsPassed, IsFlooding}
 use Rattle.cavity.specs.Cavity.{IsCavity}
-use Rattle.cavity.proofs.Stores.{names, in_names, of_names, boxed, linked, cells, new_vertex}
+use Rattle.cavity.proofs.Stores.{in_names, of_names, boxed, linked, cells, new_vertex}
 use Rattle.cavity.proofs.Growing.{contains_at, listed_at}
 
 -- in conflict and clear
@@ -107,9 +108,9 @@ module _ (s : Store) (p from : ℕ) (found : List ℕ) (fan : List Facet) (store
   fan_of : IsFanOf (vertices_of s) p
   fan_of = fan_law (vertices_of s) (boxed s store_is) p new
 
-  rims : IsRimLaw (vertices_of s) p (names s.slots) at next
+  rims : IsRimLaw (vertices_of s) p (live_of s.slots) at next
   rims =
-      rim_law (vertices_of s) (boxed s store_is) p (names s.slots) at next (linked s store_is) (cells s delaunay) from
+      rim_law (vertices_of s) (boxed s store_is) p (live_of s.slots) at next (linked s store_is) (cells s delaunay) from
       (in_names s.slots from from_live)
 
   -- a side of a cell that was found
@@ -137,12 +138,12 @@ module _ (s : Store) (p from : ℕ) (found : List ℕ) (fan : List Facet) (store
       (λ (z : IsInFan fan (facet_of (at x) k) (next x k)).
       absurd (both (vertices_of s) p (at y) c ((f.rim z.facet z.facet_in).clear y (z.outer ∙ e)))) (passed x k h l)
 
-  flooded : IsFlooded (vertices_of s) p (names s.slots) at next marked
+  flooded : IsFlooded (vertices_of s) p (live_of s.slots) at next marked
   flooded x k y live m c l e d = is_marked y (entered x k y (listed x m) l e d)
 
-  conflicts : AreConflicts (vertices_of s) p (names s.slots) at marked
+  conflicts : AreConflicts (vertices_of s) p (live_of s.slots) at marked
   conflicts =
-      cavity_law (vertices_of s) (boxed s store_is) p new (names s.slots) at next (linked s store_is) (cells s delaunay) marked
+      cavity_law (vertices_of s) (boxed s store_is) p new (live_of s.slots) at next (linked s store_is) (cells s delaunay) marked
       flooded (λ x live m. f.conflict x (listed x m)) from
       (in_names s.slots from from_live) (is_marked from f.start)
 
@@ -227,9 +228,9 @@ module _ (s : Store) (p from : ℕ) (found : List ℕ) (fan : List Facet) (store
       let l : i.0 < length fan = i.1 in
       omega arith
 
-  listing : IsListing (vertices_of s) (names s.slots) at
+  listing : IsListing (vertices_of s) (live_of s.slots) at
   listing =
-      linked_law (vertices_of s) (boxed s store_is) (names s.slots) at next (linked s store_is) (cells s delaunay) from
+      linked_law (vertices_of s) (boxed s store_is) (live_of s.slots) at next (linked s store_is) (cells s delaunay) from
       (in_names s.slots from from_live)
 
   held : (u : ℕ) → Has (vertices_of s) u → fans.IsInFan fan u ⊎ IsHeld (links_of s.slots) found u

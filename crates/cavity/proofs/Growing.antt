@@ -1,8 +1,8 @@
 -- Lists that grow at their end, what is marked of them, and how long a list of distinct numbers below a bound may be.
-use Rattle.std.proofs.Common.{ℕ, ◌≡◌, ◌≢◌, ◌<◌, ◌≤◌, ◌+◌, Bool, true, false, List, [], ◌∷◌, ◌++◌, length, refl, sym, ap, ◌∙◌}
+use Rattle.std.proofs.Common.{ℕ, ◌≡◌, ◌≢◌, ◌<◌, ◌≤◌, ◌+◌, true, false, List, [], ◌∷◌, ◌++◌, length, refl, sym, ap, ◌∙◌}
 use Rattle.std.proofs.Common.{◌⊎◌, inl, inr, ⊎_elim, subst, arith, slice_index, get_or, Contains, ◌↔◌}
 use Rattle.std.specs.Prelude.{nat_eq}
-use Rattle.std.proofs.lemmas.Bool.{cases_lt, eqb-true}
+use Rattle.std.proofs.lemmas.Bool.{cases_lt, eqb-true, cases_Bool}
 use Rattle.std.proofs.lemmas.Map.Steps.{length-le_from_distinct_below}
 use Rattle.std.proofs.lemmas.Map.Keys.{IsDistinct-from_apart}
 use Rattle.std.proofs.lemmas.Map.Views.{Contains-from_any}
@@ -71,11 +71,7 @@ marked_more stamps stamps' round round' cells y n cells' q h m e =
 
 apart_not : (x y : ℕ) → x ≢ y → nat_eq x y ≡ false
 apart_not x y h =
-    ⊎_elim (λ (e : nat_eq x y ≡ true). absurd (h (eqb-true x y e))) (λ (e : nat_eq x y ≡ false). e) (cases (nat_eq x y))
-  where
-    cases : (b : Bool) → (b ≡ true) ⊎ (b ≡ false)
-    cases true = inl refl
-    cases false = inr refl
+    ⊎_elim (λ (e : nat_eq x y ≡ true). absurd (h (eqb-true x y e))) (λ (e : nat_eq x y ≡ false). e) (cases_Bool (nat_eq x y))
 
 pub few : (cells : List ℕ) (n : ℕ)
     → ((j k : ℕ) → j < length cells → k < length cells → slice_index cells j ≡ slice_index cells k → j ≡ k)

@@ -2,11 +2,11 @@
 -- live numbers below the count of slots. Then `boxed`, `linked` and `cells` are the premises of the laws, read off the store,
 -- and the second half shows that the call that decides a conflict may be asked of a cell and a vertex that is not inserted, and
 -- that its answer is the sign of the power that the laws speak of.
-use Rattle.std.proofs.Common.{ℕ, zero, suc, ◌≡◌, ◌≢◌, ◌<◌, ◌≤◌, Bool, true, false, List, [], ◌∷◌, length, Option, Some, refl}
-use Rattle.std.proofs.Common.{sym, ap, ◌∙◌, ◌⊎◌, inl, inr, ⊎_elim, subst, arith, slice_index_or, get_or, ℤ, pos, ◌<ℤ◌, ◌≤ℤ◌}
+use Rattle.std.proofs.Common.{ℕ, ◌≡◌, ◌≢◌, ◌<◌, ◌≤◌, Bool, true, false, List, length, Option, Some, refl}
+use Rattle.std.proofs.Common.{sym, ap, ◌∙◌, ⊎_elim, subst, arith, slice_index_or, get_or, ℤ, pos, ◌<ℤ◌, ◌≤ℤ◌}
 use Rattle.std.proofs.Common.{IsTrue, IsFalse, ◌↔◌, true≢false}
 use Rattle.std.specs.Prelude.{is_some}
-use Rattle.std.proofs.lemmas.Bool.{cases_lt, false≢true}
+use Rattle.std.proofs.lemmas.Bool.{cases_lt}
 use Rattle.std.proofs.lemmas.Int.{ints}
 use Rattle.geo_sign.specs.Point.{Point, origin}
 use Rattle.geo_sign.specs.Tetrahedron.{Tetrahedron, vertex_of}
@@ -14,66 +14,29 @@ use Rattle.geo_sign.specs.Vertices.{orientation_of, power_of}
 use Rattle.geo_sign.specs.Tie.{tied_power}
 use Rattle.geo_sign.specs.Conflict.{AreApart, AreBelow}
 use Rattle.tetra_store.specs.declared.link.Cell.{Cell}
-use Rattle.tetra_store.specs.Links.{Links, slot_at, links_of, vertices_in, tetrahedron_from, IsLive}
+use Rattle.tetra_store.specs.Links.{slot_at, links_of, vertices_in, tetrahedron_from, IsLive}
 use Rattle.tetra_store.specs.Store.{Store, IsStore, vertices_of}
 use Rattle.tetra_store.specs.Delaunay.{IsDelaunay}
-use Rattle.tetra_store.proofs.Observed.{slot_in}
+use Rattle.tetra_store.specs.Stored.{live_of}
+use Rattle.tetra_store.proofs.Live.{has_live, listed_is_live}
 use Rattle.geo_sign.specs.Boxes.{IsBoxed, IsNew}
 use Rattle.cell_laws.specs.Lists.{IsIn, AreCells}
 use Rattle.cell_laws.specs.Links.{IsLinked}
+use Rattle.cell_laws.proofs.RisingRows as rows
 
 -- ---- the list of live numbers
+pub in_names : (slots : List (Option Cell)) (id : ℕ) → IsLive (links_of slots) id → IsIn (live_of slots) id
+in_names slots id e = rows.is_listed (live_of slots) id (has_live slots id e)
 
-abbrev pick : Bool → ℕ → List ℕ → List ℕ
-pick true n xs = n ∷ xs
-pick false n xs = xs
-
-pick_has : (b : Bool) (n : ℕ) (xs : List ℕ) → b ≡ true → IsIn (pick b n xs) n
-pick_has true n xs h = inl refl
-pick_has false n xs h = absurd (false≢true h)
-
-pick_keeps : (b : Bool) (n x : ℕ) (xs : List ℕ) → IsIn xs x → IsIn (pick b n xs) x
-pick_keeps true n x xs h = inr h
-pick_keeps false n x xs h = h
-
-pick_gives : (b : Bool) (n x : ℕ) (xs : List ℕ) → IsIn (pick b n xs) x → ((b ≡ true) × (n ≡ x)) ⊎ IsIn xs x
-pick_gives true n x xs (inl h) = inl (refl, h)
-pick_gives true n x xs (inr h) = inr h
-pick_gives false n x xs h = inr h
-
-abbrev live_below : Links → ℕ → List ℕ
-live_below links zero = []
-live_below links (suc n) = pick (links.is_live n) n (live_below links n)
-
-below_in : (links : Links) (n x : ℕ) → x < n → IsLive links x → IsIn (live_below links n) x
-below_in links zero x l h = absurd (omega arith)
-below_in links (suc n) x l h =
-    ⊎_elim (λ (m : x < n). pick_keeps (links.is_live n) n x (live_below links n) (below_in links n x m h))
-    (λ (m : n ≤ x). let e : n ≡ x = omega arith in
-    subst (λ (z : ℕ). IsIn (pick (links.is_live n) n (live_below links n)) z) e
-    (pick_has (links.is_live n) n (live_below links n) (subst (λ (z : ℕ). IsLive links z) (sym e) h))) (cases_lt x n)
-
-in_below : (links : Links) (n x : ℕ) → IsIn (live_below links n) x → IsLive links x
-in_below links zero x h = absurd h
-in_below links (suc n) x h =
-    ⊎_elim (λ (b : (links.is_live n ≡ true) × (n ≡ x)). subst (λ (z : ℕ). IsLive links z) b.1 b.0)
-    (λ (b : IsIn (live_below links n) x). in_below links n x b) (pick_gives (links.is_live n) n x (live_below links n) h)
-
-abbrev pub names : List (Option Cell) → List ℕ
-names slots = live_below (links_of slots) (length slots)
-
-pub in_names : (slots : List (Option Cell)) (x : ℕ) → IsLive (links_of slots) x → IsIn (names slots) x
-in_names slots x h = below_in (links_of slots) (length slots) x (slot_in slots x h) h
-
-pub of_names : (slots : List (Option Cell)) (x : ℕ) → IsIn (names slots) x → IsLive (links_of slots) x
-of_names slots x h = in_below (links_of slots) (length slots) x h
+pub of_names : (slots : List (Option Cell)) (id : ℕ) → IsIn (live_of slots) id → IsLive (links_of slots) id
+of_names slots id h = listed_is_live slots id (rows.listed (live_of slots) id h)
 
 -- ---- what is kept
 
 pub boxed : (s : Store) → IsStore s → IsBoxed (vertices_of s)
 boxed s store = store.vertices.boxed
 
-pub linked : (s : Store) → IsStore s → IsLinked (vertices_of s) (names s.slots) (links_of s.slots).at (links_of s.slots).next
+pub linked : (s : Store) → IsStore s → IsLinked (vertices_of s) (live_of s.slots) (links_of s.slots).at (links_of s.slots).next
 linked s store =
     record {
       back = λ x k y h l e. let b = store.linked.back x k y (of_names s.slots x h) l e in
@@ -83,7 +46,7 @@ linked s store =
     }
 
 pub cells : (s : Store) → IsDelaunay (vertices_of s) (links_of s.slots)
-    → AreCells (vertices_of s) (names s.slots) (links_of s.slots).at
+    → AreCells (vertices_of s) (live_of s.slots) (links_of s.slots).at
 cells s delaunay = λ x h. delaunay.cells x (of_names s.slots x h)
 
 pub new_vertex : (s : Store) (p : ℕ) → IsStore s → p < length s.points → slice_index_or s.inserted p false ≡ false

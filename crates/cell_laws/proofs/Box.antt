@@ -7,8 +7,8 @@
 -- outer facet.
 -- Stands on: Order, Writing, and geo_sign's places.
 use Rattle.std.proofs.Common.{ℕ, zero, suc, ◌≡◌, ◌≢◌, ◌<◌, ◌≤◌, refl, ap, ap₂, sym, subst, ◌∙◌, ◌⊎◌, inl, inr, ⊎_elim, arith}
-use Rattle.std.proofs.Common.{Bool, true, false, int_lt, bit_and, cond, ◌==◌, unsigned_abs, ℤ, pos, negsuc, neg_ℤ, ◌+ℤ◌, ◌-ℤ◌}
-use Rattle.std.proofs.Common.{◌*ℤ◌, ◌≤ℤ◌, ◌<ℤ◌, [], ◌∷◌}
+use Rattle.std.proofs.Common.{Bool, true, false, int_lt, unsigned_abs, ℤ, pos, negsuc, neg_ℤ, ◌+ℤ◌, ◌-ℤ◌}
+use Rattle.std.proofs.Common.{◌*ℤ◌, ◌≤ℤ◌, [], ◌∷◌}
 use Rattle.std.proofs.lemmas.Bool.{cases_lt}
 use Rattle.std.proofs.lemmas.Int.{ints, by_lt_z}
 use lib.IntN.{zero-*ℤ}
@@ -23,7 +23,11 @@ use Rattle.geo_sign.specs.Tetrahedron.{facet}
 use Rattle.geo_sign.specs.Vertices.{IsWall, orientation_of, Vertices}
 use Rattle.geo_sign.specs.Boxes.{IsBoxed}
 use Rattle.geo_sign.proofs.Exchanges.{flat_a, flat_b, flat_c}
-use Rattle.cell_laws.proofs.Order.{mul_not_negative, mul_positive, neg_left, neg_right}
+use Rattle.geo_sign.proofs.SignTests.{below_true}
+use Rattle.geo_sign.proofs.Corners.{corner_within}
+use Rattle.geo_sign.proofs.RingLaws.{neg-*ℤ, *ℤ-neg}
+use Rattle.geo_sign.proofs.Bounds.{data_in_box}
+use Rattle.cell_laws.proofs.Order.{mul_not_negative, mul_positive}
 use Rattle.cell_laws.proofs.Regions.{IsInner, IsOuter}
 
 -- ---- the corner that is lowest along a direction
@@ -64,9 +68,6 @@ far_place true true true = refl
 abbrev pub low : ℤ → ℤ
 low n = edge (int_lt n (pos 0))
 
-pub test_below : (n : ℤ) → int_lt n (pos 0) ≡ true → n <ℤ pos 0
-test_below n h = grind (arith, ints)
-
 pub test_above : (n : ℤ) → int_lt n (pos 0) ≡ false → pos 0 ≤ℤ n
 test_above n h = grind (arith, ints)
 
@@ -81,28 +82,14 @@ axis : (n p : ℤ) → unsigned_abs p ≤ BOX_LIMIT → pos 0 ≤ℤ (n *ℤ (p 
 axis n p h = pick (int_lt n (pos 0)) refl
   where
     pick : (b : Bool) → int_lt n (pos 0) ≡ b → pos 0 ≤ℤ (n *ℤ (p -ℤ edge b))
-    pick true e = both_negative n (p -ℤ pos BOX_LIMIT) (let m = test_below n e in omega (arith, ints, m)) (omega (arith, ints))
+    pick true e = both_negative n (p -ℤ pos BOX_LIMIT) (let m = below_true n e in omega (arith, ints, m)) (omega (arith, ints))
     pick false e = mul_not_negative n (p -ℤ neg_ℤ (pos BOX_LIMIT)) (test_above n e) (omega (arith, ints))
 
 -- ---- where the vertices are
-corner_within : (k : ℕ) → IsWithin BOX_LIMIT (corner_point k)
-corner_within k = record {
-  x_within = wall_within (bit_and k 1 == 0);
-  y_within = wall_within (bit_and k 2 == 0);
-  z_within = wall_within (bit_and k 4 == 0);
-}
-  where
-    wall_within : (b : Bool) → unsigned_abs (cond b (neg_ℤ (pos BOX_LIMIT)) (pos BOX_LIMIT)) ≤ BOX_LIMIT
-    wall_within true = omega (arith, ints)
-    wall_within false = omega (arith, ints)
-
 pub vertex_within : (v : Vertices) → IsBoxed v → (u : ℕ) → u < v.count → IsWithin BOX_LIMIT (v.at u)
 vertex_within v x u h =
     ⊎_elim (λ (l : u < 8). subst (λ p. IsWithin BOX_LIMIT p) (sym (x.corner_at u l)) (corner_within u))
-    (λ (l : 8 ≤ u). let d = x.data_at u l h in
-    let dx = d.x_within in let dy = d.y_within in let dz = d.z_within in
-    record { x_within = omega (arith, dx); y_within = omega (arith, dy); z_within = omega (arith, dz) })
-    (cases_lt u 8)
+    (λ (l : 8 ≤ u). data_in_box (v.at u) (x.data_at u l h)) (cases_lt u 8)
 
 -- ---- a facet's plane at two points
 abbrev pub facet_normal : Point → Point → Point → Point
@@ -173,12 +160,12 @@ factor_is_zero (pos (suc m)) (pos (suc n)) e =
     absurd (omega (arith, ints, h, e))
 factor_is_zero (pos (suc m)) (negsuc n) e =
     let h = mul_positive (pos (suc m)) (neg_ℤ (negsuc n)) (omega (arith, ints)) (omega (arith, ints)) in
-    let f = neg_right (pos (suc m)) (negsuc n) in
+    let f = *ℤ-neg (pos (suc m)) (negsuc n) in
     absurd (omega (arith, ints, h, e, f))
 factor_is_zero (negsuc m) (pos zero) e = inr refl
 factor_is_zero (negsuc m) (pos (suc n)) e =
     let h = mul_positive (neg_ℤ (negsuc m)) (pos (suc n)) (omega (arith, ints)) (omega (arith, ints)) in
-    let f = neg_left (negsuc m) (pos (suc n)) in
+    let f = neg-*ℤ (negsuc m) (pos (suc n)) in
     absurd (omega (arith, ints, h, e, f))
 factor_is_zero (negsuc m) (negsuc n) e =
     let h = mul_positive (neg_ℤ (negsuc m)) (neg_ℤ (negsuc n)) (omega (arith, ints)) (omega (arith, ints)) in

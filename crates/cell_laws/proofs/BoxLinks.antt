@@ -1,6 +1,7 @@
 -- The six cells over the corners: how they are linked, and that they are all. The tables were made by a script.
 -- Stands on: Corners (they are cells) and LinkedCells (linked cells are all cells).
 use Rattle.std.proofs.Common.{ℕ, zero, suc, ◌+◌, ◌<◌, ◌≡◌, refl, ap, sym, subst, ◌∙◌, inl, inr, arith, eqb, cond, Some, None}
+use Rattle.std.proofs.lemmas.Option.{same_Some, none-some}
 use Rattle.geo_sign.specs.Point.{Point, corner_point}
 use Rattle.geo_sign.specs.Tetrahedron.{Tetrahedron, tetrahedron, facet, facet_of, vertex_of, IsRotated}
 use Rattle.geo_sign.specs.Vertices.{Vertices, Has, IsWall}
@@ -15,12 +16,6 @@ use Rattle.geo_sign.proofs.Rotations.{rotated_back}
 use Rattle.cell_laws.proofs.Corners.{six_cells}
 use Rattle.cell_laws.proofs.Heights.{tied_generic}
 use Rattle.cell_laws.proofs.LinkedCells.{facet_same, facet_of_same, once_apart, linked_listing}
-
-pub none_some : (y : ℕ) → None ≡ Some y → ⊥
-none_some y e = cc
-
-some_same : (a b : ℕ) → Some a ≡ Some b → a ≡ b
-some_same a b e = cc
 
 -- ---- what holds of each name, and of each side
 pub at_name : (P : ℕ → Type 0) → P 0 → P 1 → P 2 → P 3 → P 4 → P 5 → (x : ℕ) → IsIn six_names x → P x
@@ -134,47 +129,47 @@ back :
 back x i =
     at_name (λ x. (k : ℕ) → k < 4 → (y : ℕ) → six_next x k ≡ Some y → IsBackAt six_names six_cell (facet_of (six_cell x) k) y)
     (at_side (λ k. (y : ℕ) → six_next 0 k ≡ Some y → IsBackAt six_names six_cell (facet_of (six_cell 0) k) y)
-    (λ y e. subst (IsBackAt six_names six_cell (facet_of (six_cell 0) 0)) (some_same 1 y e)
+    (λ y e. subst (IsBackAt six_names six_cell (facet_of (six_cell 0) 0)) (same_Some 1 y e)
     (record { listed = inr (inl refl); side = 3; in_range = omega arith; turned = inl refl }))
-    (λ y e. absurd (none_some y e))
-    (λ y e. absurd (none_some y e))
-    (λ y e. absurd (none_some y e)))
+    (λ y e. absurd (none-some y e))
+    (λ y e. absurd (none-some y e))
+    (λ y e. absurd (none-some y e)))
     (at_side (λ k. (y : ℕ) → six_next 1 k ≡ Some y → IsBackAt six_names six_cell (facet_of (six_cell 1) k) y)
-    (λ y e. subst (IsBackAt six_names six_cell (facet_of (six_cell 1) 0)) (some_same 3 y e)
+    (λ y e. subst (IsBackAt six_names six_cell (facet_of (six_cell 1) 0)) (same_Some 3 y e)
     (record { listed = inr (inr (inr (inl refl))); side = 2; in_range = omega arith; turned = inl refl }))
-    (λ y e. subst (IsBackAt six_names six_cell (facet_of (six_cell 1) 1)) (some_same 2 y e)
+    (λ y e. subst (IsBackAt six_names six_cell (facet_of (six_cell 1) 1)) (same_Some 2 y e)
     (record { listed = inr (inr (inl refl)); side = 3; in_range = omega arith; turned = inl refl }))
-    (λ y e. absurd (none_some y e))
-    (λ y e. subst (IsBackAt six_names six_cell (facet_of (six_cell 1) 3)) (some_same 0 y e)
+    (λ y e. absurd (none-some y e))
+    (λ y e. subst (IsBackAt six_names six_cell (facet_of (six_cell 1) 3)) (same_Some 0 y e)
     (record { listed = inl refl; side = 0; in_range = omega arith; turned = inl refl })))
     (at_side (λ k. (y : ℕ) → six_next 2 k ≡ Some y → IsBackAt six_names six_cell (facet_of (six_cell 2) k) y)
-    (λ y e. subst (IsBackAt six_names six_cell (facet_of (six_cell 2) 0)) (some_same 4 y e)
+    (λ y e. subst (IsBackAt six_names six_cell (facet_of (six_cell 2) 0)) (same_Some 4 y e)
     (record { listed = inr (inr (inr (inr (inl refl)))); side = 3; in_range = omega arith; turned = inl refl }))
-    (λ y e. absurd (none_some y e))
-    (λ y e. absurd (none_some y e))
-    (λ y e. subst (IsBackAt six_names six_cell (facet_of (six_cell 2) 3)) (some_same 1 y e)
+    (λ y e. absurd (none-some y e))
+    (λ y e. absurd (none-some y e))
+    (λ y e. subst (IsBackAt six_names six_cell (facet_of (six_cell 2) 3)) (same_Some 1 y e)
     (record { listed = inr (inl refl); side = 1; in_range = omega arith; turned = inl refl })))
     (at_side (λ k. (y : ℕ) → six_next 3 k ≡ Some y → IsBackAt six_names six_cell (facet_of (six_cell 3) k) y)
-    (λ y e. subst (IsBackAt six_names six_cell (facet_of (six_cell 3) 0)) (some_same 4 y e)
+    (λ y e. subst (IsBackAt six_names six_cell (facet_of (six_cell 3) 0)) (same_Some 4 y e)
     (record { listed = inr (inr (inr (inr (inl refl)))); side = 2; in_range = omega arith; turned = inl refl }))
-    (λ y e. absurd (none_some y e))
-    (λ y e. subst (IsBackAt six_names six_cell (facet_of (six_cell 3) 2)) (some_same 1 y e)
+    (λ y e. absurd (none-some y e))
+    (λ y e. subst (IsBackAt six_names six_cell (facet_of (six_cell 3) 2)) (same_Some 1 y e)
     (record { listed = inr (inl refl); side = 0; in_range = omega arith; turned = inl refl }))
-    (λ y e. absurd (none_some y e)))
+    (λ y e. absurd (none-some y e)))
     (at_side (λ k. (y : ℕ) → six_next 4 k ≡ Some y → IsBackAt six_names six_cell (facet_of (six_cell 4) k) y)
-    (λ y e. absurd (none_some y e))
-    (λ y e. subst (IsBackAt six_names six_cell (facet_of (six_cell 4) 1)) (some_same 5 y e)
+    (λ y e. absurd (none-some y e))
+    (λ y e. subst (IsBackAt six_names six_cell (facet_of (six_cell 4) 1)) (same_Some 5 y e)
     (record { listed = inr (inr (inr (inr (inr (inl refl))))); side = 2; in_range = omega arith; turned = inl refl }))
-    (λ y e. subst (IsBackAt six_names six_cell (facet_of (six_cell 4) 2)) (some_same 3 y e)
+    (λ y e. subst (IsBackAt six_names six_cell (facet_of (six_cell 4) 2)) (same_Some 3 y e)
     (record { listed = inr (inr (inr (inl refl))); side = 0; in_range = omega arith; turned = inl refl }))
-    (λ y e. subst (IsBackAt six_names six_cell (facet_of (six_cell 4) 3)) (some_same 2 y e)
+    (λ y e. subst (IsBackAt six_names six_cell (facet_of (six_cell 4) 3)) (same_Some 2 y e)
     (record { listed = inr (inr (inl refl)); side = 0; in_range = omega arith; turned = inl refl })))
     (at_side (λ k. (y : ℕ) → six_next 5 k ≡ Some y → IsBackAt six_names six_cell (facet_of (six_cell 5) k) y)
-    (λ y e. absurd (none_some y e))
-    (λ y e. absurd (none_some y e))
-    (λ y e. subst (IsBackAt six_names six_cell (facet_of (six_cell 5) 2)) (some_same 4 y e)
+    (λ y e. absurd (none-some y e))
+    (λ y e. absurd (none-some y e))
+    (λ y e. subst (IsBackAt six_names six_cell (facet_of (six_cell 5) 2)) (same_Some 4 y e)
     (record { listed = inr (inr (inr (inr (inl refl)))); side = 1; in_range = omega arith; turned = inl refl }))
-    (λ y e. absurd (none_some y e)))
+    (λ y e. absurd (none-some y e)))
     x i
 
 walls :
@@ -183,34 +178,34 @@ walls :
 walls v b x i =
     at_name (λ x. (k : ℕ) → k < 4 → six_next x k ≡ None → IsWall v (facet_of (six_cell x) k))
     (at_side (λ k. six_next 0 k ≡ None → IsWall v (facet_of (six_cell 0) k))
-    (λ e. absurd (none_some 1 (sym e)))
+    (λ e. absurd (none-some 1 (sym e)))
     (λ e. wall_x v b 0 2 4 (omega arith) (omega arith) (omega arith) refl refl)
     (λ e. wall_y v b 0 4 1 (omega arith) (omega arith) (omega arith) refl refl)
     (λ e. wall_z v b 0 1 2 (omega arith) (omega arith) (omega arith) refl refl))
     (at_side (λ k. six_next 1 k ≡ None → IsWall v (facet_of (six_cell 1) k))
-    (λ e. absurd (none_some 3 (sym e)))
-    (λ e. absurd (none_some 2 (sym e)))
+    (λ e. absurd (none-some 3 (sym e)))
+    (λ e. absurd (none-some 2 (sym e)))
     (λ e. wall_z v b 1 3 2 (omega arith) (omega arith) (omega arith) refl refl)
-    (λ e. absurd (none_some 0 (sym e))))
+    (λ e. absurd (none-some 0 (sym e))))
     (at_side (λ k. six_next 2 k ≡ None → IsWall v (facet_of (six_cell 2) k))
-    (λ e. absurd (none_some 4 (sym e)))
+    (λ e. absurd (none-some 4 (sym e)))
     (λ e. wall_y v b 1 4 5 (omega arith) (omega arith) (omega arith) refl refl)
     (λ e. wall_x v b 1 5 3 (omega arith) (omega arith) (omega arith) refl refl)
-    (λ e. absurd (none_some 1 (sym e))))
+    (λ e. absurd (none-some 1 (sym e))))
     (at_side (λ k. six_next 3 k ≡ None → IsWall v (facet_of (six_cell 3) k))
-    (λ e. absurd (none_some 4 (sym e)))
+    (λ e. absurd (none-some 4 (sym e)))
     (λ e. wall_x v b 2 6 4 (omega arith) (omega arith) (omega arith) refl refl)
-    (λ e. absurd (none_some 1 (sym e)))
+    (λ e. absurd (none-some 1 (sym e)))
     (λ e. wall_y v b 2 3 6 (omega arith) (omega arith) (omega arith) refl refl))
     (at_side (λ k. six_next 4 k ≡ None → IsWall v (facet_of (six_cell 4) k))
     (λ e. wall_z v b 4 6 5 (omega arith) (omega arith) (omega arith) refl refl)
-    (λ e. absurd (none_some 5 (sym e)))
-    (λ e. absurd (none_some 3 (sym e)))
-    (λ e. absurd (none_some 2 (sym e))))
+    (λ e. absurd (none-some 5 (sym e)))
+    (λ e. absurd (none-some 3 (sym e)))
+    (λ e. absurd (none-some 2 (sym e))))
     (at_side (λ k. six_next 5 k ≡ None → IsWall v (facet_of (six_cell 5) k))
     (λ e. wall_z v b 5 6 7 (omega arith) (omega arith) (omega arith) refl refl)
     (λ e. wall_y v b 3 7 6 (omega arith) (omega arith) (omega arith) refl refl)
-    (λ e. absurd (none_some 4 (sym e)))
+    (λ e. absurd (none-some 4 (sym e)))
     (λ e. wall_x v b 3 5 7 (omega arith) (omega arith) (omega arith) refl refl))
     x i
 

@@ -6,7 +6,7 @@
 -- different).
 use Rattle.std.proofs.Common.{ℕ, ◌+◌, ◌<◌, ◌≡◌, refl, sym, ap, subst, ◌∙◌, arith, Bool, true, false, true≢false, not, ◌&&◌}
 use Rattle.std.proofs.Common.{Option, Some, None, List, [], ◌∷◌}
-use Rattle.std.proofs.lemmas.Bool.{and_parts, and_from}
+use Rattle.std.proofs.lemmas.Bool.{and_parts, and_from, not-true, not_from_false}
 use Rattle.std.proofs.lemmas.List.Sums.{sum_by-cons}
 use Rattle.geo_sign.specs.Tetrahedron.{Tetrahedron, DirectedFacet, facet_of, IsRotated}
 use Rattle.geo_sign.specs.Vertices.{Vertices}
@@ -126,14 +126,6 @@ module _ (v : Vertices) (b : IsBoxed v) (live : List ℕ) (cell : ℕ → Tetrah
           absurd (omega (arith, low, high, same))
       by (Some y) n k = let m = mate_of s y i n in (m.mate, m.in_every, m.within_is ∙ k, m.beyond_is ∙ h, m.turned)
 
-  not_true : (a : Bool) → not a ≡ true → a ≡ false
-  not_true true e = sym e
-  not_true false e = refl
-
-  true_not : (a : Bool) → a ≡ false → not a ≡ true
-  true_not true e = sym e
-  true_not false e = refl
-
   abbrev edges : (u w : ℕ) → Side → ℕ
   edges u w s = edges_of u w (facet_at_side s)
 
@@ -173,14 +165,14 @@ module _ (v : Vertices) (b : IsBoxed v) (live : List ℕ) (cell : ℕ → Tetrah
       (record {
         partner = λ s i e.
             (let x = and_parts (within s) (not (beyond s)) e in
-            let t = out s i x.0 (not_true (beyond s) x.1) in
-            (t.0, t.1, and_from (not (within t.0)) (beyond t.0) (true_not (within t.0) t.2) t.3, t.4));
+            let t = out s i x.0 (not-true (beyond s) x.1) in
+            (t.0, t.1, and_from (not (within t.0)) (beyond t.0) (not_from_false (within t.0) t.2) t.3, t.4));
         partner_of = λ s i e.
             (let x = and_parts (not (within s)) (beyond s) e in
             let t = over s i x.1 in (
               t.0,
               t.1,
-              and_from (within t.0) (not (beyond t.0)) t.2 (true_not (beyond t.0) (t.3 ∙ not_true (within s) x.0)),
+              and_from (within t.0) (not (beyond t.0)) t.2 (not_from_false (beyond t.0) (t.3 ∙ not-true (within s) x.0)),
               pair_back s t.0 t.4,
             ));
         one = λ s t r i j k x y. one_partner s t r j k x y;
@@ -246,14 +238,14 @@ module _ (v : Vertices) (b : IsBoxed v) (live : List ℕ) (cell : ℕ → Tetrah
     cut_is : (s : Side) → IsIn sides s → cut s ≡ true
     cut_is s i =
         let y = c.across s i in
-        and_from (not (within s)) (beyond s) (true_not (within s) (c.outside s i)) (ap (is_inside inside) y.1 ∙ y.2)
+        and_from (not (within s)) (beyond s) (not_from_false (within s) (c.outside s i)) (ap (is_inside inside) y.1 ∙ y.2)
 
     cut_in : (s : Side) → IsIn every s → cut s ≡ true → IsIn sides s
     cut_in s i e = let x = and_parts (not (within s)) (beyond s) e in by (next s.at s.side) refl x.0 x.1
       where
         by : (o : Option ℕ) → next s.at s.side ≡ o → not (within s) ≡ true → is_inside inside o ≡ true → IsIn sides s
         by None n h k = absurd (true≢false (sym k))
-        by (Some y) n h k = let z = listed s i in c.all s y z.0 z.1 (not_true (within s) h) n k
+        by (Some y) n h k = let z = listed s i in c.all s y z.0 z.1 (not-true (within s) h) n k
 
     listed_total : (u w : ℕ) → total (λ s. pick (edges u w s) true) sides ≡ total (λ s. pick (edges u w s) (cut s)) every
     listed_total u w =

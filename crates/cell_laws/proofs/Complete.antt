@@ -87,14 +87,10 @@ held_back x y b a p s =
     (sum (product (variable 2) (negation (difference (product (variable 4) (variable 1)) (product (variable 0) (variable 5)))))
     (product (negation (variable 5)) (sum (product (variable 2) (variable 0)) (product (variable 3) (variable 1))))) tt
 
-lead_none : (a b : ℤ) → a *ℤ b -ℤ a *ℤ b ≡ pos 0
-lead_none a b =
-    ring (a ∷ b ∷ []) (difference (product (variable 0) (variable 1)) (product (variable 0) (variable 1))) (constant (pos 0)) tt
-
 lead_not_above : (p s : ℕ → ℤ) (l k : ℕ) → IsExit p s l → k < 4 → lead_of p s l k ≤ℤ pos 0
 lead_not_above p s l k h b =
     same_or_not k l
-    (λ e. subst (λ (x : ℕ). lead_of p s l x ≤ℤ pos 0) (sym e) (let z = lead_none (p l) (s l) in omega (arith, ints, z)))
+    (λ e. subst (λ (x : ℕ). lead_of p s l x ≤ℤ pos 0) (sym e) (omega (arith, ints)))
     (λ n. let z = h.others k b n in omega (arith, ints, z))
 
 -- and before the exit the sides that fall are positive

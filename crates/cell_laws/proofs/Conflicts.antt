@@ -1,16 +1,15 @@
 -- What the three terms say of a cell in conflict, its neighbour, and the cell that takes its place.
 -- Stands on: Identities and Order alone; it speaks of points and heights.
-use Rattle.std.proofs.Common.{◌≡◌, ap, ◌∙◌, arith, ℤ, pos, ◌*ℤ◌, neg_ℤ, ◌≤ℤ◌, ◌<ℤ◌, List, [], ◌∷◌}
+use Rattle.std.proofs.Common.{◌≡◌, ap, ◌∙◌, arith, ℤ, pos, ◌*ℤ◌, neg_ℤ, ◌≤ℤ◌, ◌<ℤ◌}
 use Rattle.std.proofs.lemmas.Int.{ints, by_lt_z}
 use lib.IntN.{*ℤ_comm}
-use Rattle.geo_sign.specs.Polynomial.{negation, variable}
-use Rattle.geo_sign.proofs.Ring.{ring}
 use Rattle.geo_sign.specs.Orientation.{orientation}
 use Rattle.geo_sign.specs.Point.{Point}
 use Rattle.geo_sign.specs.Power.{power}
-use Rattle.geo_sign.proofs.Written.{coordinates, orientation', power', symbols}
+use Rattle.geo_sign.proofs.Exchanges.{turned_power, turned_orientation}
+use Rattle.geo_sign.proofs.RingLaws.{neg-*ℤ, *ℤ-neg}
 use Rattle.cell_laws.proofs.Identities.{three_terms}
-use Rattle.cell_laws.proofs.Order.{factor_above, factor_below, mul_below, mul_not_above, mul_not_negative, neg_left, neg_right}
+use Rattle.cell_laws.proofs.Order.{factor_above, factor_below, mul_below, mul_not_above, mul_not_negative}
 
 -- a fan facet faces p
 pub fan_faces : (a b c d e p : Point) (ha hb hc hd he hp : ℤ) → pos 0 <ℤ orientation a b c d → pos 0 <ℤ orientation a c b e
@@ -35,23 +34,6 @@ conflict_across a b c d e p ha hb hc hd he hp v w x y z =
     let u = mul_below (orientation a c b e) (power a b c d p ha hb hc hd hp) w y in
     factor_below (orientation a b c d) (power a c b e p ha hc hb he hp) v (omega (arith, ints, s, t, u))
 
-turn_power : (a b c d p : Point) (ha hb hc hd hp : ℤ) → power a c b d p ha hc hb hd hp ≡ neg_ℤ (power a b c d p ha hb hc hd hp)
-unfolding power orientation
-turn_power a b c d p ha hb hc hd hp =
-    let xs : List ℤ =
-    coordinates a (coordinates b (coordinates c (coordinates d (coordinates p (ha ∷ hb ∷ hc ∷ hd ∷ hp ∷ []))))) in
-    ring xs (power' (symbols 0) (symbols 6) (symbols 3) (symbols 9) (symbols 12) (variable 15) (variable 17) (variable 16)
-    (variable 18) (variable 19))
-    (negation (power' (symbols 0) (symbols 3) (symbols 6) (symbols 9) (symbols 12) (variable 15) (variable 16) (variable 17)
-    (variable 18) (variable 19))) tt
-
-turn_orientation : (a b c d : Point) → orientation a c b d ≡ neg_ℤ (orientation a b c d)
-unfolding orientation
-turn_orientation a b c d =
-    ring (coordinates a (coordinates b (coordinates c (coordinates d []))))
-    (orientation' (symbols 0) (symbols 6) (symbols 3) (symbols 9))
-    (negation (orientation' (symbols 0) (symbols 3) (symbols 6) (symbols 9))) tt
-
 -- no vertex u on v's side of the facet is in conflict with the new cell a b c p
 pub new_clear_before : (a b c d p u : Point) (ha hb hc hd hp hu : ℤ) → pos 0 <ℤ orientation a b c d
     → pos 0 <ℤ orientation a b c p
@@ -62,9 +44,9 @@ new_clear_before a b c d p u ha hb hc hd hp hu v w x y z =
     let P = power a b c p u ha hb hc hp hu in
     let O = orientation a b c p in
     let f : orientation a b c d *ℤ power a c b p u ha hc hb hp hu ≡ neg_ℤ (orientation a b c d *ℤ P) =
-    ap (λ y. orientation a b c d *ℤ y) (turn_power a b c p u ha hb hc hp hu) ∙ neg_right (orientation a b c d) P in
+    ap (λ y. orientation a b c d *ℤ y) (turned_power a b c p u ha hb hc hp hu) ∙ *ℤ-neg (orientation a b c d) P in
     let g : orientation a c b p *ℤ power a b c d u ha hb hc hd hu ≡ neg_ℤ (O *ℤ power a b c d u ha hb hc hd hu) =
-    ap (λ y. y *ℤ power a b c d u ha hb hc hd hu) (turn_orientation a b c p) ∙ neg_left O (power a b c d u ha hb hc hd hu) in
+    ap (λ y. y *ℤ power a b c d u ha hb hc hd hu) (turned_orientation a b c p) ∙ neg-*ℤ O (power a b c d u ha hb hc hd hu) in
     let w' : pos 0 ≤ℤ O = omega (arith, ints) in
     let t = mul_not_negative O (power a b c d u ha hb hc hd hu) w' y in
     let x' : power a b c d p ha hb hc hd hp ≤ℤ pos 0 = omega (arith, ints) in
@@ -81,7 +63,7 @@ pub new_clear_behind : (a b c e p u : Point) (ha hb hc he hp hu : ℤ) → pos 0
     → pos 0 ≤ℤ power a b c p u ha hb hc hp hu
 new_clear_behind a b c e p u ha hb hc he hp hu v w x y z =
     let s = three_terms a c b e p u ha hc hb he hp hu in
-    let g = turn_orientation a b c u in
+    let g = turned_orientation a b c u in
     let n : pos 0 ≤ℤ orientation a c b u = omega (arith, ints, g) in
     let w' : pos 0 ≤ℤ orientation a b c p = omega (arith, ints) in
     let t = mul_not_negative (orientation a b c p) (power a c b e u ha hc hb he hu) w' y in

@@ -4,7 +4,7 @@
 -- Stands on: Heights (the power by the tie rule).
 use Rattle.std.proofs.Common.{ℕ, zero, suc, ◌≡◌, ◌<◌, ◌≤◌, ◌^◌, refl, ap, ap₂, sym, subst, ◌∙◌, inl, inr, ⊎_elim, arith, Bool}
 use Rattle.std.proofs.Common.{true, not, ◌&&◌, ◌==◌, int_lt, unsigned_abs, ℤ, pos, ◌*ℤ◌, ◌+ℤ◌, ◌≤ℤ◌, ◌<ℤ◌, [], ◌∷◌}
-use Rattle.std.proofs.lemmas.Bool.{cases_lt, eqb-true}
+use Rattle.std.proofs.lemmas.Bool.{cases_lt, eqb-true, and_parts}
 use Rattle.std.proofs.lemmas.Int.{ints}
 use lib.IntN.{*ℤ-zero}
 use Rattle.geo_sign.specs.Polynomial.{product, sum, variable}
@@ -20,8 +20,8 @@ use Rattle.geo_sign.specs.Boxes.{IsBoxed}
 use Rattle.cell_laws.specs.CellLaws.{six}
 use Rattle.cell_laws.specs.Lists.{IsIn}
 use Rattle.geo_sign.proofs.Rewritings.{IsCellOf, orientation_at, power_at}
+use Rattle.geo_sign.proofs.SignTests.{above_true}
 use Rattle.cell_laws.proofs.Heights.{power_tied, tied}
-use Rattle.cell_laws.proofs.Wrap.{above_true, and_left, and_right}
 
 -- each power is a number of units, and the power of the tie terms
 split : (a b c d p : Point) (n ha hb hc hd hp ta tb tc td tp : ℤ)
@@ -65,8 +65,9 @@ all_below (suc n) f = all_below n f && f n
 pub all_below_at : (n : ℕ) (f : ℕ → Bool) (u : ℕ) → all_below n f ≡ true → u < n → f u ≡ true
 all_below_at zero f u h l = absurd (omega arith)
 all_below_at (suc n) f u h l =
-    ⊎_elim (λ (m : u < n). all_below_at n f u (and_left (all_below n f) (f n) h) m)
-    (λ (m : n ≤ u). let e : n ≡ u = omega arith in subst (λ i. f i ≡ true) e (and_right (all_below n f) (f n) h)) (cases_lt u n)
+    ⊎_elim (λ (m : u < n). all_below_at n f u (and_parts (all_below n f) (f n) h).0 m)
+    (λ (m : n ≤ u). let e : n ≡ u = omega arith in subst (λ i. f i ≡ true) e (and_parts (all_below n f) (f n) h).1)
+    (cases_lt u n)
 
 zero_abs : (z : ℤ) → (unsigned_abs z == 0) ≡ true → z ≡ pos 0
 zero_abs z h = let e : unsigned_abs z ≡ 0 = eqb-true (unsigned_abs z) 0 h in omega (arith, ints)
@@ -121,9 +122,9 @@ corner_cell v x f r ha hb hc hd o k =
         (square (corner_point r.a)) (square (corner_point r.b)) (square (corner_point r.c)) (square (corner_point r.d))
         (square (corner_point u)) (base r.a) (base r.b) (base r.c) (base r.d) (base u) in
         let b = all_below_at 8 (is_clear_of r) u k l in
-        let z : sphere r u ≡ pos 0 = zero_abs (sphere r u) (and_left (unsigned_abs (sphere r u) == 0) _ b) in
+        let z : sphere r u ≡ pos 0 = zero_abs (sphere r u) (and_parts (unsigned_abs (sphere r u) == 0) _ b).0 in
         let y : pos ((2 ^ 80) ^ n) *ℤ sphere r u ≡ pos 0 = ap (λ i. pos ((2 ^ 80) ^ n) *ℤ i) z ∙ *ℤ-zero (pos ((2 ^ 80) ^ n)) in
-        let m = not_lower (tie r u) (and_right (unsigned_abs (sphere r u) == 0) _ b) in
+        let m = not_lower (tie r u) (and_parts (unsigned_abs (sphere r u) == 0) _ b).1 in
         omega (arith, ints, e, g, y, m)
 
 pub six_cells : (v : Vertices) → IsBoxed v → ((u : ℕ) → Has v u → u < 8) → {r : Tetrahedron} → IsIn six r → IsCellOf v r

@@ -8,12 +8,7 @@ use Rattle.std.proofs.Common.{false, true≢false, pos, neg_ℤ, ◌*ℤ◌, ◌
 use Rattle.std.proofs.lemmas.Int.{ints, by_lt_z}
 use Rattle.std.proofs.lemmas.Bool.{cases_lt}
 use lib.IntN.{*ℤ_comm}
-use Rattle.geo_sign.specs.Polynomial.{constant}
-use Rattle.geo_sign.proofs.Ring.{ring}
-use Rattle.geo_sign.specs.Orientation.{orientation}
-use Rattle.geo_sign.specs.Point.{Point}
-use Rattle.geo_sign.specs.Rational.{rational, RationalPoint, side}
-use Rattle.geo_sign.proofs.Written.{coordinates, orientation', side', symbols}
+use Rattle.geo_sign.specs.Rational.{rational, RationalPoint}
 use Rattle.geo_sign.specs.Cells.{IsCell}
 use Rattle.geo_sign.specs.Tetrahedron.{Tetrahedron, tetrahedron}
 use Rattle.geo_sign.specs.Vertices.{Has, orientation_of, Vertices}
@@ -22,10 +17,12 @@ use Rattle.cell_laws.specs.Lifts.{lift_of}
 use Rattle.cell_laws.specs.Lists.{IsFull, IsIn, IsJoined}
 use Rattle.geo_sign.specs.Writings.{IsVertexOf, IsRewritten}
 use Rattle.geo_sign.proofs.Rewritings.{IsCellOf, orientation_at, power_at, same_cell, same_orientation}
+use Rattle.geo_sign.proofs.Exchanges.{point_side}
+use Rattle.geo_sign.proofs.RingLaws.{neg-*ℤ}
 use Rattle.cell_laws.proofs.Best.{best, IsBest}
 use Rattle.cell_laws.proofs.Fan.{across_above}
 use Rattle.cell_laws.proofs.Flood.{move}
-use Rattle.cell_laws.proofs.Order.{IsLater, neg_left, walk_step}
+use Rattle.cell_laws.proofs.Order.{IsLater, walk_step}
 use Rattle.cell_laws.proofs.Regions.{IsConvex, IsGeneric, IsOuter}
 use Rattle.cell_laws.proofs.Ways.{beside, lying, same_lift}
 use Rattle.cell_laws.proofs.Wrap.{across, below, below_has}
@@ -59,8 +56,8 @@ highest {X} v g q inside live cell list x k =
         (same_orientation v (cell y.0) (tetrahedron a c b e) y.2) (same_lift v q (cell y.0) (tetrahedron a c b e) y.2)
         (walk_step (v.at a) (v.at b) (v.at c) (v.at d) (v.at e) q (v.high a) (v.high b) (v.high c) (v.high d) (v.high e)
         (across_above v g a b c d e f z) l) in
-        let i = neg_left (lift_of v (cell x) q) (orientation_at v (cell y.0)) in
-        let j = neg_left (lift_of v (cell y.0) q) (orientation_at v (cell x)) in
+        let i = neg-*ℤ (lift_of v (cell x) q) (orientation_at v (cell y.0)) in
+        let j = neg-*ℤ (lift_of v (cell y.0) q) (orientation_at v (cell x)) in
         let i' = *ℤ_comm (lift_of v (cell x) q) (orientation_at v (cell y.0)) in
         let j' = *ℤ_comm (lift_of v (cell y.0) q) (orientation_at v (cell x)) in
         omega (arith, ints, m, n, i, j, i', j')
@@ -91,13 +88,6 @@ cover {X} v g q inside live cell list x i =
     (z.0, k.listed, highest v g q inside live cell list z.0 k))
     (best (λ y. true) (λ y. neg_ℤ (lift_of v (cell y) q)) (λ y. orientation_at v (cell y)) live
     (λ y j k. (list.cells y j).positive))
-
-pub point_side : (a b c u : Point) → side a b c (rational u) ≡ orientation a b c u
-unfolding side orientation
-point_side a b c u =
-    ring (coordinates a (coordinates b (coordinates c (coordinates u []))))
-    (side' (symbols 0) (symbols 3) (symbols 6) (record { at = symbols 9; over = constant (pos 1) }))
-    (orientation' (symbols 0) (symbols 3) (symbols 6) (symbols 9)) tt
 
 pub lies_of :
     (v : Vertices) → IsConvex v → (r : Tetrahedron) (u : ℕ) → IsCellOf v r → Has v u → IsLyingIn v r (rational (v.at u)) →

@@ -24,7 +24,7 @@ and_swap true false = refl
 and_swap false true = refl
 and_swap false false = refl
 
-flip : (u w x y : ℕ) → one_edge u w x y ≡ one_edge w u y x
+pub flip : (u w x y : ℕ) → one_edge u w x y ≡ one_edge w u y x
 flip u w x y = ap one_if (and_swap (eqb x u) (eqb y w))
 
 pub edges_turned : (u w : ℕ) (f g : DirectedFacet) → IsTurned f g → edges_of u w f ≡ edges_of w u g

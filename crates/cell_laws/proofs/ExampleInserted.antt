@@ -3,6 +3,7 @@
 -- Stands on: Example, BoxLinks and Renewal.
 use Rattle.std.proofs.Common.{ℕ, zero, suc, ◌<◌, ◌≡◌, refl, ap, sym, subst, ◌∙◌, ◌⊎◌, inl, inr, arith, Bool, true, false}
 use Rattle.std.proofs.Common.{true≢false, int_lt, pos, Option, Some, None, List, [], ◌∷◌, get_or}
+use Rattle.std.proofs.lemmas.Option.{none-some}
 use Rattle.geo_sign.specs.Orientation.{orientation}
 use Rattle.geo_sign.specs.Power.{power}
 use Rattle.geo_sign.specs.Tetrahedron.{Tetrahedron, DirectedFacet, facet_of, IsRotated}
@@ -10,14 +11,14 @@ use Rattle.geo_sign.specs.Vertices.{power_of}
 use Rattle.geo_sign.specs.Edges.{over, edge_start, edge_end}
 use Rattle.cell_laws.specs.ExampleLaws.{ExampleLaw, InsertedLaw}
 use Rattle.geo_sign.specs.Boxes.{with_vertex}
+use Rattle.geo_sign.proofs.SignTests.{below_true}
 use Rattle.cell_laws.specs.LinkLaws.{AreConflicts, six_names, six_cell, six_next}
 use Rattle.cell_laws.specs.Links.{IsLinked}
 use Rattle.cell_laws.specs.Lists.{AreCells, IsIn}
 use Rattle.cell_laws.specs.Replacements.{IsAtRim, IsRimList, IsRenewed, IsRelinked}
-use Rattle.cell_laws.proofs.BoxLinks.{box_law, at_name, at_side, none_some}
+use Rattle.cell_laws.proofs.BoxLinks.{box_law, at_name, at_side}
 use Rattle.cell_laws.proofs.Example.{example, example_boxed, example_new, example_corners}
 use Rattle.cell_laws.proofs.Fan.{joins}
-use Rattle.cell_laws.proofs.Flood.{below_true}
 use Rattle.cell_laws.proofs.RimLists.{one_side}
 use Rattle.cell_laws.proofs.Renewal.{renew_law}
 
@@ -92,7 +93,7 @@ conflicts = record {
 
 -- a side with a neighbour is not at the rim, since all are taken out
 none_of : (o : Option ℕ) (y : ℕ) → o ≡ Some y → ((o ≡ None) ⊎ ((z : ℕ) × (o ≡ Some z) × (true ≡ false))) → ⊥
-none_of o y e (inl f) = none_some y (sym f ∙ e)
+none_of o y e (inl f) = none-some y (sym f ∙ e)
 none_of o y e (inr z) = true≢false z.2
 
 every_rim :

@@ -6,7 +6,7 @@
 -- Stands on: Wrap (the next cell over a facet) and Conflicts.
 use Rattle.std.proofs.Common.{ℕ, ◌≡◌, ◌≢◌, ◌<◌, refl, ap, sym, subst, ◌∙◌, ◌⊎◌, inl, inr, ⊎_elim, arith, Bool, true, false}
 use Rattle.std.proofs.Common.{◌||◌, ◌==◌, eqb, true≢false, pos, ◌≤ℤ◌, ◌<ℤ◌}
-use Rattle.std.proofs.lemmas.Bool.{eqb-true, eqb-false}
+use Rattle.std.proofs.lemmas.Bool.{eqb-true, or_right, eq-eqb}
 use Rattle.std.proofs.lemmas.Int.{ints, by_lt_z}
 use Rattle.geo_sign.specs.Cells.{IsCell}
 use Rattle.geo_sign.specs.Tetrahedron.{tetrahedron}
@@ -22,21 +22,10 @@ use Rattle.cell_laws.proofs.Identities.{same_side}
 
 -- ---- which vertices are in
 pub stays : (v : Vertices) (p u : ℕ) → Has v u → Has (with_vertex v p) u
-stays v p u h = (h.0, either (u == p) (v.is_in u) h.1)
-  where
-    either : (a b : Bool) → b ≡ true → (a || b) ≡ true
-    either true b e = refl
-    either false b e = e
-
-pub same_number : (p : ℕ) → eqb p p ≡ true
-same_number p = pick (eqb p p) refl
-  where
-    pick : (b : Bool) → eqb p p ≡ b → eqb p p ≡ true
-    pick true e = e
-    pick false e = absurd (eqb-false p p e refl)
+stays v p u h = (h.0, or_right (u == p) (v.is_in u) h.1)
 
 pub joins : (v : Vertices) (p : ℕ) → p < v.count → Has (with_vertex v p) p
-joins v p h = (h, ap (λ b. b || v.is_in p) (same_number p))
+joins v p h = (h, ap (λ b. b || v.is_in p) (eq-eqb p p refl))
 
 pub was : (v : Vertices) (p u : ℕ) → Has (with_vertex v p) u → (u ≡ p) ⊎ Has v u
 was v p u h = pick (eqb u p) refl h.1

@@ -5,7 +5,7 @@ use Rattle.std.proofs.Common.{ℕ, zero, suc, ◌<◌, ◌≡◌, ◌≢◌, ref
 use Rattle.std.proofs.Common.{eqb, ℤ, pos, neg_ℤ, ◌+ℤ◌, ◌-ℤ◌, ◌*ℤ◌, ◌≤ℤ◌, ◌<ℤ◌, [], ◌∷◌}
 use Rattle.std.proofs.lemmas.Int.{ints, by_lt_z}
 use Rattle.std.proofs.lemmas.Bool.{eqb-true, eqb-false}
-use Rattle.geo_sign.specs.Polynomial.{constant, difference, product, sum, variable}
+use Rattle.geo_sign.specs.Polynomial.{difference, product, sum, variable}
 use Rattle.geo_sign.proofs.Ring.{ring}
 use Rattle.cell_laws.proofs.Order.{factor_above, factor_below, factor_not_above, mul_not_above, mul_positive}
 
@@ -18,10 +18,6 @@ pub record IsFirst (p s : ℕ → ℤ) (n : ℕ) : Type 0 where
   pub below : at < n
   pub passed : s at <ℤ pos 0
   pub first : (k : ℕ) → k < n → s k <ℤ pos 0 → lead_of p s at k ≤ℤ pos 0
-
-lead_self : (a b : ℤ) → a *ℤ b -ℤ a *ℤ b ≡ pos 0
-lead_self a b =
-    ring (a ∷ b ∷ []) (difference (product (variable 0) (variable 1)) (product (variable 0) (variable 1))) (constant (pos 0)) tt
 
 three_leads : (a b c x y z : ℤ) → a *ℤ (b *ℤ z -ℤ c *ℤ y) ≡ b *ℤ (a *ℤ z -ℤ c *ℤ x) +ℤ c *ℤ (b *ℤ x -ℤ a *ℤ y)
 three_leads a b c x y z =
@@ -67,8 +63,7 @@ first_or_none p s h (suc n) = by (first_or_none p s h n)
           passed = l;
           first =
               λ k b m. below_last k n b (λ i. f k i m)
-              (λ i. subst (λ (j : ℕ). lead_of p s n j ≤ℤ pos 0) (sym i)
-              (let e = lead_self (p n) (s n) in omega (arith, ints, e)));
+              (λ i. subst (λ (j : ℕ). lead_of p s n j ≤ℤ pos 0) (sym i) (omega (arith, ints)));
         }
 
     old : (i : IsFirst p s n) → (s n <ℤ pos 0 → lead_of p s i.at n ≤ℤ pos 0) → IsFirst p s (suc n)

@@ -10,6 +10,7 @@
 use Rattle.std.proofs.Common.{ℕ, ◌≡◌, refl, ap, ap₂, sym, subst, ◌∙◌, ⊎_elim, arith, Bool, true, false, not, ◌&&◌, true≢false}
 use Rattle.std.proofs.Common.{int_lt, ℤ, pos, neg_ℤ, ◌+ℤ◌, ◌*ℤ◌, ◌≤ℤ◌, ◌<ℤ◌, List, [], ◌∷◌}
 use Rattle.std.proofs.lemmas.Int.{ints, by_lt_z}
+use Rattle.std.proofs.lemmas.Bool.{not-true, and_parts}
 use lib.IntN.{*ℤ_comm}
 use Rattle.geo_sign.specs.Rational.{RationalPoint}
 use Rattle.geo_sign.specs.Cells.{IsCell}
@@ -21,20 +22,16 @@ use Rattle.cell_laws.specs.Lifts.{lift_of}
 use Rattle.cell_laws.specs.Lists.{IsClosed, IsIn, IsListing}
 use Rattle.geo_sign.specs.Writings.{IsVertexOf, IsRewritten}
 use Rattle.geo_sign.proofs.Rewritings.{IsCellOf, orientation_at, power_at, same_cell, same_orientation, same_power}
+use Rattle.geo_sign.proofs.SignTests.{below_true, below_is}
+use Rattle.geo_sign.proofs.RingLaws.{neg-*ℤ}
 use Rattle.cell_laws.proofs.Best.{best, IsBest}
 use Rattle.cell_laws.proofs.Conflicts.{conflict_across}
 use Rattle.cell_laws.proofs.Fan.{across_above}
 use Rattle.cell_laws.proofs.Identities.{envelope}
-use Rattle.cell_laws.proofs.Order.{IsLater, mul_not_negative, mul_positive, neg_left, walk_step}
+use Rattle.cell_laws.proofs.Order.{IsLater, mul_not_negative, mul_positive, walk_step}
 use Rattle.cell_laws.proofs.Regions.{IsGeneric, IsGoal, IsOuter}
 use Rattle.cell_laws.proofs.Ways.{beside, same_tetrahedron, same_lift, strictly}
-use Rattle.cell_laws.proofs.Wrap.{across, and_left, and_right}
-
-pub below_true : (z : ℤ) → int_lt z (pos 0) ≡ true → z <ℤ pos 0
-below_true z h = grind (arith, ints)
-
-pub below_is : (z : ℤ) → z <ℤ pos 0 → int_lt z (pos 0) ≡ true
-below_is z h = grind (arith, ints)
+use Rattle.cell_laws.proofs.Wrap.{across}
 
 -- ---- a place lies strictly in one cell at most
 no_factor : (a b : ℤ) → pos 0 ≤ℤ a → pos 0 <ℤ b → (a *ℤ b) ≤ℤ pos 0 → a ≡ pos 0
@@ -129,10 +126,10 @@ top {X} v g p q goal live cell list marked closed x k =
     }
   where
     mx : marked x ≡ true
-    mx = and_left (marked x) _ k.passes
+    mx = (and_parts (marked x) _ k.passes).0
 
     cx : IsInConflict v p (cell x)
-    cx = below_true (power_at v (cell x) p) (and_right (marked x) _ k.passes)
+    cx = below_true (power_at v (cell x) p) (and_parts (marked x) _ k.passes).1
 
     step :
         (a b c d e : ℕ) → IsRewritten (cell x) (tetrahedron a b c d) → IsCell v a b c d → IsCell v a c b e →
@@ -160,8 +157,8 @@ top {X} v g p q goal live cell list marked closed x k =
         (same_orientation v (cell y.0) (tetrahedron a c b e) y.2) (same_lift v q (cell y.0) (tetrahedron a c b e) y.2)
         (walk_step (v.at a) (v.at b) (v.at c) (v.at d) (v.at e) q (v.high a) (v.high b) (v.high c) (v.high d)
         (v.high e) pz l) in
-        let i = neg_left (lift_of v (cell x) q) (orientation_at v (cell y.0)) in
-        let j = neg_left (lift_of v (cell y.0) q) (orientation_at v (cell x)) in
+        let i = neg-*ℤ (lift_of v (cell x) q) (orientation_at v (cell y.0)) in
+        let j = neg-*ℤ (lift_of v (cell y.0) q) (orientation_at v (cell x)) in
         let i' = *ℤ_comm (lift_of v (cell x) q) (orientation_at v (cell y.0)) in
         let j' = *ℤ_comm (lift_of v (cell y.0) q) (orientation_at v (cell x)) in
         omega (arith, ints, m, n, i, j, i', j')
@@ -188,10 +185,6 @@ found_top {X} v g p q goal live cell list marked closed x i m c =
     (best (test v p cell marked) (λ y. neg_ℤ (lift_of v (cell y) q)) (λ y. orientation_at v (cell y)) live
     (λ y j k. (list.full.cells y j).positive))
 
-not_true : (b : Bool) → not b ≡ true → b ≡ false
-not_true true h = absurd (true≢false (sym h))
-not_true false h = refl
-
 -- what isn't marked is closed too
 others_closed :
     {X : Type 0} (v : Vertices) (p : ℕ) (live : List X) (cell : X → Tetrahedron) (marked : X → Bool) →
@@ -199,7 +192,7 @@ others_closed :
 others_closed {X} v p live cell marked closed x y a b c d e i j m cx cy w w' = pick (marked y) refl
   where
     pick : (b : Bool) → marked y ≡ b → not (marked y) ≡ true
-    pick true h = absurd (true≢false (sym (closed y x a c b e d j i h cy cx w' w) ∙ not_true (marked x) m))
+    pick true h = absurd (true≢false (sym (closed y x a c b e d j i h cy cx w' w) ∙ not-true (marked x) m))
     pick false h = ap not h
 
 -- marked cells in conflict that no step leaves are all cells in conflict
@@ -223,4 +216,4 @@ flood {X} v g p q goal live cell list marked closed x i m c y j d = pick (marked
         holds_one v g (cell t.0) (cell u.0) q (list.full.cells t.0 kt.listed) (list.full.cells u.0 ku.listed)
         (weak v (cell t.0) q kt.holds) ku.holds in
         let e : t.0 ≡ u.0 = list.once t.0 u.0 kt.listed ku.listed same in
-        absurd (true≢false (sym kt.marks ∙ ap marked e ∙ not_true (marked u.0) ku.marks))
+        absurd (true≢false (sym kt.marks ∙ ap marked e ∙ not-true (marked u.0) ku.marks))

@@ -3,8 +3,8 @@
 -- sum of four products, each a side of the point times the squared distance of a vertex from it; the sides are not negative,
 -- not all of them are zero, and the point is none of the vertices, so the plain power is below zero and decides before any tie.
 -- Stands on: geo_sign's law of ties, Box and Insert (a vertex is one of four or none).
-use Rattle.std.proofs.Common.{ℕ, ◌≡◌, ◌≢◌, ◌<◌, ◌≤◌, ◌^◌, refl, ap, sym, subst, ◌∙◌, ◌⊎◌, inl, inr, ⊎_elim, arith, Bool, true}
-use Rattle.std.proofs.Common.{false, unsigned_abs, ℤ, pos, negsuc, neg_ℤ, ◌+ℤ◌, ◌-ℤ◌, ◌*ℤ◌, ◌≤ℤ◌, ◌<ℤ◌, [], ◌∷◌}
+use Rattle.std.proofs.Common.{ℕ, ◌≡◌, ◌≢◌, ◌<◌, ◌^◌, refl, ap, sym, subst, ◌∙◌, ◌⊎◌, inl, inr, ⊎_elim, arith, Bool, true}
+use Rattle.std.proofs.Common.{false, ℤ, pos, negsuc, neg_ℤ, ◌+ℤ◌, ◌-ℤ◌, ◌*ℤ◌, ◌≤ℤ◌, ◌<ℤ◌, [], ◌∷◌}
 use Rattle.std.proofs.lemmas.Int.{ints, by_lt_z}
 use Rattle.geo_sign.specs.Polynomial.{difference, negation, product, sum, variable}
 use Rattle.geo_sign.proofs.Ring.{ring}
@@ -14,7 +14,7 @@ use Rattle.geo_sign.specs.declared.point.TheConstants.{BOX_LIMIT}
 use Rattle.geo_sign.specs.Power.{plain_power, power}
 use Rattle.geo_sign.specs.Rational.{rational}
 use Rattle.geo_sign.specs.Signs.{first_sign, sign_of}
-use Rattle.geo_sign.proofs.Bounds.{abs_mul, abs_sub}
+use Rattle.geo_sign.proofs.Bounds.{step_within, cross_within}
 use Rattle.geo_sign.proofs.Digits.{sign_below}
 use Rattle.geo_sign.proofs.Written.{coordinates, dot', orientation', step', Symbols, symbols}
 use Rattle.geo_sign.specs.Conflict.{AreApart, AreBelow}
@@ -27,38 +27,17 @@ use Rattle.geo_sign.specs.Boxes.{IsBoxed, IsTied}
 use Rattle.geo_sign.specs.Places.{IsLyingIn}
 use Rattle.geo_sign.specs.Writings.{IsVertexOf}
 use Rattle.geo_sign.proofs.CellRows.{distinct}
+use Rattle.geo_sign.proofs.Exchanges.{point_side}
 use Rattle.cell_laws.proofs.Box.{factor_is_zero, vertex_within}
-use Rattle.cell_laws.proofs.Cover.{point_side}
 use Rattle.cell_laws.proofs.Insert.{IsNoneOf, of_or_not}
 use Rattle.cell_laws.proofs.Order.{mul_not_negative, mul_positive}
 use Rattle.cell_laws.proofs.Regions.{IsConvex, IsGeneric}
 
 -- ---- how large a normal is
-pub step_within : (a b : Point) → IsWithin BOX_LIMIT a → IsWithin BOX_LIMIT b → IsWithin (2 ^ 24) (step a b)
-step_within a b h k =
-    record {
-      x_within = abs_sub b.x a.x BOX_LIMIT BOX_LIMIT k.x_within h.x_within;
-      y_within = abs_sub b.y a.y BOX_LIMIT BOX_LIMIT k.y_within h.y_within;
-      z_within = abs_sub b.z a.z BOX_LIMIT BOX_LIMIT k.z_within h.z_within;
-    }
-
-minor :
-    (a b c d : ℤ) → unsigned_abs a ≤ 2 ^ 24 → unsigned_abs b ≤ 2 ^ 24 → unsigned_abs c ≤ 2 ^ 24 → unsigned_abs d ≤ 2 ^ 24 →
-    unsigned_abs (a *ℤ b -ℤ c *ℤ d) ≤ 2 ^ 49
-minor a b c d h k l m =
-    abs_sub (a *ℤ b) (c *ℤ d) (2 ^ 48) (2 ^ 48) (abs_mul a b (2 ^ 24) (2 ^ 24) h k) (abs_mul c d (2 ^ 24) (2 ^ 24) l m)
-
 pub normal_within :
     (a b c : Point) → IsWithin BOX_LIMIT a → IsWithin BOX_LIMIT b → IsWithin BOX_LIMIT c →
     IsWithin (2 ^ 49) (cross (step a b) (step a c))
-normal_within a b c h k l =
-    let u = step a b in let v = step a c in
-    let i = step_within a b h k in let j = step_within a c h l in
-    record {
-      x_within = minor u.y v.z u.z v.y i.y_within j.z_within i.z_within j.y_within;
-      y_within = minor u.z v.x u.x v.z i.z_within j.x_within i.x_within j.z_within;
-      z_within = minor u.x v.y u.y v.x i.x_within j.y_within i.y_within j.x_within;
-    }
+normal_within a b c h k l = cross_within (step a b) (step a c) (step_within a b h k) (step_within a c h l)
 
 -- ---- the power by the tie rule
 abbrev pub tied : Vertices → ℕ → ℕ × Point

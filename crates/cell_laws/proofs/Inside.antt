@@ -10,11 +10,11 @@ use Rattle.geo_sign.specs.Point.{Point}
 use Rattle.geo_sign.specs.declared.point.TheConstants.{BOX_LIMIT}
 use Rattle.geo_sign.specs.Rational.{RationalPoint, side}
 use Rattle.geo_sign.proofs.Written.{coordinates, cross', orientation', RationalSymbols, side', step', Symbols, symbols}
+use Rattle.geo_sign.proofs.SignTests.{below_true}
 use Rattle.geo_sign.specs.Vertices.{Vertices}
 use Rattle.geo_sign.specs.Boxes.{IsBoxed}
 use Rattle.geo_sign.specs.Places.{IsInBox}
 use Rattle.cell_laws.proofs.Box.{both_negative, edge, facet_normal, far, far_below, far_place, low, lowest, test_above}
-use Rattle.cell_laws.proofs.Box.{test_below}
 use Rattle.cell_laws.proofs.Order.{mul_not_negative}
 use Rattle.cell_laws.proofs.Regions.{IsOuter}
 
@@ -23,7 +23,7 @@ axis_over n p w o h = pick (int_lt n (pos 0)) refl
   where
     pick : (b : Bool) → int_lt n (pos 0) ≡ b → pos 0 ≤ℤ (n *ℤ (p -ℤ edge b *ℤ w))
     pick true e =
-        both_negative n (p -ℤ pos BOX_LIMIT *ℤ w) (let m = test_below n e in omega (arith, ints, m)) (omega (arith, ints))
+        both_negative n (p -ℤ pos BOX_LIMIT *ℤ w) (let m = below_true n e in omega (arith, ints, m)) (omega (arith, ints))
     pick false e = mul_not_negative n (p -ℤ neg_ℤ (pos BOX_LIMIT) *ℤ w) (test_above n e) (omega (arith, ints))
 
 side_shift :

@@ -3,19 +3,15 @@
 use Rattle.std.proofs.Common.{zero, suc, ◌≡◌, ◌*◌, ◌<◌, arith, ℤ, pos, negsuc, ◌-ℤ◌, ◌*ℤ◌, neg_ℤ, ◌≤ℤ◌, ◌<ℤ◌, zero-lt-suc}
 use Rattle.std.proofs.Common.{mul-pos, [], ◌∷◌}
 use Rattle.std.proofs.lemmas.Int.{ints, by_lt_z}
-use Rattle.geo_sign.specs.Polynomial.{difference, negation, product, variable}
+use Rattle.geo_sign.specs.Polynomial.{negation, product, variable}
 use Rattle.geo_sign.proofs.Ring.{ring}
+use Rattle.geo_sign.proofs.RingLaws.{*ℤ-neg, -ℤ-*ℤ}
 use Rattle.geo_sign.specs.Orientation.{orientation}
 use Rattle.geo_sign.specs.Point.{Point}
 use Rattle.geo_sign.specs.Power.{power}
 use Rattle.geo_sign.specs.Rational.{RationalPoint, side}
 use Rattle.cell_laws.specs.Lifts.{lift}
-use Rattle.cell_laws.proofs.Identities.{envelope, three_lifts}
-
-less_times : (a b c : ℤ) → (a -ℤ b) *ℤ c ≡ a *ℤ c -ℤ b *ℤ c
-less_times a b c =
-    ring (a ∷ b ∷ c ∷ []) (product (difference (variable 0) (variable 1)) (variable 2))
-    (difference (product (variable 0) (variable 2)) (product (variable 1) (variable 2))) tt
+use Rattle.cell_laws.proofs.Identities.{three_lifts}
 
 pub mul_not_negative : (a b : ℤ) → pos 0 ≤ℤ a → pos 0 ≤ℤ b → pos 0 ≤ℤ (a *ℤ b)
 mul_not_negative (pos m) (pos n) h k = omega (arith, ints)
@@ -34,39 +30,31 @@ pub mul_le : (a b c : ℤ) → a ≤ℤ b → pos 0 ≤ℤ c → (a *ℤ c) ≤�
 mul_le a b c h k =
     let d : pos 0 ≤ℤ (b -ℤ a) = omega (arith, ints) in
     let e : pos 0 ≤ℤ ((b -ℤ a) *ℤ c) = mul_not_negative (b -ℤ a) c d k in
-    let f : (b -ℤ a) *ℤ c ≡ b *ℤ c -ℤ a *ℤ c = less_times b a c in
+    let f : (b -ℤ a) *ℤ c ≡ b *ℤ c -ℤ a *ℤ c = -ℤ-*ℤ b a c in
     omega (arith, ints)
 
 pub mul_lt : (a b c : ℤ) → a <ℤ b → pos 0 <ℤ c → (a *ℤ c) <ℤ (b *ℤ c)
 mul_lt a b c h k =
     let d : pos 0 <ℤ (b -ℤ a) = omega (arith, ints) in
     let e : pos 0 <ℤ ((b -ℤ a) *ℤ c) = mul_positive (b -ℤ a) c d k in
-    let f : (b -ℤ a) *ℤ c ≡ b *ℤ c -ℤ a *ℤ c = less_times b a c in
+    let f : (b -ℤ a) *ℤ c ≡ b *ℤ c -ℤ a *ℤ c = -ℤ-*ℤ b a c in
     omega (arith, ints)
 
 pub cancel_lt : (a b c : ℤ) → (a *ℤ c) <ℤ (b *ℤ c) → pos 0 ≤ℤ c → a <ℤ b
 cancel_lt a b c h k =
     by_lt_z a b (λ l. l) (λ l. let e : (b *ℤ c) ≤ℤ (a *ℤ c) = mul_le b a c l k in absurd (omega (arith, ints)))
 
-pub neg_right : (a b : ℤ) → a *ℤ neg_ℤ b ≡ neg_ℤ (a *ℤ b)
-neg_right a b =
-    ring (a ∷ b ∷ []) (product (variable 0) (negation (variable 1))) (negation (product (variable 0) (variable 1))) tt
-
-pub neg_left : (a b : ℤ) → neg_ℤ a *ℤ b ≡ neg_ℤ (a *ℤ b)
-neg_left a b =
-    ring (a ∷ b ∷ []) (product (negation (variable 0)) (variable 1)) (negation (product (variable 0) (variable 1))) tt
-
 pub mul_below : (a b : ℤ) → pos 0 <ℤ a → b <ℤ pos 0 → (a *ℤ b) <ℤ pos 0
 mul_below a b h k =
     let n : pos 0 <ℤ neg_ℤ b = omega (arith, ints) in
     let m : pos 0 <ℤ (a *ℤ neg_ℤ b) = mul_positive a (neg_ℤ b) h n in
-    omega (arith, ints, m, neg_right a b)
+    omega (arith, ints, m, *ℤ-neg a b)
 
 pub mul_not_above : (a b : ℤ) → pos 0 ≤ℤ a → b ≤ℤ pos 0 → (a *ℤ b) ≤ℤ pos 0
 mul_not_above a b h k =
     let n : pos 0 ≤ℤ neg_ℤ b = omega (arith, ints) in
     let m : pos 0 ≤ℤ (a *ℤ neg_ℤ b) = mul_not_negative a (neg_ℤ b) h n in
-    omega (arith, ints, m, neg_right a b)
+    omega (arith, ints, m, *ℤ-neg a b)
 
 pub factor_above : (a b : ℤ) → pos 0 <ℤ a → pos 0 <ℤ (a *ℤ b) → pos 0 <ℤ b
 factor_above a b h k =
@@ -88,20 +76,6 @@ factor_none a b h k =
     by_lt_z (pos 0) b (λ l. let m = mul_positive a b h l in absurd (omega (arith, ints, m, k)))
     (λ l. by_lt_z b (pos 0) (λ n. let m = mul_below a b h n in absurd (omega (arith, ints, m, k)))
     (λ n. omega (arith, ints, l, n)))
-
--- the envelope: where no vertex of w is in conflict with v, and q lies in w
-pub envelope_above : (a b c d e f g h : Point) (q : RationalPoint) (ha hb hc hd he hf hg hh : ℤ)
-    → pos 0 ≤ℤ power a b c d e ha hb hc hd he → pos 0 ≤ℤ power a b c d f ha hb hc hd hf
-    → pos 0 ≤ℤ power a b c d g ha hb hc hd hg → pos 0 ≤ℤ power a b c d h ha hb hc hd hh
-    → pos 0 ≤ℤ side f h g q → pos 0 ≤ℤ side e g h q → pos 0 ≤ℤ side e h f q → pos 0 ≤ℤ side e f g q
-    → (orientation e f g h *ℤ lift a b c d ha hb hc hd q) ≤ℤ (orientation a b c d *ℤ lift e f g h he hf hg hh q)
-envelope_above a b c d e f g h q ha hb hc hd he hf hg hh i j k l m n o p =
-    let s = envelope a b c d e f g h q ha hb hc hd he hf hg hh in
-    let t = mul_not_negative _ _ i m in
-    let u = mul_not_negative _ _ j n in
-    let v = mul_not_negative _ _ k o in
-    let w = mul_not_negative _ _ l p in
-    omega (arith, ints, s, t, u, v, w)
 
 -- ---- the order of cells along a walk to q: e / o is the height of the cell's plane at q
 abbrev pub IsLater : (o e o' e' : ℤ) → Type 0

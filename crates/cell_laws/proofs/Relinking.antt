@@ -4,9 +4,10 @@
 -- them is the new cell whose facet has the edge reversed. No facet stands twice: kept ones did not before; those with p stand
 -- over different edges; and a new cell's side 3 is a facet of a cell that was taken out.
 -- Stands on: Edges and specs/Replacements.
-use Rattle.std.proofs.Common.{ℕ, zero, suc, ◌<◌, ◌≤◌, ◌≡◌, ◌≢◌, refl, ap, sym, subst, ◌∙◌, ◌⊎◌, inl, inr, ⊎_elim, arith, Bool}
+use Rattle.std.proofs.Common.{ℕ, ◌<◌, ◌≤◌, ◌≡◌, ◌≢◌, refl, ap, sym, subst, ◌∙◌, ◌⊎◌, inl, inr, ⊎_elim, arith, Bool}
 use Rattle.std.proofs.Common.{true, false, true≢false, Option, Some, None, List}
 use Rattle.std.proofs.lemmas.Bool.{cases_lt}
+use Rattle.std.proofs.lemmas.Option.{same_Some, none-some}
 use Rattle.geo_sign.specs.Tetrahedron.{Tetrahedron, DirectedFacet, facet, facet_of, IsTurned, IsRotated}
 use Rattle.geo_sign.specs.Vertices.{Vertices, IsWall}
 use Rattle.geo_sign.specs.Edges.{over, HasVertex}
@@ -18,38 +19,10 @@ use Rattle.cell_laws.specs.Lists.{IsIn}
 use Rattle.cell_laws.specs.Replacements.{IsRimFacet, IsRimList, IsRenewed, IsRelinked}
 use Rattle.geo_sign.specs.Writings.{IsVertexOf}
 use Rattle.geo_sign.proofs.Rotations.{rotated_after, rotated_back, rotated_turned}
+use Rattle.geo_sign.proofs.Facets.{apex_on, in_of, in_rotated}
 use Rattle.cell_laws.proofs.Edges.{edges_turned, side_edge}
-use Rattle.cell_laws.proofs.RimLists.{rotated_vertex}
 
 -- ---- the links
--- a facet's vertices are the cell's
-on_cell : (t : Tetrahedron) (k n : ℕ) → HasVertex (facet_of t k) n → IsVertexOf t n
-on_cell t zero n (inl e) = inr (inl e)
-on_cell t zero n (inr (inl e)) = inr (inr (inr e))
-on_cell t zero n (inr (inr e)) = inr (inr (inl e))
-on_cell t (suc zero) n (inl e) = inl e
-on_cell t (suc zero) n (inr (inl e)) = inr (inr (inl e))
-on_cell t (suc zero) n (inr (inr e)) = inr (inr (inr e))
-on_cell t (suc (suc zero)) n (inl e) = inl e
-on_cell t (suc (suc zero)) n (inr (inl e)) = inr (inr (inr e))
-on_cell t (suc (suc zero)) n (inr (inr e)) = inr (inl e)
-on_cell t (suc (suc (suc k))) n (inl e) = inl e
-on_cell t (suc (suc (suc k))) n (inr (inl e)) = inr (inl e)
-on_cell t (suc (suc (suc k))) n (inr (inr e)) = inr (inr (inl e))
-
--- the sides of a new cell other than the one over its facet have the apex
-apex_on : (f : DirectedFacet) (p k : ℕ) → k < 3 → HasVertex (facet_of (over f p) k) p
-apex_on f p zero h = inr (inl refl)
-apex_on f p (suc zero) h = inr (inr refl)
-apex_on f p (suc (suc zero)) h = inr (inl refl)
-apex_on f p (suc (suc (suc k))) h = absurd (omega (arith, h))
-
-none_some : (y : ℕ) → None ≡ Some y → ⊥
-none_some y e = cc
-
-some_same : (a b : ℕ) → Some a ≡ Some b → a ≡ b
-some_same a b e = cc
-
 -- a cell with the facet turned, said of its cell
 back_at :
     (live : List ℕ) (cell : ℕ → Tetrahedron) (f g : DirectedFacet) (t : Tetrahedron) (y side : ℕ) → g ≡ f → cell y ≡ t →
@@ -114,19 +87,19 @@ module _ (v : Vertices) (p : ℕ) (live : List ℕ) (cell : ℕ → Tetrahedron)
       old : (z : ℕ) → next x k ≡ Some z → (d : Bool) → removed z ≡ d → IsBackAt live' cell' (facet_of (cell' x) k) y
       old z o false g =
           let b : IsBackAt live cell (facet_of (cell x) k) z = r.linked.back x k z h.0 m o in
-          let same : z ≡ y = some_same z y (sym (r.links.kept_some x k z h.0 h.1 m o g) ∙ e) in
+          let same : z ≡ y = same_Some z y (sym (r.links.kept_some x k z h.0 h.1 m o g) ∙ e) in
           subst (λ (w : ℕ). IsBackAt live' cell' (facet_of (cell' x) k) w) same
           (back_at live' cell' (facet_of (cell x) k) (facet_of (cell' x) k) (cell z) z b.side f (old_cell z (b.listed, g))
           (r.names.kept z b.listed g) b.in_range b.turned)
       old z o true g =
           let w = r.links.kept_new x k z h.0 h.1 m o g in
-          let same : fresh w.0 ≡ y = some_same (fresh w.0) y (sym w.2 ∙ e) in
+          let same : fresh w.0 ≡ y = same_Some (fresh w.0) y (sym w.2 ∙ e) in
           subst (λ (u : ℕ). IsBackAt live' cell' (facet_of (cell' x) k) u) same
           (back_at live' cell' (facet_of (cell x) k) (facet_of (cell' x) k) (over (fan w.0) p) (fresh w.0) 3 f
           (new_cell w.0 w.1) (r.names.made w.0 w.1) (omega arith) w.3)
 
       by : (o : Option ℕ) → next x k ≡ o → IsBackAt live' cell' (facet_of (cell' x) k) y
-      by None o = absurd (none_some y (sym (r.links.kept_none x k h.0 h.1 m o) ∙ e))
+      by None o = absurd (none-some y (sym (r.links.kept_none x k h.0 h.1 m o) ∙ e))
       by (Some z) o = old z o (removed z) refl
 
   -- across the facet of a new cell
@@ -145,9 +118,9 @@ module _ (v : Vertices) (p : ℕ) (live : List ℕ) (cell : ℕ → Tetrahedron)
       by :
           (outer i ≡ None) ⊎ ((z : ℕ) × (outer i ≡ Some z) × (removed z ≡ false)) →
           IsBackAt live' cell' (facet_of (cell' (fresh i)) 3) y
-      by (inl a) = absurd (none_some y (sym a ∙ o))
+      by (inl a) = absurd (none-some y (sym a ∙ o))
       by (inr z) =
-          let same : z.0 ≡ y = some_same z.0 y (sym z.1 ∙ o) in
+          let same : z.0 ≡ y = same_Some z.0 y (sym z.1 ∙ o) in
           let free : removed y ≡ false = subst (λ (w : ℕ). removed w ≡ false) same z.2 in
           let b : IsBackAt live cell (facet_of (cell rim.at) rim.side) y =
           r.linked.back rim.at rim.side y rim.listed rim.in_range (rim.across ∙ o) in
@@ -160,7 +133,7 @@ module _ (v : Vertices) (p : ℕ) (live : List ℕ) (cell : ℕ → Tetrahedron)
   inner_back : (i k y : ℕ) → i < n → k < 3 → next' (fresh i) k ≡ Some y → IsBackAt live' cell' (facet_of (cell' (fresh i)) k) y
   inner_back i k y h m e =
       let z = r.links.inner i k h m in
-      let same : fresh z.0 ≡ y = some_same (fresh z.0) y (sym z.4 ∙ e) in
+      let same : fresh z.0 ≡ y = same_Some (fresh z.0) y (sym z.4 ∙ e) in
       let below : z.1 < 3 = z.3 in
       subst (λ (w : ℕ). IsBackAt live' cell' (facet_of (cell' (fresh i)) k) w) same
       (back_at live' cell' (facet_of (over (fan i) p) k) (facet_of (cell' (fresh i)) k) (over (fan z.0) p) (fresh z.0) z.1
@@ -189,8 +162,8 @@ module _ (v : Vertices) (p : ℕ) (live : List ℕ) (cell : ℕ → Tetrahedron)
   kept_wall x k h m e = by (next x k) refl
     where
       some : (z : ℕ) → next x k ≡ Some z → (d : Bool) → removed z ≡ d → IsWall v (facet_of (cell' x) k)
-      some z o false g = absurd (none_some z (sym e ∙ r.links.kept_some x k z h.0 h.1 m o g))
-      some z o true g = let w = r.links.kept_new x k z h.0 h.1 m o g in absurd (none_some (fresh w.0) (sym e ∙ w.2))
+      some z o false g = absurd (none-some z (sym e ∙ r.links.kept_some x k z h.0 h.1 m o g))
+      some z o true g = let w = r.links.kept_new x k z h.0 h.1 m o g in absurd (none-some (fresh w.0) (sym e ∙ w.2))
 
       by : (o : Option ℕ) → next x k ≡ o → IsWall v (facet_of (cell' x) k)
       by None o = subst (λ (t : Tetrahedron). IsWall v (facet_of t k)) (sym (old_cell x h)) (r.linked.walls x k h.0 m o)
@@ -199,7 +172,7 @@ module _ (v : Vertices) (p : ℕ) (live : List ℕ) (cell : ℕ → Tetrahedron)
   new_wall : (i k : ℕ) → i < n → k < 4 → next' (fresh i) k ≡ None → IsWall v (facet_of (cell' (fresh i)) k)
   new_wall i k h m =
       inner_or_outer (λ (j : ℕ). next' (fresh i) j ≡ None → IsWall v (facet_of (cell' (fresh i)) j)) k m
-      (λ j l e. let z = r.links.inner i j h l in absurd (none_some (fresh z.0) (sym e ∙ z.4)))
+      (λ j l e. let z = r.links.inner i j h l in absurd (none-some (fresh z.0) (sym e ∙ z.4)))
       (λ e.
       let rim : IsRimFacet live cell next removed (fan i) (outer i) = r.rims.each i h in
       subst (λ (t : Tetrahedron). IsWall v (facet_of t 3)) (sym (new_cell i h))
@@ -218,14 +191,16 @@ module _ (v : Vertices) (p : ℕ) (live : List ℕ) (cell : ℕ → Tetrahedron)
       let rim : IsRimFacet live cell next removed (fan i) (outer i) = r.rims.each i h in
       r.absent rim.at rim.listed
       (subst (λ (u : ℕ). IsVertexOf (cell rim.at) u) e
-      (on_cell (cell rim.at) rim.side m (rotated_vertex (facet_of (cell rim.at) rim.side) (fan i) m rim.rotated o)))
+      (in_of (cell rim.at) rim.side m (in_rotated (fan i) (facet_of (cell rim.at) rim.side) m
+      (rotated_back (facet_of (cell rim.at) rim.side) (fan i) rim.rotated) o)))
 
   -- a kept cell and a new one have no facet in common
   mixed : (x i j k : ℕ) → IsKept x → i < n → j < 4 → k < 4 → IsRotated (facet_of (cell x) j) (facet_of (over (fan i) p) k) → ⊥
   mixed x i j k h hi hj hk =
       inner_or_outer (λ (m : ℕ). IsRotated (facet_of (cell x) j) (facet_of (over (fan i) p) m) → ⊥) k hk
       (λ m l q. r.absent x h.0
-      (on_cell (cell x) j p (rotated_vertex (facet_of (cell x) j) (facet_of (over (fan i) p) m) p q (apex_on (fan i) p m l))))
+      (in_of (cell x) j p (in_rotated (facet_of (over (fan i) p) m) (facet_of (cell x) j) p
+      (rotated_back (facet_of (cell x) j) (facet_of (over (fan i) p) m) q) (apex_on (fan i) p m l))))
       (λ q.
       let rim : IsRimFacet live cell next removed (fan i) (outer i) = r.rims.each i hi in
       let s : IsRotated (facet_of (cell x) j) (facet_of (cell rim.at) rim.side) =

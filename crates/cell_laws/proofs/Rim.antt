@@ -23,10 +23,11 @@ use Rattle.cell_laws.specs.Lifts.{lift_of}
 use Rattle.geo_sign.specs.Writings.{IsVertexOf, IsRewritten}
 use Rattle.geo_sign.proofs.Rewritings.{IsCellOf, orientation_at, power_at, same_cell, same_orientation, same_power, same_vertex}
 use Rattle.geo_sign.proofs.Rewritings.{spin_cell}
+use Rattle.geo_sign.proofs.SignTests.{below_true, below_is}
 use Rattle.cell_laws.proofs.Best.{best, IsBest}
 use Rattle.cell_laws.proofs.Cover.{Certified, certified, certified_full, each_vertex}
 use Rattle.cell_laws.proofs.Fan.{across_above, cell_fan, fan_cell, stays, was_cell}
-use Rattle.cell_laws.proofs.Flood.{below_is, below_true, move}
+use Rattle.cell_laws.proofs.Flood.{move}
 use Rattle.cell_laws.proofs.Identities.{three_lifts}
 use Rattle.cell_laws.proofs.Insert.{IsNoneOf, last, of_or_not}
 use Rattle.cell_laws.proofs.Order.{mul_positive}

@@ -19,6 +19,7 @@ use Rattle.geo_sign.proofs.CellRows.{distinct}
 use Rattle.geo_sign.proofs.Rewritings.{IsCellOf, orientation_at, rewritten_after, rewritten_back, same_cell, same_power}
 use Rattle.geo_sign.proofs.Rewritings.{same_vertex}
 use Rattle.geo_sign.proofs.Rotations.{rotated_after, rotated_back, side_rotated}
+use Rattle.geo_sign.proofs.Facets.{in_rotated}
 use Rattle.cell_laws.proofs.Edges.{fan_edges}
 use Rattle.cell_laws.proofs.Heights.{tied_generic}
 use Rattle.cell_laws.proofs.Laws.{fan_law, linked_law, rim_law, vertex_law}
@@ -87,21 +88,6 @@ one_facet v b t r ht hr j k hj hk q =
 pub facet_law : FacetLaw
 facet_law v b t r ht hr = record { cell = one_facet v b t r ht hr; side = λ j k hj hk q. one_side v t j k hj hk ht.positive q }
 
-pub rotated_vertex : (f g : DirectedFacet) (n : ℕ) → IsRotated f g → HasVertex g n → HasVertex f n
-rotated_vertex f g n (inl e) h = subst (λ (x : DirectedFacet). HasVertex x n) e h
-rotated_vertex f g n (inr (inl e)) h = back (subst (λ (x : DirectedFacet). HasVertex x n) e h)
-  where
-    back : HasVertex (facet f.b f.c f.a) n → HasVertex f n
-    back (inl i) = inr (inl i)
-    back (inr (inl i)) = inr (inr i)
-    back (inr (inr i)) = inl i
-rotated_vertex f g n (inr (inr e)) h = back (subst (λ (x : DirectedFacet). HasVertex x n) e h)
-  where
-    back : HasVertex (facet f.c f.a f.b) n → HasVertex f n
-    back (inl i) = inr (inr i)
-    back (inr (inl i)) = inl i
-    back (inr (inr i)) = inr (inl i)
-
 -- ---- the facets at the rim are the fan's
 module _ (v : Vertices) (b : IsBoxed v) (p : ℕ) (new : IsNew v p) (live : List ℕ) (cell : ℕ → Tetrahedron)
     (next : ℕ → ℕ → Option ℕ) (l : IsLinked v live cell next) (cells : AreCells v live cell) (removed : ℕ → Bool)
@@ -162,7 +148,8 @@ module _ (v : Vertices) (b : IsBoxed v) (p : ℕ) (new : IsNew v p) (live : List
       ⊎_elim
       (λ (z : (i j k : ℕ) × IsFan v p i j k × ((u ≡ i) ⊎ ((u ≡ j) ⊎ (u ≡ k)))).
       let y = every z.0 z.1 z.2 z.3 in
-      let w : HasVertex (fan y.0) u = rotated_vertex (fan y.0) (facet z.0 z.1 z.2) u y.2 z.4 in
+      let w : HasVertex (fan y.0) u =
+      in_rotated (facet z.0 z.1 z.2) (fan y.0) u (rotated_back (fan y.0) (facet z.0 z.1 z.2) y.2) z.4 in
       let q : ((i : ℕ) × (i < n) × HasVertex (fan i) u)
       ⊎ ((x : ℕ) × IsIn live x × (removed x ≡ false) × IsVertexOf (cell x) u) = inl (y.0, y.1, w) in
       q)

@@ -8,7 +8,7 @@
 --   listed, is_listed    the two ways to say that something is in a list
 --
 -- Stands on: the definitions and geo_sign.
-use Rattle.std.proofs.Common.{ℕ, zero, suc, ◌<◌, ◌≡◌, ◌≢◌, subst, inl, inr, ⊎_elim, arith, List, [], ◌∷◌, length, get_or}
+use Rattle.std.proofs.Common.{ℕ, zero, suc, ◌<◌, ◌≡◌, ◌≢◌, subst, inl, inr, arith, List, [], ◌∷◌, length, get_or}
 use Rattle.std.proofs.Common.{AllPairs, Contains}
 use Rattle.geo_sign.specs.Tetrahedron.{Tetrahedron, tetrahedron}
 use Rattle.geo_sign.specs.Vertices.{Vertices}
@@ -21,6 +21,7 @@ use Rattle.cell_laws.specs.RowLaws.{ListLaw}
 use Rattle.cell_laws.specs.StoredLaws.{RowLaw}
 use Rattle.geo_sign.proofs.Rewritings.{IsCellOf, rewritten_back}
 use Rattle.geo_sign.proofs.RowLaws.{cells_are_rows, one_row, rows_are_kept, rows_are_written, rows_exist, rows_tell}
+use Rattle.geo_sign.proofs.Rising.{not_before_self}
 
 -- ---- names that stand for all cells
 pub row_law : RowLaw
@@ -80,12 +81,7 @@ list_law v rows h =
     rising : (row : List ℕ) → IsIn rows row → IsRisingCell v row
     rising row i = h.cells row (listed rows row i)
 
-not_before_itself : (xs : List ℕ) → IsBefore xs xs → ⊥
-not_before_itself [] h = h
-not_before_itself (x ∷ xs) h =
-    ⊎_elim (λ (l : x < x). absurd (omega arith)) (λ (p : (x ≡ x) × IsBefore xs xs). not_before_itself xs p.1) h
-
 -- rising rows are there once
 pub rising_pairs : (rows : List (List ℕ)) → AllPairs IsBefore rows → AllPairs (λ x y. x ≢ y) rows
 rising_pairs rows h i j d l m =
-    λ e. not_before_itself (get_or rows j d) (subst (λ (x : List ℕ). IsBefore x (get_or rows j d)) e (h i j d l m))
+    λ e. not_before_self (get_or rows j d) (subst (λ (x : List ℕ). IsBefore x (get_or rows j d)) e (h i j d l m))

@@ -4,7 +4,7 @@
 -- where all of them are, which is where the three points are on one line. It is below the weight of the near places, so at
 -- these the point's own side decides first.
 -- Stands on: geo_sign's digits and bounds, Near and Spread.
-use Rattle.std.proofs.Common.{ℕ, zero, suc, ◌*◌, ◌^◌, ◌<◌, ◌≤◌, ◌≡◌, refl, ap, ap₂, sym, ◌∙◌, arith, ℤ, pos, negsuc, neg_ℤ}
+use Rattle.std.proofs.Common.{ℕ, zero, suc, ◌^◌, ◌<◌, ◌≡◌, refl, ap, ap₂, sym, ◌∙◌, arith, ℤ, pos, negsuc, neg_ℤ}
 use Rattle.std.proofs.Common.{◌+ℤ◌, ◌-ℤ◌, ◌*ℤ◌, unsigned_abs, [], ◌∷◌}
 use Rattle.std.proofs.lemmas.Int.{ints}
 use Rattle.geo_sign.specs.Polynomial.{constant, negation, product, sum, variable}
@@ -14,9 +14,10 @@ use Rattle.geo_sign.specs.Point.{Point, IsWithin, cross, dot, step}
 use Rattle.geo_sign.specs.declared.point.TheConstants.{BOX_LIMIT, DATA_LIMIT}
 use Rattle.geo_sign.specs.Orientation.{orientation}
 use Rattle.geo_sign.specs.Rational.{RationalPoint, displaced, rational, side}
-use Rattle.geo_sign.proofs.Bounds.{abs_add, abs_mul}
+use Rattle.geo_sign.proofs.Bounds.{step_within, dot_within, data_in_box}
 use Rattle.geo_sign.proofs.Digits.{leading_digit, side_bound, side_on_line}
 use Rattle.geo_sign.proofs.Written.{coordinates, side', symbols}
+use Rattle.geo_sign.proofs.Exchanges.{point_side}
 use Rattle.geo_sign.specs.Tetrahedron.{DirectedFacet, facet_of}
 use Rattle.geo_sign.specs.Vertices.{Vertices}
 use Rattle.geo_sign.specs.Sights.{side_of}
@@ -25,9 +26,8 @@ use Rattle.geo_sign.specs.Places.{IsInBox}
 use Rattle.geo_sign.specs.NearPlaces.{reversed, weight, towards_place, behind_place}
 use Rattle.cell_laws.specs.WalkLaws.{NearLaw, SpreadLaw}
 use Rattle.cell_laws.proofs.Box.{vertex_within}
-use Rattle.cell_laws.proofs.Cover.{point_side}
 use Rattle.cell_laws.proofs.Spread.{IsSpread, ends_apart, facet_below}
-use Rattle.cell_laws.proofs.Heights.{normal_within, step_within}
+use Rattle.cell_laws.proofs.Heights.{normal_within}
 use Rattle.cell_laws.proofs.Near.{IsFree, one_times, side_mix}
 
 pub side_reversed : (a b c : Point) (q : RationalPoint) → side a b c (reversed q) ≡ neg_ℤ (side a b c q)
@@ -42,13 +42,6 @@ side_reversed a b c q =
     (negation (side' (symbols 0) (symbols 3) (symbols 6) (record { at = symbols 9; over = variable 12 }))) tt
 
 -- ---- bounds
-dot_within : (n v : Point) → IsWithin (2 ^ 49) n → IsWithin (2 ^ 24) v → unsigned_abs (dot n v) ≤ 3 * 2 ^ 73
-dot_within n v h k =
-    abs_add (n.x *ℤ v.x +ℤ n.y *ℤ v.y) (n.z *ℤ v.z) (2 * 2 ^ 73) (2 ^ 73)
-    (abs_add (n.x *ℤ v.x) (n.y *ℤ v.y) (2 ^ 73) (2 ^ 73) (abs_mul n.x v.x (2 ^ 49) (2 ^ 24) h.x_within k.x_within)
-    (abs_mul n.y v.y (2 ^ 49) (2 ^ 24) h.y_within k.y_within))
-    (abs_mul n.z v.z (2 ^ 49) (2 ^ 24) h.z_within k.z_within)
-
 pub scanner_bounded :
     (a b c s : Point) → IsWithin BOX_LIMIT a → IsWithin BOX_LIMIT b → IsWithin BOX_LIMIT c → IsWithin BOX_LIMIT s →
     unsigned_abs (side a b c (displaced s)) < weight
@@ -176,18 +169,12 @@ away_sign a b c p s h =
     below : (z : ℤ) → unsigned_abs z < weight → unsigned_abs (neg_ℤ z) < weight
     below z h = omega (arith, ints)
 
-pub in_box : (s : Point) → IsWithin DATA_LIMIT s → IsWithin BOX_LIMIT s
-in_box s h =
-    let hx = h.x_within in
-    let hy = h.y_within in
-    let hz = h.z_within in record { x_within = omega (arith, hx); y_within = omega (arith, hy); z_within = omega (arith, hz) }
-
 pub near_law : NearLaw
 near_law p s g h =
     record {
       towards_in_box = near_in_box p s g h;
       behind_in_box = away_in_box p s g h;
       scanner_in_box = scanner_in_box s h;
-      towards_sign = λ a b c i j k. near_sign a b c p s (scanner_bounded a b c s i j k (in_box s h));
-      behind_sign = λ a b c i j k. away_sign a b c p s (scanner_bounded a b c s i j k (in_box s h));
+      towards_sign = λ a b c i j k. near_sign a b c p s (scanner_bounded a b c s i j k (data_in_box s h));
+      behind_sign = λ a b c i j k. away_sign a b c p s (scanner_bounded a b c s i j k (data_in_box s h));
     }

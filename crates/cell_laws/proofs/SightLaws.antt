@@ -18,6 +18,7 @@ use Rattle.cell_laws.specs.WalkLaws.{StepLaw, ScannerLaw, VertexSightLaw, SightL
 use Rattle.geo_sign.proofs.Exchanges.{turned_side}
 use Rattle.geo_sign.proofs.Rewritings.{IsCellOf, same_cell}
 use Rattle.geo_sign.proofs.Rotations.{side_turned}
+use Rattle.geo_sign.proofs.Bounds.{data_in_box}
 use Rattle.cell_laws.proofs.SomeCell.{place_law}
 use Rattle.cell_laws.proofs.Crossings.{IsCrossed, IsLeft, left_turned, entry_of, exit_left, left_exit, starts, ends}
 use Rattle.cell_laws.proofs.Spread.{ends_apart, leads_apart}
@@ -29,7 +30,7 @@ use Rattle.cell_laws.proofs.Inside.{box_inside}
 use Rattle.cell_laws.proofs.LinkedCells.{facet_same, back_same, from_facet}
 use Rattle.cell_laws.proofs.Near.{IsFree, near_towards, one_towards}
 use Rattle.cell_laws.proofs.Regions.{IsGeneric, IsConvex}
-use Rattle.cell_laws.proofs.Scanners.{scanner_free, reversed_free, scanner_spread, scanner_in_box, near_law, in_box}
+use Rattle.cell_laws.proofs.Scanners.{scanner_free, reversed_free, scanner_spread, scanner_in_box, near_law}
 use Rattle.cell_laws.proofs.Sides.{inward}
 use Rattle.cell_laws.proofs.SightSteps.{all_inside, towards_past, entry_past, neg_above, at_least, one_exit, one_entry}
 use Rattle.cell_laws.proofs.SightTests.{crossed_of, crossed_is, strictly_of, strictly_is, towards_of, towards_is, behind_is}
@@ -96,7 +97,7 @@ strict v s f t c l =
 pub scanner_law : ScannerLaw
 scanner_law v b s h =
     let g = tied_generic v b in
-    let f = scanner_free v b s (in_box s h) in
+    let f = scanner_free v b s (data_in_box s h) in
     record {
       lies = λ t c l. strict v (displaced s) f t c l;
       one =
@@ -137,7 +138,7 @@ vertex_sight_law v b p hp s h =
     x = tied_convex v b
 
     f : IsFree v S weight
-    f = scanner_free v b s (in_box s h)
+    f = scanner_free v b s (data_in_box s h)
 
     e : IsFree v R weight
     e = reversed_free v S weight f

@@ -1,9 +1,10 @@
 -- The way of a sight over linked cells, as specs/WalkLaws states it.
 -- Stands on: SightLaws, SightSteps (the order) and Complete (each crossed facet is met).
 use Rattle.std.proofs.Common.{ℕ, zero, suc, ◌<◌, ◌≡◌, refl, ap, ap₂, sym, subst, ◌∙◌, ◌+◌, inl, inr, ⊎_elim, arith, Bool, true}
-use Rattle.std.proofs.Common.{false, true≢false, ◌&&◌, eqb, Option, Some, List, [], ◌∷◌}
-use Rattle.std.proofs.lemmas.Bool.{eqb-true}
+use Rattle.std.proofs.Common.{false, true≢false, ◌&&◌, eqb, Option, List, [], ◌∷◌}
+use Rattle.std.proofs.lemmas.Bool.{eqb-true, and_parts, eq-eqb}
 use Rattle.std.proofs.lemmas.Int.{ints}
+use Rattle.std.proofs.lemmas.Option.{same_Some}
 use Rattle.geo_sign.specs.Point.{Point, IsWithin}
 use Rattle.geo_sign.specs.declared.point.TheConstants.{DATA_LIMIT}
 use Rattle.geo_sign.specs.Rational.{RationalPoint, displaced}
@@ -16,19 +17,18 @@ use Rattle.cell_laws.specs.Links.{Side, IsLinked, IsBackAt}
 use Rattle.cell_laws.specs.Lists.{IsIn, AreCells, IsListing, count, one_if}
 use Rattle.geo_sign.specs.Writings.{IsRewritten}
 use Rattle.geo_sign.specs.Places.{IsNearer}
+use Rattle.geo_sign.proofs.Bounds.{data_in_box}
 use Rattle.cell_laws.specs.Paths.{IsOnSight, is_that, entered, IsStep, IsPath, AreNearing}
 use Rattle.cell_laws.specs.WalkLaws.{PathLaw, IsPassed, IsWalk}
 use Rattle.cell_laws.proofs.Complete.{IsGiven, all_given}
 use Rattle.cell_laws.proofs.Crossings.{left_turned}
-use Rattle.cell_laws.proofs.Fan.{same_number}
 use Rattle.cell_laws.proofs.Heights.{tied_generic}
 use Rattle.cell_laws.proofs.LinkedCells.{linked_listing}
 use Rattle.cell_laws.proofs.RimSides.{same_side}
-use Rattle.cell_laws.proofs.Scanners.{scanner_free, scanner_in_box, in_box}
+use Rattle.cell_laws.proofs.Scanners.{scanner_free, scanner_in_box}
 use Rattle.cell_laws.proofs.SightLaws.{met_behind, step_law, sight_law, left_of}
 use Rattle.cell_laws.proofs.SightSteps.{Passage, IsWay, first_before}
 use Rattle.cell_laws.proofs.SightTests.{crossed_of, crossed_is, strictly_of, towards_of}
-use Rattle.cell_laws.proofs.Wrap.{and_left, and_right}
 
 -- ---- crossings by names, and passages by cells
 abbrev passage : (ℕ → Tetrahedron) → Side → Passage
@@ -111,9 +111,6 @@ path_from v live cell next p s g (suc fuel) x i on f =
     ((passed v live cell next p s g x i).exit_or_end on)
 
 -- ---- and no other
-some_same : (a b : ℕ) → Some a ≡ Some b → a ≡ b
-some_same a b e = cc
-
 one_path :
     (v : Vertices) (live : List ℕ) (cell : ℕ → Tetrahedron) (next : ℕ → ℕ → Option ℕ) (p : ℕ) (s : Point) →
     AreGiven v live cell next p s → (x : ℕ) (cs ds : List Side) → IsIn live x →
@@ -129,7 +126,7 @@ one_path v live cell next p s g x (c ∷ cs) (d ∷ ds) i h k =
     let u : IsStep v live cell next p S x d = k.0 in
     let e : t.leaving ≡ u.leaving =
     (passed v live cell next p s g x i).one_exit t.leaving u.leaving t.leaving_below u.leaving_below t.left u.left in
-    let a : c.at ≡ d.at = some_same c.at d.at (sym t.across ∙ ap (next x) e ∙ u.across) in
+    let a : c.at ≡ d.at = same_Some c.at d.at (sym t.across ∙ ap (next x) e ∙ u.across) in
     let cross : is_crossed v p S (facet_of (cell c.at) d.side) ≡ true =
     subst (λ (n : ℕ). is_crossed v p S (facet_of (cell n) d.side) ≡ true) (sym a) (step_crossed v live cell next p S x d u) in
     let b : c.side ≡ d.side =
@@ -179,7 +176,7 @@ path_all v live cell next p s g x cs i tow h c j b cr =
     let S : RationalPoint = displaced s in
     let gen = tied_generic v g.boxed in
     let given : IsGiven (passages cell cs) (cell c.at) c.side =
-    all_given v gen p S _ (scanner_free v g.boxed s (in_box s g.within)) (cell x) (passages cell cs) (g.cells x i)
+    all_given v gen p S _ (scanner_free v g.boxed s (data_in_box s g.within)) (cell x) (passages cell cs) (g.cells x i)
     (towards_of v p S (cell x) (g.cells x i) tow) (way_of v live cell next g.cells p S x cs h) (cell c.at) c.side
     (g.cells c.at j) b
     (crossed_of v p S (entered cell c) cr) in
@@ -206,14 +203,14 @@ path_nearing v live cell next cells p s x (c ∷ cs) h = (
 )
 
 -- ---- each crossing once
-that_is : (c d : Side) → is_that c d ≡ true → d ≡ c
+pub that_is : (c d : Side) → is_that c d ≡ true → d ≡ c
 that_is c d h =
-    same_side d c (eqb-true d.at c.at (and_left (eqb d.at c.at) _ h)) (eqb-true d.side c.side (and_right (eqb d.at c.at) _ h))
+    let x = and_parts (eqb d.at c.at) _ h in same_side d c (eqb-true d.at c.at x.0) (eqb-true d.side c.side x.1)
 
-that_itself : (c : Side) → is_that c c ≡ true
-that_itself c = ap₂ (λ x y. x && y) (same_number c.at) (same_number c.side)
+pub that_itself : (c : Side) → is_that c c ≡ true
+that_itself c = ap₂ (λ x y. x && y) (eq-eqb c.at c.at refl) (eq-eqb c.side c.side refl)
 
-count_none : (cs : List Side) (c : Side) → ¬ IsIn cs c → count (is_that c) cs ≡ 0
+pub count_none : (cs : List Side) (c : Side) → ¬ IsIn cs c → count (is_that c) cs ≡ 0
 count_none [] c n = refl
 count_none (d ∷ ds) c n = ap₂ (λ x y. x + y) (by (is_that c d) refl) (count_none ds c (λ i. n (inr i)))
   where

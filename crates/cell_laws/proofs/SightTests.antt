@@ -2,7 +2,8 @@
 -- Stands on: Sides, Near and Crossings (what they say).
 use Rattle.std.proofs.Common.{ℕ, zero, suc, ◌≡◌, refl, ap, ap₂, sym, ◌∙◌, ◌⊎◌, inl, inr, ⊎_elim, arith, Bool, true, false}
 use Rattle.std.proofs.Common.{true≢false, ◌&&◌, ◌||◌, eqb, int_lt, ℤ, pos, neg_ℤ, ◌<ℤ◌}
-use Rattle.std.proofs.lemmas.Bool.{eqb-true}
+use mathlib.Core.Path.{fun_ext}
+use Rattle.std.proofs.lemmas.Bool.{eqb-true, or_left, or_right, and_from, or_cases, and_parts, eq-eqb}
 use Rattle.std.proofs.lemmas.Int.{ints}
 use Rattle.geo_sign.specs.Rational.{RationalPoint, rational, side}
 use Rattle.geo_sign.specs.Tetrahedron.{Tetrahedron, DirectedFacet, facet_of, vertex_of}
@@ -13,9 +14,7 @@ use Rattle.geo_sign.specs.Writings.{IsVertexOf}
 use Rattle.geo_sign.specs.Places.{IsStrictlyIn}
 use Rattle.geo_sign.specs.NearPlaces.{reversed}
 use Rattle.geo_sign.proofs.Rewritings.{IsCellOf, orientation_at}
-use Rattle.cell_laws.proofs.Wrap.{above_true, above_is, and_left, and_right}
-use Rattle.cell_laws.proofs.Fan.{same_number}
-use Rattle.cell_laws.proofs.Flood.{below_true, below_is}
+use Rattle.geo_sign.proofs.SignTests.{above_true, above_is, below_true, below_is}
 use Rattle.geo_sign.specs.Edges.{HasVertex}
 use Rattle.cell_laws.proofs.Sides.{inward, opposite, on_facet, opposite_or_on}
 use Rattle.cell_laws.proofs.Near.{IsTowards}
@@ -23,20 +22,6 @@ use Rattle.cell_laws.proofs.Crossings.{IsCrossed}
 use Rattle.cell_laws.proofs.Scanners.{side_reversed}
 
 -- ---- tests joined
-and_is : (a b : Bool) → a ≡ true → b ≡ true → (a && b) ≡ true
-and_is a b h k = ap₂ (λ x y. x && y) h k
-
-or_left : (a b : Bool) → a ≡ true → (a || b) ≡ true
-or_left a b h = ap (λ x. x || b) h
-
-or_right : (a b : Bool) → b ≡ true → (a || b) ≡ true
-or_right true b h = refl
-or_right false b h = h
-
-either : (a b : Bool) → (a || b) ≡ true → (a ≡ true) ⊎ (b ≡ true)
-either true b h = inl refl
-either false b h = inr h
-
 any_of : (a b c d : Bool) → (a || b || c || d) ≡ true → (a ≡ true) ⊎ ((b ≡ true) ⊎ ((c ≡ true) ⊎ (d ≡ true)))
 any_of true b c d h = inl refl
 any_of false true c d h = inr (inl refl)
@@ -51,9 +36,6 @@ any_is false false false d (inl h) = absurd (true≢false (sym h))
 any_is false false false d (inr (inl h)) = absurd (true≢false (sym h))
 any_is false false false d (inr (inr (inl h))) = absurd (true≢false (sym h))
 any_is false false false d (inr (inr (inr h))) = h
-
-is_number : (a n : ℕ) → n ≡ a → eqb a n ≡ true
-is_number a n e = ap (λ x. eqb a x) e ∙ same_number a
 
 -- ---- a crossed facet
 pub crossed_of : (v : Vertices) (p : ℕ) (s : RationalPoint) (f : DirectedFacet) → is_crossed v p s f ≡ true → IsCrossed v p s f
@@ -144,7 +126,7 @@ not_both v t p k o h e =
 pub towards_of :
     (v : Vertices) (p : ℕ) (s : RationalPoint) (t : Tetrahedron) → IsCellOf v t → is_towards v p s t ≡ true → IsTowards v t p s
 unfolding is_towards
-towards_of v p s t c h = record { has = has (and_left (has_vertex t p) _ h); faces = by }
+towards_of v p s t c h = record { has = has (and_parts (has_vertex t p) _ h).0; faces = by }
   where
     has : has_vertex t p ≡ true → IsVertexOf t p
     has e =
@@ -157,12 +139,12 @@ towards_of v p s t c h = record { has = has (and_left (has_vertex t p) _ h); fac
     test k = eqb (vertex_of t k) p || is_positive (inward v t k s)
 
     z : (test 0 ≡ true) × (test 1 ≡ true) × (test 2 ≡ true) × (test 3 ≡ true)
-    z = four (test 0) (test 1) (test 2) (test 3) (and_right (has_vertex t p) _ h)
+    z = four (test 0) (test 1) (test 2) (test 3) (and_parts (has_vertex t p) _ h).1
 
     face : (k : ℕ) → HasVertex (facet_of t k) p → test k ≡ true → pos 0 <ℤ inward v t k s
     face k i e =
         ⊎_elim (λ x. absurd (not_both v t p k c.positive i (eqb-true (vertex_of t k) p x))) (λ x. above_true (inward v t k s) x)
-        (either (eqb (vertex_of t k) p) (is_positive (inward v t k s)) e)
+        (or_cases (eqb (vertex_of t k) p) (is_positive (inward v t k s)) e)
 
     by : (k : ℕ) → HasVertex (facet_of t k) p → pos 0 <ℤ inward v t k s
     by zero i = face 0 i z.0
@@ -173,14 +155,14 @@ towards_of v p s t c h = record { has = has (and_left (has_vertex t p) _ h); fac
 pub towards_is : (v : Vertices) (p : ℕ) (s : RationalPoint) (t : Tetrahedron) → IsTowards v t p s → is_towards v p s t ≡ true
 unfolding is_towards
 towards_is v p s t h =
-    and_is (has_vertex t p) _ (has h.has) (four_is (test 0) (test 1) (test 2) (test 3) (face 0) (face 1) (face 2) (face 3))
+    and_from (has_vertex t p) _ (has h.has) (four_is (test 0) (test 1) (test 2) (test 3) (face 0) (face 1) (face 2) (face 3))
   where
     has : IsVertexOf t p → has_vertex t p ≡ true
     has h =
         any_is (eqb t.a p) (eqb t.b p) (eqb t.c p) (eqb t.d p)
-        (⊎_elim (λ e. inl (is_number t.a p e))
-        (⊎_elim (λ e. inr (inl (is_number t.b p e)))
-        (⊎_elim (λ e. inr (inr (inl (is_number t.c p e)))) (λ e. inr (inr (inr (is_number t.d p e)))))) h)
+        (⊎_elim (λ e. inl (eq-eqb t.a p (sym e)))
+        (⊎_elim (λ e. inr (inl (eq-eqb t.b p (sym e))))
+        (⊎_elim (λ e. inr (inr (inl (eq-eqb t.c p (sym e))))) (λ e. inr (inr (inr (eq-eqb t.d p (sym e))))))) h)
 
     test : ℕ → Bool
     test k = eqb (vertex_of t k) p || is_positive (inward v t k s)
@@ -188,7 +170,7 @@ towards_is v p s t h =
     face : (k : ℕ) → test k ≡ true
     face k =
         ⊎_elim (λ (e : p ≡ vertex_of t k).
-        or_left (eqb (vertex_of t k) p) (is_positive (inward v t k s)) (is_number (vertex_of t k) p e))
+        or_left (eqb (vertex_of t k) p) (is_positive (inward v t k s)) (eq-eqb (vertex_of t k) p (sym e)))
         (λ (i : HasVertex (facet_of t k) p).
         or_right (eqb (vertex_of t k) p) (is_positive (inward v t k s)) (above_is (inward v t k s) (h.faces k i)))
         (opposite_or_on t k p h.has)
@@ -197,15 +179,12 @@ towards_is v p s t h =
 opposite_test : (z : ℤ) → int_lt z (pos 0) ≡ int_lt (pos 0) (neg_ℤ z)
 opposite_test z = grind (arith, ints)
 
-equal : {A B : Type 0} {f g : A → B} → ((x : A) → f x ≡ g x) → f ≡ g
-equal h = λ k. λ x. h x k
-
 pub behind_is : (v : Vertices) (p : ℕ) (s : RationalPoint) (t : Tetrahedron) → is_behind v p s t ≡ is_towards v p (reversed s) t
 unfolding is_behind is_towards
 behind_is v p s t =
     let f : DirectedFacet → Bool = λ f. is_negative (side_of v f s) in
     let g : DirectedFacet → Bool = λ f. is_positive (side_of v f (reversed s)) in
     let e : f ≡ g =
-    equal (λ (x : DirectedFacet). opposite_test (side_of v x s)
+    fun_ext (λ (x : DirectedFacet). opposite_test (side_of v x s)
     ∙ ap (λ z. int_lt (pos 0) z) (sym (side_reversed (v.at x.a) (v.at x.b) (v.at x.c) s))) in
     ap (λ (test : DirectedFacet → Bool). has_vertex t p && all_facets_at p t test) e

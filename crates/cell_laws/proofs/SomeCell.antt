@@ -38,14 +38,6 @@ same_in v f g e t k =
       clear = λ u h. k.clear u (h.0, e u h.0 ∙ h.1);
     }
 
-or_left : (a b : Bool) → a ≡ true → (a || b) ≡ true
-or_left true b h = refl
-or_left false b h = absurd (true≢false (sym h))
-
-or_right : (a b : Bool) → b ≡ true → (a || b) ≡ true
-or_right true b h = refl
-or_right false b h = h
-
 module _ (v : Vertices) (b : IsBoxed v) where
   front_boxed : (k : ℕ) → 8 ≤ k → IsBoxed (front k v)
   front_boxed k l =

@@ -21,12 +21,6 @@ pub record IsSpread (v : Vertices) (s : RationalPoint) : Type 0 where
       (a b c : ℕ) (d : Point) → a < v.count → b < v.count → c < v.count → side (v.at a) (v.at b) (v.at c) (rational d) ≢ pos 0 →
       side (v.at a) (v.at b) (v.at c) s ≢ pos 0
 
-pub corner_below : (v : Vertices) (cell : Tetrahedron) → IsCellOf v cell → (k : ℕ) → vertex_of cell k < v.count
-corner_below v cell h zero = h.has_a.0
-corner_below v cell h (suc zero) = h.has_b.0
-corner_below v cell h (suc (suc zero)) = h.has_c.0
-corner_below v cell h (suc (suc (suc k))) = h.has_d.0
-
 pub record IsBelow (n : ℕ) (f : DirectedFacet) : Type 0 where
   pub a_below : f.a < n
   pub b_below : f.b < n

@@ -3,6 +3,7 @@
 use Rattle.std.proofs.Common.{ℕ, zero, suc, ◌+◌, ◌*◌, ◌<◌, ◌≤◌, ◌≡◌, ◌≢◌, refl, ap, sym, subst, ◌∙◌, ◌⊎◌, inl, inr, ⊎_elim}
 use Rattle.std.proofs.Common.{arith, Bool, true, false, eqb, ◌||◌, int_lt, pos, List, Option, length, get_or, set, All}
 use Rattle.std.proofs.Common.{AllPairs}
+use mathlib.Core.Path.{fun_ext}
 use Rattle.std.proofs.lemmas.Bool.{cases_lt, eqb-true, eqb-false}
 use Rattle.std.proofs.lemmas.Int.{ints}
 use Rattle.std.proofs.lemmas.List.{get_or-set_same, get_or-set_other}
@@ -14,6 +15,7 @@ use Rattle.geo_sign.specs.Cells.{IsCell}
 use Rattle.cell_laws.specs.LinkLaws.{AreAllCells}
 use Rattle.cell_laws.specs.Lists.{AreCells, one_if}
 use Rattle.geo_sign.specs.Boxes.{inserted_vertices}
+use Rattle.geo_sign.proofs.Corners.{corner_at}
 use Rattle.cell_laws.specs.StoredLaws.{AllLaw, StoredLaw, TiedLaw, ListedLaw}
 use Rattle.cell_laws.proofs.Corners.{all_below_at}
 use Rattle.cell_laws.proofs.Goal.{corner_edge}
@@ -21,17 +23,6 @@ use Rattle.cell_laws.proofs.Heights.{power_tied}
 use Rattle.cell_laws.proofs.RisingRows.{listed, is_listed}
 
 -- ---- where the vertices are
-at_corner : (points : List Point) (k : ℕ) → k < 8 → point_of points k ≡ corner_point k
-at_corner points zero h = refl
-at_corner points (suc zero) h = refl
-at_corner points (suc (suc zero)) h = refl
-at_corner points (suc (suc (suc zero))) h = refl
-at_corner points (suc (suc (suc (suc zero)))) h = refl
-at_corner points (suc (suc (suc (suc (suc zero))))) h = refl
-at_corner points (suc (suc (suc (suc (suc (suc zero)))))) h = refl
-at_corner points (suc (suc (suc (suc (suc (suc (suc zero))))))) h = refl
-at_corner points (suc (suc (suc (suc (suc (suc (suc (suc k)))))))) h = absurd (omega (arith, h))
-
 abbrev IsPoint : List Point → ℕ → Type 0
 IsPoint points u = (i : ℕ) × (u ≡ 8 + i) × (point_of points u ≡ get_or points i origin)
 
@@ -76,13 +67,13 @@ apart points all distinct u w hu hw e = by (cases_lt u 8) (cases_lt w 8)
     mixed : (k i : ℕ) → k < 8 → 8 ≤ i → i < 8 + length points → point_of points k ≡ point_of points i → ⊥
     mixed k i h l m f =
         corner_outside k
-        (subst (λ (p : Point). IsWithin DATA_LIMIT p) (sym f ∙ at_corner points k h) (data_within points all i l m))
+        (subst (λ (p : Point). IsWithin DATA_LIMIT p) (sym f ∙ corner_at points k h) (data_within points all i l m))
 
     later : (i j : ℕ) → i < j → j < length points → get_or points i origin ≡ get_or points j origin → ⊥
     later i j h l f = distinct i j origin h l f
 
     by : (u < 8) ⊎ (8 ≤ u) → (w < 8) ⊎ (8 ≤ w) → u ≡ w
-    by (inl h) (inl k) = sym (numbered u h) ∙ ap number (sym (at_corner points u h) ∙ e ∙ at_corner points w k) ∙ numbered w k
+    by (inl h) (inl k) = sym (numbered u h) ∙ ap number (sym (corner_at points u h) ∙ e ∙ corner_at points w k) ∙ numbered w k
     by (inl h) (inr k) = absurd (mixed u w h k hw e)
     by (inr h) (inl k) = absurd (mixed w u k h hu (sym e))
     by (inr h) (inr k) =
@@ -96,7 +87,7 @@ apart points all distinct u w hu hw e = by (cases_lt u 8) (cases_lt w 8)
         (cases_lt y.0 z.0)
 
 -- ---- flags
-flag_set :
+pub flag_set :
     (flags : List Bool) (p : ℕ) → p < length flags → (i : ℕ) →
     get_or (set flags p true) i false ≡ (eqb i p || get_or flags i false)
 flag_set flags p h i = pick (eqb i p) refl
@@ -104,9 +95,6 @@ flag_set flags p h i = pick (eqb i p) refl
     pick : (b : Bool) → eqb i p ≡ b → get_or (set flags p true) i false ≡ (b || get_or flags i false)
     pick true e = ap (λ j. get_or (set flags p true) j false) (eqb-true i p e) ∙ get_or-set_same flags p true false h
     pick false e = get_or-set_other flags p i true false (eqb-false i p e)
-
-equal : {f g : ℕ → Bool} → ((i : ℕ) → f i ≡ g i) → f ≡ g
-equal h = λ k. λ i. h i k
 
 -- ---- all vertices in
 
@@ -171,7 +159,7 @@ pub all_law : AllLaw
 all_law points w d =
     record {
       corner_in = λ k h. (omega (arith, h), refl);
-      corner_at = at_corner points;
+      corner_at = corner_at points;
       data_at = data_within points w;
       apart = apart points w d;
       tied = λ u. refl;
@@ -183,7 +171,7 @@ stored_law points flags =
       boxed = λ w d c.
           record {
             corner_in = λ k h. (omega (arith, h), c k h);
-            corner_at = at_corner points;
+            corner_at = corner_at points;
             data_at = data_within points w;
             apart = apart points w d;
             tied = λ u. refl;
@@ -191,7 +179,7 @@ stored_law points flags =
       one_more = λ p h.
           (let v = inserted_vertices points flags in
           ap (λ (is : ℕ → Bool). let w : Vertices = record { at = v.at; high = v.high; count = v.count; is_in = is } in w)
-          (equal (flag_set flags p h)));
+          (fun_ext (flag_set flags p h)));
       all = λ f a b c d. (all_cells points flags f a b c d, cells_all points flags f a b c d);
       whole = whole points flags;
     }

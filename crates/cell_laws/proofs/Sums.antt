@@ -9,7 +9,7 @@
 --   named_once xs       the names of xs, each once
 use Rattle.std.proofs.Common.{ℕ, suc, ◌+◌, ◌<◌, ◌≡◌, ◌≢◌, refl, sym, ap, ap₂, subst, ◌∙◌, ◌⊎◌, inl, inr, arith, Bool, true}
 use Rattle.std.proofs.Common.{false, true≢false, ◌&&◌, cond, eqb, List, [], ◌∷◌, AllPairs, length, get_or}
-use Rattle.std.proofs.lemmas.Bool.{eqb-true, eqb-false}
+use Rattle.std.proofs.lemmas.Bool.{eqb-true, eqb-false, and_from, and_parts}
 use Rattle.cell_laws.specs.Lists.{IsIn}
 
 -- ---- no element twice
@@ -109,7 +109,7 @@ pub sum_plus : {X : Type 0} (f g : X → ℕ) (xs : List X) → total (λ x. f x
 sum_plus f g [] = refl
 sum_plus f g (x ∷ xs) = let e = sum_plus f g xs in omega (arith, e)
 
-sum_sum :
+pub sum_sum :
     {X Y : Type 0} (m : X → Y → ℕ) (xs : List X) (ys : List Y) →
     total (λ x. total (m x) ys) xs ≡ total (λ y. total (λ x. m x y) xs) ys
 sum_sum m [] ys = sym (sum_zero ys)
@@ -151,18 +151,6 @@ only_one {X} h test (y ∷ ys) z o i t one = by i (λ j. only_one h test ys z o.
         none true e = absurd (o.0 (subst (IsIn ys) (sym (one y (inl refl) e)) j))
         none false e = refl
 
-and_left : (a b : Bool) → (a && b) ≡ true → a ≡ true
-and_left true b e = refl
-and_left false b e = e
-
-and_right : (a b : Bool) → (a && b) ≡ true → b ≡ true
-and_right true b e = e
-and_right false b e = absurd (true≢false (sym e))
-
-and_true : (a b : Bool) → a ≡ true → b ≡ true → (a && b) ≡ true
-and_true true b e f = f
-and_true false b e f = e
-
 -- x and y are partners, where x passes p and y passes q
 pub record ArePaired {X : Type 0} (r : X → X → Bool) (xs ys : List X) (p q : X → Bool) (g h : X → ℕ) : Type 0 where
   pub partner : (x : X) → IsIn xs x → p x ≡ true → (y : X) × IsIn ys y × (q y ≡ true) × (r x y ≡ true)
@@ -186,21 +174,21 @@ paired {X} r xs ys p q g h ox oy k =
     row x i true e =
         let z = k.partner x i e in
         only_one h (λ y. p x && (q y && r x y)) ys z.0 oy z.1
-        (and_true (p x) (q z.0 && r x z.0) e (and_true (q z.0) (r x z.0) z.2 z.3))
-        (λ y j t. k.one x y z.0 i j z.1 (and_right (q y) (r x y) (and_right (p x) (q y && r x y) t)) z.3)
+        (and_from (p x) (q z.0 && r x z.0) e (and_from (q z.0) (r x z.0) z.2 z.3))
+        (λ y j t. k.one x y z.0 i j z.1 (and_parts (q y) (r x y) (and_parts (p x) (q y && r x y) t).1).1 z.3)
         ∙ sym (k.same x z.0 z.3) ∙ sym (ap (λ b. pick (g x) b) e)
     row x i false e =
-        no_one h (λ y. p x && (q y && r x y)) ys (λ y j t. true≢false (sym (and_left (p x) (q y && r x y) t) ∙ e))
+        no_one h (λ y. p x && (q y && r x y)) ys (λ y j t. true≢false (sym (and_parts (p x) (q y && r x y) t).0 ∙ e))
         ∙ sym (ap (λ b. pick (g x) b) e)
 
     column : (y : X) → IsIn ys y → (b : Bool) → q y ≡ b → total (λ x. pick (h y) (p x && (q y && r x y))) xs ≡ pick (h y) (q y)
     column y i true e =
         let z = k.partner_of y i e in
         only_one (λ x. h y) (λ x. p x && (q y && r x y)) xs z.0 ox z.1
-        (and_true (p z.0) (q y && r z.0 y) z.2 (and_true (q y) (r z.0 y) e z.3))
-        (λ x j t. k.one_of x z.0 y j z.1 i (and_right (q y) (r x y) (and_right (p x) (q y && r x y) t)) z.3)
+        (and_from (p z.0) (q y && r z.0 y) z.2 (and_from (q y) (r z.0 y) e z.3))
+        (λ x j t. k.one_of x z.0 y j z.1 i (and_parts (q y) (r x y) (and_parts (p x) (q y && r x y) t).1).1 z.3)
         ∙ sym (ap (λ b. pick (h y) b) e)
     column y i false e =
         no_one (λ x. h y) (λ x. p x && (q y && r x y)) xs
-        (λ x j t. true≢false (sym (and_left (q y) (r x y) (and_right (p x) (q y && r x y) t)) ∙ e))
+        (λ x j t. true≢false (sym (and_parts (q y) (r x y) (and_parts (p x) (q y && r x y) t).1).0 ∙ e))
         ∙ sym (ap (λ b. pick (h y) b) e)

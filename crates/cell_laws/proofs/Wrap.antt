@@ -3,18 +3,20 @@
 -- c b e: its power there is a positive multiple of the difference of two such ratios. So a facet of a cell is an outer one or
 -- has a cell across it; and it has at most one, since each of two apexes would have a power of zero or less at the other.
 -- Stands on: Best, Writing and the three terms of Identities.
-use Rattle.std.proofs.Common.{ℕ, zero, suc, ◌≡◌, ◌≢◌, ◌<◌, ◌≤◌, refl, ap, ap₂, sym, ◌∙◌, ◌⊎◌, inl, inr, ⊎_elim, arith, Bool}
+use Rattle.std.proofs.Common.{ℕ, zero, suc, ◌≡◌, ◌≢◌, ◌<◌, ◌≤◌, ap, ap₂, sym, ◌∙◌, ◌⊎◌, inl, inr, ⊎_elim, arith, Bool}
 use Rattle.std.proofs.Common.{true, false, ◌&&◌, true≢false, ℤ, pos, neg_ℤ, ◌-ℤ◌, ◌*ℤ◌, ◌≤ℤ◌, ◌<ℤ◌, int_lt, List, [], ◌∷◌}
 use Rattle.std.proofs.lemmas.Int.{ints, by_lt_z}
-use Rattle.std.proofs.lemmas.Bool.{cases_lt}
+use Rattle.std.proofs.lemmas.Bool.{cases_lt, and_parts}
 use lib.IntN.{*ℤ_comm}
 use Rattle.geo_sign.specs.Cells.{IsCell}
 use Rattle.geo_sign.specs.Vertices.{Has, orientation_of, power_of, Vertices}
 use Rattle.cell_laws.specs.Lists.{IsIn}
 use Rattle.geo_sign.proofs.Exchanges.{exchanged_power, flat_a, flat_b, flat_c, turned_orientation}
+use Rattle.geo_sign.proofs.SignTests.{above_true, above_is}
+use Rattle.geo_sign.proofs.RingLaws.{*ℤ-neg}
 use Rattle.cell_laws.proofs.Best.{best, Found, IsBest}
 use Rattle.cell_laws.proofs.Identities.{three_terms}
-use Rattle.cell_laws.proofs.Order.{mul_below, mul_not_above, mul_not_negative, neg_right}
+use Rattle.cell_laws.proofs.Order.{mul_below, mul_not_above, mul_not_negative}
 use Rattle.cell_laws.proofs.Regions.{IsGeneric, IsOuter}
 
 -- ---- numbers below n
@@ -33,22 +35,8 @@ below_gives (suc n) i (inl e) = omega arith
 below_gives (suc n) i (inr h) = let l : i < n = below_gives n i h in omega arith
 
 -- ---- the test of a sign
-pub above_true : (z : ℤ) → int_lt (pos 0) z ≡ true → pos 0 <ℤ z
-above_true z h = grind (arith, ints)
-
-pub above_is : (z : ℤ) → pos 0 <ℤ z → int_lt (pos 0) z ≡ true
-above_is z h = grind (arith, ints)
-
 pub above_false : (z : ℤ) → int_lt (pos 0) z ≡ false → z ≤ℤ pos 0
 above_false z h = grind (arith, ints)
-
-pub and_left : (a b : Bool) → (a && b) ≡ true → a ≡ true
-and_left true b h = refl
-and_left false b h = h
-
-pub and_right : (a b : Bool) → (a && b) ≡ true → b ≡ true
-and_right true b h = h
-and_right false b h = absurd (true≢false (sym h))
 
 pub and_false : (a b : Bool) → (a && b) ≡ false → a ≡ true → b ≡ false
 and_false true b h e = h
@@ -76,7 +64,7 @@ pub wrap :
     ((u : ℕ) → Has v u → orientation_of v a b c u ≤ℤ pos 0) ⊎ ((d : ℕ) × IsCell v a b c d)
 wrap v a b c ha hb hc w =
     pick (best (is_before v a b c) w.weight (orientation_of v a b c) (below v.count)
-    (λ u i g. above_true (orientation_of v a b c u) (and_right (v.is_in u) _ g)))
+    (λ u i g. above_true (orientation_of v a b c u) (and_parts (v.is_in u) _ g).1))
   where
     clear :
         (d : ℕ) → Has v d → IsBest (is_before v a b c) w.weight (orientation_of v a b c) (below v.count) d →
@@ -104,9 +92,9 @@ wrap v a b c ha hb hc w =
         inl (λ u h. above_false (orientation_of v a b c u) (and_false (v.is_in u) _ (n u (below_has v.count u h.0)) h.1))
     pick (inr z) =
         let k : IsBest (is_before v a b c) w.weight (orientation_of v a b c) (below v.count) z.0 = z.1 in
-        let h : Has v z.0 = (below_gives v.count z.0 k.listed, and_left (v.is_in z.0) _ k.passes) in
+        let h : Has v z.0 = (below_gives v.count z.0 k.listed, (and_parts (v.is_in z.0) _ k.passes).0) in
         let p : pos 0 <ℤ orientation_of v a b c z.0 =
-        above_true (orientation_of v a b c z.0) (and_right (v.is_in z.0) _ k.passes) in
+        above_true (orientation_of v a b c z.0) (and_parts (v.is_in z.0) _ k.passes).1 in
         inr (z.0, record { has_a = ha; has_b = hb; has_c = hc; has_d = h; positive = p; clear = clear z.0 h k p })
 
 -- a facet of a cell is an outer one, or has a cell across it
@@ -127,7 +115,7 @@ across v a b c d k =
           (v.high e) (v.high u) in
           let g = turned_orientation (v.at a) (v.at b) (v.at c) (v.at u) in
           let f : power_of v a b c d e *ℤ orientation_of v a c b u ≡ neg_ℤ (power_of v a b c d e *ℤ orientation_of v a b c u) =
-          ap (λ y. power_of v a b c d e *ℤ y) g ∙ neg_right (power_of v a b c d e) (orientation_of v a b c u) in
+          ap (λ y. power_of v a b c d e *ℤ y) g ∙ *ℤ-neg (power_of v a b c d e) (orientation_of v a b c u) in
           omega (arith, ints, t, f);
     }))
 

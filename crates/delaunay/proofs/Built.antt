@@ -7,12 +7,13 @@ use Rattle.std.proofs.Common.{ℕ, ◌≡◌, ◌<◌, ◌≤◌, ◌+◌, ◌-�
 use Rattle.std.proofs.Common.{arith, get_or, set, slice_index, slice_index_or}
 use Rattle.std.specs.Prelude.{nat_lt}
 use Rattle.std.proofs.lemmas.Bool.{cases_lt, le-ltb}
-use Rattle.std.proofs.lemmas.List.{get_or-set_same, get_or-set_other, length-append}
+use Rattle.std.proofs.lemmas.List.{get_or-set_same, get_or-set_other}
 use Rattle.geo_sign.specs.Point.{Point, origin}
 use Rattle.geo_sign.specs.Tie.{height}
 use Rattle.geo_sign.specs.Vertices as geo
 use Rattle.geo_sign.specs.Vertices.{Vertices, corners}
 use Rattle.geo_sign.specs.Cells.{IsCell}
+use Rattle.geo_sign.proofs.Corners.{vertex_count}
 use Rattle.tetra_store.specs.Links.{links_of}
 use Rattle.tetra_store.specs.Store.{Store, IsStore, vertices_at, vertices_of}
 use Rattle.tetra_store.specs.Delaunay.{IsDelaunay}
@@ -65,9 +66,6 @@ all_inserted s count order n store points is l h u u_in =
 
 -- ---- the cells of the points
 
-pub count_of : (points : List Point) → length (corners ++ points) ≡ 8 + length points
-count_of points = omega (arith, length-append corners points)
-
 abbrev counted : ℕ → List Point → List Bool → Vertices
 counted n points inserted = record {
   at = λ u. get_or (corners ++ points) u origin;
@@ -106,9 +104,9 @@ pub of_all : (s : Store) (points : List Point) → s.points ≡ corners ++ point
     → IsDelaunay (geo.vertices_of points) (links_of s.slots)
 of_all s points e h delaunay =
     let h' : (u : ℕ) → u < 8 + length points → slice_index_or s.inserted u false ≡ true =
-    λ u l. h u (let n = ap length e ∙ count_of points in omega arith) in
+    λ u l. h u (let n = ap length e ∙ vertex_count points in omega arith) in
     let d : IsDelaunay (counted (8 + length points) points s.inserted) (links_of s.slots) =
-    subst (λ (n : ℕ). IsDelaunay (counted n points s.inserted) (links_of s.slots)) (count_of points)
+    subst (λ (n : ℕ). IsDelaunay (counted n points s.inserted) (links_of s.slots)) (vertex_count points)
     (subst (λ (z : List Point). IsDelaunay (vertices_at z s.inserted) (links_of s.slots)) e delaunay) in
     record {
       cells = λ id live. (let t = (links_of s.slots).at id in to_points points s.inserted h' t.a t.b t.c t.d (d.cells id live));

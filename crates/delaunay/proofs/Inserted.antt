@@ -4,11 +4,10 @@
 -- live cell is an old one that is not of the cavity, so p is not in conflict with it, and by the law of cells that stay it is
 -- still one; or it is over a facet of the fan, and by the law of fans it is one. Links of the new cells are no matter here: the
 -- store keeps them.
-use Rattle.std.proofs.Common.{ℕ, ◌≡◌, ◌≢◌, ◌<◌, ◌≤◌, Bool, true, false, eqb, ◌||◌, List, length, refl, sym, ap, ◌∙◌, inr}
+use Rattle.std.proofs.Common.{ℕ, ◌≡◌, ◌≢◌, ◌<◌, ◌≤◌, Bool, true, false, List, length, refl, sym, ap, ◌∙◌, inr}
 use Rattle.std.proofs.Common.{⊎_elim, subst, arith, get_or, set, slice_index_or, pos, true≢false, Contains}
-use Rattle.std.proofs.lemmas.Bool.{eqb-true, eqb-false}
+use mathlib.Core.Path.{fun_ext}
 use Rattle.std.proofs.lemmas.Int.{by_lt_z}
-use Rattle.std.proofs.lemmas.List.{get_or-set_same, get_or-set_other}
 use Rattle.geo_sign.specs.Point.{Point, origin, IsWithin}
 use Rattle.geo_sign.specs.declared.point.TheConstants.{DATA_LIMIT}
 use Rattle.geo_sign.specs.Tetrahedron.{Tetrahedron, vertex_of}
@@ -22,6 +21,7 @@ use Rattle.tetra_store.specs.Delaunay.{IsDelaunay}
 use Rattle.tetra_store.specs.Fan.{fan_facet, CanReplace, IsOver, IsReplaced}
 use Rattle.geo_sign.specs.Boxes.{with_vertex, IsClearOf}
 use Rattle.cell_laws.proofs.Laws.{fan_law, stay_law}
+use Rattle.cell_laws.proofs.Stored.{flag_set}
 use Rattle.cavity.specs.Cavity.{IsCavity}
 use Rattle.cavity.proofs.Stores.{boxed, new_vertex}
 use Rattle.delaunay.proofs.Whole.{AreLiveCells}
@@ -51,23 +51,12 @@ is_data s p q e store below out =
 
 -- ---- one vertex more
 
-flag_set : (flags : List Bool) (p : ℕ) → p < length flags → (i : ℕ)
-    → get_or (set flags p true) i false ≡ (eqb i p || get_or flags i false)
-flag_set flags p h i = pick (eqb i p) refl
-  where
-    pick : (b : Bool) → eqb i p ≡ b → get_or (set flags p true) i false ≡ (b || get_or flags i false)
-    pick true e = ap (λ j. get_or (set flags p true) j false) (eqb-true i p e) ∙ get_or-set_same flags p true false h
-    pick false e = get_or-set_other flags p i true false (eqb-false i p e)
-
-equal : {f g : ℕ → Bool} → ((i : ℕ) → f i ≡ g i) → f ≡ g
-equal h = λ k. λ i. h i k
-
 one_more : (points : List Point) (flags : List Bool) (p : ℕ) → p < length flags
     → vertices_at points (set flags p true) ≡ with_vertex (vertices_at points flags) p
 one_more points flags p h =
     let v = vertices_at points flags in
     ap (λ (is : ℕ → Bool). let w : Vertices = record { at = v.at; high = v.high; count = v.count; is_in = is } in w)
-    (equal (flag_set flags p h))
+    (fun_ext (flag_set flags p h))
 
 -- ---- each cell is one
 

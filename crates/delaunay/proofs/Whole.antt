@@ -10,12 +10,13 @@ use Rattle.geo_sign.specs.Cells.{IsCell}
 use Rattle.tetra_store.specs.Links.{links_of, IsLive, IsOnlyAcross}
 use Rattle.tetra_store.specs.Store.{Store, IsStore, vertices_of}
 use Rattle.tetra_store.specs.Delaunay.{IsDelaunay}
+use Rattle.tetra_store.specs.Stored.{live_of}
 use Rattle.tetra_store.proofs.Observed.{only_at}
 use Rattle.cell_laws.specs.Lists.{IsListing}
 use Rattle.geo_sign.proofs.Rewritings.{rewritten_back, same_lying, same_vertex}
 use Rattle.cell_laws.proofs.Laws.{linked_law, one_law}
 use Rattle.cell_laws.proofs.SomeCell.{place_law}
-use Rattle.cavity.proofs.Stores.{names, in_names, of_names, boxed, linked}
+use Rattle.cavity.proofs.Stores.{in_names, of_names, boxed, linked}
 use Rattle.delaunay.specs.Partition.{IsPartition}
 
 abbrev pub AreLiveCells : Store → Type 0
@@ -25,9 +26,9 @@ AreLiveCells s =
     ((links_of s.slots).at id).d
 
 listing : (s : Store) (x : ℕ) → IsStore s → IsLive (links_of s.slots) x → AreLiveCells s
-    → IsListing (vertices_of s) (names s.slots) (links_of s.slots).at
+    → IsListing (vertices_of s) (live_of s.slots) (links_of s.slots).at
 listing s x store_is live h =
-    linked_law (vertices_of s) (boxed s store_is) (names s.slots) (links_of s.slots).at (links_of s.slots).next
+    linked_law (vertices_of s) (boxed s store_is) (live_of s.slots) (links_of s.slots).at (links_of s.slots).next
     (linked s store_is) (λ y m. h y (of_names s.slots y m)) x (in_names s.slots x live)
 
 pub whole : (s : Store) (x : ℕ) → IsStore s → IsLive (links_of s.slots) x → AreLiveCells s

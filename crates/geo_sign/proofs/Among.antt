@@ -1,7 +1,7 @@
 -- The test that a facet is one of the four of a tetrahedron says just that.
-use Rattle.std.proofs.Common.{ℕ, zero, suc, ◌<◌, ◌≡◌, refl, ap, ap₂, sym, ◌∙◌, ⊎_elim, arith, Bool, true, false, ◌&&◌, ◌||◌}
+use Rattle.std.proofs.Common.{ℕ, zero, suc, ◌<◌, ◌≡◌, refl, ap, ap₂, sym, ◌∙◌, ⊎_elim, arith, Bool, true, ◌&&◌, ◌||◌}
 use Rattle.std.proofs.Common.{eqb}
-use Rattle.std.proofs.lemmas.Bool.{and_parts, or_cases, eq-eqb, eqb-true}
+use Rattle.std.proofs.lemmas.Bool.{and_parts, or_cases, eq-eqb, eqb-true, or_right}
 use Rattle.geo_sign.specs.Tetrahedron.{Tetrahedron, DirectedFacet, facet, facet_of, is_same_facet, is_among}
 use Rattle.geo_sign.specs.FacetLaws.{AmongMeans}
 
@@ -13,10 +13,6 @@ same_means f g h =
     let p = and_parts (eqb f.a g.a && eqb f.b g.b) (eqb f.c g.c) h in
     let q = and_parts (eqb f.a g.a) (eqb f.b g.b) p.0 in
     ap₂ (λ x y. facet x y f.c) (eqb-true f.a g.a q.0) (eqb-true f.b g.b q.1) ∙ ap (λ x. facet g.a g.b x) (eqb-true f.c g.c p.1)
-
-or_right : (a b : Bool) → b ≡ true → (a || b) ≡ true
-or_right true b h = refl
-or_right false b h = h
 
 -- a facet of t is among its facets
 pub own_facet : (t : Tetrahedron) (k : ℕ) → is_among t (facet_of t k) ≡ true

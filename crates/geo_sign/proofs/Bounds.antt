@@ -9,7 +9,7 @@ use mir.Syntax.{Width}
 use mir.Val.{hbits}
 use Rattle.geo_sign.specs.Point.{Point, point, IsWithin, step, cross, dot}
 use Rattle.geo_sign.specs.Orientation.{orientation}
-use Rattle.geo_sign.specs.declared.point.TheConstants.{BOX_LIMIT}
+use Rattle.geo_sign.specs.declared.point.TheConstants.{BOX_LIMIT, DATA_LIMIT}
 
 pub abs_add : (a b : ℤ) (m n : ℕ) → unsigned_abs a ≤ m → unsigned_abs b ≤ n → unsigned_abs (a +ℤ b) ≤ m + n
 abs_add a b m n h k = omega (arith, ints)
@@ -72,7 +72,7 @@ pub minor_held : (u v : Point) (m : ℤ) → m ≡ (cross u v).z → IsWithin (2
 minor_held u v m e h k = record { is = e; within = minor_within u.x u.y v.x v.y h.x_within h.y_within k.x_within k.y_within }
 
 -- a vector product of vectors between points, and its scalar product with one
-cross_within : (u v : Point) → IsWithin (2 ^ 24) u → IsWithin (2 ^ 24) v → IsWithin (2 ^ 49) (cross u v)
+pub cross_within : (u v : Point) → IsWithin (2 ^ 24) u → IsWithin (2 ^ 24) v → IsWithin (2 ^ 49) (cross u v)
 cross_within u v h k =
     record {
       x_within = minor_within u.y u.z v.y v.z h.y_within h.z_within k.y_within k.z_within;
@@ -80,14 +80,14 @@ cross_within u v h k =
       z_within = minor_within u.x u.y v.x v.y h.x_within h.y_within k.x_within k.y_within;
     }
 
-dot_within : (u v : Point) → IsWithin (2 ^ 49) u → IsWithin (2 ^ 24) v → unsigned_abs (dot u v) ≤ 3 * 2 ^ 73
+pub dot_within : (u v : Point) → IsWithin (2 ^ 49) u → IsWithin (2 ^ 24) v → unsigned_abs (dot u v) ≤ 3 * 2 ^ 73
 dot_within u v h k =
     abs_add (u.x *ℤ v.x +ℤ u.y *ℤ v.y) (u.z *ℤ v.z) (2 ^ 74) (2 ^ 73)
     (abs_add (u.x *ℤ v.x) (u.y *ℤ v.y) (2 ^ 73) (2 ^ 73) (abs_mul u.x v.x (2 ^ 49) (2 ^ 24) h.x_within k.x_within)
     (abs_mul u.y v.y (2 ^ 49) (2 ^ 24) h.y_within k.y_within))
     (abs_mul u.z v.z (2 ^ 49) (2 ^ 24) h.z_within k.z_within)
 
-step_within : (a b : Point) → IsWithin BOX_LIMIT a → IsWithin BOX_LIMIT b → IsWithin (2 ^ 24) (step a b)
+pub step_within : (a b : Point) → IsWithin BOX_LIMIT a → IsWithin BOX_LIMIT b → IsWithin (2 ^ 24) (step a b)
 step_within a b h k =
     record {
       x_within = abs_sub b.x a.x BOX_LIMIT BOX_LIMIT k.x_within h.x_within;
@@ -104,3 +104,8 @@ orientation_bound a b c d h i j k =
     (dot_within (cross (step a b) (step a c)) (step a d)
     (cross_within (step a b) (step a c) (step_within a b h i) (step_within a c h j)) (step_within a d h k))
     (ltb→lt (3 * 2 ^ 73) (2 ^ 75) tt)
+
+-- data points are well inside the box
+pub data_in_box : (p : Point) → IsWithin DATA_LIMIT p → IsWithin BOX_LIMIT p
+data_in_box p h =
+    record { x_within = omega (arith, h.x_within); y_within = omega (arith, h.y_within); z_within = omega (arith, h.z_within) }

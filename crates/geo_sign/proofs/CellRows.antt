@@ -11,6 +11,7 @@ use Rattle.geo_sign.specs.Tetrahedron.{Tetrahedron}
 use Rattle.geo_sign.specs.Vertices.{Vertices, orientation_of}
 use Rattle.geo_sign.specs.Writings.{IsRewritten, IsVertexOf, spin, swap}
 use Rattle.geo_sign.specs.RowLaws.{IsRowOf, IsPositive}
+use Rattle.geo_sign.specs.Cells.{FormCell}
 use Rattle.geo_sign.proofs.Exchanges.{flat_first, flat_second, flat_third, flat_a, flat_b, flat_c}
 use Rattle.geo_sign.proofs.Rewritings.{orientation_at, same_orientation, same_vertex, rewritten_after, rewritten_back}
 
@@ -205,3 +206,7 @@ row_there v t k =
     (r.a ∷ r.b ∷ r.d ∷ r.c ∷ [], (b.a_below, b.d_above, omega (arith, l, d), inr b.same)) in
     x)
     (cases_lt r.c r.d)
+
+-- the last vertex of a cell is one of the vertices
+pub last_below : (v : Vertices) (p q r s : ℕ) → FormCell v p q r s → s < v.count
+last_below v p q r s h = ⊎_elim (λ k. k.has_d.0) (λ k. k.has_c.0) h

@@ -1,11 +1,12 @@
 -- Orientations, powers and sides with their points in another order, or with two of them equal. Each is an identity of
--- polynomials: even orders give the same number, odd ones the opposite, and equal points give zero.
+-- polynomials: even orders give the same number, odd ones the opposite, and equal points give zero. The side of a point is its
+-- orientation.
 use Rattle.std.proofs.Common.{◌≡◌, ℤ, pos, neg_ℤ, List, [], ◌∷◌}
 use Rattle.geo_sign.specs.Polynomial.{Polynomial, constant, negation, variable}
 use Rattle.geo_sign.specs.Point.{Point}
 use Rattle.geo_sign.specs.Orientation.{orientation}
 use Rattle.geo_sign.specs.Power.{power}
-use Rattle.geo_sign.specs.Rational.{RationalPoint, side}
+use Rattle.geo_sign.specs.Rational.{RationalPoint, side, rational}
 use Rattle.geo_sign.proofs.Ring.{ring}
 use Rattle.geo_sign.proofs.Written.{coordinates, orientation', power', side', RationalSymbols, symbols}
 
@@ -123,3 +124,11 @@ unfolding side
 turned_side a b c q =
     ring (three_and_place a b c q) (side' (symbols 0) (symbols 6) (symbols 3) place)
     (negation (side' (symbols 0) (symbols 3) (symbols 6) place)) tt
+
+-- a point lies on the side that its orientation says
+pub point_side : (a b c u : Point) → side a b c (rational u) ≡ orientation a b c u
+unfolding side orientation
+point_side a b c u =
+    ring (coordinates a (coordinates b (coordinates c (coordinates u []))))
+    (side' (symbols 0) (symbols 3) (symbols 6) (record { at = symbols 9; over = constant (pos 1) }))
+    (orientation' (symbols 0) (symbols 3) (symbols 6) (symbols 9)) tt

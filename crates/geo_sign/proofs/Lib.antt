@@ -7,6 +7,9 @@ pub mod Digits
 pub mod SignTests
 pub mod Sizes
 pub mod Ties
+pub mod Corners
+pub mod Facets
+pub mod Members
 pub mod Own
 pub mod Rising
 pub mod Booleans

@@ -1,13 +1,14 @@
 -- The power of a cell's own vertices, which is zero, and the two ways to write a cell.
 use Rattle.std.proofs.Common.{ℕ, ◌≡◌, ◌≤ℤ◌, sym, subst, arith, ℤ, pos, neg_ℤ, List, [], ◌∷◌}
 use Rattle.std.proofs.lemmas.Int.{ints}
-use Rattle.geo_sign.specs.Polynomial.{Polynomial, variable, constant, negation}
+use Rattle.geo_sign.specs.Polynomial.{Polynomial, variable, constant}
 use Rattle.geo_sign.proofs.Ring.{ring}
 use Rattle.geo_sign.specs.Point.{Point}
 use Rattle.geo_sign.specs.Orientation.{orientation}
 use Rattle.geo_sign.specs.Power.{power}
 use Rattle.geo_sign.specs.Vertices.{Vertices, orientation_of, power_of}
-use Rattle.geo_sign.proofs.Written.{Symbols, symbols, orientation', power', coordinates}
+use Rattle.geo_sign.proofs.Written.{Symbols, symbols, power', coordinates}
+use Rattle.geo_sign.proofs.Exchanges.{exchanged_orientation}
 
 abbrev four : (a b c d : Point) (ha hb hc hd : ℤ) → List ℤ
 four a b c d ha hb hc hd = coordinates a (coordinates b (coordinates c (coordinates d (ha ∷ hb ∷ hc ∷ hd ∷ []))))
@@ -30,14 +31,6 @@ power_of_third a b c d ha hb hc hd = ring (four a b c d ha hb hc hd) (own' (symb
 pub power_of_fourth : (a b c d : Point) (ha hb hc hd : ℤ) → power a b c d d ha hb hc hd hd ≡ pos 0
 unfolding power orientation
 power_of_fourth a b c d ha hb hc hd = ring (four a b c d ha hb hc hd) (own' (symbols 9) (variable 15)) (constant (pos 0)) tt
-
--- the last two vertices exchanged
-pub exchanged : (a b c d : Point) → orientation a b d c ≡ neg_ℤ (orientation a b c d)
-unfolding orientation
-exchanged a b c d =
-    ring (coordinates a (coordinates b (coordinates c (coordinates d []))))
-    (orientation' (symbols 0) (symbols 3) (symbols 9) (symbols 6))
-    (negation (orientation' (symbols 0) (symbols 3) (symbols 6) (symbols 9))) tt
 
 -- ---- a cell's own vertices have power zero
 not_negative : (z : ℤ) → z ≡ pos 0 → pos 0 ≤ℤ z
@@ -65,4 +58,4 @@ own_fourth v a b c d u e =
 
 -- ---- the last two vertices exchanged
 pub last_exchanged : (v : Vertices) (a b c d : ℕ) → orientation_of v a b d c ≡ neg_ℤ (orientation_of v a b c d)
-last_exchanged v a b c d = exchanged (v.at a) (v.at b) (v.at c) (v.at d)
+last_exchanged v a b c d = exchanged_orientation (v.at a) (v.at b) (v.at c) (v.at d)

@@ -182,7 +182,7 @@ and_swapped true false c d = refl
 and_swapped false true c d = refl
 and_swapped false false c d = refl
 
-or_spun : (a b c d : Bool) → (b || c || a || d) ≡ (a || b || c || d)
+pub or_spun : (a b c d : Bool) → (b || c || a || d) ≡ (a || b || c || d)
 or_spun true true c d = refl
 or_spun true false true d = refl
 or_spun true false false d = refl
@@ -190,7 +190,7 @@ or_spun false true c d = refl
 or_spun false false true d = refl
 or_spun false false false d = refl
 
-or_swapped : (a b c d : Bool) → (b || a || d || c) ≡ (a || b || c || d)
+pub or_swapped : (a b c d : Bool) → (b || a || d || c) ≡ (a || b || c || d)
 or_swapped true true c d = refl
 or_swapped true false c d = refl
 or_swapped false true c d = refl

@@ -8,7 +8,7 @@ use Rattle.geo_sign.specs.Polynomial.{value}
 use Rattle.geo_sign.specs.NormalForm.{Form, leaf, branch, form_value, monomial, insert_variable, single, add_term, is_zero}
 use Rattle.geo_sign.specs.NormalForm.{expand_form, expand, is_null, is_same_form}
 use Rattle.geo_sign.specs.PolynomialLaws.{IdentityLaw}
-use Rattle.geo_sign.proofs.RingLaws.{+ℤ-*ℤ, *ℤ-+ℤ, neg-*ℤ, *ℤ_assoc, *ℤ_left}
+use Rattle.geo_sign.proofs.RingLaws.{+ℤ-*ℤ, *ℤ-+ℤ, neg-*ℤ, *ℤ_assoc, *ℤ_left, *ℤ-neg}
 
 monomial-insert_variable : (x : List ℤ) (i : ℕ) (m : List ℕ) → monomial x (insert_variable i m) ≡ number_at x i *ℤ monomial x m
 monomial-insert_variable x i [] = refl
@@ -110,10 +110,7 @@ sum_step c m e f v t =
 neg_front : (c m f v : ℤ) → neg_ℤ c *ℤ (m *ℤ (f *ℤ v)) ≡ c *ℤ (m *ℤ (neg_ℤ f *ℤ v))
 neg_front c m f v =
     neg-*ℤ c (m *ℤ (f *ℤ v))
-    ∙ sym (ap (λ y. c *ℤ y) (ap (λ y. m *ℤ y) (neg-*ℤ f v) ∙ times_neg m (f *ℤ v)) ∙ times_neg c (m *ℤ (f *ℤ v)))
-  where
-    times_neg : (a b : ℤ) → a *ℤ neg_ℤ b ≡ neg_ℤ (a *ℤ b)
-    times_neg a b = *ℤ_comm a (neg_ℤ b) ∙ neg-*ℤ b a ∙ ap neg_ℤ (*ℤ_comm b a)
+    ∙ sym (ap (λ y. c *ℤ y) (ap (λ y. m *ℤ y) (neg-*ℤ f v) ∙ *ℤ-neg m (f *ℤ v)) ∙ *ℤ-neg c (m *ℤ (f *ℤ v)))
 
 difference_step : (c m e f v t : ℤ)
     → c *ℤ (m *ℤ (e *ℤ v)) +ℤ (neg_ℤ c *ℤ (m *ℤ (f *ℤ v)) +ℤ t) ≡ c *ℤ (m *ℤ ((e -ℤ f) *ℤ v)) +ℤ t

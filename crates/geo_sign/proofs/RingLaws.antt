@@ -48,6 +48,9 @@ neg-*ℤ a c =
     let z : a +ℤ neg_ℤ a ≡ pos 0 = omega (arith, ints) in
     e (a *ℤ c) (neg_ℤ a *ℤ c) (sym (+ℤ-*ℤ a (neg_ℤ a) c) ∙ ap (λ x. x *ℤ c) z ∙ zero-*ℤ c)
 
+pub *ℤ-neg : (a b : ℤ) → a *ℤ neg_ℤ b ≡ neg_ℤ (a *ℤ b)
+*ℤ-neg a b = *ℤ_comm a (neg_ℤ b) ∙ neg-*ℤ b a ∙ ap neg_ℤ (*ℤ_comm b a)
+
 pub -ℤ-*ℤ : (a b c : ℤ) → (a -ℤ b) *ℤ c ≡ a *ℤ c -ℤ b *ℤ c
 -ℤ-*ℤ a b c = +ℤ-*ℤ a (neg_ℤ b) c ∙ ap (λ x. a *ℤ c +ℤ x) (neg-*ℤ b c)
 

@@ -4,6 +4,7 @@ use Rattle.std.proofs.Common.{length, get_or, Contains}
 use Rattle.std.specs.Prelude.{AllPairs}
 use Rattle.geo_sign.specs.Rising.{IsBefore}
 use Rattle.geo_sign.specs.RisingLaws.{RisingLaw, CellListLaw}
+use Rattle.geo_sign.proofs.Members.{here, there}
 
 -- ---- the order of rows
 pub before_trans : (a b c : List ℕ) → IsBefore a b → IsBefore b c → IsBefore a c
@@ -33,12 +34,6 @@ contains_cases y ys t h = pick h.0 h.1 h.2
     pick zero l e = inl e
     pick (suc k) l e = inr (k, omega arith, e)
 
-pub contains_head : (y : List ℕ) (ys : List (List ℕ)) → Contains (y ∷ ys) y
-contains_head y ys = (0, omega arith, refl)
-
-pub contains_tail : (y : List ℕ) (ys : List (List ℕ)) (t : List ℕ) → Contains ys t → Contains (y ∷ ys) t
-contains_tail y ys t h = (suc h.0, (let l : h.0 < length ys = h.1 in omega arith), h.2)
-
 pub head_before : (y : List ℕ) (ys : List (List ℕ)) (t : List ℕ) → AllPairs IsBefore (y ∷ ys) → Contains ys t → IsBefore y t
 head_before y ys t r h =
     subst (λ (z : List ℕ). IsBefore y z) h.2 (r 0 (suc h.0) t (omega arith) (let l : h.0 < length ys = h.1 in omega arith))
@@ -60,14 +55,14 @@ tails_agree : (x y : List ℕ) (xs ys : List (List ℕ)) → x ≡ y → AllPair
     → (Contains (x ∷ xs) t → Contains (y ∷ ys) t) → Contains xs t → Contains ys t
 tails_agree x y xs ys e r t f h =
     ⊎_elim (λ g. absurd (not_before_self x (subst (λ (z : List ℕ). IsBefore x z) (sym (e ∙ g)) (head_before x xs t r h))))
-    (λ l. l) (contains_cases y ys t (f (contains_tail x xs t h)))
+    (λ l. l) (contains_cases y ys t (f (there x t xs h)))
 
 pub rising_law : RisingLaw
 rising_law [] [] r s h = refl
-rising_law [] (y ∷ ys) r s h = absurd (contains_none y ((h y).1 (contains_head y ys)))
-rising_law (x ∷ xs) [] r s h = absurd (contains_none x ((h x).0 (contains_head x xs)))
+rising_law [] (y ∷ ys) r s h = absurd (contains_none y ((h y).1 (here y ys)))
+rising_law (x ∷ xs) [] r s h = absurd (contains_none x ((h x).0 (here x xs)))
 rising_law (x ∷ xs) (y ∷ ys) r s h =
-    let e : x ≡ y = heads_equal x y xs ys r s ((h x).0 (contains_head x xs)) ((h y).1 (contains_head y ys)) in
+    let e : x ≡ y = heads_equal x y xs ys r s ((h x).0 (here x xs)) ((h y).1 (here y ys)) in
     let rest : xs ≡ ys =
     rising_law xs ys (tail_rises x xs r) (tail_rises y ys s)
     (λ t. (tails_agree x y xs ys e r t (h t).0, tails_agree y x ys xs (sym e) s t (h t).1)) in

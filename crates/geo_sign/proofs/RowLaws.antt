@@ -18,6 +18,7 @@ use Rattle.geo_sign.proofs.Rotations.{rotated_after}
 use Rattle.geo_sign.proofs.Rewritings.{IsCellOf, same_cell, same_facets, same_vertex, rewritten_after, rewritten_back}
 use Rattle.geo_sign.proofs.Among.{own_facet}
 use Rattle.geo_sign.proofs.CellRows.{same_positive, row_there}
+use Rattle.geo_sign.proofs.SignTests.{above_is}
 
 -- ---- a row has four numbers
 pub by_row : (t : Tetrahedron) (P : List ℕ → Type 0) → ((a b c d : ℕ) → IsRowOf t (a ∷ b ∷ c ∷ d ∷ []) → P (a ∷ b ∷ c ∷ d ∷ []))
@@ -147,9 +148,6 @@ pub rows_exist : RowsExist
 rows_exist v t h = let z = row_there v t h in (z.0, record { is = z.1; one = λ other k. one_row t z.0 other z.1 k })
 
 -- ---- which of the two orders is written
-above_is : (z : ℤ) → pos 0 <ℤ z → int_lt (pos 0) z ≡ true
-above_is z h = grind (arith, ints)
-
 not_above : (y z : ℤ) → y ≡ neg_ℤ z → pos 0 <ℤ y → int_lt (pos 0) z ≡ false
 not_above y z e h = grind (arith, ints)
 

@@ -4,7 +4,7 @@
 --   FormCell vertices a b c d      the four are a cell, in this order or with the last two exchanged
 --   IsCellList vertices rows       the list of all cells, numbers rising in each, the cells rising
 --   written vertices row           a cell's four rising numbers in an order in which it is positive
-use Rattle.std.specs.Prelude.{ℕ, ◌<◌, ◌≡◌, ◌⊎◌, pos, ◌<ℤ◌, ◌≤ℤ◌, int_lt, List, [], ◌∷◌, slice_index, AllPairs, Contains}
+use Rattle.std.specs.Prelude.{ℕ, ◌<◌, ◌⊎◌, pos, ◌<ℤ◌, ◌≤ℤ◌, int_lt, List, [], ◌∷◌, slice_index, AllPairs, Contains}
 use Rattle.std.specs.Prelude.{if◌then◌else◌}
 use Rattle.geo_sign.specs.Rising.{IsBefore}
 use Rattle.geo_sign.specs.Tetrahedron.{Tetrahedron, tetrahedron}

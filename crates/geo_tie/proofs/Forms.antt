@@ -1,11 +1,10 @@
 -- Tests of four vertices by their signs and by all vertices.
-use Rattle.std.proofs.Common.{ℕ, ◌<◌, ◌≡◌, ◌↔◌, refl, ap, sym, subst, ◌∙◌, inl, inr, ⊎_elim, arith, zero, suc, Bool, true}
-use Rattle.std.proofs.Common.{false, true≢false, IsTrue, IsFalse, not, ℤ, pos, negsuc, neg_ℤ, ◌≤ℤ◌, ◌<ℤ◌, List, length, get_or}
+use Rattle.std.proofs.Common.{ℕ, ◌<◌, ◌≡◌, ◌↔◌, refl, ap, sym, ◌∙◌, inl, inr, ⊎_elim, arith, Bool, true}
+use Rattle.std.proofs.Common.{false, true≢false, IsTrue, pos, ◌≤ℤ◌, ◌<ℤ◌, List, length, get_or}
 use Rattle.std.proofs.Common.{◌+◌, ◌++◌}
 use Rattle.std.proofs.lemmas.Int.{ints}
 use Rattle.std.proofs.lemmas.List.{get_or_default}
 use Rattle.geo_sign.specs.declared.sign.Sign.{Sign}
-use Rattle.geo_sign.specs.declared.sign.Sign.TheVariants.{Neg, Zero, Pos}
 use Rattle.geo_sign.specs.Point.{Point, origin}
 use Rattle.geo_sign.specs.Orientation.{orientation}
 use Rattle.geo_sign.specs.Signs.{sign_of}
@@ -16,10 +15,6 @@ use Rattle.geo_tie.specs.Rising.{all_at}
 use Rattle.geo_sign.proofs.Own.{last_exchanged}
 
 -- ---- the test for conflict, turned
-pub outside_is : (r : Bool) (z : ℤ) → (IsTrue r ↔ (z <ℤ pos 0)) → (IsFalse r ↔ (pos 0 <ℤ z)) → IsTrue (not r) ↔ (pos 0 ≤ℤ z)
-outside_is true z h k = (λ e. absurd (true≢false (sym e)), λ l. let m : z <ℤ pos 0 = h.0 refl in absurd (omega (arith, ints)))
-outside_is false z h k = (λ e. let m : pos 0 <ℤ z = k.0 refl in omega (arith, ints), λ l. refl)
-
 -- what the code read at four numbers
 pub read_sign : (points : List Point) (a b c d : ℕ) (p q r s : Point) (t : Sign) → p ≡ get_or points a p → q ≡ get_or points b q
     → r ≡ get_or points c r → s ≡ get_or points d s

@@ -1,15 +1,16 @@
 -- Rising lists of rows, and the rows between two keys.
-use Rattle.std.proofs.Common.{ℕ, zero, suc, ◌+◌, ◌<◌, ◌≤◌, ◌≡◌, ◌↔◌, ◌⊎◌, inl, inr, ⊎_elim, refl, ap, sym, subst, ◌∙◌, arith}
-use Rattle.std.proofs.Common.{List, [], ◌∷◌, ◌++◌, length, get_or, Contains, Bool, true, false, ltb}
+use Rattle.std.proofs.Common.{ℕ, ◌+◌, ◌<◌, ◌≤◌, ◌≡◌, ◌↔◌, ◌⊎◌, inl, inr, ⊎_elim, refl, sym, subst, arith}
+use Rattle.std.proofs.Common.{List, [], ◌∷◌, ◌++◌, get_or, Contains, Bool, true, false, ltb}
 use Rattle.std.proofs.lemmas.Bool.{ltb-true, ltb-false}
-use Rattle.std.specs.Prelude.{AllPairs}
 use Rattle.std.proofs.lemmas.List.Elements.{Contains-append_left, Contains-append_right, Contains-append_cases}
 use Rattle.std.proofs.lemmas.List.Quantifiers.{all_pairs_push}
 use Rattle.std.proofs.lemmas.List.{get_or_default}
 use Rattle.geo_sign.specs.Vertices.{Vertices}
 use Rattle.geo_sign.specs.Cells.{IsRisingCell, IsCellList, FormCell}
 use Rattle.geo_sign.specs.Rising.{IsBefore}
-use Rattle.geo_sign.proofs.Rising.{not_before_none, before_trans, contains_none, contains_cases, contains_head}
+use Rattle.geo_sign.proofs.Rising.{not_before_none, before_trans, contains_none, contains_cases}
+use Rattle.geo_sign.proofs.CellRows.{last_below}
+use Rattle.geo_sign.proofs.Members.{here}
 use Rattle.geo_tie.specs.Rising.{IsCellListBefore}
 
 -- ---- a row that is a cell has four numbers
@@ -22,9 +23,6 @@ of_cell v P f (p ∷ q ∷ []) h = absurd h
 of_cell v P f (p ∷ q ∷ r ∷ []) h = absurd h
 of_cell v P f (p ∷ q ∷ r ∷ s ∷ []) h = f p q r s h.0 h.1 h.2 h.3
 of_cell v P f (p ∷ q ∷ r ∷ s ∷ t ∷ row) h = absurd h
-
-last_below : (v : Vertices) (p q r s : ℕ) → FormCell v p q r s → s < v.count
-last_below v p q r s h = ⊎_elim (λ k. k.has_d.0) (λ k. k.has_c.0) h
 
 -- ---- keys that the same cells come before
 abbrev pub Same : (v : Vertices) (key other : List ℕ) → Type 0
@@ -158,7 +156,7 @@ pushed v a b c d rows k h =
       all =
           λ row x y. ⊎_elim (λ z. Contains-append_left rows (this ∷ []) row (h.all row x z))
           (λ e. Contains-append_right rows (this ∷ []) row
-          (subst (λ (z : List ℕ). Contains (this ∷ []) z) (sym e) (contains_head this []))) (or_this a b c d v row x y);
+          (subst (λ (z : List ℕ). Contains (this ∷ []) z) (sym e) (here this []))) (or_this a b c d v row x y);
     }
 
 -- the row is no cell and was left out

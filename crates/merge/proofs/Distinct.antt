@@ -1,17 +1,17 @@
 -- The distinct points of rows, and a row more.
 use Rattle.std.proofs.Common.{ℤ, ◌≡◌, ◌≢◌, ◌≤◌, ◌&&◌, ◌||◌, not, Bool, true, false, cond, refl, ap, sym, subst, ◌∙◌, arith}
-use Rattle.std.proofs.Common.{List, [], ◌∷◌, ◌++◌, length, filter, All, AllPairs, Contains}
+use Rattle.std.proofs.Common.{List, [], ◌∷◌, ◌++◌, length, filter, All, AllPairs, Contains, ℕ, ◌<◌, ⊎_elim, get_or}
 use Rattle.std.specs.Cmp.{IsEquivalence}
 use Rattle.std.specs.List.{list_any}
 use Rattle.std.specs.Ordering.{int_eq}
-use Rattle.std.proofs.lemmas.Bool.{false≢true}
+use Rattle.std.proofs.lemmas.Bool.{false≢true, not-true, cases_lt}
 use Rattle.std.proofs.lemmas.List.{append-nil}
 use Rattle.std.proofs.lemmas.Bool.Decides.{Decides-int_eq}
 use Rattle.std.proofs.lemmas.List.Elements.{filter-append, filter_passes, All-filter, All-weaker, All-cons, All-head, All-tail}
 use Rattle.std.proofs.lemmas.List.Kept.{AllPairs-cons, AllPairs-filter}
 use Rattle.std.proofs.lemmas.Map.Views.{any-filter_same, Contains-from_any, All-from_any}
 use Rattle.indexmap.specs.IndexSet.{insert_key}
-use Rattle.geo_sign.specs.Point.{Point, point}
+use Rattle.geo_sign.specs.Point.{Point, point, origin}
 use Rattle.merge.specs.Merging.{is_same_point, distinct_points}
 use Rattle.merge.specs.Laws.{MergedPointsAreFew}
 
@@ -61,10 +61,6 @@ same_equivalence =
 abbrev pub is_other : Point → Point → Bool
 is_other p q = not (is_same_point p q)
 
-not_false : (b : Bool) → not b ≡ true → b ≡ false
-not_false true e = absurd (false≢true e)
-not_false false e = refl
-
 -- a place other than a left out one is as much among the points as before
 any_other : (p q : Point) (points : List Point) → is_same_point q p ≡ false
     → list_any (is_same_point q) (filter (is_other p) points) ≡ list_any (is_same_point q) points
@@ -105,7 +101,7 @@ keep Holds (p ∷ rest) h =
 -- the other points are none of p
 pub others : (p : Point) (points : List Point) → All (λ q. is_same_point p q ≡ false) (filter (is_other p) points)
 others p points =
-    All-weaker (λ q. is_other p q ≡ true) (λ q. is_same_point p q ≡ false) (λ q e. not_false (is_same_point p q) e)
+    All-weaker (λ q. is_other p q ≡ true) (λ q. is_same_point p q ≡ false) (λ q e. not-true (is_same_point p q) e)
     (filter (is_other p) points) (filter_passes (is_other p) points)
 
 pub distinct : (rows : List Point) → AllPairs (λ p q. p ≢ q) (distinct_points rows)
@@ -128,6 +124,16 @@ few_kept test (p ∷ rest) = by (few_kept test rest) (test p)
 pub few : MergedPointsAreFew
 few [] = omega arith
 few (p ∷ rest) = omega (arith, few_kept (is_other p) (distinct_points rest), few rest)
+
+-- points of which no two are equal stand at one index each
+pub apart : (list : List Point) → AllPairs (λ p q. p ≢ q) list → (j k : ℕ) → j < length list → k < length list
+    → get_or list j origin ≡ get_or list k origin → j ≡ k
+apart list pairs j k l m h =
+    ⊎_elim (λ (a : j < k). absurd (pairs j k origin a m h))
+    (λ (a : k ≤ j).
+    ⊎_elim (λ (b : k < j). absurd (pairs k j origin b l (sym h))) (λ (b : j ≤ k). let e : j ≡ k = omega (arith, a, b) in e)
+    (cases_lt k j))
+    (cases_lt j k)
 
 -- ---- a row more
 

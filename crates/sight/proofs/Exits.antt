@@ -6,7 +6,7 @@
 -- So whatever two signs exclude is no exit (`first_ahead` to `first_else`). The laws say that there is an exit, or that the
 -- scanner is in the cell; so the sign at the side that is left tells which (`goes_out`, `ends_here`).
 use Rattle.std.proofs.Common.{ℕ, zero, suc, ◌<◌, ◌≡◌, ◌⊎◌, inl, inr, ⊎_elim, refl, sym, subst, arith, true, false, true≢false}
-use Rattle.std.proofs.Common.{IsTrue, ◌↔◌, pos, ◌<ℤ◌, List, slice_index}
+use Rattle.std.proofs.Common.{IsTrue, ◌↔◌, pos, ◌<ℤ◌}
 use Rattle.std.proofs.lemmas.Int.{ints}
 use Rattle.geo_sign.specs.Rational.{RationalPoint, side}
 use Rattle.geo_sign.specs.Cells.{IsCell}
@@ -22,7 +22,6 @@ use Rattle.cell_laws.proofs.SightTests.{crossed_of, towards_of, strictly_of}
 use Rattle.cell_laws.proofs.SightLaws.{left_of}
 use Rattle.cell_laws.specs.Paths.{IsOnSight}
 use Rattle.cell_laws.specs.WalkLaws.{IsPassed}
-use Rattle.tetra_store.specs.Links.{tetrahedron_from}
 use Rattle.geo_sign.specs.Writings as writings
 use Rattle.sight.specs.Exits.{IsExit, IsEntered, past, first_around, second_around, third_around}
 
@@ -100,14 +99,6 @@ pub first_else : (v : Vertices) (p : ℕ) (s : RationalPoint) (t : Tetrahedron) 
 first_else v p s t m k r (inl o) h g = o.0
 first_else v p s t m k r (inr (inl o)) h g = absurd (h o.1.0)
 first_else v p s t m k r (inr (inr o)) h g = absurd (g o.1.0)
-
--- ---- four numbers as a cell
-pub at_index : (v : List ℕ) (k : ℕ) → k < 4 → vertex_of (tetrahedron_from v) k ≡ slice_index v k
-at_index v zero l = refl
-at_index v (suc zero) l = refl
-at_index v (suc (suc zero)) l = refl
-at_index v (suc (suc (suc zero))) l = refl
-at_index v (suc (suc (suc (suc k)))) l = absurd (omega (arith, l))
 
 -- ---- the cell at the vertex
 pub has_own : (v : Vertices) (p : ℕ) (s : RationalPoint) (t : Tetrahedron) → IsCell v t.a t.b t.c t.d

@@ -7,7 +7,8 @@
 -- cells are higher at the scanner (`short`), so a path is no longer than there are slots (`sides_are`).
 use Rattle.std.proofs.Common.{ℕ, zero, suc, ◌<◌, ◌≤◌, ◌+◌, ◌≡◌, refl, sym, ap, subst, ◌∙◌, arith, Bool, true, false, true≢false}
 use Rattle.std.proofs.Common.{Option, Some, None, List, [], ◌∷◌, length, is_some}
-use Rattle.std.proofs.lemmas.Bool.{eqb-true}
+use Rattle.std.proofs.lemmas.Bool.{eqb-true, eq-eqb}
+use Rattle.std.proofs.lemmas.Option.{same_Some}
 use Rattle.geo_sign.specs.declared.point.TheConstants.{DATA_LIMIT}
 use Rattle.geo_sign.specs.Point.{Point, IsWithin}
 use Rattle.geo_sign.specs.Rational.{RationalPoint, displaced}
@@ -20,7 +21,6 @@ use Rattle.cell_laws.specs.Lists.{count, one_if}
 use Rattle.cell_laws.specs.Paths.{entered, IsStep, IsPath}
 use Rattle.cell_laws.specs.WalkLaws.{IsPassed, HasPaths, IsWalk}
 use Rattle.cell_laws.proofs.Crossings.{left_turned}
-use Rattle.cell_laws.proofs.Fan.{same_number}
 use Rattle.cell_laws.proofs.RimSides.{same_side}
 use Rattle.cell_laws.proofs.Scanners.{near_law}
 use Rattle.cell_laws.proofs.SightLaws.{sight_law, left_of}
@@ -129,7 +129,7 @@ is_named None x e = absurd (true≢false (sym e))
 is_named (Some y) x e = ap (λ (n : ℕ). Some n) (eqb-true y x e)
 
 named_is : (n : Option ℕ) (x : ℕ) → n ≡ Some x → is_some_of n x ≡ true
-named_is n x e = ap (λ (m : Option ℕ). is_some_of m x) e ∙ same_number x
+named_is n x e = ap (λ (m : Option ℕ). is_some_of m x) e ∙ eq-eqb x x refl
 
 naming : (f : ℕ → Option ℕ) (x b : ℕ) → b < 4 → f b ≡ Some x
     → (number_first (is_some_of (f 0) x) (is_some_of (f 1) x) (is_some_of (f 2) x) < 4)
@@ -164,9 +164,6 @@ comes_in s p o i x k y m l h e b n =
     let f = facet_of (links.at x) k in let g = facet_of (links.at y) m in
     (back.live, crossed_is v p q g (left_turned v p q f g turned (left_of v p q f h.left)))
 
-some_same : (a b : ℕ) → Some a ≡ Some b → a ≡ b
-some_same a b e = cc
-
 -- the step of the path is that one
 pub step_is : (s : Store) (p : ℕ) (o : Point) → IsGiven s p o → (x k y m : ℕ) → IsLive (links_of s.slots) x
     → IsExit (vertices_of s) p (displaced o) ((links_of s.slots).at x) k → (links_of s.slots).next x k ≡ Some y → m < 4
@@ -175,7 +172,7 @@ pub step_is : (s : Store) (p : ℕ) (o : Point) → IsGiven s p o → (x k y m :
 step_is s p o g x k y m l h e b n c t =
     let v = vertices_of s in let links = links_of s.slots in let q : RationalPoint = displaced o in
     let a : t.leaving ≡ k = (passed s p o g x l).one_exit t.leaving k t.leaving_below h.side_in t.left h.left in
-    let at : c.at ≡ y = some_same c.at y (sym t.across ∙ ap (links.next x) a ∙ e) in
+    let at : c.at ≡ y = same_Some c.at y (sym t.across ∙ ap (links.next x) a ∙ e) in
     let z = comes_in s p o g.store x k y m l h e b n in
     let f = facet_of (links.at x) t.leaving in
     let here =

@@ -3,7 +3,7 @@
 --
 -- The orientation of p, b, s, a is that of p, a, b, s, which is the first digit of the side of p a b on which the displaced
 -- scanner is. So it decides where it is not zero.
-use Rattle.std.proofs.Common.{◌≡◌, refl, ap, ◌∙◌, arith, ◌^◌, pos, ◌<ℤ◌, ℤ, []}
+use Rattle.std.proofs.Common.{◌≡◌, refl, ap, ◌∙◌, arith, pos, ◌<ℤ◌, []}
 use Rattle.std.proofs.lemmas.Int.{ints}
 use Rattle.geo_sign.specs.declared.point.TheConstants.{BOX_LIMIT}
 use Rattle.geo_sign.specs.declared.sign.Sign.{Sign}

@@ -16,11 +16,12 @@ use Rattle.tetra_store.specs.declared.link.Cell.{Cell}
 use Rattle.tetra_store.specs.Links.{links_of, slot_at, tetrahedron_from, IsLive}
 use Rattle.tetra_store.specs.Store.{Store, vertices_of, IsStore}
 use Rattle.tetra_store.specs.Stored.{live_of}
+use Rattle.tetra_store.proofs.Keeps.{vertex_index}
 use Rattle.tetra_walk.proofs.Bridge.{listed, live}
 use Rattle.tetra_walk.proofs.Ends.{walks, one_scanner_cell, at_is, live_is, next_is as next_is_at}
 use Rattle.sight.specs.Exits.{IsExit}
 use Rattle.sight.specs.Walks.{sides_from, IsSight, IsTaken, IsEndCell, IsWalking}
-use Rattle.sight.proofs.Exits.{on_sight, at_index}
+use Rattle.sight.proofs.Exits.{on_sight}
 use Rattle.sight.proofs.Paths.{IsGiven, passed, paths, IsPathOf, IsStepOf, comes_in, step_is, sides_are}
 
 -- ---- what a walk keeps
@@ -111,7 +112,8 @@ pub distinct_at : (s : Store) (p : ℕ) (o : Point) (x : ℕ) (v : List ℕ) (k 
     → i < 4 → j < 4 → slice_index v i ≡ slice_index v j → i ≡ j
 distinct_at s p o x v k h w i j l m e =
     h.linked.distinct x i j w.live l m
-    (subst (λ (t : Tetrahedron). vertex_of t i ≡ vertex_of t j) (sym w.loaded) (at_index v i l ∙ e ∙ sym (at_index v j m)))
+    (subst (λ (t : Tetrahedron). vertex_of t i ≡ vertex_of t j) (sym w.loaded)
+    (vertex_index v i l ∙ e ∙ sym (vertex_index v j m)))
 
 pub walks_on : (s : Store) (p : ℕ) (o : Point) (x : ℕ) (v : List ℕ) (k j y m : ℕ) (d : Cell) → IsStore s → IsWalking s p o x v k
     → IsExit (vertices_of s) p (displaced o) (tetrahedron_from v) j → (links_of s.slots).next x j ≡ Some y
@@ -170,9 +172,3 @@ ahead_there s p o x v k j e h w end n only =
     absurd (n (one_scanner_cell s h w.delaunay o w.data_point x e w.live end.live
     (subst (λ (r : Tetrahedron). is_cell_of (vertices_of s) q r ≡ true) (sym w.loaded) z) end.is)))
     (pass.exit_or_end (on_sight (vertices_of s) p q t k w.came))
-
-pub end_here : (s : Store) (p : ℕ) (o : Point) (x : ℕ) (v : List ℕ) (k e : ℕ) → IsWalking s p o x v k → IsEndCell s o e → x ≡ e
-    → is_cell_of (vertices_of s) (displaced o) (tetrahedron_from v) ≡ true
-end_here s p o x v k e w end i =
-    subst (λ (r : Tetrahedron). is_cell_of (vertices_of s) (displaced o) r ≡ true)
-    (ap (links_of s.slots).at (sym i) ∙ w.loaded) end.is

@@ -22,6 +22,7 @@ use Rattle.visibility.specs.Complexes.{Complex}
 use Rattle.visibility.specs.Votes.{has_corner, has_scanner, IsComplexOf}
 use Rattle.visibility.specs.Cuts.{IsAdmissible}
 use Rattle.geo_sign.specs.Point.{Point}
+use Rattle.geo_sign.proofs.Members.{here, there}
 use Rattle.tetra_store.specs.declared.link.Cell.{Cell}
 use Rattle.tetra_store.specs.Links.{links_of}
 use Rattle.tetra_store.specs.Stored.{live_of}
@@ -32,7 +33,7 @@ use Rattle.vote_net.specs.Gathered.{all_cut}
 use Rattle.vote_net.specs.Tables.{facet_of_side}
 use Rattle.vote_net.proofs.CellCounts.{cell_count_law}
 use Rattle.vote_net.proofs.CellRows.{least_rotated}
-use Rattle.vote_net.proofs.Entries.{IsSideAt, cut_there, map_has, map_gets, here, there}
+use Rattle.vote_net.proofs.Entries.{IsSideAt, cut_there, map_has, map_gets}
 use Rattle.vote_net.proofs.Nodes.{no_side}
 use Rattle.vote_net.proofs.Stored.{listed, live}
 use Rattle.surface.specs.Closed.{IsClosed}

@@ -1,11 +1,11 @@
 -- The sorted facets of the sides between outside and inside cells are the facets that labels cut. Both lists rise, so it is
 -- enough that they have the same members. A side's facet has a capacity, since an inside cell is not fixed; and the two cells
 -- of a facet that is cut are live cells, of which the one is across the side of the other that has the facet.
-use Rattle.std.proofs.Common.{ℕ, zero, suc, ◌<◌, ◌≤◌, ◌^◌, ◌≡◌, refl, sym, ap, subst, ◌∙◌, inl, inr, ⊎_elim, arith, Bool, true}
+use Rattle.std.proofs.Common.{ℕ, zero, suc, ◌<◌, ◌≤◌, ◌^◌, ◌≡◌, refl, sym, ap, subst, ◌∙◌, inl, arith, Bool, true}
 use Rattle.std.proofs.Common.{false, true≢false, not, cond, Option, Some, List, [], ◌∷◌, length, get_or, map, filter, AllPairs}
 use Rattle.std.proofs.Common.{Contains}
 use Rattle.std.specs.List.Sorted.{IsPermutation, IsNonDecreasingBy}
-use Rattle.std.proofs.lemmas.Bool.{and_parts, and_from}
+use Rattle.std.proofs.lemmas.Bool.{and_parts, and_from, not-true, not-false}
 use Rattle.std.proofs.lemmas.List.{get_or-map, get_or_default, length-map}
 use Rattle.std.proofs.lemmas.List.Elements.{Contains-get_or}
 use Rattle.std.proofs.lemmas.List.Kept.{AllPairs-filter}
@@ -20,6 +20,7 @@ use Rattle.geo_sign.specs.Writings.{IsRewritten}
 use Rattle.geo_sign.proofs.Among.{found}
 use Rattle.geo_sign.proofs.Rising.{rising_law}
 use Rattle.geo_sign.proofs.RowLaws.{one_row}
+use Rattle.geo_sign.proofs.Members.{here, there}
 use Rattle.cell_laws.proofs.RimLists.{facet_law}
 use Rattle.cell_laws.proofs.RisingRows.{row_law, list_law, is_listed}
 use Rattle.mesh_ply.specs.Meshes.{IsFace, IsFaceList}
@@ -40,7 +41,7 @@ use Rattle.vote_net.specs.Gathered.{key_of_side, all_cut}
 use Rattle.vote_net.specs.Tables.{number_of_side, facet_of_side}
 use Rattle.vote_net.proofs.CellRows.{IsSideOf, risen_row, row_has_side}
 use Rattle.vote_net.proofs.CellSides.{across_has, has_across, has_is}
-use Rattle.vote_net.proofs.Entries.{IsSideAt, cut_is, cut_there, cut_apart, here, there}
+use Rattle.vote_net.proofs.Entries.{IsSideAt, cut_is, cut_there, cut_apart}
 use Rattle.vote_net.proofs.Lists.{apart_permuted}
 use Rattle.vote_net.proofs.Nodes as nodes
 use Rattle.vote_net.proofs.Nodes.{no_side}
@@ -166,18 +167,10 @@ module _ (s : Scene) (slots : List (Option Cell)) (cells : AreCellsOf s slots) (
 
       -- a live cell is inside where it has no flag
       pub inside_is : (x : ℕ) → IsLive (links_of slots) x → flag_at outside x ≡ false → inside (row_of slots x) ≡ true
-      inside_is x h f = by (inside (row_of slots x)) (sym (flags x h) ∙ f)
-        where
-          by : (b : Bool) → not b ≡ false → b ≡ true
-          by true e = refl
-          by false e = absurd (true≢false e)
+      inside_is x h f = not-false (inside (row_of slots x)) (sym (flags x h) ∙ f)
 
       pub outside_at : (x : ℕ) → IsLive (links_of slots) x → flag_at outside x ≡ true → inside (row_of slots x) ≡ false
-      outside_at x h f = by (inside (row_of slots x)) (sym (flags x h) ∙ f)
-        where
-          by : (b : Bool) → not b ≡ true → b ≡ false
-          by true e = absurd (true≢false (sym e))
-          by false e = refl
+      outside_at x h f = not-true (inside (row_of slots x)) (sym (flags x h) ∙ f)
 
       pub apart : (i j : ℕ) (d : Side) → i < length sides → j < length sides
           → number_of_side (get_or sides i d) ≡ number_of_side (get_or sides j d) → i ≡ j

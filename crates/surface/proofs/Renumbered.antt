@@ -9,7 +9,8 @@ use Rattle.std.proofs.lemmas.List.Sums.{sum_by-cons}
 use Rattle.geo_sign.specs.Tetrahedron.{DirectedFacet, facet}
 use Rattle.cell_laws.specs.ClosedLaws.{one_edge, edges_of, edge_count}
 use Rattle.cell_laws.specs.Lists.{IsIn, one_if}
-use Rattle.cell_laws.proofs.Sums.{total, pick, sum_same, sum_zero, sum_plus}
+use Rattle.cell_laws.proofs.Sums.{total, pick, sum_same, sum_plus, sum_sum}
+use Rattle.cell_laws.proofs.CutSides.{flip}
 use Rattle.mesh_ply.specs.Meshes.{below}
 
 -- ---- sums
@@ -24,13 +25,6 @@ total_append f (x ∷ xs) ys = let e = total_append f xs ys in omega (arith, e)
 total_map : {X Y : Type 0} (h : Y → ℕ) (k : X → Y) (xs : List X) → total h (map k xs) ≡ total (λ x. h (k x)) xs
 total_map h k [] = refl
 total_map h k (x ∷ xs) = ap (λ (n : ℕ). h (k x) + n) (total_map h k xs)
-
--- a double sum in the other order
-exchanged : {X Y : Type 0} (m : X → Y → ℕ) (xs : List X) (ys : List Y)
-    → total (λ x. total (m x) ys) xs ≡ total (λ y. total (λ x. m x y) xs) ys
-exchanged m [] ys = sym (sum_zero ys)
-exchanged m (x ∷ xs) ys =
-    ap (λ (n : ℕ). total (m x) ys + n) (exchanged m xs ys) ∙ sym (sum_plus (m x) (λ y. total (λ z. m z y) xs) ys)
 
 times : {X : Type 0} (m : ℕ) (h : X → ℕ) (xs : List X) → total (λ x. m * h x) xs ≡ m * total h xs
 times m h [] = omega arith
@@ -136,11 +130,11 @@ weights : (g : ℕ → ℕ → ℕ) (n : ℕ) (facets : List DirectedFacet) → 
 weights g n facets h =
     sum_same (weight g) (λ f. total (λ u. total (λ w. g u w * edges_of u w f) (below n)) (below n)) facets
     (λ f c. weight_sum g n f (h f c))
-    ∙ exchanged (λ f u. total (λ w. g u w * edges_of u w f) (below n)) facets (below n)
+    ∙ sum_sum (λ f u. total (λ w. g u w * edges_of u w f) (below n)) facets (below n)
     ∙ sum_same (λ u. total (λ f. total (λ w. g u w * edges_of u w f) (below n)) facets)
     (λ u. total (λ w. g u w * total (edges_of u w) facets) (below n)) (below n)
     (λ u c.
-    exchanged (λ f w. g u w * edges_of u w f) facets (below n)
+    sum_sum (λ f w. g u w * edges_of u w f) facets (below n)
     ∙ sum_same (λ w. total (λ f. g u w * edges_of u w f) facets) (λ w. g u w * total (edges_of u w) facets) (below n)
     (λ w d. times (g u w) (edges_of u w) facets))
 
@@ -153,22 +147,12 @@ even_weights g n facets h even =
     (λ u. total (λ w. g u w * total (edges_of w u) facets) (below n)) (below n)
     (λ u c. sum_same (λ w. g u w * total (edges_of u w) facets) (λ w. g u w * total (edges_of w u) facets) (below n)
     (λ w d. ap (λ (m : ℕ). g u w * m) (even u w)))
-    ∙ exchanged (λ u w. g u w * total (edges_of w u) facets) (below n) (below n)
+    ∙ sum_sum (λ u w. g u w * total (edges_of w u) facets) (below n) (below n)
     ∙ sym (weights (λ u w. g w u) n facets h)
 
 -- ---- facets with new numbers
 abbrev pub renamed : (ℕ → ℕ) → DirectedFacet → DirectedFacet
 renamed number f = facet (number f.a) (number f.b) (number f.c)
-
--- the reverse of an edge
-flip : (u w x y : ℕ) → one_edge u w x y ≡ one_edge w u y x
-flip u w x y = ap one_if (and_swapped (eqb x u) (eqb y w))
-  where
-    and_swapped : (a b : Bool) → (a && b) ≡ (b && a)
-    and_swapped true true = refl
-    and_swapped true false = refl
-    and_swapped false true = refl
-    and_swapped false false = refl
 
 back : (number : ℕ → ℕ) (i j : ℕ) (f : DirectedFacet)
     → weight (λ a b. one_edge i j (number b) (number a)) f ≡ edges_of j i (renamed number f)

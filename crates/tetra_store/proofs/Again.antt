@@ -14,9 +14,11 @@ use Rattle.tetra_store.specs.declared.fan.Facet.{Facet}
 use Rattle.tetra_store.specs.Links.{Links, IsLive, IsLinked}
 use Rattle.tetra_store.specs.Store.{vertices_at}
 use Rattle.geo_sign.specs.Edges.{over, edge_start, edge_end, HasVertex}
+use Rattle.geo_sign.proofs.Rotations.{rotated_back, rotated_after, turned_back}
+use Rattle.geo_sign.proofs.Facets.{in_rotated, in_of, apex_on}
 use Rattle.tetra_store.specs.Fan.{fan_facet, fan_outer}
-use Rattle.tetra_store.proofs.Facets.{IsDistinct, rotated_sym, rotated_trans, turned_sym, in_rotated, in_of, side_over}
-use Rattle.tetra_store.proofs.Facets.{side_has, same_edge, start_in, end_in, over_distinct, over_in, three_or_below}
+use Rattle.tetra_store.proofs.Facets.{IsDistinct, side_over}
+use Rattle.tetra_store.proofs.Facets.{same_edge, start_in, end_in, over_distinct, over_in, three_or_below}
 use Rattle.tetra_store.proofs.Backs.{distinct_at, has_of, cell_live, fan_apart, fan_has, fan_without, not_fan, back}
 use Rattle.tetra_store.proofs.Rebuilt.{IsRebuilding, wall_rotated, wall_turned, wall_below, wall_same}
 
@@ -70,7 +72,7 @@ module _ {points : List Point} {flags flags' : List Bool} {a b : Links} {old : L
       let m = r.rim.rim i l in
       let c =
       wall_rotated (vertices_at points flags) (fan_facet fan i) (facet_of (a.at m.cell) m.side)
-      (rotated_sym (facet_of (a.at m.cell) m.side) (fan_facet fan i) m.rotated) w in
+      (rotated_back (facet_of (a.at m.cell) m.side) (fan_facet fan i) m.rotated) w in
       sym m.neighbor ∙ r.linked.inner m.cell m.side (cell_live r i l) m.in_range c
 
   inner_old : (x k : ℕ) → IsLive a x → (¬ Contains old x) → k < 4 → IsWall (vertices_at points flags) (facet_of (a.at x) k)
@@ -81,7 +83,7 @@ module _ {points : List Point} {flags flags' : List Bool} {a b : Links} {old : L
         let none =
         rim_wall h.facet h.facet_in
         (wall_turned (vertices_at points flags) (facet_of (a.at x) k) (fan_facet fan h.facet)
-        (turned_sym (fan_facet fan h.facet) (facet_of (a.at x) k) h.turned) w) in
+        (turned_back (fan_facet fan h.facet) (facet_of (a.at x) k) h.turned) w) in
         let is = h.outer in
         absurd cc
   ]
@@ -91,7 +93,7 @@ module _ {points : List Point} {flags flags' : List Bool} {a b : Links} {old : L
   inner_at i k l m w = elim (three_or_below k m) [
     | inl s ↦
         let low =
-        wall_below (vertices_at points flags) (facet_of (over (fan_facet fan i) p) k) p w (side_has (fan_facet fan i) p k s) in
+        wall_below (vertices_at points flags) (facet_of (over (fan_facet fan i) p) k) p w (apex_on (fan_facet fan i) p k s) in
         let up = r.above in
         absurd (omega arith)
     | inr s ↦
@@ -139,7 +141,7 @@ module _ {points : List Point} {flags flags' : List Bool} {a b : Links} {old : L
         (subst (λ (t : ℕ). IsRotated (facet_of (a.at x) j) (facet_of (over (fan_facet fan i) p) t)) s h)
     | inl s ↦ r.new (has_of r.linked x p live (in_of (a.at x) j p
         (in_rotated (facet_of (over (fan_facet fan i) p) k) (facet_of (a.at x) j) p
-        (rotated_sym (facet_of (a.at x) j) (facet_of (over (fan_facet fan i) p) k) h) (side_has (fan_facet fan i) p k s))))
+        (rotated_back (facet_of (a.at x) j) (facet_of (over (fan_facet fan i) p) k) h) (apex_on (fan_facet fan i) p k s))))
   ]
 
   apart_edges : (i j e d : ℕ) → i < length fan → j < length fan → e < 3 → d < 3
@@ -148,10 +150,10 @@ module _ {points : List Point} {flags flags' : List Bool} {a b : Links} {old : L
       let f = fan_facet fan i in
       let g = fan_facet fan j in
       let q =
-      rotated_trans (facet (edge_end f e) (edge_start f e) p) (facet_of (over f p) e) (facet (edge_end g d) (edge_start g d) p)
+      rotated_after (facet (edge_end f e) (edge_start f e) p) (facet_of (over f p) e) (facet (edge_end g d) (edge_start g d) p)
       (side_over f p e le)
-      (rotated_trans (facet_of (over f p) e) (facet_of (over g p) d) (facet (edge_end g d) (edge_start g d) p) h
-      (rotated_sym (facet (edge_end g d) (edge_start g d) p) (facet_of (over g p) d) (side_over g p d ld))) in
+      (rotated_after (facet_of (over f p) e) (facet_of (over g p) d) (facet (edge_end g d) (edge_start g d) p) h
+      (rotated_back (facet (edge_end g d) (edge_start g d) p) (facet_of (over g p) d) (side_over g p d ld))) in
       let not_end : edge_end f e ≢ p = λ z. fan_without r i l (subst (λ (t : ℕ). HasVertex f t) z (end_in f e)) in
       let not_start : edge_start f e ≢ p = λ z. fan_without r i l (subst (λ (t : ℕ). HasVertex f t) z (start_in f e)) in
       let s = same_edge (edge_end f e) (edge_start f e) (edge_end g d) (edge_start g d) p not_end not_start q in
@@ -162,7 +164,7 @@ module _ {points : List Point} {flags flags' : List Bool} {a b : Links} {old : L
   apart_wide i j k l m s h =
       fan_without r i l
       (in_rotated (facet_of (over (fan_facet fan j) p) k) (fan_facet fan i) p
-      (rotated_sym (fan_facet fan i) (facet_of (over (fan_facet fan j) p) k) h) (side_has (fan_facet fan j) p k s))
+      (rotated_back (fan_facet fan i) (facet_of (over (fan_facet fan j) p) k) h) (apex_on (fan_facet fan j) p k s))
 
   apart_new : (i j k m : ℕ) → i < length fan → j < length fan → k < 4 → m < 4
       → IsRotated (facet_of (over (fan_facet fan i) p) k) (facet_of (over (fan_facet fan j) p) m) → i ≡ j
@@ -172,7 +174,7 @@ module _ {points : List Point} {flags flags' : List Bool} {a b : Links} {old : L
       | inr t ↦
           let h' =
           subst (λ (z : ℕ). IsRotated (facet_of (over (fan_facet fan i) p) k) (facet_of (over (fan_facet fan j) p) z)) t h in
-          absurd (apart_wide j i k lj li s (rotated_sym (facet_of (over (fan_facet fan i) p) k) (fan_facet fan j) h'))
+          absurd (apart_wide j i k lj li s (rotated_back (facet_of (over (fan_facet fan i) p) k) (fan_facet fan j) h'))
     ]
     | inr s ↦
         let h' =
@@ -211,7 +213,7 @@ module _ {points : List Point} {flags flags' : List Bool} {a b : Links} {old : L
               let h'' : Common j k (over (fan_facet fan u.0) p) (a.at y) =
               subst (λ (t : Tetrahedron). Common j k (over (fan_facet fan u.0) p) t) (r.rebuilt.same y w.0 w.1) h' in
               absurd (apart_mixed y u.0 k j w.0 w.1 u.1 lk lj
-              (rotated_sym (facet_of (over (fan_facet fan u.0) p) j) (facet_of (a.at y) k) h''))
+              (rotated_back (facet_of (over (fan_facet fan u.0) p) j) (facet_of (a.at y) k) h''))
           | inr w ↦
               let at_y : b.at y ≡ over (fan_facet fan w.0) p =
               subst (λ (t : ℕ). b.at t ≡ over (fan_facet fan w.0) p) w.2 (r.rebuilt.made_at w.0 w.1) in

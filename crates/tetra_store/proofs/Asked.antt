@@ -11,10 +11,12 @@ use Rattle.tetra_store.specs.declared.fan.Facet.{Facet}
 use Rattle.tetra_store.specs.Links.{Links, links_of, IsBack}
 use Rattle.tetra_store.specs.Store.{Store, IsStore, vertices_of}
 use Rattle.geo_sign.specs.Edges.{over, edge_start, edge_end, HasVertex}
+use Rattle.geo_sign.proofs.Rotations.{rotated_back, rotated_turned}
+use Rattle.geo_sign.proofs.Facets.{in_rotated, in_of}
 use Rattle.tetra_store.specs.Fan.{fan_facet, fan_outer, CanReplace}
 use Rattle.tetra_store.specs.Steps.{CanGrow}
-use Rattle.tetra_store.proofs.Facets.{IsApart, apart_rotated, facet_apart, start_apart, start_end, start_in, rotated_turned}
-use Rattle.tetra_store.proofs.Facets.{rotated_sym, in_rotated, in_of, end_in, over_in, three_or_below}
+use Rattle.tetra_store.proofs.Facets.{IsApart, apart_rotated, facet_apart, start_apart, start_end, start_in}
+use Rattle.tetra_store.proofs.Facets.{end_in, over_in, three_or_below}
 use Rattle.tetra_store.proofs.Backs.{has_of, distinct_at}
 use Rattle.tetra_store.proofs.Observed.{slot_in}
 
@@ -28,7 +30,7 @@ module _ (s : Store) (old : List ℕ) (fan : List Facet) (p : ℕ) (store : IsSt
       has_of store.linked m.cell u (can.live m.cell m.listed)
       (in_of ((links_of s.slots).at m.cell) m.side u
       (in_rotated (fan_facet fan i) (facet_of ((links_of s.slots).at m.cell) m.side) u
-      (rotated_sym (facet_of ((links_of s.slots).at m.cell) m.side) (fan_facet fan i) m.rotated) h))
+      (rotated_back (facet_of ((links_of s.slots).at m.cell) m.side) (fan_facet fan i) m.rotated) h))
 
   outer_back : (i y : ℕ) (l : i < length fan) → fan_outer fan i ≡ Some y
       → IsBack (links_of s.slots) (can.rim.rim i l).cell (can.rim.rim i l).side y
@@ -56,7 +58,7 @@ module _ (s : Store) (old : List ℕ) (fan : List Facet) (p : ℕ) (store : IsSt
             turned =
                 rotated_turned (fan_facet fan i) (facet_of ((links_of s.slots).at m.cell) m.side)
                 (facet_of ((links_of s.slots).at y) b.side)
-                (rotated_sym (facet_of ((links_of s.slots).at m.cell) m.side) (fan_facet fan i) m.rotated) b.turned;
+                (rotated_back (facet_of ((links_of s.slots).at m.cell) m.side) (fan_facet fan i) m.rotated) b.turned;
           };
     };
     once = can.rim.once;

@@ -14,9 +14,11 @@ use Rattle.geo_sign.specs.Writings.{IsVertexOf}
 use Rattle.tetra_store.specs.Links.{Links, IsLive, IsBack, IsLinked}
 use Rattle.tetra_store.specs.Store.{vertices_at}
 use Rattle.geo_sign.specs.Edges.{over, HasVertex}
+use Rattle.geo_sign.proofs.Rotations.{rotated_back, rotated_after, turned_back, turned_rotated, turned_turned}
+use Rattle.geo_sign.proofs.Facets.{in_rotated, in_of}
 use Rattle.tetra_store.specs.Fan.{fan_facet, fan_outer, IsOutside}
-use Rattle.tetra_store.proofs.Facets.{IsDistinct, IsApart, rotated_sym, rotated_trans, turned_sym, turned_rotated, both_turned}
-use Rattle.tetra_store.proofs.Facets.{in_rotated, in_of, place_of, same_side, edges_turned, facet_apart, apart_rotated}
+use Rattle.tetra_store.proofs.Facets.{IsDistinct, IsApart}
+use Rattle.tetra_store.proofs.Facets.{place_of, same_side, edges_turned, facet_apart, apart_rotated}
 use Rattle.tetra_store.proofs.Facets.{three_or_below}
 use Rattle.tetra_store.specs.Steps.{IsRenamed}
 use Rattle.tetra_store.proofs.Rebuilt.{IsRebuilding, listed_or_not}
@@ -47,7 +49,7 @@ module _ {points : List Point} {flags flags' : List Bool} {a b : Links} {old : L
       has_of r.linked m.cell u (cell_live i l)
       (in_of (a.at m.cell) m.side u
       (in_rotated (fan_facet fan i) (facet_of (a.at m.cell) m.side) u
-      (rotated_sym (facet_of (a.at m.cell) m.side) (fan_facet fan i) m.rotated) h))
+      (rotated_back (facet_of (a.at m.cell) m.side) (fan_facet fan i) m.rotated) h))
 
   pub fan_without : (i : ℕ) → i < length fan → HasVertex (fan_facet fan i) p → ⊥
   fan_without i l h = r.new (fan_has i p l h)
@@ -58,8 +60,8 @@ module _ {points : List Point} {flags flags' : List Bool} {a b : Links} {old : L
   not_fan x k i live out l m h =
       let c = r.rim.rim i m in
       let e = r.linked.apart x c.cell k c.side live (cell_live i m) l c.in_range
-      (rotated_trans (facet_of (a.at x) k) (fan_facet fan i) (facet_of (a.at c.cell) c.side) h
-      (rotated_sym (facet_of (a.at c.cell) c.side) (fan_facet fan i) c.rotated)) in
+      (rotated_after (facet_of (a.at x) k) (fan_facet fan i) (facet_of (a.at c.cell) c.side) h
+      (rotated_back (facet_of (a.at c.cell) c.side) (fan_facet fan i) c.rotated)) in
       out (subst (λ (t : ℕ). Contains old t) (sym e) c.listed)
 
   -- the new cell over facet i is across the side that names it
@@ -72,7 +74,7 @@ module _ {points : List Point} {flags flags' : List Bool} {a b : Links} {old : L
         in_range = omega arith;
         turned = subst (λ (q : Tetrahedron). IsTurned (facet_of q k) (facet_of (b.at (at_id i)) 3)) (sym (n.same x live out))
             (subst (λ (q : Tetrahedron). IsTurned (facet_of (a.at x) k) (facet_of q 3)) (sym (n.made_at i l))
-            (turned_sym (fan_facet fan i) (facet_of (a.at x) k) t));
+            (turned_back (fan_facet fan i) (facet_of (a.at x) k) t));
         named = n.outer i l ∙ is;
       }
 
@@ -103,9 +105,8 @@ module _ {points : List Point} {flags flags' : List Bool} {a b : Links} {old : L
         named = elim (n.kept y back.side back.live apart back.in_range) [
           | inl e ↦ e ∙ back.named
           | inr h ↦ absurd (not_fan x k h.facet live out l h.facet_in
-              (both_turned (facet_of (a.at y) back.side) (facet_of (a.at x) k) (fan_facet fan h.facet)
-              (turned_sym (facet_of (a.at x) k) (facet_of (a.at y) back.side) back.turned)
-              (turned_sym (fan_facet fan h.facet) (facet_of (a.at y) back.side) h.turned)))
+              (turned_turned (facet_of (a.at x) k) (facet_of (a.at y) back.side) (fan_facet fan h.facet) back.turned
+              (turned_back (fan_facet fan h.facet) (facet_of (a.at y) back.side) h.turned)))
         ];
       }
 
@@ -117,8 +118,8 @@ module _ {points : List Point} {flags flags' : List Bool} {a b : Links} {old : L
       let f = r.rim.all y back.side gone back.in_range there in
       let m = r.rim.rim f.0 f.1 in
       let rot =
-      rotated_trans (facet_of (a.at y) back.side) (fan_facet fan f.0) (facet_of (a.at m.cell) m.side) f.2
-      (rotated_sym (facet_of (a.at m.cell) m.side) (fan_facet fan f.0) m.rotated) in
+      rotated_after (facet_of (a.at y) back.side) (fan_facet fan f.0) (facet_of (a.at m.cell) m.side) f.2
+      (rotated_back (facet_of (a.at m.cell) m.side) (fan_facet fan f.0) m.rotated) in
       let same : y ≡ m.cell =
       r.linked.apart y m.cell back.side m.side back.live (cell_live f.0 f.1) back.in_range m.in_range rot in
       let rot' : IsRotated (facet_of (a.at y) back.side) (facet_of (a.at y) m.side) =
@@ -133,12 +134,13 @@ module _ {points : List Point} {flags flags' : List Bool} {a b : Links} {old : L
       let turned : IsTurned (facet_of (a.at x) k) (fan_facet fan f.0) =
       turned_rotated (facet_of (a.at x) k) (facet_of (a.at y) back.side) (fan_facet fan f.0) back.turned f.2 in
       let k_is : h.side ≡ k = same_side (a.at x) (distinct_at r.linked x live) h.side k h.side_in l
-      (both_turned (fan_facet fan f.0) (facet_of (a.at x) h.side) (facet_of (a.at x) k) h.turned
-      (turned_sym (facet_of (a.at x) k) (fan_facet fan f.0) turned)) in
+      (turned_turned (facet_of (a.at x) h.side) (fan_facet fan f.0) (facet_of (a.at x) k)
+      (turned_back (fan_facet fan f.0) (facet_of (a.at x) h.side) h.turned)
+      (turned_back (facet_of (a.at x) k) (fan_facet fan f.0) turned)) in
       let named : b.next x k ≡ Some (at_id f.0) = subst (λ (s : ℕ). b.next x s ≡ Some (at_id f.0)) k_is h.named in
       let y_is : at_id f.0 ≡ y = cc in
       subst (λ (t : ℕ). IsBack b x k t) y_is
-      (back_new x k f.0 live out f.1 is (turned_sym (facet_of (a.at x) k) (fan_facet fan f.0) turned))
+      (back_new x k f.0 live out f.1 is (turned_back (facet_of (a.at x) k) (fan_facet fan f.0) turned))
 
   back_old : (x k y : ℕ) → IsLive a x → (¬ Contains old x) → k < 4 → b.next x k ≡ Some y → IsBack b x k y
   back_old x k y live out l e = elim (r.rebuilt.kept x k live out l) [

@@ -3,13 +3,12 @@
 -- The sign of a power of corners is that of a test over their numbers, whatever the number of vertices is (`decided`). So it is
 -- enough to compute: that no corner is in conflict with any of the six, and that each four of corners in positive order, of
 -- 4,096 ordered fours, are one of the six or have a corner in conflict.
-use Rattle.std.proofs.Common.{ℕ, zero, suc, ◌≡◌, ◌≢◌, ◌<◌, ◌≤◌, Bool, true, false, not, cond, ◌&&◌, ◌||◌, ◌==◌, bit_and, ℤ, pos}
-use Rattle.std.proofs.Common.{neg_ℤ, ◌<ℤ◌, ◌≤ℤ◌, int_lt, unsigned_abs, List, length, get_or, refl, sym, ap, ◌∙◌, inl, inr}
+use Rattle.std.proofs.Common.{ℕ, zero, suc, ◌≡◌, ◌≢◌, ◌<◌, ◌≤◌, Bool, true, false, not, ◌&&◌, ◌||◌, ◌==◌, ℤ, pos}
+use Rattle.std.proofs.Common.{◌<ℤ◌, ◌≤ℤ◌, int_lt, List, length, get_or, refl, sym, ap, ◌∙◌, inl, inr}
 use Rattle.std.proofs.Common.{subst, arith, slice_index}
-use Rattle.std.proofs.lemmas.Bool.{cases_lt, false≢true}
+use Rattle.std.proofs.lemmas.Bool.{cases_lt, false≢true, or_cases, and_parts, eq-eqb, eqb-true, both_ways, not-true}
 use Rattle.std.proofs.lemmas.Int.{ints}
-use Rattle.geo_sign.specs.Point.{Point, origin, corner_point, IsWithin}
-use Rattle.geo_sign.specs.declared.point.TheConstants.{BOX_LIMIT}
+use Rattle.geo_sign.specs.Point.{Point, origin, corner_point}
 use Rattle.geo_sign.specs.Orientation.{orientation}
 use Rattle.geo_sign.specs.Power.{power, plain_power}
 use Rattle.geo_sign.specs.Signs.{sign_of, first_sign}
@@ -21,12 +20,13 @@ use Rattle.geo_sign.specs.Conflict.{AreApart, AreBelow}
 use Rattle.geo_sign.specs.Cells.{IsCell}
 use Rattle.geo_sign.proofs.Ties.{AreKept, decided}
 use Rattle.geo_sign.proofs.Own.{own_first, own_second, own_third, own_fourth}
+use Rattle.geo_sign.proofs.Corners.{corner_within}
+use Rattle.geo_sign.proofs.SignTests.{above_is}
 use Rattle.geo_sign.specs.Writings.{IsVertexOf}
 use Rattle.tetra_store.specs.Links.{Links}
 use Rattle.tetra_store.specs.Store.{vertices_at}
 use Rattle.tetra_store.specs.Box.{box_tetrahedron, AreBoxCells}
 use Rattle.tetra_store.specs.Delaunay.{IsDelaunay}
-use Rattle.tetra_store.proofs.Reflect.{and_left, and_right, or_cases, not_true, eq_of, eq_refl}
 use Rattle.tetra_store.proofs.Facets.{at_place}
 use Rattle.tetra_store.proofs.BoxFacts.{box_below, corner_orientation, box_positive}
 
@@ -39,8 +39,8 @@ all_at : (n : ℕ) (f : ℕ → Bool) → all_of n f ≡ true → (k : ℕ) → 
 unfolding all_of
 all_at zero f h k l = absurd (omega arith)
 all_at (suc n) f h k l = elim (cases_lt k n) [
-  | inl less ↦ all_at n f (and_left (all_of n f) (f n) h) k less
-  | inr more ↦ let e : n ≡ k = omega arith in subst (λ (i : ℕ). f i ≡ true) e (and_right (all_of n f) (f n) h)
+  | inl less ↦ all_at n f (and_parts (all_of n f) (f n) h).0 k less
+  | inr more ↦ let e : n ≡ k = omega arith in subst (λ (i : ℕ). f i ≡ true) e (and_parts (all_of n f) (f n) h).1
 ]
 
 some_of : ℕ → (ℕ → Bool) → Bool
@@ -56,17 +56,6 @@ some_at (suc n) f h = elim (or_cases (some_of n f) (f n) h) [
 ]
 
 -- ---- corners
-
-wall_within : (b : Bool) → unsigned_abs (cond b (neg_ℤ (pos BOX_LIMIT)) (pos BOX_LIMIT)) ≤ BOX_LIMIT
-wall_within true = omega (arith, ints)
-wall_within false = omega (arith, ints)
-
-corner_within : (k : ℕ) → IsWithin BOX_LIMIT (corner_point k)
-corner_within k = record {
-  x_within = wall_within (bit_and k 1 == 0);
-  y_within = wall_within (bit_and k 2 == 0);
-  z_within = wall_within (bit_and k 4 == 0);
-}
 
 abbrev numbered : ℕ → ℕ × Point
 numbered k = (k, corner_point k)
@@ -88,31 +77,32 @@ five_differ a b c d p =
     && (differ a p && (differ b c && (differ b d && (differ b p && (differ c d && (differ c p && differ d p))))))))
 
 differs : (a b : ℕ) → differ a b ≡ true → a ≢ b
-differs a b h e = not_true (a == b) h (subst (λ (z : ℕ). (a == z) ≡ true) e (eq_refl a))
+differs a b h e = both_ways (a == b) (not-true (a == b) h) (eq-eqb a b e)
 
 five_apart : (a b c d p : ℕ) → five_differ a b c d p ≡ true
     → AreApart (numbered a) (numbered b) (numbered c) (numbered d) (numbered p)
 unfolding five_differ
 five_apart a b c d p h =
-    let r1 = and_right (differ a b) _ h in
-    let r2 = and_right (differ a c) _ r1 in
-    let r3 = and_right (differ a d) _ r2 in
-    let r4 = and_right (differ a p) _ r3 in
-    let r5 = and_right (differ b c) _ r4 in
-    let r6 = and_right (differ b d) _ r5 in
-    let r7 = and_right (differ b p) _ r6 in
-    let r8 = and_right (differ c d) _ r7 in
+    let r1 = and_parts (differ a b) _ h in
+    let r2 = and_parts (differ a c) _ r1.1 in
+    let r3 = and_parts (differ a d) _ r2.1 in
+    let r4 = and_parts (differ a p) _ r3.1 in
+    let r5 = and_parts (differ b c) _ r4.1 in
+    let r6 = and_parts (differ b d) _ r5.1 in
+    let r7 = and_parts (differ b p) _ r6.1 in
+    let r8 = and_parts (differ c d) _ r7.1 in
+    let r9 = and_parts (differ c p) (differ d p) r8.1 in
     record {
-      a_b = differs a b (and_left (differ a b) _ h);
-      a_c = differs a c (and_left (differ a c) _ r1);
-      a_d = differs a d (and_left (differ a d) _ r2);
-      a_p = differs a p (and_left (differ a p) _ r3);
-      b_c = differs b c (and_left (differ b c) _ r4);
-      b_d = differs b d (and_left (differ b d) _ r5);
-      b_p = differs b p (and_left (differ b p) _ r6);
-      c_d = differs c d (and_left (differ c d) _ r7);
-      c_p = differs c p (and_left (differ c p) (differ d p) r8);
-      d_p = differs d p (and_right (differ c p) (differ d p) r8);
+      a_b = differs a b r1.0;
+      a_c = differs a c r2.0;
+      a_d = differs a d r3.0;
+      a_p = differs a p r4.0;
+      b_c = differs b c r5.0;
+      b_d = differs b d r6.0;
+      b_p = differs b p r7.0;
+      c_d = differs c d r8.0;
+      c_p = differs c p r9.0;
+      d_p = differs d p r9.1;
     }
 
 module _ (points : List Point) (flags : List Bool) (wide : 8 ≤ length points)
@@ -180,10 +170,6 @@ module _ (points : List Point) (flags : List Bool) (wide : 8 ≤ length points)
   unfolding all_of clear_test five_differ conflict_test orientation power
   clear_all = refl
 
-  not_false : (b : Bool) → not b ≡ true → b ≡ false
-  not_false true h = absurd (false≢true h)
-  not_false false h = refl
-
   box_clear : (i u : ℕ) → i < 6 → u < 8
       → pos 0 ≤ℤ power_of v (box_tetrahedron i).a (box_tetrahedron i).b (box_tetrahedron i).c (box_tetrahedron i).d u
   unfolding clear_test
@@ -191,20 +177,18 @@ module _ (points : List Point) (flags : List Bool) (wide : 8 ≤ length points)
       let t = box_tetrahedron i in
       let h = all_at 8 (clear_test i) (all_at 6 (λ j. all_of 8 (clear_test j)) clear_all i l) u m in
       elim (or_cases (u == t.a) _ h) [
-        | inl e ↦ own_first v t.a t.b t.c t.d u (eq_of u t.a e)
+        | inl e ↦ own_first v t.a t.b t.c t.d u (eqb-true u t.a e)
         | inr h1 ↦ elim (or_cases (u == t.b) _ h1) [
-          | inl e ↦ own_second v t.a t.b t.c t.d u (eq_of u t.b e)
+          | inl e ↦ own_second v t.a t.b t.c t.d u (eqb-true u t.b e)
           | inr h2 ↦ elim (or_cases (u == t.c) _ h2) [
-            | inl e ↦ own_third v t.a t.b t.c t.d u (eq_of u t.c e)
+            | inl e ↦ own_third v t.a t.b t.c t.d u (eqb-true u t.c e)
             | inr h3 ↦ elim (or_cases (u == t.d) _ h3) [
-              | inl e ↦ own_fourth v t.a t.b t.c t.d u (eq_of u t.d e)
+              | inl e ↦ own_fourth v t.a t.b t.c t.d u (eqb-true u t.d e)
               | inr h4 ↦
-                  let apart = and_left (five_differ t.a t.b t.c t.d u) (not (conflict_test t.a t.b t.c t.d u)) h4 in
-                  let no =
-                  not_false (conflict_test t.a t.b t.c t.d u)
-                  (and_right (five_differ t.a t.b t.c t.d u) (not (conflict_test t.a t.b t.c t.d u)) h4) in
+                  let both = and_parts (five_differ t.a t.b t.c t.d u) (not (conflict_test t.a t.b t.c t.d u)) h4 in
+                  let no = not-true (conflict_test t.a t.b t.c t.d u) both.1 in
                   (corner_sign t.a t.b t.c t.d u (box_below i 0 l (omega arith)) (box_below i 1 l (omega arith))
-                  (box_below i 2 l (omega arith)) (box_below i 3 l (omega arith)) m apart (box_positive i l)).1 no
+                  (box_below i 2 l (omega arith)) (box_below i 3 l (omega arith)) m both.0 (box_positive i l)).1 no
             ]
           ]
         ]
@@ -219,7 +203,7 @@ module _ (points : List Point) (flags : List Bool) (wide : 8 ≤ length points)
   unfolding of_test
   of_is i u h =
       let r = some_at 4 (λ k. vertex_of (box_tetrahedron i) k == u) h in
-      at_place (box_tetrahedron i) r.0 u (eq_of (vertex_of (box_tetrahedron i) r.0) u r.2)
+      at_place (box_tetrahedron i) r.0 u (eqb-true (vertex_of (box_tetrahedron i) r.0) u r.2)
 
   six_test : (a b c d i : ℕ) → Bool
   six_test a b c d i = of_test i a && (of_test i b && (of_test i c && of_test i d))
@@ -237,9 +221,6 @@ module _ (points : List Point) (flags : List Bool) (wide : 8 ≤ length points)
   unfolding all_of some_of four_test six_test of_test met_test five_differ conflict_test orientation power
   four_all = refl
 
-  positive_test : (z : ℤ) → pos 0 <ℤ z → int_lt (pos 0) z ≡ true
-  positive_test z h = grind (arith, ints)
-
   others : (a b c d : ℕ) → a < 8 → b < 8 → c < 8 → d < 8 → IsCell v a b c d → ((u : ℕ) → u < 8 → Has v u)
       → (i : ℕ) × (i < 6) × IsVertexOf (box_tetrahedron i) a × IsVertexOf (box_tetrahedron i) b
       × IsVertexOf (box_tetrahedron i) c × IsVertexOf (box_tetrahedron i) d
@@ -247,31 +228,25 @@ module _ (points : List Point) (flags : List Bool) (wide : 8 ≤ length points)
   others a b c d la lb lc ld cell inside =
       let o : pos 0 <ℤ corner_orientation (tetrahedron a b c d) =
       subst (λ (z : ℤ). pos 0 <ℤ z) (corner_orient a b c d la lb lc ld) cell.positive in
-      let p = positive_test (corner_orientation (tetrahedron a b c d)) o in
+      let p = above_is (corner_orientation (tetrahedron a b c d)) o in
       let t =
       all_at 8 (four_test a b c)
       (all_at 8 (λ z. all_of 8 (four_test a b z))
       (all_at 8 (λ y. all_of 8 (λ z. all_of 8 (four_test a y z)))
       (all_at 8 (λ x. all_of 8 (λ y. all_of 8 (λ z. all_of 8 (four_test x y z)))) four_all a la) b lb) c lc) d ld in
       elim (or_cases (not (is_positive a b c d)) (some_of 6 (six_test a b c d) || some_of 8 (met_test a b c d)) t) [
-        | inl n ↦ absurd (not_true (is_positive a b c d) n p)
+        | inl n ↦ absurd (both_ways (is_positive a b c d) (not-true (is_positive a b c d) n) p)
         | inr r ↦ elim (or_cases (some_of 6 (six_test a b c d)) (some_of 8 (met_test a b c d)) r) [
           | inl s ↦
               let i = some_at 6 (six_test a b c d) s in
-              let q1 = and_right (of_test i.0 a) (of_test i.0 b && (of_test i.0 c && of_test i.0 d)) i.2 in
-              let q2 = and_right (of_test i.0 b) (of_test i.0 c && of_test i.0 d) q1 in (
-                i.0,
-                i.1,
-                of_is i.0 a (and_left (of_test i.0 a) (of_test i.0 b && (of_test i.0 c && of_test i.0 d)) i.2),
-                of_is i.0 b (and_left (of_test i.0 b) (of_test i.0 c && of_test i.0 d) q1),
-                of_is i.0 c (and_left (of_test i.0 c) (of_test i.0 d) q2),
-                of_is i.0 d (and_right (of_test i.0 c) (of_test i.0 d) q2),
-              )
+              let first = and_parts (of_test i.0 a) (of_test i.0 b && (of_test i.0 c && of_test i.0 d)) i.2 in
+              let second = and_parts (of_test i.0 b) (of_test i.0 c && of_test i.0 d) first.1 in
+              let last = and_parts (of_test i.0 c) (of_test i.0 d) second.1 in
+              (i.0, i.1, of_is i.0 a first.0, of_is i.0 b second.0, of_is i.0 c last.0, of_is i.0 d last.1)
           | inr m ↦
               let u = some_at 8 (met_test a b c d) m in
-              let low =
-              (corner_sign a b c d u.0 la lb lc ld u.1 (and_left (five_differ a b c d u.0) (conflict_test a b c d u.0) u.2) o).0
-              (and_right (five_differ a b c d u.0) (conflict_test a b c d u.0) u.2) in
+              let both = and_parts (five_differ a b c d u.0) (conflict_test a b c d u.0) u.2 in
+              let low = (corner_sign a b c d u.0 la lb lc ld u.1 both.0 o).0 both.1 in
               let high = cell.clear u.0 (inside u.0 u.1) in
               absurd (omega (arith, ints))
         ]

@@ -2,7 +2,7 @@
 use Rattle.std.proofs.Common.{ℕ, zero, suc, ◌≡◌, ◌<◌, Bool, true, false, not, ◌&&◌, ◌||◌, ◌==◌, nat_lt, ℤ, pos, ◌<ℤ◌, int_lt}
 use Rattle.std.proofs.Common.{if◌then◌else◌, List, [], ◌∷◌, Option, Some, None, refl, sym, ap, ◌∙◌, ◌⊎◌, inl, inr, subst, arith}
 use Rattle.std.proofs.Common.{slice_index, slice_index_or}
-use Rattle.std.proofs.lemmas.Bool.{false≢true}
+use Rattle.std.proofs.lemmas.Bool.{false≢true, or_cases, and_parts, eq-eqb, ltb-true, eqb-true}
 use Rattle.geo_sign.specs.Point.{Point, corner_point}
 use Rattle.geo_sign.specs.Orientation.{orientation}
 use Rattle.geo_sign.specs.Tetrahedron.{Tetrahedron, vertex_of, facet_of, IsRotated, IsTurned}
@@ -11,9 +11,11 @@ use Rattle.geo_sign.specs.Writings.{IsVertexOf}
 use Rattle.tetra_store.specs.Links.{Links, IsLive, IsBack, IsLinked}
 use Rattle.tetra_store.specs.Box.{box_tetrahedron, box_number, box_keeper, across_in, AreBoxCells}
 use Rattle.geo_sign.specs.Edges.{HasVertex}
-use Rattle.tetra_store.proofs.Facets.{in_of, place_of, at_place}
-use Rattle.tetra_store.proofs.Reflect.{every, every_at, and_left, and_right, or_cases, implied, same, same_is, lt_of, eq_of}
-use Rattle.tetra_store.proofs.Reflect.{eq_refl, above_of, rotated_test, rotated_yes, turned_test, turned_of, wall_test, wall_of}
+use Rattle.geo_sign.proofs.SignTests.{above_true}
+use Rattle.geo_sign.proofs.Facets.{in_of}
+use Rattle.tetra_store.proofs.Facets.{place_of, at_place}
+use Rattle.tetra_store.proofs.Reflect.{every, every_at, implied, same, same_is}
+use Rattle.tetra_store.proofs.Reflect.{rotated_test, rotated_yes, turned_test, turned_of, wall_test, wall_of}
 use Rattle.tetra_store.proofs.Reflect.{wall_yes}
 
 -- the side across which the cell across names the cell back
@@ -38,7 +40,7 @@ below_test i k = nat_lt (vertex_of (box_tetrahedron i) k) 8
 
 pub box_below : (i k : ℕ) → i < 6 → k < 4 → vertex_of (box_tetrahedron i) k < 8
 box_below i k l m =
-    lt_of (vertex_of (box_tetrahedron i) k) 8
+    ltb-true (vertex_of (box_tetrahedron i) k) 8
     (every_at 4 (below_test i) (every_at 6 (λ j. every 4 (below_test j)) refl i l) k m)
 
 abbrev apart_test : ℕ → ℕ → ℕ → Bool
@@ -49,8 +51,8 @@ box_distinct i j k l m n e =
     let t =
     every_at 4 (apart_test i j)
     (every_at 4 (λ a. every 4 (apart_test i a)) (every_at 6 (λ b. every 4 (λ a. every 4 (apart_test b a))) refl i l) j m) k n in
-    eq_of j k (implied (vertex_of (box_tetrahedron i) j == vertex_of (box_tetrahedron i) k) (j == k) t
-    (subst (λ (z : ℕ). (vertex_of (box_tetrahedron i) j == z) ≡ true) e (eq_refl (vertex_of (box_tetrahedron i) j))))
+    eqb-true j k (implied (vertex_of (box_tetrahedron i) j == vertex_of (box_tetrahedron i) k) (j == k) t
+    (eq-eqb (vertex_of (box_tetrahedron i) j) (vertex_of (box_tetrahedron i) k) e))
 
 abbrev pub corner_orientation : Tetrahedron → ℤ
 corner_orientation t = orientation (corner_point t.a) (corner_point t.b) (corner_point t.c) (corner_point t.d)
@@ -63,7 +65,7 @@ unfolding orientation
 positive_all = refl
 
 pub box_positive : (i : ℕ) → i < 6 → pos 0 <ℤ corner_orientation (box_tetrahedron i)
-box_positive i l = above_of (corner_orientation (box_tetrahedron i)) (every_at 6 positive_test positive_all i l)
+box_positive i l = above_true (corner_orientation (box_tetrahedron i)) (every_at 6 positive_test positive_all i l)
 
 abbrev back_test : ℕ → ℕ → Bool
 back_test i k =
@@ -86,17 +88,16 @@ box_backed i k l m =
     let b = box_back i k in
     let tt' = turned_test (facet_of (box_tetrahedron i) k) (facet_of (box_tetrahedron n) b) in
     elim (or_cases (n == 6) (nat_lt n 6 && (nat_lt b 4 && (tt' && (box_number n b == i)))) t) [
-      | inl e ↦ inl (eq_of n 6 e)
+      | inl e ↦ inl (eqb-true n 6 e)
       | inr r ↦
-          let r2 = and_right (nat_lt n 6) (nat_lt b 4 && (tt' && (box_number n b == i))) r in
-          let r3 = and_right (nat_lt b 4) (tt' && (box_number n b == i)) r2 in
+          let in_cell = and_parts (nat_lt n 6) (nat_lt b 4 && (tt' && (box_number n b == i))) r in
+          let in_side = and_parts (nat_lt b 4) (tt' && (box_number n b == i)) in_cell.1 in
+          let last = and_parts tt' (box_number n b == i) in_side.1 in
           inr (record {
-            cell_in = lt_of n 6 (and_left (nat_lt n 6) (nat_lt b 4 && (tt' && (box_number n b == i))) r);
-            side_in = lt_of b 4 (and_left (nat_lt b 4) (tt' && (box_number n b == i)) r2);
-            turned =
-                turned_of (facet_of (box_tetrahedron i) k) (facet_of (box_tetrahedron n) b)
-                (and_left tt' (box_number n b == i) r3);
-            named = eq_of (box_number n b) i (and_right tt' (box_number n b == i) r3);
+            cell_in = ltb-true n 6 in_cell.0;
+            side_in = ltb-true b 4 in_side.0;
+            turned = turned_of (facet_of (box_tetrahedron i) k) (facet_of (box_tetrahedron n) b) last.0;
+            named = eqb-true (box_number n b) i last.1;
           })
     ]
 
@@ -119,7 +120,7 @@ box_common i j k m li lj lk lm h =
     (every_at 4 (λ c. every 4 (common_test i j c))
     (every_at 6 (λ b. every 4 (λ c. every 4 (common_test i b c)))
     (every_at 6 (λ a. every 6 (λ b. every 4 (λ c. every 4 (common_test a b c)))) refl i li) j lj) k lk) m lm in
-    eq_of i j (implied (rotated_test (facet_of (box_tetrahedron i) k) (facet_of (box_tetrahedron j) m)) (i == j) t
+    eqb-true i j (implied (rotated_test (facet_of (box_tetrahedron i) k) (facet_of (box_tetrahedron j) m)) (i == j) t
     (rotated_yes (facet_of (box_tetrahedron i) k) (facet_of (box_tetrahedron j) m) h))
 
 abbrev keeper_test : ℕ → Bool
@@ -132,10 +133,10 @@ box_keeps u l =
     let a = nat_lt (box_keeper u) 6 in
     let b = nat_lt (keeper_side u) 4 in
     let c = vertex_of (box_tetrahedron (box_keeper u)) (keeper_side u) == u in
-    let r = and_right a (b && c) t in (
-      lt_of (box_keeper u) 6 (and_left a (b && c) t),
+    let r = and_parts a (b && c) t in (
+      ltb-true (box_keeper u) 6 r.0,
       at_place (box_tetrahedron (box_keeper u)) (keeper_side u) u
-          (eq_of (vertex_of (box_tetrahedron (box_keeper u)) (keeper_side u)) u (and_right b c r)),
+          (eqb-true (vertex_of (box_tetrahedron (box_keeper u)) (keeper_side u)) u (and_parts b c r.1).1),
     )
 
 -- ---- the cells are linked

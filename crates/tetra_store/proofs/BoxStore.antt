@@ -1,12 +1,11 @@
 -- The store of the box keeps what a store keeps.
-use Rattle.std.proofs.Common.{ℕ, zero, suc, ◌≡◌, ◌<◌, ◌≤◌, ◌+◌, ◌-◌, Bool, true, false, not, cond, ◌||◌, ◌==◌, nat_lt, pos}
+use Rattle.std.proofs.Common.{ℕ, ◌≡◌, ◌<◌, ◌≤◌, ◌-◌, Bool, true, false, not, cond, ◌||◌, ◌==◌, nat_lt, pos}
 use Rattle.std.proofs.Common.{neg_ℤ, unsigned_abs, List, ◌++◌, length, get_or, Option, refl, sym, ap, ◌∙◌, inl, inr, subst}
-use Rattle.std.proofs.Common.{arith, slice_index, slice_index_or, length-append}
-use Rattle.std.proofs.lemmas.Bool.{cases_lt}
+use Rattle.std.proofs.Common.{arith, slice_index, slice_index_or}
+use Rattle.std.proofs.lemmas.Bool.{cases_lt, eqb-true}
 use borrow.Author.Tests.{ltb-true}
 use Rattle.std.proofs.lemmas.Int.{ints}
 use Rattle.std.proofs.lemmas.Bool.Decides.{nat_tests}
-use Rattle.std.proofs.lemmas.List.{get_or-append_right}
 use Rattle.geo_sign.specs.Point.{Point, origin, corner_point, IsWithin}
 use Rattle.geo_sign.specs.declared.point.TheConstants.{BOX_LIMIT, DATA_LIMIT}
 use Rattle.geo_sign.specs.Tetrahedron.{Tetrahedron}
@@ -14,40 +13,16 @@ use Rattle.geo_sign.specs.Vertices.{Has, corners}
 use Rattle.tetra_store.specs.declared.boxed.TheConstants.{VERTEX_LIMIT}
 use Rattle.tetra_store.specs.declared.link.Cell.{Cell}
 use Rattle.geo_sign.specs.Writings.{IsVertexOf}
+use Rattle.geo_sign.proofs.Corners.{vertex_count, corner_at, point_after}
 use Rattle.tetra_store.specs.Links.{links_of, IsLive}
 use Rattle.tetra_store.specs.Store.{IsStore, AreVertices, vertices_at}
 use Rattle.tetra_store.specs.Box.{box_keeper, AreBoxCells}
 use Rattle.tetra_store.specs.Delaunay.{IsDelaunay}
-use Rattle.tetra_store.proofs.Reflect.{every, every_at, implied, same, low, eq_of}
+use Rattle.tetra_store.proofs.Reflect.{every, every_at, implied, same, low, side_same}
 use Rattle.tetra_store.proofs.BoxFacts.{box_keeps, box_linked}
 use Rattle.tetra_store.proofs.BoxCells.{box_delaunay}
 
--- the corners stand first
-pub corner_first : (points : List Point) (k : ℕ) → k < 8 → get_or (corners ++ points) k origin ≡ corner_point k
-corner_first points zero l = refl
-corner_first points (suc zero) l = refl
-corner_first points (suc (suc zero)) l = refl
-corner_first points (suc (suc (suc zero))) l = refl
-corner_first points (suc (suc (suc (suc zero)))) l = refl
-corner_first points (suc (suc (suc (suc (suc zero))))) l = refl
-corner_first points (suc (suc (suc (suc (suc (suc zero)))))) l = refl
-corner_first points (suc (suc (suc (suc (suc (suc (suc zero))))))) l = refl
-corner_first points (suc (suc (suc (suc (suc (suc (suc (suc k)))))))) l = absurd (omega arith)
-
-point_after : (points : List Point) (u : ℕ) → 8 ≤ u → get_or (corners ++ points) u origin ≡ get_or points (u - 8) origin
-point_after points u l = get_or-append_right corners points 8 u origin refl l
-
-count_all : (points : List Point) → length (corners ++ points) ≡ 8 + length points
-count_all points = length-append corners points
-
 -- ---- apart
-
-side_same : (a b : Bool) → cond a (neg_ℤ (pos BOX_LIMIT)) (pos BOX_LIMIT) ≡ cond b (neg_ℤ (pos BOX_LIMIT)) (pos BOX_LIMIT)
-    → same a b ≡ true
-side_same true true h = refl
-side_same true false h = absurd (omega (arith, ints))
-side_same false true h = absurd (omega (arith, ints))
-side_same false false h = refl
 
 abbrev bits_test : ℕ → ℕ → Bool
 bits_test a b =
@@ -62,7 +37,7 @@ corners_apart a b l m e =
     let t1 =
     implied (same (low 1 a) (low 1 b)) (not (same (low 2 a) (low 2 b)) || (not (same (low 4 a) (low 4 b)) || (a == b))) t x in
     let t2 = implied (same (low 2 a) (low 2 b)) (not (same (low 4 a) (low 4 b)) || (a == b)) t1 y in
-    eq_of a b (implied (same (low 4 a) (low 4 b)) (a == b) t2 z)
+    eqb-true a b (implied (same (low 4 a) (low 4 b)) (a == b) t2 z)
 
 far_off : (b : Bool) → BOX_LIMIT ≤ unsigned_abs (cond b (neg_ℤ (pos BOX_LIMIT)) (pos BOX_LIMIT))
 far_off true = omega (arith, ints)
@@ -84,19 +59,19 @@ module _ (points : List Point) (data_points : (k : ℕ) → k < length points �
 
   within_at : (u : ℕ) → 8 ≤ u → u < length all → IsWithin DATA_LIMIT (get_or all u origin)
   within_at u l m =
-      let n = count_all points in
+      let n = vertex_count points in
       subst (λ (p : Point). IsWithin DATA_LIMIT p) (sym (point_after points u l)) (data_points (u - 8) (omega arith))
 
   apart_at : (u w : ℕ) → u < length all → w < length all → get_or all u origin ≡ get_or all w origin → u ≡ w
   apart_at u w l m e =
-      let n = count_all points in
+      let n = vertex_count points in
       elim (cases_lt u 8) [
         | inl lu ↦ elim (cases_lt w 8) [
-          | inl lw ↦ corners_apart u w lu lw (sym (corner_first points u lu) ∙ (e ∙ corner_first points w lw))
-          | inr mw ↦ absurd (not_data u (get_or all w origin) (within_at w mw m) (sym (corner_first points u lu) ∙ e))
+          | inl lw ↦ corners_apart u w lu lw (sym (corner_at points u lu) ∙ (e ∙ corner_at points w lw))
+          | inr mw ↦ absurd (not_data u (get_or all w origin) (within_at w mw m) (sym (corner_at points u lu) ∙ e))
         ]
         | inr mu ↦ elim (cases_lt w 8) [
-          | inl lw ↦ absurd (not_data w (get_or all u origin) (within_at u mu l) (sym (corner_first points w lw) ∙ sym e))
+          | inl lw ↦ absurd (not_data w (get_or all u origin) (within_at u mu l) (sym (corner_at points w lw) ∙ sym e))
           | inr mw ↦
               let s =
               distinct (u - 8) (w - 8) (omega arith) (omega arith)
@@ -107,10 +82,10 @@ module _ (points : List Point) (data_points : (k : ℕ) → k < length points �
 
   pub box_vertices : AreVertices all flags
   box_vertices = record {
-    few = let n = count_all points in omega arith;
+    few = let n = vertex_count points in omega arith;
     boxed = record {
-      corner_in = λ k l. let n = count_all points in (omega arith, flags_are k ∙ lt_yes k l);
-      corner_at = corner_first points;
+      corner_in = λ k l. let n = vertex_count points in (omega arith, flags_are k ∙ lt_yes k l);
+      corner_at = corner_at points;
       data_at = within_at;
       apart = apart_at;
       tied = λ u. refl;
@@ -151,5 +126,5 @@ module _ (points : List Point) (data_points : (k : ℕ) → k < length points �
 
     pub box_is_delaunay : IsDelaunay (vertices_at all flags) (links_of slots)
     box_is_delaunay =
-        box_delaunay all flags (let n = count_all points in omega arith) box_vertices.boxed.corner_at (links_of slots) ids box
+        box_delaunay all flags (let n = vertex_count points in omega arith) box_vertices.boxed.corner_at (links_of slots) ids box
         corner_has corner_only

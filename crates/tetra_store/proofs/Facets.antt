@@ -1,8 +1,10 @@
 -- Directed facets, turned and written from another vertex on.
-use Rattle.std.proofs.Common.{ℕ, zero, suc, ◌≡◌, ◌≢◌, ◌<◌, refl, sym, ap, ◌∙◌, ◌⊎◌, inl, inr, subst, arith}
+use Rattle.std.proofs.Common.{ℕ, zero, suc, ◌≡◌, ◌≢◌, ◌<◌, refl, sym, ap, ◌⊎◌, inl, inr, subst, arith}
 use Rattle.geo_sign.specs.Tetrahedron.{Tetrahedron, DirectedFacet, facet, vertex_of, facet_of, IsRotated, IsTurned}
 use Rattle.geo_sign.specs.Writings.{IsVertexOf}
 use Rattle.geo_sign.specs.Edges.{HasVertex, over, edge_start, edge_end}
+use Rattle.geo_sign.proofs.Rotations.{rotated_back, turned_rotated, rotated_turned}
+use Rattle.geo_sign.proofs.Facets.{in_rotated}
 
 abbrev one : DirectedFacet → DirectedFacet
 one f = facet f.b f.c f.a
@@ -12,87 +14,6 @@ two f = facet f.c f.a f.b
 
 abbrev back : DirectedFacet → DirectedFacet
 back f = facet f.a f.c f.b
-
-abbrev back_one : DirectedFacet → DirectedFacet
-back_one f = facet f.c f.b f.a
-
-abbrev back_two : DirectedFacet → DirectedFacet
-back_two f = facet f.b f.a f.c
-
-pub rotated_refl : (f : DirectedFacet) → IsRotated f f
-rotated_refl f = inl refl
-
-pub rotated_sym : (f g : DirectedFacet) → IsRotated f g → IsRotated g f
-rotated_sym f g (inl e) = inl (sym e)
-rotated_sym f g (inr (inl e)) = inr (inr (ap two (sym e)))
-rotated_sym f g (inr (inr e)) = inr (inl (ap one (sym e)))
-
-pub rotated_trans : (f g h : DirectedFacet) → IsRotated f g → IsRotated g h → IsRotated f h
-rotated_trans f g h (inl e) (inl d) = inl (d ∙ e)
-rotated_trans f g h (inl e) (inr (inl d)) = inr (inl (d ∙ ap one e))
-rotated_trans f g h (inl e) (inr (inr d)) = inr (inr (d ∙ ap two e))
-rotated_trans f g h (inr (inl e)) (inl d) = inr (inl (d ∙ e))
-rotated_trans f g h (inr (inl e)) (inr (inl d)) = inr (inr (d ∙ ap one e))
-rotated_trans f g h (inr (inl e)) (inr (inr d)) = inl (d ∙ ap two e)
-rotated_trans f g h (inr (inr e)) (inl d) = inr (inr (d ∙ e))
-rotated_trans f g h (inr (inr e)) (inr (inl d)) = inl (d ∙ ap one e)
-rotated_trans f g h (inr (inr e)) (inr (inr d)) = inr (inl (d ∙ ap two e))
-
-pub turned_sym : (f g : DirectedFacet) → IsTurned f g → IsTurned g f
-turned_sym f g (inl e) = inl (ap back (sym e))
-turned_sym f g (inr (inl e)) = inr (inl (ap back_one (sym e)))
-turned_sym f g (inr (inr e)) = inr (inr (ap back_two (sym e)))
-
-pub turned_rotated : (f g h : DirectedFacet) → IsTurned f g → IsRotated g h → IsTurned f h
-turned_rotated f g h (inl e) (inl d) = inl (d ∙ e)
-turned_rotated f g h (inl e) (inr (inl d)) = inr (inl (d ∙ ap one e))
-turned_rotated f g h (inl e) (inr (inr d)) = inr (inr (d ∙ ap two e))
-turned_rotated f g h (inr (inl e)) (inl d) = inr (inl (d ∙ e))
-turned_rotated f g h (inr (inl e)) (inr (inl d)) = inr (inr (d ∙ ap one e))
-turned_rotated f g h (inr (inl e)) (inr (inr d)) = inl (d ∙ ap two e)
-turned_rotated f g h (inr (inr e)) (inl d) = inr (inr (d ∙ e))
-turned_rotated f g h (inr (inr e)) (inr (inl d)) = inl (d ∙ ap one e)
-turned_rotated f g h (inr (inr e)) (inr (inr d)) = inr (inl (d ∙ ap two e))
-
-pub rotated_turned : (f g h : DirectedFacet) → IsRotated f g → IsTurned g h → IsTurned f h
-rotated_turned f g h r t = turned_sym h f (turned_rotated h g f (turned_sym g h t) (rotated_sym f g r))
-
--- two that are the reverse of one are the same
-pub both_turned : (f g h : DirectedFacet) → IsTurned f g → IsTurned f h → IsRotated g h
-both_turned f g h (inl e) (inl d) = inl (d ∙ sym e)
-both_turned f g h (inl e) (inr (inl d)) = inr (inl (d ∙ ap one (sym e)))
-both_turned f g h (inl e) (inr (inr d)) = inr (inr (d ∙ ap two (sym e)))
-both_turned f g h (inr (inl e)) (inl d) = inr (inr (d ∙ ap two (sym e)))
-both_turned f g h (inr (inl e)) (inr (inl d)) = inl (d ∙ sym e)
-both_turned f g h (inr (inl e)) (inr (inr d)) = inr (inl (d ∙ ap one (sym e)))
-both_turned f g h (inr (inr e)) (inl d) = inr (inl (d ∙ ap one (sym e)))
-both_turned f g h (inr (inr e)) (inr (inl d)) = inr (inr (d ∙ ap two (sym e)))
-both_turned f g h (inr (inr e)) (inr (inr d)) = inl (d ∙ sym e)
-
--- the same vertices from another one on
-pub in_rotated : (f g : DirectedFacet) (u : ℕ) → IsRotated f g → HasVertex f u → HasVertex g u
-in_rotated f g u (inl e) h = subst (λ (t : DirectedFacet). HasVertex t u) (sym e) h
-in_rotated f g u (inr (inl e)) (inl h) = inr (inr (h ∙ sym (ap (λ (t : DirectedFacet). t.c) e)))
-in_rotated f g u (inr (inl e)) (inr (inl h)) = inl (h ∙ sym (ap (λ (t : DirectedFacet). t.a) e))
-in_rotated f g u (inr (inl e)) (inr (inr h)) = inr (inl (h ∙ sym (ap (λ (t : DirectedFacet). t.b) e)))
-in_rotated f g u (inr (inr e)) (inl h) = inr (inl (h ∙ sym (ap (λ (t : DirectedFacet). t.b) e)))
-in_rotated f g u (inr (inr e)) (inr (inl h)) = inr (inr (h ∙ sym (ap (λ (t : DirectedFacet). t.c) e)))
-in_rotated f g u (inr (inr e)) (inr (inr h)) = inl (h ∙ sym (ap (λ (t : DirectedFacet). t.a) e))
-
--- a facet's vertex is one of the four
-pub in_of : (t : Tetrahedron) (k u : ℕ) → HasVertex (facet_of t k) u → IsVertexOf t u
-in_of t zero u (inl h) = inr (inl h)
-in_of t zero u (inr (inl h)) = inr (inr (inr h))
-in_of t zero u (inr (inr h)) = inr (inr (inl h))
-in_of t (suc zero) u (inl h) = inl h
-in_of t (suc zero) u (inr (inl h)) = inr (inr (inl h))
-in_of t (suc zero) u (inr (inr h)) = inr (inr (inr h))
-in_of t (suc (suc zero)) u (inl h) = inl h
-in_of t (suc (suc zero)) u (inr (inl h)) = inr (inr (inr h))
-in_of t (suc (suc zero)) u (inr (inr h)) = inr (inl h)
-in_of t (suc (suc (suc k))) u (inl h) = inl h
-in_of t (suc (suc (suc k))) u (inr (inl h)) = inr (inl h)
-in_of t (suc (suc (suc k))) u (inr (inr h)) = inr (inr (inl h))
 
 -- the place of a vertex among the four
 pub place_of : (t : Tetrahedron) (u : ℕ) → IsVertexOf t u → (k : ℕ) × (k < 4) × (vertex_of t k ≡ u)
@@ -154,7 +75,7 @@ same_side t d j k l m r = elim (others_in t j k l m) [
   | inl e ↦ e
   | inr h ↦
       absurd (opposite_out t d j l
-      (in_rotated (facet_of t k) (facet_of t j) (vertex_of t j) (rotated_sym (facet_of t j) (facet_of t k) r) h))
+      (in_rotated (facet_of t k) (facet_of t j) (vertex_of t j) (rotated_back (facet_of t j) (facet_of t k) r) h))
 ]
 
 -- ---- cells over a facet with p
@@ -166,10 +87,6 @@ side_over f p zero l = inr (inl refl)
 side_over f p (suc zero) l = inl refl
 side_over f p (suc (suc zero)) l = inr (inl refl)
 side_over f p (suc (suc (suc e))) l = absurd (omega arith)
-
-pub side_has : (f : DirectedFacet) (p e : ℕ) → e < 3 → HasVertex (facet_of (over f p) e) p
-side_has f p e l =
-    in_rotated (facet (edge_end f e) (edge_start f e) p) (facet_of (over f p) e) p (side_over f p e l) (inr (inr refl))
 
 -- facets with p whose other vertices are not p have the same edge
 pub same_edge : (u w x y p : ℕ) → u ≢ p → w ≢ p → IsRotated (facet u w p) (facet x y p) → (u ≡ x) × (w ≡ y)
@@ -197,7 +114,7 @@ edges_turned f g p e d l m s t =
     (inr (inr refl))) in
     turned_rotated (facet_of (over f p) e) (facet (edge_end g d) (edge_start g d) p) (facet_of (over g p) d)
     (rotated_turned (facet_of (over f p) e) (facet (edge_end f e) (edge_start f e) p) (facet (edge_end g d) (edge_start g d) p)
-    (rotated_sym (facet (edge_end f e) (edge_start f e) p) (facet_of (over f p) e) (side_over f p e l)) x)
+    (rotated_back (facet (edge_end f e) (edge_start f e) p) (facet_of (over f p) e) (side_over f p e l)) x)
     (side_over g p d m)
 
 -- ---- distinct vertices

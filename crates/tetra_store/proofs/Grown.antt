@@ -11,10 +11,9 @@ use Rattle.std.specs.List.Sorted.{IsPermutation}
 use Rattle.std.proofs.lemmas.List.Sorted.{Contains-permutation, IsPermutation-sym}
 use Rattle.std.proofs.lemmas.List.{get_or_default}
 use Rattle.std.proofs.lemmas.List.Elements.{Contains-get_or}
-use Rattle.std.proofs.lemmas.Bool.{cases_lt, eq-eqb, false≢true}
+use Rattle.std.proofs.lemmas.Bool.{cases_lt, eq-eqb, false≢true, and_from}
 use Rattle.std.proofs.lemmas.Map.Keys.{IsDistinct-IsPermutation, apart_from_distinct}
 use Rattle.tetra_store.specs.Edges.{key_of, no_edge, edge_at, IsReverse, HasPair}
-use Rattle.tetra_store.proofs.Reflect.{and_both}
 use Rattle.tetra_store.proofs.Joins.{fan_from, fan_to, fan_distinct, same_place, same_place_flips, ends_of}
 use Rattle.geo_sign.specs.Tetrahedron.{Tetrahedron, facet_of, IsTurned}
 use Rattle.tetra_store.specs.declared.link.Cell.{Cell}
@@ -154,7 +153,7 @@ fan_joins s1 s0 b fan p ids edges sorted put n named fe moved can = record {
               let cells : x.cell ≡ y.cell = f.cell_is ∙ (ap (λ (z : ℕ). slice_index ids z) i ∙ sym g.cell_is) in
               let sides : x.side ≡ y.side = f.side_is ∙ (o ∙ sym g.side_is) in
               absurd (twice m q l k ne
-              (and_both (x.cell == y.cell) (x.side == y.side) (eq-eqb x.cell y.cell cells) (eq-eqb x.side y.side sides)))
+              (and_from (x.cell == y.cell) (x.side == y.side) (eq-eqb x.cell y.cell cells) (eq-eqb x.side y.side sides)))
         ]
 
 module _ (s0 s1 : List (Option Cell)) (b d : Links) (fan : List Facet) (p : ℕ) (ids : List ℕ) (edges sorted : List Edge)

@@ -3,16 +3,12 @@
 -- Where a hint was wrong, the edges before it are joined, and the rest are not. Joining all of them in any order then gives
 -- what it would have given at once: which numbers are live and what the cells' vertices are did not change, every side of a
 -- cell that some edge names is written anew, and no other side was written.
-use Rattle.std.proofs.Common.{ℕ, List, length, ◌∙◌, arith}
+use Rattle.std.proofs.Common.{List, length, ◌∙◌}
 use Rattle.std.specs.List.Sorted.{IsPermutation}
 use Rattle.std.proofs.lemmas.List.Sorted.{Contains-permutation}
 use Rattle.tetra_store.specs.declared.edge.Edge.{Edge}
 use Rattle.tetra_store.specs.Links.{Links}
 use Rattle.tetra_store.specs.Steps.{AreJoined, CanJoin}
-
-pub AreJoined_first : (a b : Links) (edges : List Edge) (n : ℕ) → AreJoined a b edges n → AreJoined a b edges 0
-AreJoined_first a b edges n h =
-    record { live = h.live; same = h.same; joined = λ m x l e k. absurd (omega arith); others = h.others }
 
 pub can_again : (a m : Links) (edges xs : List Edge) → AreJoined a m edges 0 → CanJoin a xs → CanJoin m xs
 can_again a m edges xs h can = record {

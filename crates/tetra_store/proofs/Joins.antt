@@ -3,11 +3,11 @@
 -- In the order of keys the reverse of an edge stands next to it. For let it stand after it, at q: the key at the next place is
 -- between two that are equal, so it is that key too, and two edges with one key are each other's reverse. The same if it stands
 -- before.
-use Rattle.std.proofs.Common.{ℕ, zero, suc, Bool, true, false, ◌&&◌, ◌==◌, min, max, ◌≡◌, ◌<◌, ◌+◌, ◌-◌, ◌*◌, ◌/◌, ◌%◌, ◌^◌}
+use Rattle.std.proofs.Common.{ℕ, zero, suc, Bool, true, ◌&&◌, ◌==◌, min, max, ◌≡◌, ◌<◌, ◌+◌, ◌-◌, ◌*◌, ◌/◌, ◌%◌, ◌^◌}
 use Rattle.std.proofs.Common.{◌⊎◌, List, [], ◌∷◌, ◌++◌, length, Some, refl, sym, ap, ◌∙◌, inl, inr, subst, arith, slice_index}
 use Rattle.std.proofs.Common.{slice_index_or}
 use Rattle.std.specs.List.{Contains, IsDistinct}
-use Rattle.std.proofs.lemmas.Bool.{cases_eq, cases_lt, eqb-true}
+use Rattle.std.proofs.lemmas.Bool.{cases_eq, cases_lt, eqb-true, and_parts, false_from_ne_true, ne_eqb}
 use Rattle.std.proofs.lemmas.Map.Keys.{IsDistinct-from_apart}
 use Rattle.std.proofs.lemmas.List.{get_or_append_left, get_or_at, get_or_default, length_push}
 use Rattle.tetra_store.specs.declared.fan.Facet.{Facet}
@@ -17,10 +17,7 @@ use Rattle.tetra_store.specs.Edges.{edge_key, key_of, no_edge, edge_at, IsByKey,
 use Rattle.tetra_store.specs.Fan.{no_facet}
 use Rattle.tetra_store.specs.Steps.{IsWritten, IsFanEdge, edge_of, AreFanEdges, IsJoinedAt, AreJoined, CanJoin}
 use Rattle.tetra_store.proofs.Putting.{here_or_not}
-use Rattle.tetra_store.proofs.Reflect.{and_left, and_right}
-
-pub AreFanEdges_none : (fan : List Facet) (ids : List ℕ) → AreFanEdges fan ids [] 0
-AreFanEdges_none fan ids = record { count = refl; at = λ i e l m. absurd (omega arith) }
+use Rattle.tetra_store.proofs.Keeps.{read_at}
 
 module _ (fan : List Facet) (ids : List ℕ) (xs : List Edge) (i : ℕ) (h : AreFanEdges fan ids xs i) where
   abbrev ys : List Edge
@@ -73,14 +70,6 @@ module _ (fan : List Facet) (ids : List ℕ) (xs : List Edge) (i : ℕ) (h : Are
   }
 
 -- ---- joining
-
-pub AreJoined_none : (a : Links) (edges : List Edge) → AreJoined a a edges 0
-AreJoined_none a edges = record {
-  live = λ x. refl;
-  same = λ x. refl;
-  joined = λ m x l e k. absurd (omega arith);
-  others = λ y k h. refl;
-}
 
 module _ (a m b : Links) (edges : List Edge) (n : ℕ) (x r : Edge) (h : AreJoined a m edges n) (can : CanJoin a edges)
     (l : n < length edges) (is : slice_index_or edges n x ≡ x)
@@ -176,10 +165,6 @@ edge_same s e c t f d k a b g =
     ∙ (ap (λ (z : ℕ). let y : Edge = record { start = t; end = z; cell = c; side = k } in y) b
     ∙ ap (λ (z : ℕ). let y : Edge = record { start = t; end = f; cell = z; side = k } in y) g)
 
-vertex_read : (fan : List Facet) (i k : ℕ) (d : Facet) → i < length fan
-    → slice_index (slice_index_or fan i d).v k ≡ slice_index (slice_index_or fan i no_facet).v k
-vertex_read fan i k d l = ap (λ (f : Facet). slice_index f.v k) (get_or_default fan i d no_facet l)
-
 pub edge_read : (fan : List Facet) (ids : List ℕ) (i e j k cell : ℕ) (d g : Facet) → i < length fan → cell ≡ slice_index ids i
     → edge_of fan ids i e ≡ record {
       start = slice_index (slice_index_or fan i no_facet).v j;
@@ -197,7 +182,7 @@ pub edge_read : (fan : List Facet) (ids : List ℕ) (i e j k cell : ℕ) (d g : 
 edge_read fan ids i e j k cell d g l c is =
     edge_same (slice_index (slice_index_or fan i d).v j) (slice_index (slice_index_or fan i g).v k) cell
     (slice_index (slice_index_or fan i no_facet).v j) (slice_index (slice_index_or fan i no_facet).v k) (slice_index ids i) e
-    (vertex_read fan i j d l) (vertex_read fan i k g l) c ∙ sym is
+    (read_at fan i j d l) (read_at fan i k g l) c ∙ sym is
 
 pub record IsPushed (xs ys : List Edge) (a b c : Edge) : Type 0 where
   pub one : List Edge
@@ -278,23 +263,15 @@ same_place_flips x y =
     eqb_flips : (a b : ℕ) → (a == b) ≡ (b == a)
     eqb_flips a b = elim (cases_eq a b) [
       | inl e ↦ ap (λ (z : ℕ). a == z) (sym e) ∙ ap (λ (z : ℕ). z == a) e
-      | inr n ↦ false_of (a == b) (λ t. n (eqb-true a b t)) ∙ sym (false_of (b == a) (λ t. n (sym (eqb-true b a t))))
+      | inr n ↦ ne_eqb a b n ∙ sym (ne_eqb b a (λ e. n (sym e)))
     ]
-      where
-        false_of : (b : Bool) → (b ≡ true → ⊥) → b ≡ false
-        false_of true h = absurd (h refl)
-        false_of false h = refl
-
-pub false_of : (b : Bool) → (b ≡ true → ⊥) → b ≡ false
-false_of true h = absurd (h refl)
-false_of false h = refl
 
 pub fan_distinct : (fan : List Facet) (ids : List ℕ) (edges : List Edge) → AreFanEdges fan ids edges (length fan)
     → ((i j : ℕ) → i < length fan → j < length fan → slice_index ids i ≡ slice_index ids j → i ≡ j)
     → IsDistinct same_place edges
 fan_distinct fan ids edges h one =
     IsDistinct-from_apart same_place edges
-    (λ m q d less l. false_of (same_place (slice_index_or edges m d) (slice_index_or edges q d)) (λ t.
+    (λ m q d less l. false_from_ne_true (same_place (slice_index_or edges m d) (slice_index_or edges q d)) (λ t.
     let n = h.count in
     let x : slice_index_or edges m d ≡ edge_of fan ids (m / 3) (m % 3) =
     get_or_default edges m d no_edge (omega arith) ∙ edge_from fan ids edges h m (omega arith) in
@@ -302,10 +279,9 @@ fan_distinct fan ids edges h one =
     get_or_default edges q d no_edge l ∙ edge_from fan ids edges h q l in
     let t1 = subst (λ (z : Edge). same_place z (slice_index_or edges q d) ≡ true) x t in
     let t2 = subst (λ (z : Edge). same_place (edge_of fan ids (m / 3) (m % 3)) z ≡ true) y t1 in
-    let c =
-    eqb-true (slice_index ids (m / 3)) (slice_index ids (q / 3))
-    (and_left (slice_index ids (m / 3) == slice_index ids (q / 3)) (m % 3 == q % 3) t2) in
-    let s = eqb-true (m % 3) (q % 3) (and_right (slice_index ids (m / 3) == slice_index ids (q / 3)) (m % 3 == q % 3) t2) in
+    let both = and_parts (slice_index ids (m / 3) == slice_index ids (q / 3)) (m % 3 == q % 3) t2 in
+    let c = eqb-true (slice_index ids (m / 3)) (slice_index ids (q / 3)) both.0 in
+    let s = eqb-true (m % 3) (q % 3) both.1 in
     let i : m / 3 ≡ q / 3 = one (m / 3) (q / 3) (omega arith) (omega arith) c in
     omega arith))
 

@@ -16,7 +16,7 @@ use Rattle.tetra_store.specs.Links.{Links, slot_at, links_of, vertices_in, tetra
 use Rattle.geo_sign.specs.Edges.{over}
 use Rattle.tetra_store.specs.Fan.{fan_facet, no_facet}
 use Rattle.tetra_store.proofs.Facets.{at_place}
-use Rattle.tetra_store.specs.Steps.{IsKeptAt, IsKeptNew, AreKeptNew, IsOutsideWith, IsMendedAt, AreMended}
+use Rattle.tetra_store.specs.Steps.{IsKeptAt, IsKeptNew, AreKeptNew, IsOutsideWith, IsMendedAt}
 
 pub vertex_index : (xs : List ℕ) (k : ℕ) → k < 4 → vertex_of (tetrahedron_from xs) k ≡ slice_index xs k
 vertex_index xs zero l = refl
@@ -25,7 +25,7 @@ vertex_index xs (suc (suc zero)) l = refl
 vertex_index xs (suc (suc (suc zero))) l = refl
 vertex_index xs (suc (suc (suc (suc k)))) l = absurd (omega arith)
 
-read_at : (fan : List Facet) (i k : ℕ) (d : Facet) → i < length fan
+pub read_at : (fan : List Facet) (i k : ℕ) (d : Facet) → i < length fan
     → slice_index (slice_index_or fan i d).v k ≡ slice_index (slice_index_or fan i no_facet).v k
 read_at fan i k d l = ap (λ (f : Facet). slice_index f.v k) (get_or_default fan i d no_facet l)
 
@@ -41,9 +41,6 @@ over_read fan i p d e f l =
     p) (read_at fan i 1 e l)
     ∙ ap (λ (z : ℕ). tetrahedron (slice_index (slice_index_or fan i no_facet).v 0)
     (slice_index (slice_index_or fan i no_facet).v 1) z p) (read_at fan i 2 f l))
-
-pub AreKeptNew_none : (kept : List ℕ) (fan : List Facet) (ids : List ℕ) (p : ℕ) → AreKeptNew kept kept fan ids p 0
-AreKeptNew_none kept fan ids p = record { count = refl; each = λ u. inl refl; done = λ i k l m. absurd (omega arith) }
 
 carried : (mid new : List ℕ) (fan : List Facet) (ids : List ℕ) (p i u : ℕ) → i < length fan
     → (slice_index new u ≡ slice_index mid u)
@@ -87,9 +84,6 @@ pub cell_vertices : (slots : List (Option Cell)) (id : ℕ) (c : Cell) (v : List
 cell_vertices slots id c v e d k l =
     ap (λ (o : Option Cell). vertex_of (vertices_in o) k) e
     ∙ (ap (λ (xs : List ℕ). vertex_of (tetrahedron_from xs) k) (sym d) ∙ vertex_index v k l)
-
-pub mended_none : (links : Links) (old kept : List ℕ) (id : ℕ) → IsMendedAt links old kept kept id 0
-mended_none links old kept id = record { count = refl; each = λ u. inl refl; done = λ k l m. absurd (omega arith) }
 
 -- a vertex that still keeps the cell kept it
 pub was_kept : (links : Links) (old kept new : List ℕ) (u id : ℕ)
@@ -136,32 +130,6 @@ mended_write links old kept mid id k u w h listed l is in_range o = record {
     | inr e ↦ elim (cases_lt j k) [
       | inl less ↦ λ same. h.done j less n (sym e.1 ∙ same)
       | inr more ↦ let s : j ≡ k = omega arith in absurd (e.0 (ap (λ (t : ℕ). vertex_of (links.at id) t) s ∙ sym is))
-    ]
-  ];
-}
-
-pub AreMended_none : (links : Links) (old kept : List ℕ) → AreMended links old kept kept 0
-AreMended_none links old kept = record { count = refl; each = λ u. inl refl; done = λ j k l m n. absurd (omega arith) }
-
-pub AreMended_cell : (links : Links) (old kept mid new : List ℕ) (i : ℕ) → AreMended links old kept mid i → i < length old
-    → IsMendedAt links old mid new (slice_index old i) 4 → AreMended links old kept new (i + 1)
-AreMended_cell links old kept mid new i h l at = record {
-  count = at.count ∙ h.count;
-  each = λ u. elim (at.each u) [
-    | inr o ↦ inr o
-    | inl e ↦ elim (h.each u) [
-      | inl d ↦ inl (e ∙ d)
-      | inr d ↦ inr (subst (λ (z : ℕ). IsOutsideWith links old u z) (sym e) d)
-    ]
-  ];
-  done = λ j k m n o. elim (cases_lt j i) [
-    | inr more ↦
-        let s : i ≡ j = omega arith in
-        subst (λ (t : ℕ). slice_index new (vertex_of (links.at (slice_index old t)) k) ≢ slice_index old t) s (at.done k o o)
-    | inl less ↦ elim (at.each (vertex_of (links.at (slice_index old j)) k)) [
-      | inl e ↦ λ same. h.done j k less n o (sym e ∙ same)
-      | inr d ↦
-          λ same. d.outside (subst (λ (z : ℕ). Contains old z) (sym same) (j, n, get_or_default old j (slice_index old j) 0 n))
     ]
   ];
 }

@@ -4,6 +4,7 @@ pub mod Rebuilt
 pub mod Backs
 pub mod Again
 pub mod Observed
+pub mod Live
 pub mod Putting
 pub mod Joins
 pub mod Hinted

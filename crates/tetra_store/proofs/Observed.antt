@@ -4,13 +4,13 @@ use Rattle.std.proofs.lemmas.Bool.{false≢true}
 use Rattle.std.specs.Option.{IfSome}
 use Rattle.geo_sign.specs.Tetrahedron.{facet_of}
 use Rattle.geo_sign.specs.Vertices.{Vertices}
+use Rattle.geo_sign.proofs.Rotations.{turned_turned, turned_back}
 use Rattle.std.specs.List.{Contains}
 use Rattle.slab.specs.Slab.{entries_from}
 use Rattle.slab.proofs.SlabLemmas.{Contains-entries}
 use Rattle.tetra_store.specs.declared.link.Cell.{Cell}
 use Rattle.tetra_store.specs.Links.{slot_at, links_of, Links, IsLive, IsLinked, IsOnlyAcross}
 use Rattle.tetra_store.specs.Store.{Store, IsStore}
-use Rattle.tetra_store.proofs.Facets.{both_turned}
 
 pub only_at : (v : Vertices) (links : Links) (id k other : ℕ) → IsLinked v links → IsLive links id → k < 4
     → links.next id k ≡ Some other → IsOnlyAcross links id k other
@@ -19,8 +19,8 @@ only_at v links id k other linked live l e =
       back = back;
       only = λ z m z_live m_in t.
           linked.apart z other m back.side z_live back.live m_in back.in_range
-          (both_turned (facet_of (links.at id) k) (facet_of (links.at z) m) (facet_of (links.at other) back.side) t
-          back.turned);
+          (turned_turned (facet_of (links.at z) m) (facet_of (links.at id) k) (facet_of (links.at other) back.side)
+          (turned_back (facet_of (links.at id) k) (facet_of (links.at z) m) t) back.turned);
     }
 
 pub only_across : (v : Vertices) (links : Links) (id k : ℕ) → IsLinked v links → IsLive links id → k < 4 → (o : Option ℕ)

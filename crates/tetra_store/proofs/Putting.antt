@@ -1,17 +1,17 @@
 -- Steps of putting cells in and of naming them.
 use Rattle.std.proofs.Common.{ℕ, zero, suc, ◌≡◌, ◌≢◌, ◌<◌, ◌+◌, ◌^◌, List, [], ◌∷◌, ◌++◌, length, get_or, Option, Some, None}
-use Rattle.std.proofs.Common.{refl, sym, ap, ◌∙◌, ◌⊎◌, inl, inr, subst, arith, slice_index}
+use Rattle.std.proofs.Common.{sym, ap, ◌∙◌, ◌⊎◌, inl, inr, subst, arith, slice_index}
 use Rattle.std.specs.List.{Contains}
 use Rattle.std.proofs.lemmas.Bool.{cases_eq, cases_lt}
 use Rattle.std.proofs.lemmas.List.{get_or_append_left, get_or_at, get_or_default, length_push}
 use Rattle.std.proofs.lemmas.List.Elements.{Contains-append_left, Contains-push}
 use Rattle.geo_sign.specs.Tetrahedron.{Tetrahedron, facet_of, IsRotated, IsTurned}
+use Rattle.geo_sign.proofs.Rotations.{turned_back, turned_turned}
 use Rattle.tetra_store.specs.declared.link.Cell.{Cell}
 use Rattle.tetra_store.specs.declared.fan.Facet.{Facet}
 use Rattle.tetra_store.specs.Links.{Links, slot_at}
 use Rattle.tetra_store.specs.Fan.{fan_facet, fan_outer, no_facet}
 use Rattle.tetra_store.specs.Steps.{ArePut, IsNamed, IsRenamed, AreNamed, IsNaming}
-use Rattle.tetra_store.proofs.Facets.{both_turned, turned_sym}
 
 -- a number of a longer list
 pub pushed_cases : (ids : List ℕ) (key i : ℕ) → i < length (ids ++ key ∷ [])
@@ -81,24 +81,7 @@ ArePut_put old mid new cell ids key put vacant here others small = record {
         get_or_read (y ∷ ys) zero x l e = e
         get_or_read (y ∷ ys) (suc k) x l e = get_or_read ys k x (omega arith) e
 
-pub ArePut_none : (slots : List (Option Cell)) (cell : ℕ → Cell) → ArePut slots slots cell []
-ArePut_none slots cell = record {
-  small = λ i l. absurd (omega arith);
-  fresh = λ i l. absurd (omega arith);
-  put = λ i l. absurd (omega arith);
-  distinct = λ i j l m e. absurd (omega arith);
-  kept = λ x. inl refl;
-}
-
 -- ---- naming
-
-pub AreNamed_none : (a : Links) (fan : List Facet) (ids : List ℕ) → AreNamed a a fan ids 0
-AreNamed_none a fan ids = record {
-  live = λ x. refl;
-  same = λ x. refl;
-  named = λ i y l e. absurd (omega arith);
-  kept = λ x k. inl refl;
-}
 
 pub AreNamed_skip : (a m : Links) (fan : List Facet) (ids : List ℕ) (i : ℕ) → AreNamed a m fan ids i → fan_outer fan i ≡ None
     → AreNamed a m fan ids (i + 1)
@@ -138,9 +121,8 @@ module _ (a m b : Links) (fan : List Facet) (ids : List ℕ) (i y : ℕ) (h : Ar
         let t : IsTurned (fan_facet fan j) (facet_of (a.at y) n.side) =
         subst (λ (s : ℕ). IsTurned (fan_facet fan j) (facet_of (a.at y) s)) e.1
         (subst (λ (w : ℕ). IsTurned (fan_facet fan j) (facet_of (a.at w) g.side)) e.0 g.turned) in
-        let same : j ≡ i = once j i (omega arith) l (both_turned (facet_of (a.at y) n.side) (fan_facet fan j) (fan_facet fan i)
-        (turned_sym (fan_facet fan j) (facet_of (a.at y) n.side) t)
-        (turned_sym (fan_facet fan i) (facet_of (a.at y) n.side) turned_now)) in
+        let same : j ≡ i = once j i (omega arith) l (turned_turned (fan_facet fan j) (facet_of (a.at y) n.side)
+        (fan_facet fan i) t (turned_back (fan_facet fan i) (facet_of (a.at y) n.side) turned_now)) in
         absurd (omega arith)
     | inr apart ↦
         record { side = g.side; side_in = g.side_in; turned = g.turned; named = n.written.others z g.side apart ∙ g.named }

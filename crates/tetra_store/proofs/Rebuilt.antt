@@ -11,9 +11,9 @@ use Rattle.tetra_store.specs.declared.fan.Facet.{Facet}
 use Rattle.tetra_store.specs.Links.{Links, IsLive, IsLinked}
 use Rattle.tetra_store.specs.Store.{vertices_at}
 use Rattle.geo_sign.specs.Edges.{over, HasVertex}
+use Rattle.geo_sign.proofs.Rotations.{turned_turned, turned_back}
 use Rattle.tetra_store.specs.Fan.{fan_facet, fan_outer, IsFan, AreEdges}
 use Rattle.tetra_store.specs.Steps.{IsMated, IsNamed, IsRenamed}
-use Rattle.tetra_store.proofs.Facets.{both_turned}
 
 pub record IsRebuilt (a b : Links) (old : List ℕ) (fan : List Facet) (p : ℕ) (ids : List ℕ) : Type 0 where
   pub stays : (x : ℕ) → IsLive a x → ¬ Contains old x → IsLive b x
@@ -78,7 +78,7 @@ wall_back v f w = around w.agree
 pub wall_turned : (v : Vertices) (f g : geo.DirectedFacet) → IsTurned f g → IsWall v f → IsWall v g
 wall_turned v f g t w =
     let b : geo.DirectedFacet = facet f.a f.c f.b in
-    wall_rotated v b g (both_turned f b g (inl refl) t) (wall_back v f w)
+    wall_rotated v b g (turned_turned b f g (turned_back f b (inl refl)) t) (wall_back v f w)
 
 pub wall_below : (v : Vertices) (f : geo.DirectedFacet) (u : ℕ) → IsWall v f → HasVertex f u → u < 8
 wall_below v f u w (inl e) = let h = w.first in omega arith

@@ -1,8 +1,7 @@
 -- Tests of small tables that are computed, and what they say.
-use Rattle.std.proofs.Common.{ℕ, zero, suc, ◌≡◌, ◌<◌, Bool, true, false, not, cond, ◌&&◌, ◌||◌, ◌==◌, nat_lt, bit_and, ℤ, pos}
-use Rattle.std.proofs.Common.{neg_ℤ, ◌<ℤ◌, int_lt, refl, sym, ap, ◌∙◌, ◌⊎◌, inl, inr, subst, arith}
-use Rattle.std.proofs.lemmas.Bool.{cases_lt, eqb-true, eq-eqb, false≢true}
-use borrow.Author.Tests.{ltb-true}
+use Rattle.std.proofs.Common.{ℕ, zero, suc, ◌≡◌, ◌<◌, Bool, true, false, not, cond, ◌&&◌, ◌||◌, ◌==◌, bit_and, ℤ, pos}
+use Rattle.std.proofs.Common.{neg_ℤ, refl, sym, ap, ◌∙◌, inl, inr, subst, arith}
+use Rattle.std.proofs.lemmas.Bool.{cases_lt, eqb-true, eq-eqb, false≢true, or_left, or_right, and_from, or_cases, and_parts}
 use Rattle.std.proofs.lemmas.Int.{ints}
 use Rattle.geo_sign.specs.Point.{Point, corner_point}
 use Rattle.geo_sign.specs.declared.point.TheConstants.{BOX_LIMIT}
@@ -14,38 +13,10 @@ abbrev pub every : ℕ → (ℕ → Bool) → Bool
 every zero f = true
 every (suc n) f = every n f && f n
 
-pub and_left : (a b : Bool) → (a && b) ≡ true → a ≡ true
-and_left true b h = refl
-and_left false b h = absurd (false≢true h)
-
-pub and_right : (a b : Bool) → (a && b) ≡ true → b ≡ true
-and_right true b h = h
-and_right false b h = absurd (false≢true h)
-
-pub and_both : (a b : Bool) → a ≡ true → b ≡ true → (a && b) ≡ true
-and_both true b h k = k
-and_both false b h k = absurd (false≢true h)
-
-pub or_cases : (a b : Bool) → (a || b) ≡ true → (a ≡ true) ⊎ (b ≡ true)
-or_cases true b h = inl refl
-or_cases false b h = inr h
-
-pub or_left : (a b : Bool) → a ≡ true → (a || b) ≡ true
-or_left true b h = refl
-or_left false b h = absurd (false≢true h)
-
-pub or_right : (a b : Bool) → b ≡ true → (a || b) ≡ true
-or_right true b h = refl
-or_right false b h = h
-
 -- not a, or b
 pub implied : (a b : Bool) → (not a || b) ≡ true → a ≡ true → b ≡ true
 implied true b h k = h
 implied false b h k = absurd (false≢true k)
-
-pub not_true : (a : Bool) → not a ≡ true → a ≡ true → ⊥
-not_true true h k = false≢true h
-not_true false h k = false≢true k
 
 abbrev pub same : Bool → Bool → Bool
 same true b = b
@@ -56,28 +27,12 @@ same_is true b h = sym h
 same_is false true h = absurd (false≢true h)
 same_is false false h = refl
 
-pub same_refl : (a : Bool) → same a a ≡ true
-same_refl true = refl
-same_refl false = refl
-
 pub every_at : (n : ℕ) (f : ℕ → Bool) → every n f ≡ true → (k : ℕ) → k < n → f k ≡ true
 every_at zero f h k l = absurd (omega arith)
 every_at (suc n) f h k l = elim (cases_lt k n) [
-  | inl less ↦ every_at n f (and_left (every n f) (f n) h) k less
-  | inr more ↦ let e : n ≡ k = omega arith in subst (λ (i : ℕ). f i ≡ true) e (and_right (every n f) (f n) h)
+  | inl less ↦ every_at n f (and_parts (every n f) (f n) h).0 k less
+  | inr more ↦ let e : n ≡ k = omega arith in subst (λ (i : ℕ). f i ≡ true) e (and_parts (every n f) (f n) h).1
 ]
-
-pub lt_of : (a b : ℕ) → nat_lt a b ≡ true → a < b
-lt_of a b h = ltb-true a b h
-
-pub eq_of : (a b : ℕ) → (a == b) ≡ true → a ≡ b
-eq_of a b h = eqb-true a b h
-
-pub eq_refl : (a : ℕ) → (a == a) ≡ true
-eq_refl a = eq-eqb a a refl
-
-pub above_of : (z : ℤ) → int_lt (pos 0) z ≡ true → pos 0 <ℤ z
-above_of z h = grind (arith, ints)
 
 -- ---- facets
 
@@ -92,14 +47,16 @@ turned_test f g = is_facet g f.a f.c f.b || (is_facet g f.c f.b f.a || is_facet 
 
 facet_is : (g : geo.DirectedFacet) (a b c : ℕ) → is_facet g a b c ≡ true → g ≡ facet a b c
 facet_is g a b c h =
-    let x = eq_of g.a a (and_left (g.a == a) ((g.b == b) && (g.c == c)) h) in
-    let r = and_right (g.a == a) ((g.b == b) && (g.c == c)) h in
-    let y = eq_of g.b b (and_left (g.b == b) (g.c == c) r) in
-    let z = eq_of g.c c (and_right (g.b == b) (g.c == c) r) in
+    let p = and_parts (g.a == a) ((g.b == b) && (g.c == c)) h in
+    let q = and_parts (g.b == b) (g.c == c) p.1 in
+    let x = eqb-true g.a a p.0 in
+    let y = eqb-true g.b b q.0 in
+    let z = eqb-true g.c c q.1 in
     ap (λ (t : ℕ). facet t g.b g.c) x ∙ (ap (λ (t : ℕ). facet a t g.c) y ∙ ap (λ (t : ℕ). facet a b t) z)
 
 facet_yes : (a b c : ℕ) → is_facet (facet a b c) a b c ≡ true
-facet_yes a b c = and_both (a == a) ((b == b) && (c == c)) (eq_refl a) (and_both (b == b) (c == c) (eq_refl b) (eq_refl c))
+facet_yes a b c =
+    and_from (a == a) ((b == b) && (c == c)) (eq-eqb a a refl) (and_from (b == b) (c == c) (eq-eqb b b refl) (eq-eqb c c refl))
 
 pub turned_of : (f g : geo.DirectedFacet) → turned_test f g ≡ true → IsTurned f g
 turned_of f g h = elim (or_cases (is_facet g f.a f.c f.b) (is_facet g f.c f.b f.a || is_facet g f.b f.a f.c) h) [
@@ -126,10 +83,10 @@ rotated_yes f g (inr (inr e)) = or_right (is_facet g f.a f.b f.c) (is_facet g f.
 abbrev pub low : (bit k : ℕ) → Bool
 low bit k = bit_and k bit == 0
 
-abbrev side_of : Bool → ℤ
+abbrev pub side_of : Bool → ℤ
 side_of b = cond b (neg_ℤ (pos BOX_LIMIT)) (pos BOX_LIMIT)
 
-side_same : (a b : Bool) → side_of a ≡ side_of b → same a b ≡ true
+pub side_same : (a b : Bool) → side_of a ≡ side_of b → same a b ≡ true
 side_same true true h = refl
 side_same true false h = absurd (omega (arith, ints))
 side_same false true h = absurd (omega (arith, ints))
@@ -148,10 +105,9 @@ agree_yes : (v : Vertices) → AreCorners v → (bit : ℕ) (f : geo.DirectedFac
     → ((k : ℕ) → x (corner_point k) ≡ side_of (low bit k))
     → agree_test bit f ≡ true → (x (v.at f.a) ≡ x (v.at f.b)) × (x (v.at f.a) ≡ x (v.at f.c))
 agree_yes v h bit f a b c x is t =
-    let p =
-    same_is (low bit f.a) (low bit f.b) (and_left (same (low bit f.a) (low bit f.b)) (same (low bit f.a) (low bit f.c)) t) in
-    let q =
-    same_is (low bit f.a) (low bit f.c) (and_right (same (low bit f.a) (low bit f.b)) (same (low bit f.a) (low bit f.c)) t) in
+    let both = and_parts (same (low bit f.a) (low bit f.b)) (same (low bit f.a) (low bit f.c)) t in
+    let p = same_is (low bit f.a) (low bit f.b) both.0 in
+    let q = same_is (low bit f.a) (low bit f.c) both.1 in
     let at_a : x (v.at f.a) ≡ side_of (low bit f.a) = ap x (h f.a a) ∙ is f.a in
     let at_b : x (v.at f.b) ≡ side_of (low bit f.b) = ap x (h f.b b) ∙ is f.b in
     let at_c : x (v.at f.c) ≡ side_of (low bit f.c) = ap x (h f.c c) ∙ is f.c in
@@ -164,7 +120,7 @@ agree_no v h bit f a b c x is t =
     let at_a : x (v.at f.a) ≡ side_of (low bit f.a) = ap x (h f.a a) ∙ is f.a in
     let at_b : x (v.at f.b) ≡ side_of (low bit f.b) = ap x (h f.b b) ∙ is f.b in
     let at_c : x (v.at f.c) ≡ side_of (low bit f.c) = ap x (h f.c c) ∙ is f.c in
-    and_both (same (low bit f.a) (low bit f.b)) (same (low bit f.a) (low bit f.c))
+    and_from (same (low bit f.a) (low bit f.b)) (same (low bit f.a) (low bit f.c))
     (side_same (low bit f.a) (low bit f.b) (sym at_a ∙ (t.0 ∙ at_b)))
     (side_same (low bit f.a) (low bit f.c) (sym at_a ∙ (t.1 ∙ at_c)))
 

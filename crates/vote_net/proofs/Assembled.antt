@@ -26,11 +26,12 @@ use Rattle.vote_net.specs.Tables.{id_of_row, cell_of_row, facet_of_side, number_
 use Rattle.vote_net.specs.Tables.{CanJoin, other_of, arc_from}
 use Rattle.vote_net.proofs.CellSides.{across_has}
 use Rattle.vote_net.proofs.Entries.{IsRowAt, IsSideAt, row_is, side_is}
-use Rattle.vote_net.proofs.Stored.{listed, live, live_in_range}
+use Rattle.vote_net.proofs.Stored.{listed, live}
 use Rattle.vote_net.proofs.Nodes as made
 use Rattle.vote_net.proofs.Nodes.{no_row, no_side}
 use Rattle.vote_net.proofs.Sorting.{sorted_of}
 use Rattle.tetra_store.specs.Stored.{live_of}
+use Rattle.tetra_store.proofs.Observed.{slot_in}
 
 -- the rows and the sides of a store's cells, in whatever order
 pub record AreListed (slots : List (Option Cell)) (fixed : List Bool) (rows : List Row) (sides : List Side) : Type 0 where
@@ -49,7 +50,7 @@ module _ (s : Scene) (slots : List (Option Cell)) (crossed behind : List ℕ) (f
       (Contains-permutation sides (all_open fixed slots) x (IsPermutation-sym (all_open fixed slots) sides lists.moved_sides) h)
 
   pub ids_below : (r : Row) → Contains rows r → id_of_row r < length fixed
-  ids_below r h = let l = live_in_range slots r.id (row_at_is r h).live in let n = asked.flags.count in omega (arith, l, n)
+  ids_below r h = let l = slot_in slots r.id (row_at_is r h).live in let n = asked.flags.count in omega (arith, l, n)
 
   pub rows_apart : AreApart id_of_row rows
   rows_apart = made.apart s slots fixed asked.cells asked.few rows lists.moved
@@ -57,7 +58,7 @@ module _ (s : Scene) (slots : List (Option Cell)) (crossed behind : List ℕ) (f
   pub numbers_below : (x : Side) → Contains sides x → number_of_side x < length crossed
   numbers_below x h =
       let p = side_at_is x h in
-      let l = live_in_range slots x.id p.live in
+      let l = slot_in slots x.id p.live in
       let k = p.in_range in
       let n = asked.crossings.count in
       omega (arith, l, k, n)
@@ -70,11 +71,11 @@ module _ (s : Scene) (slots : List (Option Cell)) (crossed behind : List ℕ) (f
   can_join fits x h =
       let p = side_at_is x h in
       let n = asked.crossings.count in
-      let l = live_in_range slots x.id p.live in
+      let l = slot_in slots x.id p.live in
       let b =
       across_has s.vertices (live_of slots) (links_of slots).at (links_of slots).next asked.cells x.id x.side p.other
       (listed slots x.id p.live) p.in_range p.next in
-      let m = live_in_range slots p.other (live slots p.other b.0) in
+      let m = slot_in slots p.other (live slots p.other b.0) in
       let other : other_of slots x ≡ p.other = ap (λ (o : Option ℕ). unwrap_or o 0) p.next in
       record {
         live = p.live;

@@ -1,19 +1,19 @@
 -- Counts do not depend on how a facet or a cell is written: each test of a sight says the same of a rotated facet, and of a
 -- cell written anew, and so does the test for a corner.
-use Rattle.std.proofs.Common.{◌≡◌, refl, ap, ap₂, sym, Bool, true, false, ◌||◌, nat_lt}
+use Rattle.std.proofs.Common.{◌≡◌, ap, ap₂, sym, Bool, ◌||◌, nat_lt}
+use mathlib.Core.Path.{fun_ext}
 use Rattle.std.specs.List.{list_any}
 use Rattle.geo_sign.specs.Point.{Point}
 use Rattle.geo_sign.specs.Rational.{displaced}
 use Rattle.geo_sign.specs.Tetrahedron.{Tetrahedron}
 use Rattle.geo_sign.specs.Cells.{written}
 use Rattle.geo_sign.specs.Writings.{IsRewritten}
-use Rattle.geo_sign.proofs.Rewritings.{carry_value, same_behind, same_cell_of}
+use Rattle.geo_sign.proofs.Rewritings.{carry_value, same_behind, same_cell_of, or_spun, or_swapped}
 use Rattle.geo_sign.proofs.Rotations.{crossed_rotated}
 use Rattle.flow_net.specs.declared.votes.Sight.{Sight}
 use Rattle.flow_net.specs.Weights.{weight_where}
 use Rattle.visibility.specs.Scenes.{scanner_point}
 use Rattle.visibility.specs.Votes.{crossings, sights_before, is_fixed, has_corner}
-use Rattle.visibility.proofs.Members.{equal}
 use Rattle.tetra_store.specs.Links.{links_of}
 use Rattle.vote_net.specs.CountLaws.{FacetCountLaw, CellCountLaw}
 use Rattle.vote_net.specs.Counts.{row_of}
@@ -24,25 +24,7 @@ pub facet_count_law : FacetCountLaw
 unfolding crossings
 facet_count_law s f g r =
     ap (λ (p : Sight → Bool). weight_where p s.sights)
-    (equal (λ (x : Sight). sym (crossed_rotated s.vertices x.vertex (scanner_point s.scanners x.scanner) f g r)))
-
--- four tests in another order
-or_spun : (a b c d : Bool) → (b || c || a || d) ≡ (a || b || c || d)
-or_spun true true c d = refl
-or_spun true false true d = refl
-or_spun true false false d = refl
-or_spun false true c d = refl
-or_spun false false true d = refl
-or_spun false false false d = refl
-
-or_swapped : (a b c d : Bool) → (b || a || d || c) ≡ (a || b || c || d)
-or_swapped true true c d = refl
-or_swapped true false c d = refl
-or_swapped false true c d = refl
-or_swapped false false true true = refl
-or_swapped false false true false = refl
-or_swapped false false false true = refl
-or_swapped false false false false = refl
+    (fun_ext (λ (x : Sight). sym (crossed_rotated s.vertices x.vertex (scanner_point s.scanners x.scanner) f g r)))
 
 corner_same : (t r : Tetrahedron) → IsRewritten t r → has_corner r ≡ has_corner t
 corner_same =
@@ -58,9 +40,9 @@ cell_count_law s slots cells id h =
     record {
       before =
           ap (λ (p : Sight → Bool). weight_where p s.sights)
-          (equal (λ (x : Sight). same_behind s.vertices x.vertex (scanner_point s.scanners x.scanner) t r w));
+          (fun_ext (λ (x : Sight). same_behind s.vertices x.vertex (scanner_point s.scanners x.scanner) t r w));
       fixed =
           ap₂ (λ (m n : Bool). m || n) (corner_same t r w)
           (ap (λ (p : Point → Bool). list_any p s.scanners)
-          (equal (λ (q : Point). same_cell_of s.vertices (displaced q) t r w)));
+          (fun_ext (λ (q : Point). same_cell_of s.vertices (displaced q) t r w)));
     }

@@ -144,21 +144,6 @@ or_or : (a b c : Bool) → ((a || b) || c) ≡ (a || (b || c))
 or_or true b c = refl
 or_or false b c = refl
 
-pub corners_fixed : (s : Store) (scanners : List Point) (flags : List Bool) → length s.slots ≤ length flags →
-    ((id : ℕ) → IsLive (links_of s.slots) id → flag_at flags id ≡ has_corner ((links_of s.slots).at id)) →
-    AreFixedTo s scanners 0 flags
-corners_fixed s scanners flags l h =
-    record {
-      fits = l;
-      flagged = λ id live.
-          h id live ∙ (or_false (has_corner ((links_of s.slots).at id))
-          ∙ ap (λ (xs : List Point). has_corner ((links_of s.slots).at id) || holds s xs id) (sym (none scanners)));
-    }
-  where
-    none : (xs : List Point) → take 0 xs ≡ []
-    none [] = refl
-    none (x ∷ xs) = refl
-
 one_fixed : (s : Store) (scanners : List Point) (n found : ℕ) (flags : List Bool) → n < length scanners → found < length flags →
     IsScannerCell s (get_or scanners n origin) found → AreFixedTo s scanners n flags →
     AreFixedTo s scanners (n + 1) (set flags found true)

@@ -4,9 +4,9 @@
 -- those of the cells as the store has them are those of facets from any vertex on and of rows.
 use Rattle.std.proofs.Common.{ℕ, ◌<◌, ◌≤◌, ◌+◌, ◌^◌, ◌≡◌, refl, sym, ap, subst, ◌∙◌, arith, Bool, true, false, cond, ◌||◌, List}
 use Rattle.std.proofs.Common.{◌++◌, length, slice_index_or}
+use mathlib.Core.Path.{fun_ext}
 use Rattle.std.specs.List.{list_any}
 use Rattle.std.specs.List.Sorted.{IsPermutation}
-use Rattle.std.proofs.lemmas.List.{length-append}
 use Rattle.std.proofs.lemmas.List.Sorted.{sum_by-IsPermutation}
 use Rattle.geo_sign.specs.Boxes.{inserted_vertices}
 use Rattle.geo_sign.specs.Point.{Point}
@@ -16,13 +16,13 @@ use Rattle.geo_sign.specs.Tetrahedron.{Tetrahedron, DirectedFacet, facet_of}
 use Rattle.geo_sign.specs.Tie.{height}
 use Rattle.geo_sign.specs.Vertices as all
 use Rattle.geo_sign.specs.Vertices.{Vertices, corners, point_of}
+use Rattle.geo_sign.proofs.Corners.{vertex_count}
 use Rattle.flow_net.specs.Nets.{flag_at}
 use Rattle.flow_net.specs.declared.votes.Settings.{Settings}
 use Rattle.flow_net.specs.declared.votes.Sight.{Sight}
 use Rattle.flow_net.specs.Weights.{IsSightList, weight_where}
 use Rattle.visibility.specs.Scenes.{Scene, scene_of, scanner_point}
 use Rattle.visibility.specs.Votes.{has_corner, crossings}
-use Rattle.visibility.proofs.Members.{equal}
 use Rattle.tetra_store.specs.Links.{links_of, IsLive}
 use Rattle.tetra_store.specs.Store.{Store, IsStore, vertices_at, vertices_of}
 use Rattle.tetra_store.specs.Delaunay.{IsDelaunay}
@@ -54,9 +54,6 @@ counted_anyhow s scanners sights walked crossed behind p h =
     same test = sum_by-IsPermutation (λ (x : Sight). cond (test x) (added_by x) 0) sights walked p
 
 -- ---- the vertices
-pub count_of : (points : List Point) → length (corners ++ points) ≡ 8 + length points
-count_of points = let l = length-append corners points in omega (arith, l)
-
 abbrev counted : List Point → List Bool → ℕ → Vertices
 counted points inserted n = record {
   at = point_of points;
@@ -66,7 +63,7 @@ counted points inserted n = record {
 }
 
 seen : (s : Store) (points : List Point) → s.points ≡ corners ++ points → vertices_of s ≡ inserted_vertices points s.inserted
-seen s points e = ap (λ (ps : List Point). vertices_at ps s.inserted) e ∙ ap (counted points s.inserted) (count_of points)
+seen s points e = ap (λ (ps : List Point). vertices_at ps s.inserted) e ∙ ap (counted points s.inserted) (vertex_count points)
 
 crossed_in : (points : List Point) (flags : List Bool) (p : ℕ) (q : RationalPoint) (f : DirectedFacet) →
     is_crossed (inserted_vertices points flags) p q f ≡ is_crossed (all.vertices_of points) p q f
@@ -118,7 +115,7 @@ module _ (s : Store) (points scanners : List Point) (sights : List Sight) (setti
             h.facets id k live l
             ∙ (sum_is_weight _ sights
             ∙ (ap (λ (test : Sight → Bool). weight_where test sights)
-            (equal (λ (x : Sight). crossed_is x.vertex (scanner_point scanners x.scanner) (facet_of (at id) k)))
+            (fun_ext (λ (x : Sight). crossed_is x.vertex (scanner_point scanners x.scanner) (facet_of (at id) k)))
             ∙ facet_count_law scene (facet_of (at id) k) f r));
       }
 
@@ -130,7 +127,7 @@ module _ (s : Store) (points scanners : List Point) (sights : List Sight) (setti
             h.cells id live
             ∙ (sum_is_weight _ sights
             ∙ (ap (λ (test : Sight → Bool). weight_where test sights)
-            (equal (λ (x : Sight). behind_is x.vertex (scanner_point scanners x.scanner) (at id)))
+            (fun_ext (λ (x : Sight). behind_is x.vertex (scanner_point scanners x.scanner) (at id)))
             ∙ sym (cell_count_law scene s.slots cells_are id live).before));
       }
 
@@ -143,7 +140,7 @@ module _ (s : Store) (points scanners : List Point) (sights : List Sight) (setti
         at = λ id live.
             h id live
             ∙ (ap (λ (test : Point → Bool). has_corner (at id) || list_any test scanners)
-            (equal (λ (q : Point). cell_of_is (displaced q) (at id)))
+            (fun_ext (λ (q : Point). cell_of_is (displaced q) (at id)))
             ∙ sym (cell_count_law scene s.slots cells_are id live).fixed);
       }
 
@@ -164,4 +161,4 @@ module _ (s : Store) (points scanners : List Point) (sights : List Sight) (setti
       })
     where
       count : 8 + length points ≤ 2 ^ 32
-      count = let n = store.vertices.few in let m = ap length e in let k = count_of points in omega (arith, n, m, k)
+      count = let n = store.vertices.few in let m = ap length e in let k = vertex_count points in omega (arith, n, m, k)

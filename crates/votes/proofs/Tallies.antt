@@ -1,25 +1,22 @@
 -- The counters after some of the sights. They are what these add, to begin with nothing; a counter stays below
 -- what all sights weigh, so it has room for one more.
-use Rattle.std.proofs.Common.{ℕ, ◌<◌, ◌≤◌, ◌+◌, ◌*◌, ◌^◌, ◌≡◌, sym, ap, ap₂, subst, ◌∙◌, arith, Bool, ◌&&◌, cond, List, All}
-use Rattle.std.proofs.Common.{length, take, get_or, slice_index, slice_index_or}
+use Rattle.std.proofs.Common.{ℕ, ◌<◌, ◌≤◌, ◌+◌, ◌*◌, ◌^◌, ◌≡◌, sym, ap, ap₂, subst, ◌∙◌, arith, Bool, ◌&&◌, cond, List}
+use Rattle.std.proofs.Common.{length, take, get_or, slice_index}
 use Rattle.std.proofs.lemmas.List.{take_all}
 use Rattle.std.proofs.lemmas.List.Sums.{sum_by_more}
-use Rattle.geo_sign.specs.declared.point.TheConstants.{DATA_LIMIT}
-use Rattle.geo_sign.specs.Point.{Point, origin, IsWithin}
+use Rattle.geo_sign.specs.Point.{Point}
 use Rattle.geo_sign.specs.Rational.{displaced}
 use Rattle.geo_sign.specs.Sights.{is_crossed, is_behind}
 use Rattle.geo_sign.specs.Tetrahedron.{facet_of}
-use Rattle.geo_sign.specs.Vertices.{Has}
 use Rattle.flow_net.specs.declared.votes.Sight.{Sight}
 use Rattle.flow_net.specs.Weights.{IsWeighed, IsSightList, weight_where}
 use Rattle.flow_net.proofs.WeightLemmas.{weight_is_sum, weight_so_far}
 use Rattle.visibility.specs.Scenes.{scanner_point}
 use Rattle.tetra_store.specs.Links.{links_of}
 use Rattle.tetra_store.specs.Store.{Store, vertices_of}
-use Rattle.sight.specs.Walks.{IsEndCell}
 use Rattle.votes.specs.declared.tally.Line.{Line}
-use Rattle.votes.specs.Counts.{IsInRange, added_by, sum_where, is_crossed_at, is_behind_at, AreScannerCells, AreCounted}
-use Rattle.votes.specs.Lines.{IsLineOf, IsLine, added_on, added_behind}
+use Rattle.votes.specs.Counts.{added_by, sum_where, is_crossed_at, is_behind_at, AreCounted}
+use Rattle.votes.specs.Lines.{IsLineOf, added_on, added_behind}
 
 abbrev crosses : Store → List Point → (id k : ℕ) → Sight → Bool
 crosses s scanners id k sight = is_crossed_at s sight.vertex (scanner_point scanners sight.scanner) id k
@@ -66,21 +63,6 @@ cell_room s scanners sights n crossed behind h l amount w id =
 -- ---- lines of sights
 abbrev pub sight_at : List Sight → ℕ → Sight
 sight_at sights n = get_or sights n (record { vertex = 0; scanner = 0; weight = 0 })
-
--- the line of a sight can be walked along
-pub is_line : (s : Store) (scanners : List Point) (cells : List ℕ) (sight : Sight) (line : Line)
-    → IsInRange (vertices_of s) scanners sight
-    → All (IsWithin DATA_LIMIT) scanners → AreScannerCells s scanners cells → IsLineOf scanners cells sight line → IsLine s line
-is_line s scanners cells sight line range within ends is =
-    record {
-      inserted = subst (λ (p : ℕ). Has (vertices_of s) p) (sym is.vertex) range.inserted;
-      data_vertex = let v = is.vertex in let m = range.data_vertex in omega (arith, v, m);
-      data_point = subst (λ (q : Point). IsWithin DATA_LIMIT q) (sym is.scanner) (within sight.scanner origin range.scanner);
-      end =
-          subst (λ (q : Point). IsEndCell s q line.end) (sym is.scanner)
-          (subst (λ (e : ℕ). IsEndCell s (slice_index_or scanners sight.scanner origin) e) (sym is.end)
-          (ends.at sight.scanner range.scanner).end);
-    }
 
 -- the line of a weighed sight adds 255 at most
 pub line_weight : (scanners : List Point) (cells : List ℕ) (sight : Sight) (line : Line) → IsWeighed sight

@@ -3,21 +3,21 @@
 -- So two walks can take turns: what the one has still to add stands beside the other. Each side stands among the facets of a
 -- sight once or not at all, as the sight crosses it or not, so at the end the amount has been added to exactly the crossed
 -- ones.
-use Rattle.std.proofs.Common.{ℕ, ◌<◌, ◌≤◌, ◌+◌, ◌*◌, ◌^◌, ◌≡◌, ◌≢◌, inl, inr, refl, sym, ap, ap₂, subst, ◌∙◌, arith, Bool, true}
+use Rattle.std.proofs.Common.{ℕ, ◌<◌, ◌≤◌, ◌+◌, ◌*◌, ◌^◌, ◌≡◌, ◌≢◌, refl, sym, ap, subst, ◌∙◌, arith, Bool, true}
 use Rattle.std.proofs.Common.{false, true≢false, ◌&&◌, cond, List, [], ◌∷◌, length, set, slice_index}
-use Rattle.std.proofs.lemmas.Bool.{and_parts, and_from, eqb-true, eq-eqb}
 use Rattle.std.proofs.lemmas.List.{get_or-set_same, get_or-set_other, length-set}
 use Rattle.geo_sign.specs.Point.{Point}
 use Rattle.geo_sign.specs.Rational.{displaced}
 use Rattle.geo_sign.specs.Sights.{is_crossed}
 use Rattle.geo_sign.specs.Tetrahedron.{facet_of}
 use Rattle.cell_laws.specs.Links.{Side}
-use Rattle.cell_laws.specs.Lists.{IsIn, count, one_if}
+use Rattle.cell_laws.specs.Lists.{count, one_if}
 use Rattle.cell_laws.specs.Paths.{is_that}
 use Rattle.cell_laws.proofs.RimSides.{same_side}
+use Rattle.cell_laws.proofs.SightPaths.{that_is, that_itself, count_none}
 use Rattle.tetra_store.specs.Links.{links_of, IsLive}
 use Rattle.tetra_store.specs.Store.{Store, vertices_of}
-use Rattle.tetra_walk.proofs.Bridge.{live_in_range}
+use Rattle.tetra_store.proofs.Observed.{slot_in}
 use Rattle.sight.specs.declared.along.Crossing.{Crossing}
 use Rattle.sight.specs.Walks.{Walk, IsSight, IsTaken}
 use Rattle.votes.specs.declared.tally.Line.{Line}
@@ -41,12 +41,6 @@ pub record IsCounting (s : Store) (amount : ℕ) (now : Walk) (beside total : (i
 -- what a walk adds from here on
 abbrev pub rest_of : (amount : ℕ) → Walk → (id k : ℕ) → ℕ
 rest_of amount w id k = adds amount (side id k) w.to_come
-
-that_is : (c d : Side) → is_that c d ≡ true → d ≡ c
-that_is c d h = let x = and_parts _ _ h in same_side d c (eqb-true d.at c.at x.0) (eqb-true d.side c.side x.1)
-
-that_itself : (c : Side) → is_that c c ≡ true
-that_itself c = and_from _ _ (eq-eqb c.at c.at refl) (eq-eqb c.side c.side refl)
 
 place_apart : (a b id k : ℕ) → b < 4 → k < 4 → 4 * id + k ≡ 4 * a + b → (id ≡ a) × (k ≡ b)
 place_apart a b id k l m e = (omega (arith, l, m, e), omega (arith, l, m, e))
@@ -105,14 +99,6 @@ adds_once amount c (d ∷ ds) b e = by (is_that c d) refl b e (λ z f. adds_once
         let rest : adds amount c ds ≡ cond b amount 0 = later b (omega (arith, none, e)) in
         omega (arith, here, rest)
 
-count_none : (cs : List Side) (c : Side) → ¬ IsIn cs c → count (is_that c) cs ≡ 0
-count_none [] c n = refl
-count_none (d ∷ ds) c n = ap₂ (λ x y. x + y) (by (is_that c d) refl) (count_none ds c (λ i. n (inr i)))
-  where
-    by : (b : Bool) → is_that c d ≡ b → one_if (is_that c d) ≡ 0
-    by true e = absurd (n (inl (that_is c d e)))
-    by false e = ap one_if e
-
 -- each side stands in a sight once if the sight crosses it, and else not at all
 once : (w : Walk) → IsSight w → (id k : ℕ) → k < 4 →
     count (is_that (side id k)) w.to_come ≡ one_if (is_crossed_at w.store w.vertex (displaced w.scanner) id k)
@@ -153,7 +139,7 @@ pub in_range : (s : Store) (from to : Walk) (xs : List ℕ) (c : Crossing) → f
     IsTaken from to c → 4 * to.at + to.entered < length xs
 in_range s from to xs c e h t =
     let l : IsLive (links_of s.slots) to.at = subst (λ (u : Store). IsLive (links_of u.slots) to.at) e t.live in
-    let r = live_in_range s.slots to.at l in
+    let r = slot_in s.slots to.at l in
     let m = t.side_in in
     omega (arith, r, m, h)
 

@@ -1,8 +1,7 @@
-use Rattle.std.proofs.Common.{ℕ, ◌≡◌, ◌<◌, List, All, sym, subst, ◌∙◌, length, get_or}
+use Rattle.std.proofs.Common.{ℕ, ◌≡◌, ◌<◌, List, All, sym, subst, length, get_or}
 use Rattle.geo_sign.specs.Point.{Point, IsWithin, origin}
 use Rattle.geo_sign.specs.declared.point.TheConstants.{DATA_LIMIT}
-use Rattle.merge.proofs.Distinct.{distinct, keep}
-use Rattle.cell_bench.proofs.Apart.{apart}
+use Rattle.merge.proofs.Distinct.{distinct, keep, apart}
 use Rattle.cell_bench.proofs.points.merged.Goals as goal
 
 pub returns-3-clause-within : goal.returns-3-clause-within

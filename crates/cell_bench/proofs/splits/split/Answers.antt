@@ -8,8 +8,8 @@ use Rattle.tetra_store.specs.Store.{vertices_of}
 use Rattle.tetra_store.specs.Fan.{CanReplace, IsReplaced}
 use Rattle.cell_laws.proofs.Laws.{found_law}
 use Rattle.cavity.proofs.Stores.{boxed, new_vertex}
-use Rattle.delaunay.proofs.Whole.{AreLiveCells, whole, partition}
-use Rattle.delaunay.proofs.Inserted.{can_replace, is_data, replaced, live_cells, over_has}
+use Rattle.delaunay.proofs.Whole.{AreLiveCells, whole}
+use Rattle.delaunay.proofs.Inserted.{can_replace, is_data, replaced, live_cells}
 use Rattle.cell_bench.proofs.splits.split.Given.{Over}
 use Rattle.cell_bench.proofs.splits.split.Goals as goal
 

@@ -1,5 +1,5 @@
-use Rattle.std.proofs.Common.{ap, sym, ◌∙◌, eqb, true≢false}
-use Rattle.cell_laws.proofs.Fan.{same_number}
+use Rattle.std.proofs.Common.{ap, sym, ◌∙◌, eqb, true≢false, refl}
+use Rattle.std.proofs.lemmas.Bool.{eq-eqb}
 use Rattle.sight.proofs.Steps.{distinct_at, ahead_there}
 use Rattle.sight.proofs.exit.exit.Goals as goal
 
@@ -18,4 +18,4 @@ returns-else-eq-clause-some c =
     let a = c.args in
     let end = c.requires.end c.in-Some.end c.in-Some.is in
     ahead_there a.t.now a.vertex a.s a.at a.v a.entered c.side_ahead.result c.in-Some.end c.facts.ensures c.requires.walking end
-    (λ i. true≢false (sym (same_number a.at) ∙ ap (eqb a.at) i ∙ sym c.if-eq.ensures)) c.side_ahead.ensures.only
+    (λ i. true≢false (sym (eq-eqb a.at a.at refl) ∙ ap (eqb a.at) i ∙ sym c.if-eq.ensures)) c.side_ahead.ensures.only

@@ -2,7 +2,8 @@ use Rattle.std.proofs.Common.{sym, ◌∙◌, arith}
 use Rattle.geo_sign.specs.Rational.{displaced}
 use Rattle.tetra_store.specs.Links.{tetrahedron_from}
 use Rattle.tetra_store.specs.Store.{vertices_of}
-use Rattle.sight.proofs.Exits.{has_own, opposite_ahead, at_vertex, at_index, one_ahead, first_ahead, second_ahead, third_ahead}
+use Rattle.tetra_store.proofs.Keeps.{vertex_index}
+use Rattle.sight.proofs.Exits.{has_own, opposite_ahead, at_vertex, one_ahead, first_ahead, second_ahead, third_ahead}
 use Rattle.sight.proofs.Exits.{first_else, yes, no}
 use Rattle.sight.proofs.exit.side_ahead.Goals as goal
 
@@ -19,7 +20,7 @@ returns-then-entered-eq-NO_SIDE-clause-only c =
     let h = at_vertex w a.vertex q t a.entered c.requires.entered (omega (arith, c.if-entered-eq-NO_SIDE.true)) in
     let e = opposite_ahead w a.vertex q t k c.requires.cell h x in
     c.requires.distinct k c.side_opposite.result x.side_in c.side_opposite.ensures.side
-    (sym (at_index a.v k x.side_in) ∙ sym e ∙ sym c.side_opposite.ensures.opposite))
+    (sym (vertex_index a.v k x.side_in) ∙ sym e ∙ sym c.side_opposite.ensures.opposite))
 
 pub returns-then-is_past-2-clause-only : goal.returns-then-is_past-2-clause-only
 returns-then-is_past-2-clause-only c =

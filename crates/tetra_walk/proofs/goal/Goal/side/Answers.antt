@@ -2,7 +2,7 @@ use Rattle.std.proofs.Common.{ap, sym, subst, ◌∙◌}
 use Rattle.geo_sign.specs.Signs.{sign_of, first_sign}
 use Rattle.geo_sign.specs.declared.sign.Sign.{Sign}
 use Rattle.geo_sign.specs.Rational.{side}
-use Rattle.cell_laws.proofs.Cover.{point_side}
+use Rattle.geo_sign.proofs.Exchanges.{point_side}
 use Rattle.tetra_walk.specs.declared.goal.Goal.{Goal}
 use Rattle.tetra_walk.specs.Goals.{place_of, IsGoal}
 use Rattle.tetra_walk.proofs.NearSides.{towards_side, behind_side}
