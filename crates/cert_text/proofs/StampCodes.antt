@@ -17,6 +17,7 @@ use Rattle.cert_text.specs.Stamps.{StampView, IsDigest, IsFixed, IsStamp, IsVers
 use Rattle.cert_text.specs.Texts.{title, stamped_title, scan_word, unit_word, scanner_word, none_line, scan_line, place_line}
 use Rattle.cert_text.specs.Texts.{fixed_line, stamp_text, version_text}
 use Rattle.geo_sign.specs.declared.point.TheConstants.{BOX_LIMIT, DATA_LIMIT}
+use Rattle.geo_sign.proofs.Bounds.{data_in_box}
 
 -- ---- the digest
 -- no digit is a line feed
@@ -48,10 +49,6 @@ scan_code v w r s a b e =
     (same_digest v w a.1 b.1 digits.0, digits.1)
 
 -- ---- the fixed scanner
-pub data_in_box : (p : Point) → IsWithin DATA_LIMIT p → IsWithin BOX_LIMIT p
-data_in_box p h =
-    record { x_within = omega (arith, h.x_within); y_within = omega (arith, h.y_within); z_within = omega (arith, h.z_within) }
-
 pub data_code : IsCode (IsWithin DATA_LIMIT) point_line
 data_code = code_fewer (IsWithin DATA_LIMIT) (IsWithin BOX_LIMIT) point_line data_in_box point_code
 
@@ -88,7 +85,7 @@ fixed_code v w r s a b e =
     (sym (append_assoc scanner_word (place_line v) r) ∙ e ∙ append_assoc scanner_word (place_line w) s))
 
 -- ---- the whole stamp
-stamp_with : List ℕ → ℕ → Option Point → StampView
+pub stamp_with : List ℕ → ℕ → Option Point → StampView
 stamp_with d u p = record { digest = d; unit = u; fixed = p }
 
 pub stamp_parts : (s : StampView) (r : List ℕ)

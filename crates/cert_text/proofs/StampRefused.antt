@@ -17,11 +17,12 @@ use Rattle.mesh_ply.specs.Texts.{IsCoordinate, point_line}
 use Rattle.mesh_ply.proofs.MeshForms.{point_is, own_place}
 use Rattle.mesh_ply.proofs.MeshCodes.{point_code}
 use Rattle.cert_text.specs.Stamps.{StampView, IsDigest, IsFixed, IsStamp, IsVersion}
-use Rattle.cert_text.specs.Texts.{stamped_title, scan_word, unit_word, scanner_word, none_line, scan_line, place_line}
+use Rattle.cert_text.specs.Texts.{stamped_title, scan_word, unit_word, scanner_word, scan_line, place_line}
 use Rattle.cert_text.specs.Texts.{fixed_line, stamp_text, version_text}
 use Rattle.cert_text.specs.Refusals.{RefusedLine, AtLine, RefusedStamp, RefusedVersion}
-use Rattle.cert_text.proofs.StampCodes.{scan_code, scan_parts, stamp_parts, stamped_parts, digits_lack, data_in_box}
+use Rattle.cert_text.proofs.StampCodes.{scan_code, scan_parts, stamp_parts, stamped_parts, digits_lack}
 use Rattle.geo_sign.specs.declared.point.TheConstants.{BOX_LIMIT, DATA_LIMIT}
+use Rattle.geo_sign.proofs.Bounds.{data_in_box}
 
 -- ---- a line of a form
 line_once : {A : Type 0} (P : A → Type 0) (line_of : A → List ℕ) → IsCode P line_of
@@ -99,12 +100,6 @@ no_digest_line text behind is lacks =
         (ap (λ (t : List ℕ). get_or t (length front) 0) e
         ∙ (get_or-append_right front (10 ∷ more) (length front) (length front) 0 refl (omega arith)
         ∙ ap (λ (i : ℕ). get_or (10 ∷ more) i 0) none))
-
--- neither the word nor a data point
-pub no_place : (text : List ℕ) → ((rest : List ℕ) → ¬ (text ≡ none_line ++ rest))
-    → BeginsWithNone (IsWithin DATA_LIMIT) point_line text → BeginsWithNone IsFixed place_line text
-no_place text word none None rest h e = word rest e
-no_place text word none (Some p) rest h e = none p rest (h p refl) e
 
 -- a point of the box that is no data point
 pub not_data : (text rest : List ℕ) (p : Point) → IsWithin BOX_LIMIT p → text ≡ point_line p ++ rest → ¬ IsWithin DATA_LIMIT p

@@ -94,13 +94,7 @@ lacks_name (file ∷ files) name none (suc k, lt, e) =
 apart_rest : (file : MemFile) (files : List MemFile) → FilesApart (file ∷ files) → FilesApart files
 apart_rest file files apart i j lt within = apart (suc i) (suc j) (omega arith) (omega arith)
 
-same_name : (q name : List ℕ) → bytes_eq q name ≡ true → q ≡ name
-same_name q name e = grind (arith, bytes_eq-Decides q name)
-
-bytes_eq-same : (name : List ℕ) → bytes_eq name name ≡ true
-bytes_eq-same name = grind (arith, bytes_eq-Decides name name)
-
-other_name : (q name : List ℕ) → q ≢ name → bytes_eq q name ≡ false
+pub other_name : (q name : List ℕ) → q ≢ name → bytes_eq q name ≡ false
 other_name q name ne = grind (arith, bytes_eq-Decides q name)
 
 put_first : {A : Type 0} (b : Bool) (x y z : A) → cond b x z ≡ cond b x (cond b y z)
@@ -117,7 +111,7 @@ more_at : (b : Bool) (q name more : List ℕ) (files : Files) (new : Option (Lis
     → new ≡ option_map (λ bytes. bytes ++ more) (files name)
     → cond b new (files q) ≡ cond b (option_map (λ bytes. bytes ++ more) (files q)) (files q)
 more_at true q name more files new is e =
-    e ∙ ap (λ (n : List ℕ). option_map (λ bytes. bytes ++ more) (files n)) (sym (same_name q name (sym is)))
+    e ∙ ap (λ (n : List ℕ). option_map (λ bytes. bytes ++ more) (files n)) (sym ((bytes_eq-Decides q name).0 (sym is)))
 more_at false q name more files new is e = refl
 
 -- the files after one of them was replaced by another of its name
@@ -132,13 +126,13 @@ files_of-set (other ∷ files) (suc i) file apart h e q =
     rw later
     (put_later (bytes_eq q (string_bytes other.name)) (bytes_eq q (name_at files i)) (content other) (content file)
     (files_of files q)
-    (λ here there. apart zero (suc i) (omega arith) h (sym (same_name _ _ here) ∙ same_name _ _ there)))
+    (λ here there. apart zero (suc i) (omega arith) h (sym ((bytes_eq-Decides _ _).0 here) ∙ (bytes_eq-Decides _ _).0 there)))
 
 -- the bytes under the name at a place
 pub files_of-at : (files : List MemFile) (i : ℕ) (d : MemFile) → FilesApart files → i < length files
     → files_of files (name_at files i) ≡ content (get_or files i d)
 files_of-at [] i d apart h = absurd (omega arith)
-files_of-at (file ∷ files) zero d apart h = rw (bytes_eq-same (string_bytes file.name)) refl
+files_of-at (file ∷ files) zero d apart h = rw ((bytes_eq-Decides (string_bytes file.name) (string_bytes file.name)).1 refl) refl
 files_of-at (file ∷ files) (suc i) d apart h =
     rw (other_name _ _ (λ e. apart zero (suc i) (omega arith) h (sym e)))
     (files_of-at files i d (apart_rest file files apart) (omega arith))

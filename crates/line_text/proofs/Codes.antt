@@ -93,11 +93,6 @@ pub none_fewer : {A : Type 0} (P Q : A → Type 0) (text_of : A → List ℕ) (t
     → BeginsWithNone Q text_of text → BeginsWithNone P text_of text
 none_fewer P Q text_of text are none = λ a rest h e. none a rest (are a h) e
 
-pub between_code : (end least greatest : ℕ) → end < 48 → greatest < 2 ^ 64
-    → IsCode (IsBetween least greatest) (λ n. ended n end)
-between_code end least greatest low fits =
-    λ m n r s a b e. ended_code m n end r s low (omega (arith, a.1)) (omega (arith, b.1)) e
-
 pub counted_between_code : (word : List ℕ) (least greatest : ℕ) → greatest < 2 ^ 64
     → IsCode (IsBetween least greatest) (counted word)
 counted_between_code word least greatest fits =

@@ -143,20 +143,6 @@ list_passed P line_of order code word n text rest rows r Next h few good front n
     rows_passed P line_of order code (length rows) (line_after n 1) (flat_map line_of rows ++ rest) rest rows r _ k
     (refl, good) refl never)
 
--- a list as the code has it, at its length, at a row, and whole
-pub list_unstated : {A : Type 0} (P : A → Type 0) (line_of : A → List ℕ) (order : Option (A → List ℕ)) (shown word : List ℕ)
-    (n : ℕ) (text : List ℕ) (r : LineRefusal) → shown ≡ word → RefusedNumber shown 0 (2 ^ 64 - 1) n text r
-    → RefusedList P line_of order word n text r
-list_unstated P line_of order shown word n text r e h = number_refused shown word 0 (2 ^ 64 - 1) n text r _ e h
-
-pub list_row : {A : Type 0} (P : A → Type 0) (line_of : A → List ℕ) (order : Option (A → List ℕ)) (shown word : List ℕ)
-    (n m count : ℕ) (text rest : List ℕ) (r : LineRefusal) → shown ≡ word → IsBetween 0 (2 ^ 64 - 1) count
-    → text ≡ counted shown count ++ rest → m ≡ line_after n 1 → IsRefusedRow P line_of order count m rest r
-    → RefusedList P line_of order word n text r
-list_row P line_of order shown word n m count text rest r e form f is h =
-    number_good shown word 0 (2 ^ 64 - 1) n count text rest r _ e form f
-    (inl (subst (λ (k : ℕ). IsRefusedRow P line_of order count k rest r) is h))
-
 pub list_refused : {A : Type 0} (P : A → Type 0) (line_of : A → List ℕ) (order : Option (A → List ℕ)) (word : List ℕ) (n : ℕ)
     (text : List ℕ) (r : LineRefusal) (Next : ℕ → List ℕ → Type 0) → RefusedList P line_of order word n text r
     → AtList P line_of order word n text r Next

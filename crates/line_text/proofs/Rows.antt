@@ -9,6 +9,7 @@ use Rattle.std.proofs.lemmas.List.Elements.{All-push}
 use Rattle.std.proofs.lemmas.List.Quantifiers.{all_pairs_push}
 use Rattle.std.proofs.lemmas.Bool.{cases_lt, eqb-true}
 use Rattle.geo_sign.specs.Rising.{IsBefore}
+pub use Rattle.geo_sign.proofs.Rising.{before_trans}
 use Rattle.line_text.specs.Numbers.{BeginsWithNone}
 use Rattle.line_text.specs.declared.refusal.LineRefusal.{LineRefusal}
 use Rattle.line_text.specs.declared.refusal.LineRefusal.TheVariants.{BadLine, Order, Cut, NoMemory}
@@ -27,15 +28,6 @@ WithMemory-weaker Cut P Q f p = f p
 WithMemory-weaker NoMemory P Q f p = tt
 
 -- ---- order
-pub before_trans : (xs ys zs : List ℕ) → IsBefore xs ys → IsBefore ys zs → IsBefore xs zs
-before_trans [] ys zs h k = absurd h
-before_trans (x ∷ xs) [] zs h k = absurd h
-before_trans (x ∷ xs) (y ∷ ys) [] h k = absurd k
-before_trans (x ∷ xs) (y ∷ ys) (z ∷ zs) (inl h) (inl k) = inl (omega arith)
-before_trans (x ∷ xs) (y ∷ ys) (z ∷ zs) (inl h) (inr k) = inl (omega (arith, k.0))
-before_trans (x ∷ xs) (y ∷ ys) (z ∷ zs) (inr h) (inl k) = inl (omega (arith, h.0))
-before_trans (x ∷ xs) (y ∷ ys) (z ∷ zs) (inr h) (inr k) = inr (h.0 ∙ k.0, before_trans xs ys zs h.1 k.1)
-
 -- a list that is not empty, cut before its last element
 pub last_split : {A : Type 0} (xs : List A) (d : A) → 0 < length xs
     → xs ≡ take (length xs - 1) xs ++ get_or xs (length xs - 1) d ∷ []

@@ -40,10 +40,6 @@ plain_too_great token n fits is great none z small e =
     let same : p.0 ≡ n = decimal_injective p.0 n (omega (arith, p.1)) fits (sym p.2 ∙ is) in
     omega (arith, same, p.1)
 
-pub plain_no_number : (token : List ℕ) → ((n : ℕ) → n < 2 ^ 64 → ¬ (token ≡ decimal n))
-    → ((rest : List ℕ) → ¬ (token ≡ (45 ∷ []) ++ rest)) → (z : ℤ) → mag z < 2 ^ 63 → ¬ (token ≡ signed_decimal z)
-plain_no_number token no_number none z small e = let p = plain_is token z small none e in no_number p.0 (omega (arith, p.1)) p.2
-
 -- ---- signed numbers at the front of a text
 pub signed_ended_is : (z : ℤ) (end : ℕ) (rest : List ℕ) → signed_ended z end ++ rest ≡ signed_decimal z ++ (end ∷ rest)
 signed_ended_is z end rest = append_assoc (signed_decimal z) (end ∷ []) rest

@@ -1,5 +1,5 @@
 -- Forms that a mesh is handed to, one after another.
-use Rattle.std.proofs.Common.{ℕ, ◌≡◌, ◌<◌, ◌≤◌, ◌+◌, ◌⊎◌, inl, inr, refl, ap, sym, ◌∙◌, subst, arith, List, length, set, get_or}
+use Rattle.std.proofs.Common.{ℕ, ◌≡◌, ◌<◌, ◌≤◌, ◌+◌, ◌⊎◌, inl, inr, sym, subst, arith, List, length, set, get_or}
 use Rattle.std.proofs.Common.{map, All}
 use Rattle.std.proofs.lemmas.List.{get_or-set_same, get_or-set_other, get_or-map, map-set, length-set, length-map}
 use Rattle.std.proofs.lemmas.Bool.{cases_eq, cases_lt}
@@ -38,10 +38,6 @@ one_driven k forms r points faces driven all =
           (λ n. driven.rest j d (omega arith) (omega (arith, length-set forms k r)));
     }
 
-pub all_driven : (k : ℕ) (forms : List Received) (points : List Point) (faces : List (List ℕ)) → AreDriven k forms points faces
-    → length forms ≤ k → All (λ r. HasAll r points faces) forms
-all_driven k forms points faces driven l = λ j d m. driven.done j d (omega arith) m
-
 -- no memory for the form at k
 pub driving_stopped : (k : ℕ) (forms : List Received) (r : Received) (points : List Point) (faces : List (List ℕ))
     → AreDriven k forms points faces → HasPrefix r points faces → All (λ r. HasFront r points faces) (set forms k r)
@@ -70,11 +66,6 @@ pub box_driven : {B : Type 0} (received : B → Received) (k : ℕ) (boxes : Lis
 box_driven received k boxes box points faces driven all =
     subst (λ (forms : List Received). AreDriven (k + 1) forms points faces) (sym (map-set received boxes k box))
     (one_driven k (map received boxes) (received box) points faces driven all)
-
-pub boxes_driven : {B : Type 0} (received : B → Received) (k : ℕ) (boxes : List B) (points : List Point) (faces : List (List ℕ))
-    → AreDriven k (map received boxes) points faces → length boxes ≤ k → All (λ r. HasAll r points faces) (map received boxes)
-boxes_driven received k boxes points faces driven l =
-    all_driven k (map received boxes) points faces driven (omega (arith, length-map boxes received))
 
 pub boxes_stopped : {B : Type 0} (received : B → Received) (k : ℕ) (boxes : List B) (box : B) (points : List Point)
     (faces : List (List ℕ)) → AreDriven k (map received boxes) points faces → HasPrefix (received box) points faces

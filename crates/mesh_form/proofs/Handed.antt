@@ -5,7 +5,7 @@ use Rattle.std.proofs.lemmas.List.{take_all, take_more, length-take-le}
 use Rattle.geo_sign.specs.Point.{Point}
 use Rattle.mesh_form.specs.declared.stage.Stage.{Stage}
 use Rattle.mesh_form.specs.declared.stage.Stage.TheVariants.{Fresh, Begun, Ended}
-use Rattle.mesh_form.specs.Received.{Received, IsFresh, HasPoints, HasFaces, HasPrefix, HasAll, begun, with_point, with_face}
+use Rattle.mesh_form.specs.Received.{Received, IsFresh, HasPoints, HasFaces, HasPrefix, HasAll, with_point, with_face}
 use Rattle.mesh_form.specs.Received.{ended}
 
 begun_not_ended : (s : Stage) → s ≡ Begun → s ≢ Ended
@@ -43,41 +43,12 @@ face_more k r s points faces h l e =
       front = front;
     })
 
--- ---- from one part to the next
-pub points_begun : (r s : Received) (points : List Point) (m : ℕ) → IsFresh r → s ≡ begun (length points) m r
-    → HasPoints 0 s points
-points_begun r s points m f e =
-    subst (λ (x : Received). HasPoints 0 x points) (sym e)
-    (record { stage = refl; due = refl; within = omega arith; front = f.no_points; no_faces = f.no_faces })
-
-pub faces_begun : (r : Received) (points : List Point) (faces : List (List ℕ)) → HasPoints (length points) r points
-    → r.faces_due ≡ length faces → HasFaces 0 r points faces
-faces_begun r points faces h due =
-    record {
-      stage = h.stage;
-      points_due = h.due;
-      all_points = h.front ∙ take_all (length points) points (omega arith);
-      due = due;
-      within = omega arith;
-      front = h.no_faces;
-    }
-
 -- ---- at the end
 pub prefix_of_fresh : (r : Received) (points : List Point) (faces : List (List ℕ)) → IsFresh r → HasPrefix r points faces
 prefix_of_fresh r points faces h =
     record {
       stage = fresh_not_ended r.stage h.stage;
       front_points = front_of r.points points 0 (omega arith) h.no_points;
-      front_faces = front_of r.faces faces 0 (omega arith) h.no_faces;
-      in_turn = λ l. absurd (omega (arith, ap length h.no_faces));
-    }
-
-pub prefix_of_points : (r : Received) (points : List Point) (faces : List (List ℕ)) (k : ℕ) → HasPoints k r points
-    → HasPrefix r points faces
-prefix_of_points r points faces k h =
-    record {
-      stage = begun_not_ended r.stage h.stage;
-      front_points = front_of r.points points k h.within h.front;
       front_faces = front_of r.faces faces 0 (omega arith) h.no_faces;
       in_turn = λ l. absurd (omega (arith, ap length h.no_faces));
     }

@@ -52,18 +52,16 @@ AreUsed facets facet = (v : ℕ) → is_vertex_of v facet ≡ true → is_used f
 are_used : (facets : List (List ℕ)) (k : ℕ) (d : List ℕ) → k < length facets → AreUsed facets (get_or facets k d)
 are_used facets k d l v h = list_any_at (is_vertex_of v) facets k d l h
 
-has_same : (v : ℕ) → (v == v) ≡ true
-has_same v = eq-eqb v v refl
-
 new_facet : (n : ℕ) (facets : List (List ℕ)) (facet : List ℕ) → IsFace n facet → AreUsed facets facet
     → IsFace (new_number facets n) (map (new_number facets) facet)
 new_facet n facets [] o h = absurd o
 new_facet n facets (a ∷ []) o h = absurd o
 new_facet n facets (a ∷ b ∷ []) o h = absurd o
 new_facet n facets (a ∷ b ∷ c ∷ []) o h =
-    let has_a : is_used facets a ≡ true = h a (or_left (a == a) _ (has_same a)) in
-    let has_b : is_used facets b ≡ true = h b (or_right (a == b) _ (or_left (b == b) _ (has_same b))) in
-    let has_c : is_used facets c ≡ true = h c (or_right (a == c) _ (or_right (b == c) _ (or_left (c == c) _ (has_same c)))) in (
+    let has_a : is_used facets a ≡ true = h a (or_left (a == a) _ (eq-eqb a a refl)) in
+    let has_b : is_used facets b ≡ true = h b (or_right (a == b) _ (or_left (b == b) _ (eq-eqb b b refl))) in
+    let has_c : is_used facets c ≡ true =
+    h c (or_right (a == c) _ (or_right (b == c) _ (or_left (c == c) _ (eq-eqb c c refl)))) in (
       number_less facets a b o.0 has_a,
       number_less facets a c o.1 has_a,
       number_apart facets b c o.2 has_b has_c,
@@ -77,7 +75,7 @@ before_new : (facets : List (List ℕ)) (f g : List ℕ) → IsBefore f g → Ar
 before_new facets [] [] h u = absurd h
 before_new facets [] (b ∷ ys) h u = absurd h
 before_new facets (a ∷ xs) [] h u = absurd h
-before_new facets (a ∷ xs) (b ∷ ys) (inl l) u = inl (number_less facets a b l (u a (or_left (a == a) _ (has_same a))))
+before_new facets (a ∷ xs) (b ∷ ys) (inl l) u = inl (number_less facets a b l (u a (or_left (a == a) _ (eq-eqb a a refl))))
 before_new facets (a ∷ xs) (b ∷ ys) (inr h) u =
     inr (ap (new_number facets) h.0, before_new facets xs ys h.1 (λ v m. u v (or_right (a == v) (is_vertex_of v xs) m)))
 

@@ -1,3 +1,3 @@
-mod DigitLemmas
+pub mod DigitLemmas
 mod ScaleLemmas
 pub mod PrintedLemmas

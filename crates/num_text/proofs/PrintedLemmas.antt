@@ -18,7 +18,7 @@ use Rattle.num_text.specs.Decimals.{is_exponent_mark, is_point, DecimalParts, pa
 use Rattle.num_text.proofs.DigitLemmas.{digit_there, whole_is, significant_value}
 use Rattle.num_text.specs.declared.decimal.TheConstants.{SCALED_LIMIT}
 
-digit_is_one : (d : ℕ) → 48 ≤ d → d ≤ 57 → is_ascii_digit d ≡ true
+pub digit_is_one : (d : ℕ) → 48 ≤ d → d ≤ 57 → is_ascii_digit d ≡ true
 digit_is_one d low high = grind (arith, nat_tests)
 
 -- digits, as std says it and as is said here
@@ -38,7 +38,7 @@ no_plus d le = grind (arith, nat_tests)
 no_minus : (d : ℕ) → 48 ≤ d → eqb d 45 ≡ false
 no_minus d le = grind (arith, nat_tests)
 
-unsigned : (ds : List ℕ) → list_all is_ascii_digit ds ≡ true → (behind_sign ds ≡ ds) × (is_minus ds ≡ false)
+pub unsigned : (ds : List ℕ) → list_all is_ascii_digit ds ≡ true → (behind_sign ds ≡ ds) × (is_minus ds ≡ false)
 unsigned [] all = (refl, refl)
 unsigned (d ∷ ds) all =
     let low = (digit_there (d ∷ ds) 0 all (omega arith)).0 in

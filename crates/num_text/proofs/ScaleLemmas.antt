@@ -4,7 +4,7 @@ use Rattle.std.proofs.Common.{List, [], ◌∷◌, ◌++◌, length, refl, sym, 
 use Rattle.std.specs.List.{list_all}
 use Rattle.std.specs.Char.{is_ascii_digit, digit_value}
 use Rattle.std.specs.Str.Parse.{digits_value_after}
-use Rattle.std.proofs.lemmas.Bool.{le-ltb, lt-ltb, ltb-false, cases_lt, cond-true, and_parts}
+use Rattle.std.proofs.lemmas.Bool.{le-ltb, lt-ltb, ltb-false, cases_lt, cond-true, and_parts, or_parts}
 use Rattle.std.proofs.lemmas.Nat.{pow-add}
 use Rattle.std.proofs.lemmas.List.{length-append}
 use Rattle.std.proofs.lemmas.List.Folds.{list_all-append}
@@ -14,11 +14,6 @@ use Rattle.num_text.specs.WholeNumbers.{significant, are_digits}
 use Rattle.num_text.specs.Decimals.{nearest, within_limit, DecimalParts, is_decimal, is_long, exponent_of}
 use Rattle.num_text.proofs.DigitLemmas.{value_below, value_small, significant_value, significant_digits}
 use Rattle.num_text.specs.declared.decimal.TheConstants.{SCALED_LIMIT}
-
-pub either_false : (a b : Bool) → (a || b) ≡ false → (a ≡ false) × (b ≡ false)
-either_false true b e = cc
-either_false false true e = cc
-either_false false false e = (refl, refl)
 
 pub marked_digits : (m d : Bool) → (not m || d) ≡ true → m ≡ true → d ≡ true
 marked_digits true d e m = e
@@ -190,7 +185,7 @@ exponent_digits p decimal marked =
 pub exponent_short : (p : DecimalParts) → is_long p ≡ false → length (significant p.exponent) ≤ 4
 exponent_short p short =
     ltb-false 4 (length (significant p.exponent))
-    (either_false (ltb 30 (length (significant (p.whole ++ p.fraction)))) (ltb 4 (length (significant p.exponent))) short).1
+    (or_parts (ltb 30 (length (significant (p.whole ++ p.fraction)))) (ltb 4 (length (significant p.exponent))) short).1
 
 pub exponent_is : (p : DecimalParts) → p.has_exponent ≡ true → digits_value_after 10 0 (significant p.exponent) ≡ exponent_of p
 exponent_is p marked =

@@ -27,9 +27,6 @@ pub record FitSoFar (kind : Kind) (body : List ℕ) (properties : List Property)
   pub each : (k : ℕ) (p : Property) (f : Field) → k < done
       → IsFieldOf kind body (get_or properties k p).shape (get_or fields k f)
 
-abbrev fits_at : Kind → List ℕ → Property → Field → Type 0
-fits_at kind body p f = IsFieldOf kind body p.shape f
-
 pub one_fits : (kind : Kind) (body : List ℕ) (properties : List Property) (done : ℕ) (fields : List Field) (p : Property)
     (f : Field) → done < length properties → p ≡ get_or properties done p
     → FitSoFar kind body properties done fields → IsFieldOf kind body p.shape f

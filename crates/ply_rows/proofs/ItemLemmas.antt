@@ -21,9 +21,6 @@ pub record AreRead (ts left : List Token) (place k end : ℕ) : Type 0 where
   pub left_is : left ≡ drop k ts
   pub end_is : end ≡ end_of place (take k ts)
 
-pub none_read : (ts : List Token) (place : ℕ) → AreRead ts ts place 0 place
-none_read ts place = record { within = omega arith; left_is = refl; end_is = refl }
-
 pub one_read : (ts left more : List Token) (t : Token) (place k end behind : ℕ) → AreRead ts left place k end → left ≡ t ∷ more
     → t.place + length t.bytes ≡ behind → AreRead ts more place (k + 1) behind
 one_read ts left more t place k end behind read is ends =
@@ -43,17 +40,6 @@ pub items_cut : (at : Place) (n : ℕ) (ts left : List Token) (place k end : ℕ
     → items_end at n place ts ≡ Err (Cut at)
 items_cut at n ts left place k end read is lt =
     rw (lt-ltb (length ts) n (omega (arith, ap length read.left_is, ap length is, length-drop k ts))) refl
-
-abbrev ended : ℕ → List Token → Result (ℕ × List Token) RowRefusal
-ended end left = Ok (end, left)
-
-pub items_read : (at : Place) (n : ℕ) (ts left : List Token) (place k end : ℕ) → AreRead ts left place k end → k ≡ n
-    → items_end at n place ts ≡ Ok (end, left)
-items_read at n ts left place k end read is =
-    let le : n ≤ length ts = omega (arith, read.within) in
-    rw (le-ltb (length ts) n le)
-    (ap (λ (m : ℕ). ended (end_of place (take m ts)) (drop m ts)) (sym is)
-    ∙ ap (λ (e : ℕ). ended e (drop k ts)) (sym read.end_is) ∙ ap (ended end) (sym read.left_is))
 
 abbrev pub with_first : ℕ → ℕ → ℕ × List Token → Result (Field × List Token) RowRefusal
 with_first n first x = Ok (record { place = first; size = x.0 - first; items = n }, x.1)
@@ -76,15 +62,6 @@ items_first at (suc m) t ts behind lt ends =
     subst (λ (b : ℕ). items_of at (suc m) (t ∷ ts) ≡ (items_end at (suc m - 1) b ts >>= with_first (suc m) t.place)) ends
     (ap (λ (k : ℕ). items_of at (suc k) (t ∷ ts)) (omega arith) ∙ first_item at (suc m - 1) t ts
     ∙ ap (λ (k : ℕ). items_end at (suc m - 1) (t.place + length t.bytes) ts >>= with_first (suc k) t.place) (omega arith))
-
-pub no_items : (at : Place) (n : ℕ) (ts : List Token) → n ≡ 0
-    → items_of at n ts ≡ Ok (record { place = 0; size = 0; items = 0 }, ts)
-no_items at n ts is =
-    subst (λ (k : ℕ). items_of at k ts ≡ Ok (record { place = 0; size = 0; items = 0 }, ts)) (sym is)
-    (rw (le-ltb (length ts) 0 (omega arith)) refl)
-
-pub no_token : (at : Place) (n : ℕ) (ts : List Token) → 0 < n → ts ≡ [] → items_of at n ts ≡ Err (Cut at)
-no_token at n ts lt is = rw (is, lt-ltb 0 n lt) refl
 
 -- tokens that were read were there
 pub items_there : (at : Place) (n place : ℕ) (ts : List Token) (read : ℕ × List Token) → items_end at n place ts ≡ Ok read

@@ -63,7 +63,3 @@ fields_done e r i properties tokens front total le so_far =
     let one : with_front front (fields_of e r i (drop i properties) tokens) ≡ Ok (front, tokens) =
     rw (drop_all i properties le) (ap (λ (fs : List Field). fields_and fs tokens) (append-nil front)) in
     sym so_far ∙ one
-
-pub none_before : (read : FieldsRead) → with_front [] read ≡ read
-none_before (Ok x) = refl
-none_before (Err e) = refl

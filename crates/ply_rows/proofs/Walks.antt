@@ -1,11 +1,10 @@
 -- The items of a list as they are walked: the first, and those behind it.
-use Rattle.std.proofs.Common.{ℕ, zero, suc, ◌+◌, ◌-◌, ◌*◌, ◌<◌, ◌≤◌, ◌≡◌, refl, ap, ◌∙◌, arith, List, ◌∷◌, map, length, take}
+use Rattle.std.proofs.Common.{ℕ, zero, suc, ◌+◌, ◌-◌, ◌<◌, ◌≤◌, ◌≡◌, refl, ap, ◌∙◌, arith, List, ◌∷◌, map, length, take}
 use Rattle.std.proofs.Common.{drop}
 use Rattle.std.proofs.lemmas.List.{length-map, length-take-le}
 use Rattle.ply_head.specs.declared.header.Kind.{Kind}
 use Rattle.ply_head.specs.declared.header.Kind.TheVariants.{Ascii, BinaryLittle, BinaryBig}
 use Rattle.ply_head.specs.declared.header.Scalar.{Scalar}
-use Rattle.ply_head.specs.declared.header.Scalar.TheVariants.{Char, Uchar, Short, Ushort, Int, Uint, Float, Double}
 use Rattle.ply_rows.specs.Tokens.{Token, tokens_at}
 use Rattle.ply_rows.specs.Binaries.{size_of, IsBinary}
 use Rattle.ply_rows.specs.Items.{pieces, items_from, HasItems}
@@ -37,18 +36,6 @@ pub value_first : (kind : Kind) (item : Scalar) (body : List ℕ) (place n : ℕ
 value_first Ascii item body place n binary some = absurd binary
 value_first BinaryLittle item body place n binary some = pieces_first n (size_of item) place body some
 value_first BinaryBig item body place n binary some = pieces_first n (size_of item) place body some
-
--- behind the first value there is room for the others
-pub values_left : (item : Scalar) (place n most : ℕ) → 0 < n → place + n * size_of item ≤ most
-    → place + size_of item + (n - 1) * size_of item ≤ most
-values_left Char place n most some h = omega arith
-values_left Uchar place n most some h = omega arith
-values_left Short place n most some h = omega arith
-values_left Ushort place n most some h = omega arith
-values_left Int place n most some h = omega arith
-values_left Uint place n most some h = omega arith
-values_left Float place n most some h = omega arith
-values_left Double place n most some h = omega arith
 
 -- there are as many as are asked for
 pieces_count : (n size place : ℕ) (body : List ℕ) → length (pieces n size place body) ≡ n

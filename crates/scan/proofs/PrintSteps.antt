@@ -5,7 +5,7 @@ use Rattle.std.proofs.Common.{◌∷◌, ◌++◌, length, filter, take, drop, g
 use Rattle.std.proofs.Common.{arith, append_assoc}
 use Rattle.std.specs.List.{flat_map, list_all}
 use Rattle.std.proofs.lemmas.Bool.{cases_lt, eq-eqb, ne_eqb}
-use Rattle.std.proofs.lemmas.List.{flat_map_more, take_more, take_all, take-append-drop, length-take-le}
+use Rattle.std.proofs.lemmas.List.{flat_map_more, take_more, take-append-drop, length-take-le}
 use Rattle.std.proofs.lemmas.List.Folds.{list_all-append}
 use Rattle.geo_sign.specs.Point.{Point}
 use Rattle.scan.specs.declared.scan.Seen.{Seen}
@@ -21,9 +21,6 @@ pub record IsCut (seen : List Seen) (place row : ℕ) : Type 0 where
   pub inside : place ≤ length seen
   pub before : (k : ℕ) (d : Seen) → k < place → (get_or seen k d).row < row
   pub after : (k : ℕ) (d : Seen) → place ≤ k → k < length seen → row ≤ (get_or seen k d).row
-
-pub first_cut : (seen : List Seen) → IsCut seen 0 0
-first_cut seen = record { inside = omega arith; before = λ k d lt. absurd (omega arith); after = λ k d ge inside. omega arith }
 
 -- from one place to another all sights are of a row, and the next is not
 pub record IsRun (seen : List Seen) (start end row : ℕ) : Type 0 where
@@ -190,11 +187,6 @@ not_once points seen start end i p sights lt is_point in_order cut run sights_ar
     ∙ ap not (list_all-append is_once (vertices_from 0 (take i points) seen) (row_of p (of_row i seen) ∷ rest))
     ∙ ap (λ (b : Bool). not (b && (is_once (row_of p (of_row i seen)) && list_all is_once rest))) so_far
     ∙ ap (λ (b : Bool). not (b && list_all is_once rest)) here
-
-pub all_once : (points : List Point) (seen : List Seen) (i : ℕ) → length points ≤ i → AllOnce (take i points) seen
-    → is_wide (vertices_from 0 points seen) ≡ false
-all_once points seen i le so_far =
-    ap (λ (ps : List Point). is_wide (vertices_from 0 ps seen)) (sym (take_all i points le)) ∙ ap not so_far
 
 -- ---- the parts of a text
 

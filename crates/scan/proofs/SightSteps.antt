@@ -7,7 +7,6 @@ use Rattle.ply_head.proofs.Answers.{done}
 use Rattle.ply_head.specs.declared.header.Kind.{Kind}
 use Rattle.ply_head.specs.declared.header.Kind.TheVariants.{Ascii, BinaryLittle, BinaryBig}
 use Rattle.ply_head.specs.declared.header.Scalar.{Scalar}
-use Rattle.ply_head.specs.declared.header.Shape.{Shape}
 use Rattle.ply_head.specs.declared.header.Shape.TheVariants.{Many}
 use Rattle.ply_rows.specs.declared.place.Field.{Field}
 use Rattle.ply_rows.specs.Items.{items_from, HasItems}
@@ -91,10 +90,6 @@ pub list_there : (kind : Kind) (count item : Scalar) (body : List ℕ) (field : 
 list_there Ascii count item body field is = is.tokens
 list_there BinaryLittle count item body field is = subst (λ (n : ℕ). field.place + n ≤ length body) is.size is.inside
 list_there BinaryBig count item body field is = subst (λ (n : ℕ). field.place + n ≤ length body) is.size is.inside
-
-pub place_inside : (kind : Kind) (shape : Shape) (body : List ℕ) (field : Field) → IsFieldOf kind body shape field
-    → field.place ≤ length body
-place_inside kind shape body field is = omega (arith, is.inside)
 
 -- a list has as many items as its field says
 pub list_count : (body : Body) (count item : Scalar) (field : Field) → IsFieldOf body.kind body.bytes (Many count item) field

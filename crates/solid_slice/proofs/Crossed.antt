@@ -3,7 +3,7 @@ use Rattle.std.proofs.Common.{ℕ, ◌≡◌, ◌+◌, ◌<◌, ◌^◌, ◌==�
 use Rattle.std.proofs.Common.{[], ◌∷◌, ◌++◌, length, get_or, map, filter, Option, Some, None, ℤ, inl, inr}
 use Rattle.std.specs.Prelude.{IfSome, IfNone}
 use Rattle.std.specs.List.{list_any}
-use Rattle.std.proofs.lemmas.Bool.{false≢true, eqb-true, cases_lt, and_parts}
+use Rattle.std.proofs.lemmas.Bool.{false≢true, eqb-true, cases_lt, and_parts, not-true, eq-eqb, false_from_ne_true}
 use Rattle.std.proofs.lemmas.List.{map-append, append-nil, get_or_past, get_or_default}
 use Rattle.std.proofs.lemmas.List.Elements.{filter-append}
 use Rattle.geo_sign.specs.Point.{Point}
@@ -17,7 +17,7 @@ use Rattle.solid_slice.specs.Crossings.{AreCrossings}
 use Rattle.solid_slice.specs.declared.pair.Pair.{Pair}
 use Rattle.solid_slice.specs.declared.crossings.Crossing.{Crossing}
 use Rattle.geo_sign.proofs.Booleans.{same_bools}
-use Rattle.solid_slice.proofs.FaceEdges.{not_true, same_number, same_edge, ends_in, edge_within}
+use Rattle.solid_slice.proofs.FaceEdges.{same_edge, ends_in, edge_within}
 use Rattle.solid_slice.proofs.FaceEdges.{key_parts}
 
 -- A face with an edge between a vertex above and one below is cut.
@@ -51,7 +51,7 @@ pub goes_parts : (points : List Point) (h : ℤ) (u v : ℕ) (b : Bool) → (goe
 goes_parts points h u v b e =
     let p = and_parts (goes_up points h u v) b e in
     let q = and_parts (not (is_above points h u)) (is_above points h v) p.0 in
-    (not_true (is_above points h u) q.0, q.1, p.1)
+    (not-true (is_above points h u) q.0, q.1, p.1)
 
 pub goes_so : (points : List Point) (h : ℤ) (u v : ℕ) (b : Bool) → is_above points h u ≡ false → is_above points h v ≡ true
     → b ≡ true → (goes_up points h u v && b) ≡ true
@@ -70,7 +70,8 @@ up_key points h face s t u v l m up =
     (λ e.
     let p = goes_parts points h u v (has_edge u v face) e in
     let q = same_edge (is_above points h) face s t u v up.edge p.2 up.from_below up.to_above p.0 p.1 in
-    ap (λ (w : ℕ). key_of w t == key_of u v) q.0 ∙ (ap (λ (w : ℕ). key_of u w == key_of u v) q.1 ∙ same_number (key_of u v)))
+    ap (λ (w : ℕ). key_of w t == key_of u v) q.0
+    ∙ (ap (λ (w : ℕ). key_of u w == key_of u v) q.1 ∙ eq-eqb (key_of u v) (key_of u v) refl))
 
 down_key : (points : List Point) (h : ℤ) (face : List ℕ) (s t u v : ℕ) → t < 2 ^ 32 → v < 2 ^ 32 → IsDownEdge points h face t s
     → (key_of s t == key_of u v) ≡ (goes_up points h u v && has_edge v u face)
@@ -86,7 +87,8 @@ down_key points h face s t u v l m down =
     let test = λ (w : ℕ). not (is_above points h w) in
     let q =
     same_edge test face t s v u down.edge p.2 (ap not down.from_above) (ap not down.to_below) (ap not p.1) (ap not p.0) in
-    ap (λ (w : ℕ). key_of w t == key_of u v) q.1 ∙ (ap (λ (w : ℕ). key_of u w == key_of u v) q.0 ∙ same_number (key_of u v)))
+    ap (λ (w : ℕ). key_of w t == key_of u v) q.1
+    ∙ (ap (λ (w : ℕ). key_of u w == key_of u v) q.0 ∙ eq-eqb (key_of u v) (key_of u v) refl))
 
 -- one crossing more
 listed_more : (k : ℕ) (xs : List Crossing) (p : Pair) (f : ℕ) (b : Bool) → (key_of_pair p == k) ≡ b
@@ -109,10 +111,6 @@ none_more k xs f b e =
     ap (listed k) (append-nil xs)
     ∙ (sym (append-nil (listed k xs)) ∙ ap (λ (q : Bool). listed k xs ++ cond q (f ∷ []) []) (sym e))
 
-false_from : (b : Bool) → (b ≡ true → ⊥) → b ≡ false
-false_from true h = absurd (h refl)
-false_from false h = refl
-
 module _ (points : List Point) (faces : List (List ℕ)) (h : ℤ) (i : ℕ) (o : IsFace (2 ^ 32) (face_at faces i)) (u v : ℕ)
     (small : v < 2 ^ 32) (xs : List Crossing) where
   pub up_more : (e : Option Pair) → IfSome e (λ p. IsUpEdge points h (face_at faces i) p.first p.second)
@@ -126,7 +124,7 @@ module _ (points : List Point) (faces : List (List ℕ)) (h : ℤ) (i : ℕ) (o 
       ∙ (ap (λ (t : List ℕ). t ++ cond (is_upward points faces h u v i) (i ∷ []) []) e
       ∙ sym (filter_below_more (is_upward points faces h u v) i))
   up_more None up uncut e =
-      let false_here : is_upward points faces h u v i ≡ false = false_from (is_upward points faces h u v i)
+      let false_here : is_upward points faces h u v i ≡ false = false_from_ne_true (is_upward points faces h u v i)
       (λ t. let p = goes_parts points h u v (has_edge u v (face_at faces i)) t in
       false≢true (sym uncut ∙ cut_by_edge points h (face_at faces i) u v p.2 p.0 p.1)) in
       none_more (key_of u v) xs i (is_upward points faces h u v i) false_here
@@ -144,7 +142,7 @@ module _ (points : List Point) (faces : List (List ℕ)) (h : ℤ) (i : ℕ) (o 
       ∙ (ap (λ (t : List ℕ). t ++ cond (is_downward points faces h u v i) (i ∷ []) []) e
       ∙ sym (filter_below_more (is_downward points faces h u v) i))
   down_more None down uncut e =
-      let false_here : is_downward points faces h u v i ≡ false = false_from (is_downward points faces h u v i)
+      let false_here : is_downward points faces h u v i ≡ false = false_from_ne_true (is_downward points faces h u v i)
       (λ t. let p = goes_parts points h u v (has_edge v u (face_at faces i)) t in
       false≢true (sym uncut ∙ cut_by_down_edge points h (face_at faces i) u v p.2 p.0 p.1)) in
       none_more (key_of u v) xs i (is_downward points faces h u v i) false_here

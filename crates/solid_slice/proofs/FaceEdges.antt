@@ -2,28 +2,16 @@
 use Rattle.std.proofs.Common.{ℕ, ◌≡◌, ◌<◌, ◌≤◌, ◌^◌, ◌==◌, ◌&&◌, ◌||◌, ◌⊎◌, refl, ap, sym, ◌∙◌, arith, Bool, true, false, not}
 use Rattle.std.proofs.Common.{List, [], ◌∷◌, inl, inr}
 use Rattle.std.specs.List.{list_any}
-use Rattle.std.proofs.lemmas.Bool.{false≢true, eqb-true, and_parts, or_left, or_right}
-use Rattle.std.proofs.lemmas.Bool.Decides.{nat_tests}
+use Rattle.std.proofs.lemmas.Bool.{false≢true, eqb-true, and_parts, or_left, or_right, or_cases, eq-eqb}
 use Rattle.mesh_ply.specs.Meshes.{IsFace}
 use Rattle.solid_slice.specs.Edges.{is_edge, has_edge}
 use Rattle.solid_slice.specs.Pairs.{key_of}
-
-pub one_true : (p q : Bool) → (p || q) ≡ true → (p ≡ true) ⊎ (q ≡ true)
-one_true true q e = inl refl
-one_true false q e = inr e
-
-pub not_true : (p : Bool) → not p ≡ true → p ≡ false
-not_true true e = absurd (false≢true e)
-not_true false e = refl
-
-pub same_number : (a : ℕ) → (a == a) ≡ true
-same_number a = grind (arith, nat_tests)
 
 edge_parts : (u v a b : ℕ) → is_edge u v a b ≡ true → (u ≡ a) × (v ≡ b)
 edge_parts u v a b e = let p = and_parts (u == a) (v == b) e in (eqb-true u a p.0, eqb-true v b p.1)
 
 edge_itself : (a b : ℕ) → is_edge a b a b ≡ true
-edge_itself a b = ap (λ (p : Bool). p && (b == b)) (same_number a) ∙ same_number b
+edge_itself a b = ap (λ (p : Bool). p && (b == b)) (eq-eqb a a refl) ∙ eq-eqb b b refl
 
 -- the edge is one of the three
 abbrev OneOf : (a b c u v : ℕ) → Type 0
@@ -31,9 +19,9 @@ OneOf a b c u v = ((u ≡ a) × (v ≡ b)) ⊎ (((u ≡ b) × (v ≡ c)) ⊎ ((u
 
 one_of : (a b c u v : ℕ) → has_edge u v (a ∷ b ∷ c ∷ []) ≡ true → OneOf a b c u v
 one_of a b c u v e =
-    elim (one_true (is_edge u v a b) (is_edge u v b c || is_edge u v c a) e) [
+    elim (or_cases (is_edge u v a b) (is_edge u v b c || is_edge u v c a) e) [
       | inl p ↦ inl (edge_parts u v a b p)
-      | inr p ↦ elim (one_true (is_edge u v b c) (is_edge u v c a) p) [
+      | inr p ↦ elim (or_cases (is_edge u v b c) (is_edge u v c a) p) [
         | inl q ↦ inr (inl (edge_parts u v b c q))
         | inr q ↦ inr (inr (edge_parts u v c a q))
       ]

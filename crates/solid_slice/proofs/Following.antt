@@ -79,19 +79,13 @@ pub next_is_cut : (points : List Point) (faces : List (List ℕ)) (h : ℤ) (f g
 next_is_cut points faces h f g n =
     cut_by_edge points h (face_at faces g) n.lower n.upper n.up.edge n.up.from_below n.up.to_above
 
--- a visit of one face
-pub visited_same : (visited : List Bool) (f : ℕ) → is_visited visited f ≡ false → is_visited (set visited f true) f ≡ true
-visited_same visited f fresh = get_or-set_same visited f true true (inside visited f fresh)
-  where
-    inside : (visited : List Bool) (f : ℕ) → is_visited visited f ≡ false → f < length visited
-    inside visited f fresh = elim (cases_lt f (length visited)) [
-      | inl l ↦ l
-      | inr l ↦ absurd (false≢true (sym fresh ∙ get_or_past visited f true l))
-    ]
-
 pub visited_inside : (visited : List Bool) (f : ℕ) → is_visited visited f ≡ false → f < length visited
 visited_inside visited f fresh =
     elim (cases_lt f (length visited)) [ inl l ↦ l | inr l ↦ absurd (false≢true (sym fresh ∙ get_or_past visited f true l)) ]
+
+-- a visit of one face
+pub visited_same : (visited : List Bool) (f : ℕ) → is_visited visited f ≡ false → is_visited (set visited f true) f ≡ true
+visited_same visited f fresh = get_or-set_same visited f true true (visited_inside visited f fresh)
 
 pub visited_other : (visited : List Bool) (f g : ℕ) → (g ≡ f → ⊥) → is_visited (set visited f true) g ≡ is_visited visited g
 visited_other visited f g ne = get_or-set_other visited f g true true ne

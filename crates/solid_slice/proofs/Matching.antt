@@ -3,7 +3,7 @@ use Rattle.std.proofs.Common.{ℕ, ◌≡◌, ◌+◌, ◌/◌, ◌%◌, ◌<◌
 use Rattle.std.proofs.Common.{false, not, List, [], length, get_or, set, take, map, filter, ℤ, inl, inr}
 use Rattle.std.specs.List.{All, count_by}
 use Rattle.std.specs.List.Sorted.{IsNonDecreasingBy}
-use Rattle.std.proofs.lemmas.Bool.{false≢true, cases_lt, cases_eq}
+use Rattle.std.proofs.lemmas.Bool.{false≢true, cases_lt, cases_eq, eq-eqb}
 use Rattle.std.proofs.lemmas.List.{length-map, get_or-map, take-map, get_or_past, take_all, get_or-set_same, get_or-set_other}
 use Rattle.std.proofs.lemmas.List.Sums.{length-filter}
 use Rattle.geo_sign.specs.Point.{Point}
@@ -16,7 +16,7 @@ use Rattle.solid_slice.specs.Pairs.{key_of}
 use Rattle.solid_slice.specs.Crossings.{goes_up, key_of_crossing, the_crossed, listed, is_upward, is_downward, AreCrossings}
 use Rattle.solid_slice.specs.declared.crossings.Crossing.{Crossing}
 use Rattle.solid_slice.proofs.Counts.{hits, hits_same, same_keys}
-use Rattle.solid_slice.proofs.FaceEdges.{same_number, down_edge_of, edge_within}
+use Rattle.solid_slice.proofs.FaceEdges.{down_edge_of, edge_within}
 use Rattle.solid_slice.proofs.Crossed.{goes_parts, goes_so, cut_within}
 use Rattle.solid_slice.proofs.Ranks.{in_filter, from_filter, rank_below, count_taken}
 
@@ -31,7 +31,7 @@ at_place : (q : ℕ → Bool) (n k i : ℕ) (xs : List Crossing) → listed k xs
 at_place q n k i xs e l same =
     let test = λ (c : Crossing). key_of_crossing c == k in
     let j = count_by test (take i xs) in
-    let inside = in_filter test xs i no_crossing l (ap (λ (m : ℕ). m == k) same ∙ same_number k) in
+    let inside = in_filter test xs i no_crossing l (ap (λ (m : ℕ). m == k) same ∙ eq-eqb k k refl) in
     let here : get_or (filter q (below n)) j 0 ≡ (get_or xs i no_crossing).face =
     ap (λ (t : List ℕ). get_or t j 0) (sym e)
     ∙ (get_or-map the_crossed (filter test xs) j no_crossing 0 inside.0 ∙ ap the_crossed inside.1) in

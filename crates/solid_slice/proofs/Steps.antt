@@ -1,5 +1,5 @@
 -- The numbers of a step, as the code computes them.
-use Rattle.std.proofs.Common.{ℕ, ◌≡◌, ◌+◌, ◌*◌, ◌<◌, ◌≤◌, refl, ap, sym, ◌∙◌, subst, arith, true, false, List, length, get_or}
+use Rattle.std.proofs.Common.{ℕ, ◌≡◌, ◌+◌, ◌*◌, ◌<◌, ◌≤◌, refl, ap, ◌∙◌, arith, true, false, List, length, get_or}
 use Rattle.std.proofs.Common.{ℤ, pos, ◌+ℤ◌, ◌-ℤ◌, ◌*ℤ◌, unsigned_abs}
 use Rattle.std.specs.List.{All}
 use Rattle.std.specs.Int.Signed.{lt_z}
@@ -10,10 +10,6 @@ use Rattle.geo_sign.specs.Point.{Point, IsWithin, origin}
 use Rattle.geo_sign.proofs.Bounds.{Held, kept, held, held_kept, held_sub, held_add, held_mul}
 use Rattle.mesh_ply.specs.Meshes.{point_at}
 use Rattle.solid_slice.specs.Cuts.{is_above}
-
-pub boxed_at : (points : List Point) (i : ℕ) (p : Point) → All (IsWithin 8388608) points → i < length points
-    → p ≡ get_or points i p → IsWithin 8388608 p
-boxed_at points i p boxed l e = subst (λ (q : Point). IsWithin 8388608 q) (sym e) (boxed i p l)
 
 -- a coordinate, read as 32 bits and stored as 64
 pub held_coordinate : (r s z : ℤ) → r ≡ kept w32 s → s ≡ z → unsigned_abs z ≤ 8388608 → Held 8388608 (kept w64 r) z

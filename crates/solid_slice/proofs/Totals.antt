@@ -2,7 +2,7 @@
 use Rattle.std.proofs.Common.{ℕ, zero, suc, ◌≡◌, ◌+◌, ◌<◌, ◌≤◌, ◌==◌, refl, ap, arith, Bool, true, false, not, cond, List, []}
 use Rattle.std.proofs.Common.{◌∷◌, length, get_or, map, filter, ℤ}
 use Rattle.std.specs.List.{All, count_by, sum_by, concat}
-use Rattle.std.proofs.lemmas.Bool.{eqb-false}
+use Rattle.std.proofs.lemmas.Bool.{eqb-false, not-true}
 use Rattle.std.proofs.lemmas.List.{length-append, length-map}
 use Rattle.std.proofs.lemmas.List.Elements.{All-filter, filter_passes}
 use Rattle.std.proofs.lemmas.List.Sums.{sum_by-cons, length-filter, get_or-le-sum_by}
@@ -11,7 +11,6 @@ use Rattle.solid_slice.specs.Cuts.{is_cut_at}
 use Rattle.solid_slice.specs.Loops.{the_face, AreLoops}
 use Rattle.solid_slice.specs.declared.step.Step.{Step}
 use Rattle.solid_slice.proofs.Counts.{one_if, hit_yes}
-use Rattle.solid_slice.proofs.FaceEdges.{not_true}
 use Rattle.solid_slice.proofs.Crossed.{cut_within}
 
 count-cons : (p : ℕ → Bool) (x : ℕ) (xs : List ℕ) → count_by p (x ∷ xs) ≡ one_if (p x) + count_by p xs
@@ -49,7 +48,7 @@ few_numbers (suc n) xs once below =
     let rest = few_numbers n (filter q xs) (λ f. omega (arith, once f, count_kept (λ g. g == f) q xs))
     (λ k d l.
     let small = All-filter q (λ (f : ℕ). f < suc n) xs below k d l in
-    let other = eqb-false (get_or (filter q xs) k d) n (not_true (get_or (filter q xs) k d == n) (filter_passes q xs k d l)) in
+    let other = eqb-false (get_or (filter q xs) k d) n (not-true (get_or (filter q xs) k d == n) (filter_passes q xs k d l)) in
     omega (arith, small, other)) in
     omega (arith, rest, once n, count_both p xs, length-filter q xs)
 

@@ -3,9 +3,9 @@ use Rattle.line_text.proofs.Codes.{none_fewer}
 use Rattle.geo_sign.specs.Point.{IsWithin}
 use Rattle.mesh_ply.specs.Texts.{point_line}
 use Rattle.mesh_ply.proofs.MeshForms.{no_second, no_third, point_is, own_place}
-use Rattle.cert_text.proofs.StampCodes.{data_in_box}
 use Rattle.cert_text.proofs.StampRefused.{no_data}
 use Rattle.geo_sign.specs.declared.point.TheConstants.{BOX_LIMIT, DATA_LIMIT}
+use Rattle.geo_sign.proofs.Bounds.{data_in_box}
 use Rattle.cert_text.proofs.stamp_read.data_first.Goals as goal
 
 pub returns-in_err-y-clause-none : goal.returns-in_err-y-clause-none
