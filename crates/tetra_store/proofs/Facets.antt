@@ -12,9 +12,6 @@ one f = facet f.b f.c f.a
 abbrev two : DirectedFacet → DirectedFacet
 two f = facet f.c f.a f.b
 
-abbrev back : DirectedFacet → DirectedFacet
-back f = facet f.a f.c f.b
-
 -- the place of a vertex among the four
 pub place_of : (t : Tetrahedron) (u : ℕ) → IsVertexOf t u → (k : ℕ) × (k < 4) × (vertex_of t k ≡ u)
 place_of t u (inl e) = (0, omega arith, sym e)
