@@ -10,19 +10,14 @@
 use Rattle.std.proofs.Common.{ℕ, zero, suc, ◌≡◌, ◌<◌, ◌≤◌, ◌+◌, ◌*◌, Bool, true, false, cond, not, ◌&&◌, List, [], ◌∷◌, length}
 use Rattle.std.proofs.Common.{get_or, refl, ap, sym, ◌∙◌, inl, inr, arith}
 use Rattle.std.proofs.Math.Nat.{mul-le-mul_left}
-use Rattle.std.proofs.lemmas.Bool.{false≢true, cases_lt}
+use Rattle.std.proofs.lemmas.Bool.{false≢true, cases_lt, and_left}
+use Rattle.std.proofs.lemmas.Bool.Decides.{same_from_decides}
 use Rattle.flow_net.specs.Sums.{sum_below}
 use Rattle.flow_net.specs.Nets.{arc_at, flag_at}
 use Rattle.flow_net.specs.Flows.{IsAdmissible, IsLeastCost, IsLeastInside, cost_of, node_cost, arc_cost}
 use Rattle.flow_net.specs.declared.Net.{Net}
 use Rattle.flow_net.specs.declared.Labels.{Labels}
 use Rattle.flow_net.proofs.SumLemmas.{sum_below-le, sum_below-add, sum_below-le_const, sum_below-tight}
-
--- flags that imply each other
-same_flag : (x y : Bool) → (x ≡ true → y ≡ true) → (y ≡ true → x ≡ true) → x ≡ y
-same_flag true y p q = sym (p refl)
-same_flag false true p q = q refl
-same_flag false false p q = refl
 
 -- lists of flags with the same flags are the same
 same_flags : (a b : List Bool) → length a ≡ length b →
@@ -33,7 +28,7 @@ same_flags [] (y ∷ ys) e p q = absurd (omega (arith, e))
 same_flags (x ∷ xs) [] e p q = absurd (omega (arith, e))
 same_flags (x ∷ xs) (y ∷ ys) e p q =
     let rest = same_flags xs ys (omega (arith, e)) (λ v l h. p (suc v) (omega arith) h) (λ v l h. q (suc v) (omega arith) h) in
-    let first = same_flag x y (p 0 (omega arith)) (q 0 (omega arith)) in
+    let first : x ≡ y = same_from_decides {P = y ≡ true} x y (p 0 (omega arith), q 0 (omega arith)) (λ e. e, λ e. e) in
     cc
 
 -- labels with the same inside are the same
@@ -126,10 +121,6 @@ meet_of a b = record { inside = both a.inside b.inside }
 abbrev join_of : Labels → Labels → Labels
 join_of a b = record { inside = one_of a.inside b.inside }
 
-and_false : (x y : Bool) → x ≡ false → (x && y) ≡ false
-and_false true y e = absurd (false≢true (sym e))
-and_false false y e = refl
-
 or_false : (x y : Bool) → x ≡ false → y ≡ false → not (not x && not y) ≡ false
 or_false true y e f = absurd (false≢true (sym e))
 or_false false true e f = absurd (false≢true (sym f))
@@ -142,7 +133,7 @@ admissible_meet net a b p q =
       count = length-both a.inside b.inside count ∙ p.count;
       none_fixed =
           λ v l h. flag_at-both a.inside b.inside v count
-          ∙ and_false (flag_at a.inside v) (flag_at b.inside v) (p.none_fixed v l h);
+          ∙ and_left (flag_at a.inside v) (flag_at b.inside v) (p.none_fixed v l h);
     }
 
 admissible_join : (net : Net) (a b : Labels) → IsAdmissible net a → IsAdmissible net b → IsAdmissible net (join_of a b)

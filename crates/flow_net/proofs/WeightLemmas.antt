@@ -1,8 +1,8 @@
 -- Sums of weights: as sums over all sights, by one sight more, and how large they get.
-use Rattle.std.proofs.Common.{ℕ, ◌+◌, ◌*◌, ◌<◌, ◌≤◌, ◌≡◌, refl, sym, ap, ◌∙◌, arith, Bool, true, false, cond, List, [], ◌∷◌}
+use Rattle.std.proofs.Common.{ℕ, ◌+◌, ◌*◌, ◌≤◌, ◌≡◌, refl, sym, ap, ◌∙◌, arith, Bool, true, false, cond, List, [], ◌∷◌}
 use Rattle.std.proofs.Common.{length, take, get_or, filter, All}
 use Rattle.std.specs.List.{sum_by}
-use Rattle.std.proofs.lemmas.List.Sums.{sum_by-cons, sum_by_more, sum_by-le, sum_by-take-le}
+use Rattle.std.proofs.lemmas.List.Sums.{sum_by-cons, sum_by-le, sum_by-take-le}
 use Rattle.flow_net.specs.declared.votes.Sight.{Sight}
 use Rattle.flow_net.specs.declared.votes.TheConstants.{SIGHT_WEIGHT_LIMIT}
 use Rattle.flow_net.specs.Weights.{IsWeighed, IsSightList, weight_where}
@@ -28,14 +28,6 @@ weight_is_sum test (sight ∷ sights) =
     weight_where-cons test sight sights
     ∙ (ap (λ (n : ℕ). added_where test sight + n) (weight_is_sum test sights)
     ∙ sym (sum_by-cons (added_where test) sight sights))
-
--- one sight more
-pub weight_where_more : (test : Sight → Bool) (sights : List Sight) (i : ℕ) (d : Sight) → i < length sights
-    → weight_where test (take (i + 1) sights) ≡ weight_where test (take i sights) + added_where test (get_or sights i d)
-weight_where_more test sights i d l =
-    weight_is_sum test (take (i + 1) sights)
-    ∙ (sum_by_more (added_where test) sights i d l
-    ∙ ap (λ (n : ℕ). n + added_where test (get_or sights i d)) (sym (weight_is_sum test (take i sights))))
 
 added_where_small : (test : Sight → Bool) (sight : Sight) → IsWeighed sight → added_where test sight ≤ SIGHT_WEIGHT_LIMIT
 added_where_small test sight h = by (test sight)
