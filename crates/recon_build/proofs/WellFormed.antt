@@ -1,6 +1,6 @@
 -- The certificate of a scan's network is well formed.
 use Rattle.std.proofs.Common.{ℕ, zero, suc, ◌≡◌, ◌+◌, ◌<◌, ◌≤◌, ◌^◌, not, refl, ap, sym, subst, arith, Bool, true, false, cond}
-use Rattle.std.proofs.Common.{inl, inr, ⊎_elim, List, [], ◌∷◌, length, map, filter, get_or, eqb, AllPairs, Contains, Option}
+use Rattle.std.proofs.Common.{List, [], ◌∷◌, length, map, filter, get_or, eqb, AllPairs, Contains, Option}
 use Rattle.std.proofs.Common.{Some, None}
 use Rattle.std.proofs.lemmas.Bool.{eqb-false}
 use Rattle.std.proofs.lemmas.List.{get_or-map, length-map}

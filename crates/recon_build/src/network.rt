@@ -32,13 +32,6 @@ pub(crate) fn network(
     let seen = seen_in(alloc, scan)?;
     let tetra = build(alloc, &seen.points)?;
     tetra.facts();
-    let counted = count_votes(
-        alloc,
-        &tetra,
-        &seen.points,
-        &seen.sights,
-        &scan.scanners,
-        settings,
-    )?;
+    let counted = count_votes(alloc, &tetra, &seen.scene(scan, settings))?;
     Ok((tetra, counted))
 }

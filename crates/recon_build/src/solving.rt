@@ -3,7 +3,6 @@
 ghost use Rattle.std.specs.Prelude.{◌≡◌, ◌<◌, ◌^◌, ◌++◌, IfOk};
 ghost use Rattle.std.specs.Option.{option_map};
 ghost use Rattle.cert_text.specs.Certificates.{claim_of, stamp_view, IsWellFormed};
-ghost use Rattle.flow_net.specs.Flows.{IsValidFlow, IsLeastInside, cost_of, value_of};
 ghost use Rattle.geo_sign.specs.Vertices.{corners};
 ghost use Rattle.mesh_ply.specs.Meshes.{IsMesh};
 ghost use Rattle.scan.specs.Views.{shown_of};
@@ -15,6 +14,7 @@ ghost use Rattle.solution.specs.Scans.{points_of, scene_of_scan};
 ghost use Rattle.solution.specs.Solutions.{HasCounts, IsCertificate, IsSolution, surface_of};
 ghost use Rattle.surface.specs.Closed.{IsClosed};
 ghost use Rattle.surface.specs.Labelled.{Cutting};
+ghost use Rattle.recon_build.specs.MinimumCuts.{IsMinimumCut};
 ghost use Rattle.recon_build.specs.Stored.{IsStoreOf};
 
 use crate::NoMemory;
@@ -42,27 +42,36 @@ pub struct Solved {
     pub cert: Certificate,
 }
 
-/// The certificate of labels of a scan's cells, and of a flow that is worth their cost, with this stamp or none.
+/// A network, its least-inside labels, and a flow that is worth what they cost.
+#[derive(Clone, Copy)]
+struct MinimumCut<'a> {
+    voted: &'a Voted,
+    labels: &'a Labels,
+    flow: &'a Flow,
+}
+
+/// The certificate of a minimum cut of the network of a scan's cells, with this stamp or none.
 fn certificate(
     alloc: Global,
     scan: &Scan,
     settings: Settings,
     tetra: &Tetra,
-    voted: &Voted,
-    labels: &Labels,
-    flow: &Flow,
+    cut: &MinimumCut<'_>,
     stamp: Option<Stamp>,
 ) -> Result<Certificate, NoMemory>
     requires points { tetra.now.points ≡ corners ++ points_of (shown_of scan.now) }
-    requires network { IsNetworkInAnyOrder (scene_of_scan (shown_of scan.now) settings) voted.now }
-    requires labels { IsLeastInside voted.now.net labels.now }
-    requires flow { IsValidFlow voted.now.net flow.now }
-    requires equal { cost_of voted.now.net labels.now ≡ value_of voted.now.net flow.now }
+    requires network { IsNetworkInAnyOrder (scene_of_scan (shown_of scan.now) settings) cut.now.voted.now }
+    requires cut { IsMinimumCut cut.now }
     ensures counts { IfOk result (λ cert. HasCounts (claim_of cert) (shown_of scan.now) settings) }
-    ensures states { (listing : IsListingOf (scene_of_scan (shown_of scan.now) settings) (complex_of voted.now)) → IfOk result (λ cert. IsCertificate (scene_of_scan (shown_of scan.now) settings) listing.complex (test_of voted.now.cells labels.now.inside) (claim_of cert)) }
+    ensures states { (listing : IsListingOf (scene_of_scan (shown_of scan.now) settings) (complex_of cut.now.voted.now)) → IfOk result (λ cert. IsCertificate (scene_of_scan (shown_of scan.now) settings) listing.complex (test_of cut.now.voted.now.cells cut.now.labels.now.inside) (claim_of cert)) }
     ensures well_formed { IfOk result (λ cert. IsWellFormed (claim_of cert)) }
     ensures stamp { IfOk result (λ cert. (claim_of cert).stamp ≡ option_map stamp_view stamp) }
 {
+    let MinimumCut {
+        voted,
+        labels,
+        flow,
+    } = *cut;
     let cells = voted.cells.as_slice();
     Ok(Certificate {
         stamp,
@@ -105,7 +114,12 @@ fn solve_over(
     let flow = solve(alloc, &voted.net)?;
     let labels = least_inside(alloc, &voted.net, &flow)?;
     let mesh = facets(alloc, &tetra, &counted.ids, &labels)?;
-    let cert = certificate(alloc, scan, settings, &tetra, &voted, &labels, &flow, stamp)?;
+    let cut = MinimumCut {
+        voted: &voted,
+        labels: &labels,
+        flow: &flow,
+    };
+    let cert = certificate(alloc, scan, settings, &tetra, &cut, stamp)?;
     Ok(Solved { tetra, mesh, cert })
 }
 

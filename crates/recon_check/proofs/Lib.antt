@@ -10,4 +10,3 @@ pub mod FirstCounts
 pub mod Stopped
 pub mod StrayReasons
 pub mod Surfaces
-pub mod Seen

@@ -38,13 +38,6 @@ pub fn network_of(
 {
     let linked = build(alloc, &seen.points)?;
     linked.facts();
-    let counted = count_votes_rising(
-        alloc,
-        &linked,
-        &seen.points,
-        &seen.sights,
-        &scan.scanners,
-        settings,
-    )?;
+    let counted = count_votes_rising(alloc, &linked, &seen.scene(scan, settings))?;
     Ok(Network { linked, counted })
 }

@@ -8,6 +8,7 @@ use Rattle.geo_sign.specs.Point.{Point, IsWithin, origin}
 use Rattle.geo_sign.specs.declared.point.TheConstants.{DATA_LIMIT}
 use Rattle.merge.proofs.Distinct.{distinct, keep}
 use Rattle.scan.specs.Shown.{Shown, IsShown}
+use Rattle.visibility.specs.SceneViews.{IsSightOf}
 use Rattle.solution.specs.Scans.{points_of, sight_of, sights_of}
 use Rattle.solution.proofs.SightLists.{no_sight, seen_at, index_below, sight_count}
 
@@ -29,12 +30,6 @@ pub points_apart : (scan : Shown) (j k : ℕ) → j < length (points_of scan) �
 points_apart scan = apart (points_of scan) (distinct scan.points)
 
 -- ---- sights
-
--- a sight of a vertex behind the eight corners, from a scanner that is there
-pub record IsSightOf (points scanners : List Point) (sight : Sight) : Type 0 where
-  pub data_vertex : 8 ≤ sight.vertex
-  pub vertex : sight.vertex < 8 + length points
-  pub scanner : sight.scanner < length scanners
 
 pub sights_are : (scan : Shown) → IsShown scan → All (IsSightOf (points_of scan) scan.scanners) (sights_of scan)
 sights_are scan is i d l =

@@ -14,7 +14,6 @@ use Rattle.scan.specs.Shown.{Shown, IsSeen, IsShown}
 use Rattle.scan.specs.Views.{shown_of}
 use Rattle.scan.specs.declared.scan.Scan.{Scan}
 use Rattle.scan.specs.declared.scan.Seen.{Seen}
-use Rattle.visibility.specs.Scenes.{Scene, scene_of}
 use Rattle.solution.specs.Scans.{points_of, point_at, sight_of, sights_of, scene_of_scan}
 
 abbrev pub no_sight : Seen
@@ -98,12 +97,3 @@ few_sights scan = sight_list (shown_of scan) (scan_is_shown scan)
 pub few_vertices : (scan : Scan) (settings : Settings)
     → (scene_of_scan (shown_of scan) settings).vertices.count ≤ 8 + point_limit
 few_vertices scan settings = omega (arith, few_points scan)
-
--- what holds of the scene over lists that are the scan's holds of its scene
-pub scene_over : (scan : Scan) (settings : Settings) (points scanners : List Point) (sights : List Sight) (P : Scene → Type 0)
-    → points ≡ points_of (shown_of scan) → scanners ≡ scan.scanners.items → sights ≡ sights_of (shown_of scan)
-    → P (scene_of points scanners sights settings) → P (scene_of_scan (shown_of scan) settings)
-scene_over scan settings points scanners sights P same_points same_scanners same_sights h =
-    subst (λ (list : List Point). P (scene_of list scan.scanners.items (sights_of (shown_of scan)) settings)) same_points
-    (subst (λ (list : List Point). P (scene_of points list (sights_of (shown_of scan)) settings)) same_scanners
-    (subst (λ (list : List Sight). P (scene_of points scanners list settings)) same_sights h))

@@ -3,14 +3,16 @@
 ghost use Rattle.std.specs.Prelude.{◌≡◌, IfOk, map};
 ghost use Rattle.merge.specs.Merging.{index_among};
 ghost use Rattle.scan.specs.Views.{shown_of};
-ghost use Rattle.solution.specs.Scans.{points_of, sights_of as sights_in};
+ghost use Rattle.visibility.specs.SceneViews.{view_of, IsSound};
+ghost use Rattle.solution.specs.Scans.{points_of, scene_of_scan, sights_of as sights_in};
 
 use crate::NoMemory;
-use flow_net::Sight;
+use flow_net::{Settings, Sight};
 use geo_sign::Point;
 use merge::merge;
 use scan::Scan;
 use std::alloc::Global;
+use visibility::Scene;
 
 /// The distinct points of a scan, and its sights.
 #[derive(Debug, Drop)]
@@ -36,6 +38,24 @@ fn sights_of(alloc: Global, scan: &Scan, of_row: &[u32]) -> Result<Vec<Sight>, N
         })?;
     }
     Ok(sights)
+}
+
+impl SeenPoints {
+    /// The scene of the scan whose points and sights these are.
+    pub fn scene<'a>(&'a self, scan: &'a Scan, settings: Settings) -> Scene<'a>
+        requires points { self.now.points.items ≡ points_of (shown_of scan.now) }
+        requires sights { self.now.sights.items ≡ sights_in (shown_of scan.now) }
+        ensures points { result.points.now ≡ points_of (shown_of scan.now) }
+        ensures sound { IsSound result }
+        ensures scene { view_of result ≡ scene_of_scan (shown_of scan.now) settings }
+    {
+        Scene {
+            points: &self.points,
+            scanners: &scan.scanners,
+            sights: &self.sights,
+            settings,
+        }
+    }
 }
 
 /// The distinct points and the sights of a scan. The only error is want of memory.

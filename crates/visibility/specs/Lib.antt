@@ -1,4 +1,5 @@
 pub mod Scenes
+pub mod SceneViews
 pub mod Complexes
 pub mod Votes
 pub mod Cuts

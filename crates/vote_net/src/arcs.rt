@@ -8,6 +8,7 @@ ghost use Rattle.vote_net.specs.declared.rows.Row.{Row};
 ghost use Rattle.vote_net.specs.declared.sides.Side.{Side};
 
 use crate::NoMemory;
+use crate::network::StoreCounts;
 use crate::rows::Row;
 use crate::sides::{Side, facet_row, flag};
 use crate::tables::{arc_numbers, entry, node_numbers};
@@ -122,28 +123,27 @@ fn arcs_with(
 pub(crate) fn arcs_of(
     alloc: Global,
     t: &Tetra,
+    counts: &StoreCounts<'_>,
+    settings: Settings,
     rows: &[Row],
     sides: &[Side],
-    crossed: &[u32],
-    fixed: &[bool],
-    settings: Settings,
 ) -> Result<Vec<Arc>, NoMemory>
     requires few_rows { length rows.now < 2 ^ 32 }
     requires few_sides { length sides.now < 2 ^ 32 }
-    requires ids { (r : Row) → Contains rows.now r → id_of_row r < length fixed.now }
-    requires numbers { (x : Side) → Contains sides.now x → number_of_side x < length crossed.now }
+    requires ids { (r : Row) → Contains rows.now r → id_of_row r < length counts.now.fixed.now }
+    requires numbers { (x : Side) → Contains sides.now x → number_of_side x < length counts.now.crossed.now }
     requires apart_rows { AreApart id_of_row rows.now }
     requires apart_sides { AreApart number_of_side sides.now }
     requires joins { (x : Side) → Contains sides.now x → CanJoin t.now.slots x }
-    ensures { IfOk result (λ arcs. AreArcs t.now.slots rows.now sides.now crossed.now fixed.now settings arcs.items) }
+    ensures { IfOk result (λ arcs. AreArcs t.now.slots rows.now sides.now counts.now.crossed.now counts.now.fixed.now settings arcs.items) }
 {
-    let nodes = node_numbers(alloc, rows, fixed.len())?;
-    let numbers = arc_numbers(alloc, sides, crossed.len())?;
+    let nodes = node_numbers(alloc, rows, counts.fixed.len())?;
+    let numbers = arc_numbers(alloc, sides, counts.crossed.len())?;
     let tables = Tables {
         nodes: &nodes,
         numbers: &numbers,
-        crossed,
-        fixed,
+        crossed: counts.crossed,
+        fixed: counts.fixed,
     };
     arcs_with(alloc, t, tables, settings, sides)
 }

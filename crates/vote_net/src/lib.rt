@@ -20,7 +20,7 @@ mod tests;
 pub use cells::rising_cells;
 pub use keys::{cell_key, facet_key};
 pub use laws::{cell_count_law, facet_count_law, stored_cells_law};
-pub use network::{Counted, assemble, assemble_rising};
+pub use network::{Counted, StoreCounts, assemble, assemble_rising};
 pub use sides::{Side, sorted_cut};
 use std::alloc::AllocError;
 

@@ -3,7 +3,7 @@
 ghost use Rattle.std.specs.Prelude.{◌≡◌, ◌*◌, IfOk, map, slice_index};
 ghost use Rattle.std.specs.List.Sorted.{IsPermutation};
 ghost use Rattle.flow_net.specs.Nets.{flag_at};
-ghost use Rattle.visibility.specs.Scenes.{Scene};
+ghost use Rattle.visibility.specs.SceneViews.{view_of};
 ghost use Rattle.visibility.specs.Networks.{IsNetworkInAnyOrder, IsNetworkOf};
 ghost use Rattle.vote_net.specs.Counts.{AreCountsOf, AreIdsOf, IsInStoreOrder};
 ghost use Rattle.vote_net.specs.Gathered.{all_rows, all_open};
@@ -17,6 +17,18 @@ use crate::tables::entry;
 use flow_net::{Net, Sequence, Settings, Voted};
 use std::alloc::{AllocError, Global};
 use tetra_store::{CellId, Tetra};
+use visibility::Scene;
+
+/// What a network is made from, by the numbers that cells have in the store.
+#[derive(Clone, Copy, Debug)]
+pub struct StoreCounts<'a> {
+    /// At 4 * id + side what the sights weigh together that cross the directed facet of a side.
+    pub crossed: &'a [u32],
+    /// At id what the sights weigh together that the cell is behind.
+    pub behind: &'a [u32],
+    /// At id whether the cell has a corner or a scanner.
+    pub fixed: &'a [bool],
+}
 
 /// The network with the cell of each node.
 #[derive(Debug, Drop)]
@@ -70,19 +82,15 @@ fn sinks_of(
 fn network_over(
     alloc: Global,
     t: &Tetra,
+    scene: &Scene<'_>,
+    counts: &StoreCounts<'_>,
     rows: &[Row],
     sides: Vec<Side>,
-    crossed: &[u32],
-    behind: &[u32],
-    fixed: &[bool],
-    settings: Settings,
 ) -> Result<Counted, NoMemory>
-    ghost scene: { Scene }
-    requires counts { AreCountsOf scene t.now.slots crossed.now behind.now fixed.now }
-    requires settings { scene.settings ≡ settings }
+    requires counts { let n = counts.now in AreCountsOf (view_of scene.now) t.now.slots n.crossed.now n.behind.now n.fixed.now }
     requires rows { IsPermutation (all_rows t.now.slots) rows.now }
-    requires sides { IsPermutation (all_open fixed.now t.now.slots) sides.items }
-    ensures network { IfOk result (λ counted. IsNetworkInAnyOrder scene counted.voted) }
+    requires sides { IsPermutation (all_open counts.now.fixed.now t.now.slots) sides.items }
+    ensures network { IfOk result (λ counted. IsNetworkInAnyOrder (view_of scene.now) counted.voted) }
     ensures ids { IfOk result (λ counted. AreIdsOf t.now.slots counted.voted.cells counted.ids.items) }
     ensures cells { IfOk result (λ counted. counted.voted.cells ≡ map cell_of_row rows.now) }
     ensures facets { IfOk result (λ counted. counted.voted.facets ≡ map facet_of_side sides.items) }
@@ -91,11 +99,11 @@ fn network_over(
     if rows.len() > u32::MAX as usize || sides.len() > u32::MAX as usize {
         return Err(AllocError);
     }
-    let arcs = arcs_of(alloc, t, rows, &sides, crossed, fixed, settings)?;
+    let arcs = arcs_of(alloc, t, counts, scene.settings, rows, &sides)?;
     let facets = facets_of(alloc, sides)?;
     let net = Net::new(
-        Sequence::from(fixed_of(alloc, rows, fixed)?),
-        Sequence::from(sinks_of(alloc, rows, behind, settings)?),
+        Sequence::from(fixed_of(alloc, rows, counts.fixed)?),
+        Sequence::from(sinks_of(alloc, rows, counts.behind, scene.settings)?),
         Sequence::from(arcs),
     );
     let voted = Voted {
@@ -109,28 +117,22 @@ fn network_over(
 
 /// The network of a scene, whose cells are those of the store, in the store's order.
 ///
-/// It is made from counts by the cells' numbers in the store: at 4 * id + side of `crossed` what the sights weigh together that cross
-/// the directed facet of a side, at id of `behind` those that the cell is behind, and at id of `fixed` whether it has a corner or a
-/// scanner. Nodes are in the order of their cells' numbers, arcs in that of their cells and sides, so that nodes and arcs that are near
+/// Nodes are in the order of their cells' numbers, arcs in that of their cells and sides, so that nodes and arcs that are near
 /// in space are mostly near in the lists. The only error is want of memory, which also stands for 2^32 cells or facets and more.
 pub fn assemble(
     alloc: Global,
     t: &Tetra,
-    crossed: &[u32],
-    behind: &[u32],
-    fixed: &[bool],
-    settings: Settings,
+    scene: &Scene<'_>,
+    counts: &StoreCounts<'_>,
 ) -> Result<Counted, NoMemory>
-    ghost scene: { Scene }
-    requires counts { AreCountsOf scene t.now.slots crossed.now behind.now fixed.now }
-    requires settings { scene.settings ≡ settings }
-    ensures network { IfOk result (λ counted. IsNetworkInAnyOrder scene counted.voted) }
+    requires { let n = counts.now in AreCountsOf (view_of scene.now) t.now.slots n.crossed.now n.behind.now n.fixed.now }
+    ensures network { IfOk result (λ counted. IsNetworkInAnyOrder (view_of scene.now) counted.voted) }
     ensures ids { IfOk result (λ counted. AreIdsOf t.now.slots counted.voted.cells counted.ids.items) }
-    ensures order { IfOk result (λ counted. IsInStoreOrder scene t.now.slots counted.voted.facets counted.ids.items) }
+    ensures order { IfOk result (λ counted. IsInStoreOrder (view_of scene.now) t.now.slots counted.voted.facets counted.ids.items) }
 {
     let rows = rows(alloc, t)?;
-    let sides = open_sides(alloc, t, fixed, crossed.len())?;
-    network_over(alloc, t, &rows, sides, crossed, behind, fixed, settings)
+    let sides = open_sides(alloc, t, counts.fixed, counts.crossed.len())?;
+    network_over(alloc, t, scene, counts, &rows, sides)
 }
 
 /// The same network with nodes in the order of their cells' rising numbers, and arcs in that of their facets from the least number on:
@@ -138,18 +140,14 @@ pub fn assemble(
 pub fn assemble_rising(
     alloc: Global,
     t: &Tetra,
-    crossed: &[u32],
-    behind: &[u32],
-    fixed: &[bool],
-    settings: Settings,
+    scene: &Scene<'_>,
+    counts: &StoreCounts<'_>,
 ) -> Result<Counted, NoMemory>
-    ghost scene: { Scene }
-    requires counts { AreCountsOf scene t.now.slots crossed.now behind.now fixed.now }
-    requires settings { scene.settings ≡ settings }
-    ensures network { IfOk result (λ counted. IsNetworkOf scene counted.voted) }
+    requires { let n = counts.now in AreCountsOf (view_of scene.now) t.now.slots n.crossed.now n.behind.now n.fixed.now }
+    ensures network { IfOk result (λ counted. IsNetworkOf (view_of scene.now) counted.voted) }
     ensures ids { IfOk result (λ counted. AreIdsOf t.now.slots counted.voted.cells counted.ids.items) }
 {
     let rows = sorted_rows(alloc, t)?;
-    let sides = sorted_sides(alloc, t, fixed, crossed.len())?;
-    network_over(alloc, t, &rows, sides, crossed, behind, fixed, settings)
+    let sides = sorted_sides(alloc, t, counts.fixed, counts.crossed.len())?;
+    network_over(alloc, t, scene, counts, &rows, sides)
 }

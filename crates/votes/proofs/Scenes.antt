@@ -3,10 +3,11 @@
 -- the points. And no count depends on how a facet or a cell is written (`facet_count_law`, `cell_count_law` of vote_net), so
 -- those of the cells as the store has them are those of facets from any vertex on and of rows.
 use Rattle.std.proofs.Common.{ℕ, ◌<◌, ◌≤◌, ◌+◌, ◌^◌, ◌≡◌, refl, sym, ap, subst, ◌∙◌, arith, Bool, true, false, cond, ◌||◌, List}
-use Rattle.std.proofs.Common.{◌++◌, length, slice_index_or}
+use Rattle.std.proofs.Common.{◌++◌, All, length, slice_index_or}
 use mathlib.Core.Path.{fun_ext}
 use Rattle.std.specs.List.{list_any}
 use Rattle.std.specs.List.Sorted.{IsPermutation}
+use Rattle.std.proofs.lemmas.List.Elements.{All-weaker}
 use Rattle.std.proofs.lemmas.List.Sorted.{sum_by-IsPermutation}
 use Rattle.geo_sign.specs.Boxes.{inserted_vertices}
 use Rattle.geo_sign.specs.Point.{Point}
@@ -18,18 +19,19 @@ use Rattle.geo_sign.specs.Vertices as all
 use Rattle.geo_sign.specs.Vertices.{Vertices, corners, point_of}
 use Rattle.geo_sign.proofs.Corners.{vertex_count}
 use Rattle.flow_net.specs.Nets.{flag_at}
-use Rattle.flow_net.specs.declared.votes.Settings.{Settings}
 use Rattle.flow_net.specs.declared.votes.Sight.{Sight}
-use Rattle.flow_net.specs.Weights.{IsSightList, weight_where}
-use Rattle.visibility.specs.Scenes.{Scene, scene_of, scanner_point}
+use Rattle.flow_net.specs.Weights.{weight_where}
+use Rattle.visibility.specs.SceneViews.{view_of, IsSightOf, IsSound}
+use Rattle.visibility.specs.Scenes as scenes
+use Rattle.visibility.specs.Scenes.{scanner_point}
+use Rattle.visibility.specs.declared.scene.Scene.{Scene}
 use Rattle.visibility.specs.Votes.{has_corner, crossings}
 use Rattle.tetra_store.specs.Links.{links_of, IsLive}
 use Rattle.tetra_store.specs.Store.{Store, IsStore, vertices_at, vertices_of}
-use Rattle.tetra_store.specs.Delaunay.{IsDelaunay}
 use Rattle.vote_net.specs.Counts.{AreCellsOf, AreCrossings, AreBehind, AreFixed, AreCountsOf}
 use Rattle.vote_net.proofs.CellCounts.{facet_count_law, cell_count_law}
 use Rattle.vote_net.proofs.Stored.{stored_cells_law}
-use Rattle.votes.specs.Counts.{added_by, sum_where, AreCounted}
+use Rattle.votes.specs.Counts.{HasCellsOf, IsInRange, added_by, sum_where, AreCounted}
 use Rattle.votes.proofs.Flags.{holds}
 use Rattle.votes.proofs.Tallies.{sum_is_weight}
 
@@ -81,18 +83,40 @@ unfolding is_cell_of
 cell_in points flags q t = refl
 
 -- ---- what the network is made of
-module _ (s : Store) (points scanners : List Point) (sights : List Sight) (settings : Settings)
-    (e : s.points ≡ corners ++ points) (store : IsStore s)
-    (inserted : (u : ℕ) → u < length s.points →
-    slice_index_or s.inserted u false ≡ true) (delaunay : IsDelaunay (vertices_of s) (links_of s.slots)) where
-  abbrev scene : Scene
-  scene = scene_of points scanners sights settings
+module _ (s : Store) (given : Scene) (store : IsStore s) (cells : HasCellsOf s given) (sound : IsSound given) where
+  abbrev points : List Point
+  points = given.points.now
+
+  abbrev scanners : List Point
+  scanners = given.scanners.now
+
+  abbrev sights : List Sight
+  sights = given.sights.now
+
+  abbrev scene : scenes.Scene
+  scene = view_of given
+
+  e : s.points ≡ corners ++ points
+  e = cells.points
 
   abbrev at : ℕ → Tetrahedron
   at = (links_of s.slots).at
 
   cells_are : AreCellsOf scene s.slots
-  cells_are = stored_cells_law s points store e delaunay inserted scanners sights settings
+  cells_are = stored_cells_law s points store e cells.delaunay cells.inserted scanners sights given.settings
+
+  pub sights_in_range : All (IsInRange (vertices_of s) scanners) sights
+  sights_in_range =
+      All-weaker (IsSightOf points scanners) (IsInRange (vertices_of s) scanners) in_range sights sound.sights
+    where
+      in_range : (sight : Sight) → IsSightOf points scanners sight → IsInRange (vertices_of s) scanners sight
+      in_range sight h =
+          let vertex : sight.vertex < length s.points = omega (arith, h.vertex, ap length e, vertex_count points) in
+          record {
+            inserted = (vertex, cells.inserted sight.vertex vertex);
+            data_vertex = h.data_vertex;
+            scanner = h.scanner;
+          }
 
   -- tests of the store's vertices and of all vertices of the points
   crossed_is : (p : ℕ) (q : RationalPoint) (f : DirectedFacet) →
@@ -144,21 +168,19 @@ module _ (s : Store) (points scanners : List Point) (sights : List Sight) (setti
             ∙ sym (cell_count_law scene s.slots cells_are id live).fixed);
       }
 
-  pub all_asked : (given : Scene) → given ≡ scene → (crossed behind : List ℕ) (flags : List Bool)
-      → AreCounted s scanners sights crossed behind → length s.slots ≤ length flags
+  pub all_asked : (crossed behind : List ℕ) (flags : List Bool) → AreCounted s scanners sights crossed behind
+      → length s.slots ≤ length flags
       → ((id : ℕ) → IsLive (links_of s.slots) id → flag_at flags id ≡ (has_corner (at id) || holds s scanners id))
-      → IsSightList sights
-      → AreCountsOf given s.slots crossed behind flags
-  all_asked given is crossed behind flags h l f few =
-      subst (λ (z : Scene). AreCountsOf z s.slots crossed behind flags) (sym is)
-      (record {
+      → AreCountsOf scene s.slots crossed behind flags
+  all_asked crossed behind flags h l f =
+      record {
         cells = cells_are;
         few = count;
-        few_sights = few;
+        few_sights = sound.few_sights;
         crossings = crossings_are crossed behind h;
         before = behind_are crossed behind h;
         flags = fixed_are flags l f;
-      })
+      }
     where
       count : 8 + length points ≤ 2 ^ 32
       count = let n = store.vertices.few in let m = ap length e in let k = vertex_count points in omega (arith, n, m, k)

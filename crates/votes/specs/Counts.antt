@@ -1,6 +1,7 @@
 -- What is counted, by the numbers that cells have in the store.
 --
 --   IsInRange v scanners sight                    it is of a data point that is inserted, and of one of the scanners
+--   HasCellsOf s given                            the store has the Delaunay cells of the scene's points
 --   added_by sight                                what a sight adds to each count
 --   sum_where test sights                         what the sights that pass a test add together
 --   is_crossed_at s p q id k                      the number has a cell, and the sight crosses its facet k
@@ -9,16 +10,18 @@
 --   AreScannerCells s scanners cells              the cells are those of the scanners, in their order
 --   AreCounted s scanners sights crossed behind   the counters are what the sights add that cross each facet, and those that
 --                                                 each cell is behind
-use Rattle.std.specs.Prelude.{ℕ, ◌≡◌, ◌<◌, ◌≤◌, ◌+◌, ◌*◌, ◌&&◌, Bool, true, List, length, slice_index, slice_index_or}
-use Rattle.std.specs.Prelude.{if◌then◌else◌}
+use Rattle.std.specs.Prelude.{ℕ, ◌≡◌, ◌<◌, ◌≤◌, ◌+◌, ◌*◌, ◌++◌, ◌&&◌, Bool, true, false, List, length, slice_index}
+use Rattle.std.specs.Prelude.{slice_index_or, if◌then◌else◌}
 use Rattle.std.specs.List.{sum_by}
 use Rattle.geo_sign.specs.Point.{Point, origin}
 use Rattle.geo_sign.specs.Rational.{RationalPoint, displaced}
 use Rattle.geo_sign.specs.Sights.{is_crossed, is_behind, is_cell_of}
 use Rattle.geo_sign.specs.Tetrahedron.{facet_of}
-use Rattle.geo_sign.specs.Vertices.{Vertices, Has}
+use Rattle.geo_sign.specs.Vertices.{Vertices, Has, corners}
 use Rattle.flow_net.specs.declared.votes.Sight.{Sight}
 use Rattle.visibility.specs.Scenes.{scanner_point}
+use Rattle.visibility.specs.declared.scene.Scene.{Scene}
+use Rattle.tetra_store.specs.Delaunay.{IsDelaunay}
 use Rattle.tetra_store.specs.Links.{links_of, IsLive}
 use Rattle.tetra_store.specs.Store.{Store, vertices_of}
 use Rattle.sight.specs.Walks.{IsEndCell}
@@ -28,6 +31,12 @@ pub record IsInRange (v : Vertices) (scanners : List Point) (sight : Sight) : Ty
   pub inserted : Has v sight.vertex
   pub data_vertex : 8 ≤ sight.vertex
   pub scanner : sight.scanner < length scanners
+
+-- the store has the Delaunay cells of the box's corners and the scene's points, all inserted
+pub record HasCellsOf (s : Store) (given : Scene) : Type 0 where
+  pub points : s.points ≡ corners ++ given.points.now
+  pub inserted : (u : ℕ) → u < length s.points → slice_index_or s.inserted u false ≡ true
+  pub delaunay : IsDelaunay (vertices_of s) (links_of s.slots)
 
 -- its weight
 abbrev pub added_by : Sight → ℕ

@@ -1,33 +1,48 @@
 //! From sights to the network.
 
-ghost use Rattle.std.specs.Prelude.{◌≡◌, ◌<◌, ◌≤◌, ◌++◌, ℕ, true, false, IfOk, All, length, slice_index_or};
+ghost use Rattle.std.specs.Prelude.{◌≡◌, IfOk, All};
 ghost use Rattle.geo_sign.specs.declared.point.TheConstants.{DATA_LIMIT};
 ghost use Rattle.geo_sign.specs.Point.{IsWithin};
-ghost use Rattle.geo_sign.specs.Vertices.{corners};
 ghost use Rattle.flow_net.specs.Weights.{IsSightList};
-ghost use Rattle.visibility.specs.Scenes.{Scene, scene_of};
+ghost use Rattle.visibility.specs.SceneViews.{view_of, IsSound};
 ghost use Rattle.visibility.specs.Networks.{IsNetworkInAnyOrder, IsNetworkOf};
 ghost use Rattle.tetra_store.specs.Delaunay.{IsDelaunay};
 ghost use Rattle.tetra_store.specs.Links.{links_of};
 ghost use Rattle.tetra_store.specs.Store.{vertices_of};
 ghost use Rattle.vote_net.specs.Counts.{AreCountsOf, AreIdsOf, IsInStoreOrder};
-ghost use Rattle.votes.specs.Counts.{IsInRange, AreScannerCells, AreCounted};
+ghost use Rattle.votes.specs.Counts.{HasCellsOf, IsInRange, AreScannerCells, AreCounted};
 
 use crate::NoMemory;
 use crate::fixing::{fixed_cells, scanner_cells};
 use crate::ordering::ordered;
 use crate::tally::{Counts, count_sights};
-use flow_net::{Settings, Sight};
+use flow_net::Sight;
 use geo_sign::Point;
 use std::alloc::Global;
 use tetra_store::{CellId, Tetra};
-use vote_net::{Counted, assemble, assemble_rising};
+use visibility::Scene;
+use vote_net::{Counted, StoreCounts, assemble, assemble_rising};
 
 /// What is counted, by the numbers that cells have in the store: what sights add, and which cells are fixed.
 #[derive(Drop)]
 struct Votes {
     counts: Counts,
     fixed: Vec<bool>,
+}
+
+impl Votes {
+    /// What the network is made from.
+    fn store_counts(&self) -> StoreCounts<'_>
+        ensures crossed { result.crossed.now ≡ self.now.counts.crossed.items }
+        ensures behind { result.behind.now ≡ self.now.counts.behind.items }
+        ensures fixed { result.fixed.now ≡ self.now.fixed.items }
+    {
+        StoreCounts {
+            crossed: &self.counts.crossed,
+            behind: &self.counts.behind,
+            fixed: &self.fixed,
+        }
+    }
 }
 
 /// The counts of the sights, which are walked in another order. That order is let go of before it returns.
@@ -49,99 +64,42 @@ fn counts_of(
     count_sights(alloc, t, scanners, cells, &walked)
 }
 
-/// What the sights vote for and which cells are fixed. The cells of the scanners are let go of before it returns.
-fn votes_of(
-    alloc: Global,
-    t: &Tetra,
-    points: &[Point],
-    sights: &[Sight],
-    scanners: &[Point],
-    settings: Settings,
-) -> Result<Votes, NoMemory>
-    ghost scene: { Scene }
-    requires scene { scene ≡ scene_of points.now scanners.now sights.now settings }
-    requires points { t.now.points ≡ corners ++ points.now }
-    requires inserted { (u : ℕ) → u < length t.now.points → slice_index_or t.now.inserted u false ≡ true }
-    requires delaunay { IsDelaunay (vertices_of t.now) (links_of t.now.slots) }
-    requires sights { All (IsInRange (vertices_of t.now) scanners.now) sights.now }
-    requires few_sights { IsSightList sights.now }
-    requires data_points { All (IsWithin DATA_LIMIT) scanners.now }
-    ensures counts { IfOk result (λ votes. AreCountsOf scene t.now.slots votes.counts.crossed.items votes.counts.behind.items votes.fixed.items) }
-    ensures settings { scene.settings ≡ settings }
+/// What a scene's sights vote for and which cells are fixed. The cells of the scanners are let go of before it returns.
+fn votes_of(alloc: Global, t: &Tetra, scene: &Scene<'_>) -> Result<Votes, NoMemory>
+    requires cells { HasCellsOf t.now scene.now }
+    requires scene { IsSound scene.now }
+    ensures { IfOk result (λ votes. AreCountsOf (view_of scene.now) t.now.slots votes.counts.crossed.items votes.counts.behind.items votes.fixed.items) }
 {
     t.facts();
-    let _points = points;
-    let _settings = settings;
-    let cells = scanner_cells(alloc, t, scanners)?;
-    let fixed = fixed_cells(alloc, t, scanners, &cells)?;
-    let counts = counts_of(alloc, t, scanners, &cells, sights)?;
+    let cells = scanner_cells(alloc, t, scene.scanners)?;
+    let fixed = fixed_cells(alloc, t, scene.scanners, &cells)?;
+    let counts = counts_of(alloc, t, scene.scanners, &cells, scene.sights)?;
     Ok(Votes { counts, fixed })
 }
 
-/// The network of the cells of these points, by a walk along each sight.
+/// The network of the cells of a scene's points, by a walk along each sight.
 ///
-/// All points have to be inserted, and the cells Delaunay, as `delaunay::build` leaves them. A sight's scanner is its index in
-/// `scanners`, equal sights count as often as they were seen, each by its weight, and a scanner that sees nothing fixes its cell as well.
-/// Nodes and arcs are in the order in which the store has cells and sides. The only error is want of memory, which also stands for 2^32
-/// cells or facets and more.
-pub fn count_votes(
-    alloc: Global,
-    t: &Tetra,
-    points: &[Point],
-    sights: &[Sight],
-    scanners: &[Point],
-    settings: Settings,
-) -> Result<Counted, NoMemory>
-    ghost scene: { Scene }
-    requires scene { scene ≡ scene_of points.now scanners.now sights.now settings }
-    requires points { t.now.points ≡ corners ++ points.now }
-    requires inserted { (u : ℕ) → u < length t.now.points → slice_index_or t.now.inserted u false ≡ true }
-    requires delaunay { IsDelaunay (vertices_of t.now) (links_of t.now.slots) }
-    requires sights { All (IsInRange (vertices_of t.now) scanners.now) sights.now }
-    requires few_sights { IsSightList sights.now }
-    requires data_points { All (IsWithin DATA_LIMIT) scanners.now }
-    ensures network { IfOk result (λ counted. IsNetworkInAnyOrder scene counted.voted) }
+/// All points have to be inserted, and the cells Delaunay, as `delaunay::build` leaves them. Equal sights count as often as they were
+/// seen, each by its weight, and a scanner that sees nothing fixes its cell as well. Nodes and arcs are in the order in which the store
+/// has cells and sides. The only error is want of memory, which also stands for 2^32 cells or facets and more.
+pub fn count_votes(alloc: Global, t: &Tetra, scene: &Scene<'_>) -> Result<Counted, NoMemory>
+    requires cells { HasCellsOf t.now scene.now }
+    requires scene { IsSound scene.now }
+    ensures network { IfOk result (λ counted. IsNetworkInAnyOrder (view_of scene.now) counted.voted) }
     ensures ids { IfOk result (λ counted. AreIdsOf t.now.slots counted.voted.cells counted.ids.items) }
-    ensures order { IfOk result (λ counted. IsInStoreOrder scene t.now.slots counted.voted.facets counted.ids.items) }
+    ensures order { IfOk result (λ counted. IsInStoreOrder (view_of scene.now) t.now.slots counted.voted.facets counted.ids.items) }
 {
-    let votes = votes_of(alloc, t, points, sights, scanners, settings)?;
-    assemble(
-        alloc,
-        t,
-        &votes.counts.crossed,
-        &votes.counts.behind,
-        &votes.fixed,
-        settings,
-    )
+    let votes = votes_of(alloc, t, scene)?;
+    assemble(alloc, t, scene, &votes.store_counts())
 }
 
 /// The same network with its cells and facets in rising order, which takes longer.
-pub fn count_votes_rising(
-    alloc: Global,
-    t: &Tetra,
-    points: &[Point],
-    sights: &[Sight],
-    scanners: &[Point],
-    settings: Settings,
-) -> Result<Counted, NoMemory>
-    ghost scene: { Scene }
-    requires scene { scene ≡ scene_of points.now scanners.now sights.now settings }
-    requires points { t.now.points ≡ corners ++ points.now }
-    requires inserted { (u : ℕ) → u < length t.now.points → slice_index_or t.now.inserted u false ≡ true }
-    requires delaunay { IsDelaunay (vertices_of t.now) (links_of t.now.slots) }
-    requires sights { All (IsInRange (vertices_of t.now) scanners.now) sights.now }
-    requires few_sights { IsSightList sights.now }
-    requires data_points { All (IsWithin DATA_LIMIT) scanners.now }
-    ensures network { IfOk result (λ counted. IsNetworkOf scene counted.voted) }
+pub fn count_votes_rising(alloc: Global, t: &Tetra, scene: &Scene<'_>) -> Result<Counted, NoMemory>
+    requires cells { HasCellsOf t.now scene.now }
+    requires scene { IsSound scene.now }
+    ensures network { IfOk result (λ counted. IsNetworkOf (view_of scene.now) counted.voted) }
     ensures ids { IfOk result (λ counted. AreIdsOf t.now.slots counted.voted.cells counted.ids.items) }
 {
-    let votes = votes_of(alloc, t, points, sights, scanners, settings)?;
-    assemble_rising(
-        alloc,
-        t,
-        &votes.counts.crossed,
-        &votes.counts.behind,
-        &votes.fixed,
-        settings,
-    )
+    let votes = votes_of(alloc, t, scene)?;
+    assemble_rising(alloc, t, scene, &votes.store_counts())
 }

@@ -4,8 +4,7 @@
 ghost use Rattle.std.specs.Prelude.{◌≡◌, ◌<◌, ℕ, All, IfOk, IsTrue, length, get_or};
 ghost use Rattle.geo_sign.specs.declared.point.TheConstants.{DATA_LIMIT};
 ghost use Rattle.geo_sign.specs.Point.{origin, IsWithin};
-ghost use Rattle.tetra_store.specs.Store.{vertices_of};
-ghost use Rattle.votes.specs.Counts.{IsInRange};
+ghost use Rattle.visibility.specs.SceneViews.{IsSightOf};
 
 use crate::{count_votes, count_votes_rising};
 use delaunay::build;
@@ -15,7 +14,7 @@ use plain_net::{is_same_in_any_order, plain_net};
 use sight::walk;
 use std::alloc::{AllocError, Global};
 use std::test::Fail;
-use tetra_store::Tetra;
+use visibility::Scene;
 
 /// Whether all are data points.
 fn are_data(points: &[Point]) -> bool
@@ -55,27 +54,20 @@ fn are_distinct(points: &[Point]) -> bool
     true
 }
 
-/// Whether a sight is of an inserted data point and one of the scanners.
-fn is_in_range(t: &Tetra, scanners: &[Point], sight: Sight) -> bool
-    ensures { IsTrue result → IsInRange (vertices_of t.now) scanners.now sight }
+/// Whether a sight is of one of the points, from one of the scanners.
+fn is_in_range(scene: &Scene<'_>, sight: Sight) -> bool
+    ensures { IsTrue result → IsSightOf scene.now.points.now scene.now.scanners.now sight }
 {
-    let v = sight.vertex;
-    if v < 8 || v >= t.vertex_count() || !t.is_inserted(v) {
-        return false;
-    }
-    (sight.scanner as usize) < scanners.len()
+    sight.vertex >= 8
+        && ((sight.vertex - 8) as usize) < scene.points.len()
+        && (sight.scanner as usize) < scene.scanners.len()
 }
 
 /// Whether all sights are.
-fn are_in_range(t: &Tetra, scanners: &[Point], sights: &[Sight]) -> bool
-    ensures { IsTrue result → All (IsInRange (vertices_of t.now) scanners.now) sights.now }
+fn are_in_range(scene: &Scene<'_>) -> bool
+    ensures { IsTrue result → All (IsSightOf scene.now.points.now scene.now.scanners.now) scene.now.sights.now }
 {
-    for i in 0..sights.len() {
-        if !is_in_range(t, scanners, sights[i]) {
-            return false;
-        }
-    }
-    true
+    scene.sights.iter().all(|sight| is_in_range(scene, *sight))
 }
 
 /// Whether two networks are equal, with what their nodes and arcs stand for.
@@ -89,41 +81,49 @@ fn is_same(one: &Voted, other: &Voted) -> bool {
 
 /// The network by walks along the sights, with its cells and facets in rising order and in the store's. None where points are not
 /// distinct data points or too many, or sights out of range or of no weight.
-fn walked(
-    alloc: Global,
-    points: &[Point],
-    sights: &[Sight],
-    scanners: &[Point],
-    settings: Settings,
-) -> Result<Option<(Voted, Voted)>, AllocError> {
-    if points.len() > 48 || !are_sights(sights) {
+fn walked(alloc: Global, scene: &Scene<'_>) -> Result<Option<(Voted, Voted)>, AllocError> {
+    if scene.points.len() > 48 || !are_sights(scene.sights) {
         return Ok(None);
     }
-    if !are_data(points) || !are_distinct(points) || !are_data(scanners) {
+    if !are_data(scene.points) || !are_distinct(scene.points) || !are_data(scene.scanners) {
         return Ok(None);
     }
-    let t = build(alloc, points)?;
-    if !are_in_range(&t, scanners, sights) {
+    if !are_in_range(scene) {
         return Ok(None);
     }
-    let rising = count_votes_rising(alloc, &t, points, sights, scanners, settings)?;
-    let stored = count_votes(alloc, &t, points, sights, scanners, settings)?;
+    let t = build(alloc, scene.points)?;
+    let rising = count_votes_rising(alloc, &t, scene)?;
+    let stored = count_votes(alloc, &t, scene)?;
     Ok(Some((rising.voted, stored.voted)))
+}
+
+/// The scene of these where a vote is 8 and smoothing 1.
+fn scene_of<'a>(
+    points: &'a [Point],
+    scanners: &'a [Point],
+    sights: &'a [Sight],
+) -> Result<Scene<'a>, Fail> {
+    Ok(Scene {
+        points,
+        scanners,
+        sights,
+        settings: Settings::new(8, 1).ok_or("settings")?,
+    })
 }
 
 /// Whether it is the one by tests of each facet against each sight, in both orders.
 fn agrees(
     alloc: Global,
     points: &[Point],
-    sights: &[Sight],
     scanners: &[Point],
+    sights: &[Sight],
 ) -> Result<bool, Fail> {
-    let settings = Settings::new(8, 1).ok_or("settings")?;
-    if points.len() > 48 || !are_sights(sights) {
+    let scene = scene_of(points, scanners, sights)?;
+    if scene.points.len() > 48 || !are_sights(scene.sights) {
         return Ok(false);
     }
-    let (rising, stored) = walked(alloc, points, sights, scanners, settings)?.ok_or("a scan")?;
-    let plain = plain_net(alloc, points, sights, scanners, settings)?;
+    let (rising, stored) = walked(alloc, &scene)?.ok_or("a scan")?;
+    let plain = plain_net(alloc, &scene)?;
     Ok(is_same(&rising, &plain) && is_same_in_any_order(&plain, &stored))
 }
 
@@ -197,22 +197,20 @@ fn scattered(alloc: Global, first: u64, count: u64) -> Result<Vec<Point>, Fail> 
 fn four_points_and_a_sight_through_their_cell_agree(rt: HostRuntime) -> Result<(), Fail> {
     let points = four_points()?;
     let scanners = five_scanners()?;
-    assert!(rt; agrees(rt.alloc(), &points, &five_sights(1)[..4], &scanners)?);
-    assert!(rt; agrees(rt.alloc(), &points, &five_sights(255), &scanners)?);
+    assert!(rt; agrees(rt.alloc(), &points, &scanners, &five_sights(1)[..4])?);
+    assert!(rt; agrees(rt.alloc(), &points, &scanners, &five_sights(255))?);
     Ok(())
 }
 
 #[test]
 fn a_sight_through_the_cell_raises_the_facet_that_it_enters(rt: HostRuntime) -> Result<(), Fail> {
-    let settings = Settings::new(8, 1).ok_or("settings")?;
     let scanners = five_scanners()?;
     let points = four_points()?;
     let facets = [[8, 9, 10], [8, 10, 11], [8, 11, 9], [9, 11, 10]];
     for (weight, entered) in [(1, 9), (3, 25)] {
         let sights = five_sights(weight);
-        let (voted, _stored) = walked(rt.alloc(), &points, &sights, &scanners, settings)?.ok_or(
-            "a scan",
-        )?;
+        let scene = scene_of(&points, &scanners, &sights)?;
+        let (voted, _stored) = walked(rt.alloc(), &scene)?.ok_or("a scan")?;
         assert_eq!(rt; voted.facets.as_slice(), facets.as_slice());
         let arcs = voted.net.arcs.as_slice();
         for (arc, cap) in arcs.iter().zip([1, 1, 1, entered]) {
@@ -288,10 +286,9 @@ fn networks_that_differ_in_one_place_are_told_apart(rt: HostRuntime) -> Result<(
     let alloc = rt.alloc();
     let points = four_points()?;
     let scanners = five_scanners()?;
-    let settings = Settings::new(8, 1).ok_or("settings")?;
-    let (rising, stored) = walked(alloc, &points, &five_sights(1), &scanners, settings)?.ok_or(
-        "a scan",
-    )?;
+    let sights = five_sights(1);
+    let scene = scene_of(&points, &scanners, &sights)?;
+    let (rising, stored) = walked(alloc, &scene)?.ok_or("a scan")?;
     assert!(rt; is_same_in_any_order(&rising, &stored));
     for other in [
         with_other_sink(alloc, &stored)?,
@@ -327,7 +324,7 @@ fn the_cube_seen_from_both_sides_agrees(rt: HostRuntime) -> Result<(), Fail> {
             })?;
         }
     }
-    assert!(rt; agrees(rt.alloc(), &points, &sights, &scanners)?);
+    assert!(rt; agrees(rt.alloc(), &points, &scanners, &sights)?);
     Ok(())
 }
 
@@ -346,24 +343,22 @@ fn scattered_points_seen_from_scattered_scanners_agree(rt: HostRuntime) -> Resul
             })?;
         }
     }
-    assert!(rt; agrees(rt.alloc(), &points, &sights, &scanners)?);
+    assert!(rt; agrees(rt.alloc(), &points, &scanners, &sights)?);
     Ok(())
 }
 
 #[test]
 fn a_scanner_that_sees_nothing_fixes_its_cell(rt: HostRuntime) -> Result<(), Fail> {
     let points = four_points()?;
-    let settings = Settings::new(8, 1).ok_or("settings")?;
     let scanners = [point(1000, 1000, 1000)?, point(0, 0, 0)?];
     let sights = [Sight {
         vertex: 8,
         scanner: 0,
         weight: 1,
     }];
-    assert!(rt; agrees(rt.alloc(), &points, &sights, &scanners)?);
-    let (voted, _stored) = walked(rt.alloc(), &points, &sights, &scanners, settings)?.ok_or(
-        "a scan",
-    )?;
+    assert!(rt; agrees(rt.alloc(), &points, &scanners, &sights)?);
+    let scene = scene_of(&points, &scanners, &sights)?;
+    let (voted, _stored) = walked(rt.alloc(), &scene)?.ok_or("a scan")?;
     assert_eq!(rt; voted.facets.as_slice().len(), 0);
     Ok(())
 }

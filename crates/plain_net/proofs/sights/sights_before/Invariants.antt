@@ -1,12 +1,13 @@
 use Rattle.std.proofs.Common.{◌≡◌, take}
 use Rattle.geo_sign.specs.Sights.{is_behind}
-use Rattle.geo_sign.specs.Vertices.{vertices_of}
+use Rattle.visibility.specs.SceneViews.{view_of}
 use Rattle.visibility.specs.Scenes.{scanner_point}
 use Rattle.flow_net.specs.Weights.{weight_where}
 use Rattle.plain_net.proofs.sights.sights_before.Given as goal
 
 abbrev pub invariant-loop-sight : goal.invariant-loop-sight
 invariant-loop-sight l =
+    let s = view_of l.scene in
     l.before ≡ weight_where
-    (λ sight. is_behind (vertices_of l.points) sight.vertex (scanner_point l.scanners sight.scanner) l.cell)
-    (take l.sight-index l.sights)
+    (λ sight. is_behind s.vertices sight.vertex (scanner_point s.scanners sight.scanner) l.cell)
+    (take l.sight-index s.sights)

@@ -35,7 +35,7 @@ returns-clause-counts c =
 pub returns-clause-states : goal.returns-clause-states
 returns-clause-states c listing =
     let s : Scene = scene_of_scan (shown_of c.args.scan.now) c.args.settings in
-    let voted : Voted = c.args.voted.now in
+    let voted : Voted = c.args.cut.now.voted.now in
     let network : IsNetworkInAnyOrder s voted =
     record {
       listing = listing;
@@ -44,19 +44,19 @@ returns-clause-states c listing =
       arcs_are = c.requires.network.arcs_are;
     } in
     let few : s.vertices.count ≤ 2 ^ 32 = omega (arith, few_vertices c.args.scan.now c.args.settings) in
-    certificate_is s voted c.args.labels.now c.args.flow.now _ network c.requires.labels c.requires.flow c.requires.equal
+    certificate_is s voted c.args.cut.now.labels.now c.args.cut.now.flow.now _ network c.requires.cut.labels c.requires.cut.flow c.requires.cut.equal
     c.least_cost.ensures
-    (inside_are s few (complex_of voted) listing (test_of voted.cells c.args.labels.now.inside) _
+    (inside_are s few (complex_of voted) listing (test_of voted.cells c.args.cut.now.labels.now.inside) _
     (inside_moved _ _ _ _ _ _ c.as_slice-cells.ensures c.as_slice.ensures
-    (flags_are s voted c.args.labels.now network c.requires.labels) c.in_ok-inside_rows.ensures.moved)
+    (flags_are s voted c.args.cut.now.labels.now network c.requires.cut.labels) c.in_ok-inside_rows.ensures.moved)
     c.in_ok-inside_rows.ensures.sorted)
-    (flow_are s few (complex_of voted) listing (amount_of voted.facets c.args.flow.now.on_arc) _
+    (flow_are s few (complex_of voted) listing (amount_of voted.facets c.args.cut.now.flow.now.on_arc) _
     (flow_moved _ _ _ _ _ _ c.as_slice-2.ensures c.as_slice-3.ensures
-    (on_arcs_are s voted c.args.flow.now network c.requires.flow) c.in_ok-flow_rows.ensures.moved)
+    (on_arcs_are s voted c.args.cut.now.flow.now network c.requires.cut.flow) c.in_ok-flow_rows.ensures.moved)
     c.in_ok-flow_rows.ensures.sorted)
-    (sinks_are s few (complex_of voted) listing (amount_of voted.cells c.args.flow.now.on_sink) _
+    (sinks_are s few (complex_of voted) listing (amount_of voted.cells c.args.cut.now.flow.now.on_sink) _
     (sinks_moved _ _ _ _ _ _ c.as_slice-cells.ensures c.as_slice-4.ensures
-    (at_nodes_are s voted c.args.flow.now network c.requires.flow) c.in_ok-sink_rows.ensures.moved)
+    (at_nodes_are s voted c.args.cut.now.flow.now network c.requires.cut.flow) c.in_ok-sink_rows.ensures.moved)
     c.in_ok-sink_rows.ensures.sorted)
   where
     inside_moved : (rows cells given : List (List ℕ)) (flags inside : List Bool) (test : List ℕ → Bool) → given ≡ cells
@@ -86,8 +86,8 @@ inside_rows-requires c =
       arith,
       ap length c.as_slice-cells.ensures,
       ap length c.as_slice.ensures,
-      c.requires.labels.least_cost.admissible.count,
-      node_count (scene_of_scan (shown_of c.args.scan.now) c.args.settings) c.args.voted.now c.requires.network,
+      c.requires.cut.labels.least_cost.admissible.count,
+      node_count (scene_of_scan (shown_of c.args.scan.now) c.args.settings) c.args.cut.now.voted.now c.requires.network,
     )
 
 pub flow_rows-requires : goal.flow_rows-requires
@@ -96,8 +96,8 @@ flow_rows-requires c =
       arith,
       ap length c.as_slice-2.ensures,
       ap length c.as_slice-3.ensures,
-      c.requires.flow.arc_count,
-      arc_count (scene_of_scan (shown_of c.args.scan.now) c.args.settings) c.args.voted.now c.requires.network,
+      c.requires.cut.flow.arc_count,
+      arc_count (scene_of_scan (shown_of c.args.scan.now) c.args.settings) c.args.cut.now.voted.now c.requires.network,
     )
 
 pub sink_rows-requires : goal.sink_rows-requires
@@ -106,15 +106,15 @@ sink_rows-requires c =
       arith,
       ap length c.as_slice-cells.ensures,
       ap length c.as_slice-4.ensures,
-      c.requires.flow.node_count,
-      node_count (scene_of_scan (shown_of c.args.scan.now) c.args.settings) c.args.voted.now c.requires.network,
+      c.requires.cut.flow.node_count,
+      node_count (scene_of_scan (shown_of c.args.scan.now) c.args.settings) c.args.cut.now.voted.now c.requires.network,
     )
 
 pub returns-clause-well_formed : goal.returns-clause-well_formed
 returns-clause-well_formed c =
     let s : Scene = scene_of_scan (shown_of c.args.scan.now) c.args.settings in
     let cost : c.least_cost.result < 2 ^ 64 = omega (arith, c.least_cost.type_inv) in
-    well_formed s c.requires.network.listing.complex (test_of c.args.voted.now.cells c.args.labels.now.inside) _
+    well_formed s c.requires.network.listing.complex (test_of c.args.cut.now.voted.now.cells c.args.cut.now.labels.now.inside) _
     c.requires.network.listing.complex_is (few_vertices c.args.scan.now c.args.settings) (few_sights c.args.scan.now)
     (version_of c.args.stamp)
     (fit_counts _ c.args.scan.now c.args.settings (returns-clause-counts c) cost)

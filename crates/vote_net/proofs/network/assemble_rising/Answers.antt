@@ -1,5 +1,6 @@
 use Rattle.std.proofs.Common.{◌≡◌, ◌∙◌, ap, map, IfOk, List, Bool, Option, Result, Ok, Err}
 use Rattle.visibility.specs.Networks.{IsNetworkInAnyOrder, IsNetworkOf}
+use Rattle.visibility.specs.SceneViews.{view_of}
 use Rattle.visibility.specs.Scenes.{Scene}
 use Rattle.tetra_store.specs.declared.link.Cell.{Cell}
 use Rattle.vote_net.specs.declared.rows.Row.{Row}
@@ -15,10 +16,10 @@ joined (Ok x) P Q R S h p q s = h x p q s
 joined (Err e) P Q R S h p q s = tt
 
 pub returns-clause-network : goal.returns-clause-network
-returns-clause-network g c =
-    let s : Scene = g.scene in
+returns-clause-network c =
+    let s : Scene = view_of c.args.scene.now in
     let slots : List (Option Cell) = c.args.t.now.slots in
-    let fixed : List Bool = c.args.fixed.now in
+    let fixed : List Bool = c.args.counts.now.fixed.now in
     let rows : List Row = c.in_ok-rows.rows.items in
     let sides : List Side = c.in_ok-sides.sides.items in
     let lists : AreListed slots fixed rows sides =
@@ -27,7 +28,6 @@ returns-clause-network g c =
     (λ counted. counted.voted.cells ≡ map cell_of_row c.deref.result.now)
     (λ counted. counted.voted.facets ≡ map facet_of_side sides) (λ counted. IsNetworkOf s counted.voted)
     (λ counted n cells facets.
-    network_rises s slots c.args.crossed.now c.args.behind.now fixed rows sides c.requires.0 lists counted.voted.net
-    counted.voted.cells counted.voted.facets
+    network_rises s slots _ _ fixed rows sides c.requires lists counted.voted.net counted.voted.cells counted.voted.facets
     (cells ∙ ap (map cell_of_row) c.deref.ensures.value) facets c.in_ok-rows.ensures.sorted c.in_ok-sides.ensures.sorted n)
     c.network_over.ensures.network c.network_over.ensures.cells c.network_over.ensures.facets

@@ -1,5 +1,0 @@
-use Rattle.visibility.specs.Scenes.{scene_of}
-use Rattle.recon_build.proofs.network.network.Given as goal
-
-abbrev pub ghost-count_votes : goal.ghost-count_votes
-ghost-count_votes a = scene_of a.points.now a.scanners.now a.sights.now a.settings
