@@ -1,4 +1,5 @@
--- What is wrong with labels and a flow that is to show them best: the first fault, or none.
+-- What is wrong with labels and a flow of a network by numbers that is to show them best: the first fault, or none. The faults
+-- are those of any network (Faults of flow_net).
 --
 --   IsFixedInside net labels v          node v is fixed and inside
 --   IsOverCapacity net flow j           more flows on arc j than its capacity
@@ -12,12 +13,13 @@
 --   AreWithinLimits net labels flow     nor is a sink over its limit
 --   IsCertified net labels flow         admissible labels that cost what a valid flow is worth
 --   IsVerdict net labels flow verdict   the verdict: the first of these faults at its smallest node or arc, or Yes
-use Rattle.std.specs.Prelude.{ℕ, ◌≡◌, ◌≢◌, ◌<◌, ◌+◌, true, false, length, slice_index, if◌then◌else◌}
+use Rattle.std.specs.Prelude.{ℕ, ◌≡◌, ◌≢◌, length, slice_index}
 use Rattle.flow_net.specs.declared.Net.{Net}
 use Rattle.flow_net.specs.declared.Labels.{Labels}
 use Rattle.flow_net.specs.declared.Flow.{Flow}
 use Rattle.flow_net.specs.Nets.{arc_at, flag_at}
-use Rattle.flow_net.specs.Flows.{amount_in, amount_out, value_of, cost_of, IsValidFlow, IsAdmissible, IsLeastInside}
+use Rattle.flow_net.specs.Faults as faults
+use Rattle.flow_net.specs.Flows.{network_of, amount_in, value_of, cost_of, IsValidFlow, IsAdmissible, IsLeastInside}
 use Rattle.flow_check.specs.declared.verdict.Verdict.{Verdict}
 use Rattle.flow_check.specs.declared.verdict.Verdict.TheVariants.{Yes, FixedInside, OverCapacity, OverSink, Unbalanced}
 use Rattle.flow_check.specs.declared.verdict.Verdict.TheVariants.{NotEqual, NotLeast}
@@ -25,45 +27,44 @@ use Rattle.flow_check.specs.Firsts.{IsFirst, NoneBelow}
 
 -- node v is fixed and inside
 abbrev pub IsFixedInside : Net → Labels → ℕ → Type 0
-IsFixedInside net labels v = (flag_at net.fixed v ≡ true) × (flag_at labels.inside v ≡ true)
+IsFixedInside net labels = faults.IsFixedInside (network_of net) (flag_at labels.inside)
 
 -- more flows on arc j than its capacity
 abbrev pub IsOverCapacity : Net → Flow → ℕ → Type 0
-IsOverCapacity net flow j = (arc_at net.arcs j).cap < slice_index flow.on_arc j
+IsOverCapacity net flow = faults.IsOverCapacity (network_of net) (slice_index flow.on_arc)
 
 -- the most that may leave at node v's sink
 abbrev pub sink_limit : Net → ℕ → ℕ
-sink_limit net v = if flag_at net.fixed v then 0 else slice_index net.sink v
+sink_limit net = faults.sink_limit (network_of net)
 
 -- more leaves at node v's sink than may
 abbrev pub IsOverSink : Net → Flow → ℕ → Type 0
-IsOverSink net flow v = sink_limit net v < slice_index flow.on_sink v
+IsOverSink net flow = faults.IsOverSink (network_of net) (slice_index flow.on_sink)
 
 -- what leaves node v, over arcs and at its sink
 abbrev pub total_out : Net → Flow → ℕ → ℕ
-total_out net flow v = amount_out net.arcs flow.on_arc v + slice_index flow.on_sink v
+total_out net flow = faults.total_out (network_of net) (slice_index flow.on_arc) (slice_index flow.on_sink)
 
 -- node v is free, and what enters it is not what leaves it
 abbrev pub IsUnbalanced : Net → Flow → ℕ → Type 0
-IsUnbalanced net flow v = (flag_at net.fixed v ≡ false) × (amount_in net.arcs flow.on_arc v ≢ total_out net flow v)
+IsUnbalanced net flow = faults.IsUnbalanced (network_of net) (slice_index flow.on_arc) (slice_index flow.on_sink)
 
 -- node v is inside by labels and outside by others
 abbrev pub IsInsideAlone : Labels → Labels → ℕ → Type 0
-IsInsideAlone labels other v = (flag_at labels.inside v ≡ true) × (flag_at other.inside v ≡ false)
+IsInsideAlone labels other = faults.IsInsideAlone (flag_at labels.inside) (flag_at other.inside)
 
 -- node v is inside, and outside by the least-inside labels
 abbrev pub IsNotLeast : Net → Labels → ℕ → Type 0
-IsNotLeast net labels v = (least : Labels) → IsLeastInside net least → IsInsideAlone labels least v
+IsNotLeast net labels = faults.IsNotLeast (network_of net) (flag_at labels.inside)
 
 -- no fixed node is inside, and no arc is over its capacity
-pub record AreWithinArcs (net : Net) (labels : Labels) (flow : Flow) : Type 0 where
-  pub none_fixed : NoneBelow (length net.fixed) (IsFixedInside net labels)
-  pub within_caps : NoneBelow (length net.arcs) (IsOverCapacity net flow)
+abbrev pub AreWithinArcs : Net → Labels → Flow → Type 0
+AreWithinArcs net labels flow = faults.AreWithinArcs (network_of net) (flag_at labels.inside) (slice_index flow.on_arc)
 
--- no fixed node is inside, no arc is over its capacity, and no sink is over its limit
-pub record AreWithinLimits (net : Net) (labels : Labels) (flow : Flow) : Type 0 where
-  pub within_arcs : AreWithinArcs net labels flow
-  pub within_sinks : NoneBelow (length net.fixed) (IsOverSink net flow)
+-- nor is a sink over its limit
+abbrev pub AreWithinLimits : Net → Labels → Flow → Type 0
+AreWithinLimits net labels flow =
+    faults.AreWithinLimits (network_of net) (flag_at labels.inside) (slice_index flow.on_arc) (slice_index flow.on_sink)
 
 -- admissible labels that cost what a valid flow is worth
 pub record IsCertified (net : Net) (labels : Labels) (flow : Flow) : Type 0 where

@@ -1,5 +1,6 @@
 pub mod BuilderLemmas
 pub mod SumLemmas
+pub mod Correspondences
 pub mod Duality
 pub mod Meets
 pub mod WeightLemmas

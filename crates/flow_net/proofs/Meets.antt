@@ -8,16 +8,19 @@
 -- best one's, so it has no fewer nodes inside, though each of them is inside by the best labels: it has them all, and these
 -- lie within the others (`ranked_least`).
 use Rattle.std.proofs.Common.{ℕ, zero, suc, ◌≡◌, ◌<◌, ◌≤◌, ◌+◌, ◌*◌, Bool, true, false, cond, not, ◌&&◌, List, [], ◌∷◌, length}
-use Rattle.std.proofs.Common.{get_or, refl, ap, sym, ◌∙◌, inl, inr, arith}
+use Rattle.std.proofs.Common.{get_or, map, refl, ap, ap₂, sym, ◌∙◌, inl, inr, arith}
+use Rattle.std.specs.List.{range_with_len}
 use Rattle.std.proofs.Math.Nat.{mul-le-mul_left}
 use Rattle.std.proofs.lemmas.Bool.{false≢true, cases_lt, and_left}
 use Rattle.std.proofs.lemmas.Bool.Decides.{same_from_decides}
+use Rattle.std.proofs.lemmas.List.FromFn.{length-map-range_with_len, get_or-map-range_with_len}
 use Rattle.flow_net.specs.Sums.{sum_below}
 use Rattle.flow_net.specs.Nets.{arc_at, flag_at}
-use Rattle.flow_net.specs.Flows.{IsAdmissible, IsLeastCost, IsLeastInside, cost_of, node_cost, arc_cost}
+use Rattle.flow_net.specs.Networks.{IsAdmissible, IsLeastCost, arc_cost, node_cost, cost}
+use Rattle.flow_net.specs.Flows.{network_of, IsLeastInside}
 use Rattle.flow_net.specs.declared.Net.{Net}
 use Rattle.flow_net.specs.declared.Labels.{Labels}
-use Rattle.flow_net.proofs.SumLemmas.{sum_below-le, sum_below-add, sum_below-le_const, sum_below-tight}
+use Rattle.flow_net.proofs.SumLemmas.{sum_below-cong, sum_below-le, sum_below-add, sum_below-le_const, sum_below-tight}
 
 -- lists of flags with the same flags are the same
 same_flags : (a b : List Bool) → length a ≡ length b →
@@ -38,50 +41,9 @@ same_labels a b e = let made : List Bool → Labels = λ xs. record { inside = x
 -- two least insides are the same
 pub least_inside_unique : (net : Net) (a b : Labels) → IsLeastInside net a → IsLeastInside net b → a ≡ b
 least_inside_unique net a b p q =
-    let count : length a.inside ≡ length b.inside = p.least_cost.admissible.count ∙ sym q.least_cost.admissible.count in
-    same_labels a b (same_flags a.inside b.inside count
-    (λ v l h. p.within b q.least_cost v (omega (arith, p.least_cost.admissible.count)) h)
-    (λ v l h. q.within a p.least_cost v (omega (arith, p.least_cost.admissible.count)) h))
-
--- the flags that two lists have both
-both : List Bool → List Bool → List Bool
-both [] ys = []
-both (x ∷ xs) [] = []
-both (x ∷ xs) (y ∷ ys) = (x && y) ∷ both xs ys
-
--- the flags that one of two lists has
-one_of : List Bool → List Bool → List Bool
-one_of [] ys = []
-one_of (x ∷ xs) [] = []
-one_of (x ∷ xs) (y ∷ ys) = not (not x && not y) ∷ one_of xs ys
-
-length-both : (xs ys : List Bool) → length xs ≡ length ys → length (both xs ys) ≡ length xs
-unfolding both
-length-both [] ys e = refl
-length-both (x ∷ xs) [] e = absurd (omega (arith, e))
-length-both (x ∷ xs) (y ∷ ys) e = omega (arith, length-both xs ys (omega (arith, e)))
-
-length-one_of : (xs ys : List Bool) → length xs ≡ length ys → length (one_of xs ys) ≡ length xs
-unfolding one_of
-length-one_of [] ys e = refl
-length-one_of (x ∷ xs) [] e = absurd (omega (arith, e))
-length-one_of (x ∷ xs) (y ∷ ys) e = omega (arith, length-one_of xs ys (omega (arith, e)))
-
-flag_at-both : (xs ys : List Bool) (v : ℕ) → length xs ≡ length ys → flag_at (both xs ys) v ≡ (flag_at xs v && flag_at ys v)
-unfolding both
-flag_at-both [] ys v e = refl
-flag_at-both (x ∷ xs) [] v e = absurd (omega (arith, e))
-flag_at-both (x ∷ xs) (y ∷ ys) zero e = refl
-flag_at-both (x ∷ xs) (y ∷ ys) (suc v) e = flag_at-both xs ys v (omega (arith, e))
-
-flag_at-one_of : (xs ys : List Bool) (v : ℕ) → length xs ≡ length ys →
-    flag_at (one_of xs ys) v ≡ not (not (flag_at xs v) && not (flag_at ys v))
-unfolding one_of
-flag_at-one_of [] [] v e = refl
-flag_at-one_of [] (y ∷ ys) v e = absurd (omega (arith, e))
-flag_at-one_of (x ∷ xs) [] v e = absurd (omega (arith, e))
-flag_at-one_of (x ∷ xs) (y ∷ ys) zero e = refl
-flag_at-one_of (x ∷ xs) (y ∷ ys) (suc v) e = flag_at-one_of xs ys v (omega (arith, e))
+    same_labels a b (same_flags a.inside b.inside (p.count ∙ sym q.count)
+    (λ v l h. p.within (flag_at b.inside) q.least_cost v (omega (arith, p.count)) h)
+    (λ v l h. q.within (flag_at a.inside) p.least_cost v (omega (arith, p.count)) h))
 
 -- what an arc adds, by whether its ends are inside
 abbrev by_ends : Bool → Bool → ℕ → ℕ
@@ -115,62 +77,42 @@ node_meets false true k = omega arith
 node_meets false false k = omega arith
 
 -- labels whose inside is what two have both, and what one of two has
-abbrev meet_of : Labels → Labels → Labels
-meet_of a b = record { inside = both a.inside b.inside }
+abbrev both : (ℕ → Bool) → (ℕ → Bool) → ℕ → Bool
+both a b v = a v && b v
 
-abbrev join_of : Labels → Labels → Labels
-join_of a b = record { inside = one_of a.inside b.inside }
+abbrev one_of : (ℕ → Bool) → (ℕ → Bool) → ℕ → Bool
+one_of a b v = not (not (a v) && not (b v))
 
 or_false : (x y : Bool) → x ≡ false → y ≡ false → not (not x && not y) ≡ false
 or_false true y e f = absurd (false≢true (sym e))
 or_false false true e f = absurd (false≢true (sym f))
 or_false false false e f = refl
 
-admissible_meet : (net : Net) (a b : Labels) → IsAdmissible net a → IsAdmissible net b → IsAdmissible net (meet_of a b)
-admissible_meet net a b p q =
-    let count : length a.inside ≡ length b.inside = p.count ∙ sym q.count in
-    record {
-      count = length-both a.inside b.inside count ∙ p.count;
-      none_fixed =
-          λ v l h. flag_at-both a.inside b.inside v count
-          ∙ and_left (flag_at a.inside v) (flag_at b.inside v) (p.none_fixed v l h);
-    }
+admissible_both : (net : Net) (a b : ℕ → Bool) → IsAdmissible (network_of net) a → IsAdmissible (network_of net) (both a b)
+admissible_both net a b p = record { none_fixed = λ v l h. and_left (a v) (b v) (p.none_fixed v l h) }
 
-admissible_join : (net : Net) (a b : Labels) → IsAdmissible net a → IsAdmissible net b → IsAdmissible net (join_of a b)
-admissible_join net a b p q =
-    let count : length a.inside ≡ length b.inside = p.count ∙ sym q.count in
-    record {
-      count = length-one_of a.inside b.inside count ∙ p.count;
-      none_fixed = λ v l h. flag_at-one_of a.inside b.inside v count
-          ∙ or_false (flag_at a.inside v) (flag_at b.inside v) (p.none_fixed v l h) (q.none_fixed v l h);
-    }
+admissible_one : (net : Net) (a b : ℕ → Bool) → IsAdmissible (network_of net) a → IsAdmissible (network_of net) b
+    → IsAdmissible (network_of net) (one_of a b)
+admissible_one net a b p q =
+    record { none_fixed = λ v l h. or_false (a v) (b v) (p.none_fixed v l h) (q.none_fixed v l h) }
 
--- the meet and the join of labels cost no more than the two: the cost is submodular
-submodular : (net : Net) (a b : Labels) → length a.inside ≡ length b.inside →
-    cost_of net (meet_of a b) + cost_of net (join_of a b) ≤ cost_of net a + cost_of net b
-submodular net a b count =
+-- inside by both and inside by one of two cost no more than the two: the cost is submodular
+submodular : (net : Net) (a b : ℕ → Bool) → cost (network_of net) (both a b) + cost (network_of net) (one_of a b)
+    ≤ cost (network_of net) a + cost (network_of net) b
+submodular net a b =
     let m : ℕ = length net.arcs in
     let n : ℕ = length net.fixed in
-    let low : List Bool = both a.inside b.inside in
-    let high : List Bool = one_of a.inside b.inside in
-    let arcs = sum_below-le m (λ j. arc_cost net.arcs low j + arc_cost net.arcs high j)
-    (λ j. arc_cost net.arcs a.inside j + arc_cost net.arcs b.inside j)
-    (λ j l. rw (
-      flag_at-both a.inside b.inside (arc_at net.arcs j).from count,
-      flag_at-both a.inside b.inside (arc_at net.arcs j).to count,
-      flag_at-one_of a.inside b.inside (arc_at net.arcs j).from count,
-      flag_at-one_of a.inside b.inside (arc_at net.arcs j).to count,
-    )
-    (arc_meets (flag_at a.inside (arc_at net.arcs j).from) (flag_at a.inside (arc_at net.arcs j).to)
-    (flag_at b.inside (arc_at net.arcs j).from) (flag_at b.inside (arc_at net.arcs j).to) (arc_at net.arcs j).cap)) in
-    let arcs_left = sum_below-add m (arc_cost net.arcs low) (arc_cost net.arcs high) in
-    let arcs_right = sum_below-add m (arc_cost net.arcs a.inside) (arc_cost net.arcs b.inside) in
-    let nodes = sum_below-le n (λ v. node_cost net.sink low v + node_cost net.sink high v)
-    (λ v. node_cost net.sink a.inside v + node_cost net.sink b.inside v)
-    (λ v l. rw (flag_at-both a.inside b.inside v count, flag_at-one_of a.inside b.inside v count)
-    (node_meets (flag_at a.inside v) (flag_at b.inside v) (get_or net.sink v 0))) in
-    let nodes_left = sum_below-add n (node_cost net.sink low) (node_cost net.sink high) in
-    let nodes_right = sum_below-add n (node_cost net.sink a.inside) (node_cost net.sink b.inside) in
+    let arc : (ℕ → Bool) → ℕ → ℕ = arc_cost (network_of net) in
+    let node : (ℕ → Bool) → ℕ → ℕ = node_cost (network_of net) in
+    let arcs = sum_below-le m (λ j. arc (both a b) j + arc (one_of a b) j) (λ j. arc a j + arc b j)
+    (λ j l. arc_meets (a (arc_at net.arcs j).from) (a (arc_at net.arcs j).to) (b (arc_at net.arcs j).from)
+    (b (arc_at net.arcs j).to) (arc_at net.arcs j).cap) in
+    let nodes = sum_below-le n (λ v. node (both a b) v + node (one_of a b) v) (λ v. node a v + node b v)
+    (λ v l. node_meets (a v) (b v) (get_or net.sink v 0)) in
+    let arcs_left = sum_below-add m (arc (both a b)) (arc (one_of a b)) in
+    let arcs_right = sum_below-add m (arc a) (arc b) in
+    let nodes_left = sum_below-add n (node (both a b)) (node (one_of a b)) in
+    let nodes_right = sum_below-add n (node a) (node b) in
     omega (arith, arcs, arcs_left, arcs_right, nodes, nodes_left, nodes_right)
 
 -- flags, one for each of those that are fixed or not, with none where one is fixed
@@ -250,8 +192,8 @@ abbrev one_if : Bool → ℕ
 one_if b = cond b 1 0
 
 -- how many nodes are inside
-abbrev inside_count : ℕ → List Bool → ℕ
-inside_count n xs = sum_below n (λ v. one_if (flag_at xs v))
+abbrev pub inside_count : ℕ → (ℕ → Bool) → ℕ
+inside_count n inside = sum_below n (λ v. one_if (inside v))
 
 one_or_none : (b : Bool) → one_if b ≤ 1
 one_or_none true = omega arith
@@ -268,11 +210,24 @@ both_if_same true false e h = absurd (omega (arith, e))
 both_if_same false y e h = absurd (false≢true h)
 
 -- labels are ordered by cost, and by how many nodes are inside where they cost the same
-abbrev rank_of : Net → List Bool → ℕ
-rank_of net xs = cost_of net (record { inside = xs }) * (length net.fixed + 1) + inside_count (length net.fixed) xs
+abbrev pub rank_of : Net → (ℕ → Bool) → ℕ
+rank_of net inside = cost (network_of net) inside * (length net.fixed + 1) + inside_count (length net.fixed) inside
 
-count_le : (n : ℕ) (xs : List Bool) → inside_count n xs ≤ n
-count_le n xs = omega (arith, sum_below-le_const n 1 (λ v. one_if (flag_at xs v)) (λ v l. one_or_none (flag_at xs v)))
+-- labels that say the same of each node have one rank
+same_rank : (net : Net) (a b : ℕ → Bool) → ((v : ℕ) → v < length net.fixed → a v ≡ b v) → rank_of net a ≡ rank_of net b
+same_rank net a b h =
+    let m : ℕ = length net.arcs in
+    let n : ℕ = length net.fixed in
+    let arcs = sum_below-cong m (arc_cost (network_of net) a) (arc_cost (network_of net) b)
+    (λ j l. ap₂ (λ x y. cond (not x && y) (arc_at net.arcs j).cap 0)
+    (h (arc_at net.arcs j).from (net.valid.valid_arcs j l).from_in) (h (arc_at net.arcs j).to (net.valid.valid_arcs j l).to_in)) in
+    let nodes = sum_below-cong n (node_cost (network_of net) a) (node_cost (network_of net) b)
+    (λ v l. ap (λ x. cond x 0 (get_or net.sink v 0)) (h v l)) in
+    let counts = sum_below-cong n (λ v. one_if (a v)) (λ v. one_if (b v)) (λ v l. ap one_if (h v l)) in
+    ap₂ (λ k c. k * (n + 1) + c) (ap₂ (λ k c. k + c) arcs nodes) counts
+
+count_le : (n : ℕ) (inside : ℕ → Bool) → inside_count n inside ≤ n
+count_le n inside = omega (arith, sum_below-le_const n 1 (λ v. one_if (inside v)) (λ v l. one_or_none (inside v)))
 
 -- a lower rank is no higher cost
 cost_from_rank : (n a b k l : ℕ) → l ≤ n → a * (n + 1) + k ≤ b * (n + 1) + l → a ≤ b
@@ -285,45 +240,55 @@ cost_from_rank n a b k l small le =
       | inr more ↦ more
     ]
 
--- labels of the least rank are least-inside
-ranked_least : (net : Net) (best : List Bool) → IsFit net.fixed best →
-    ((other : List Bool) → IsFit net.fixed other → rank_of net best ≤ rank_of net other) →
-    IsLeastInside net (record { inside = best })
-ranked_least net best fits least =
+-- flags of the least rank have a rank that no labels are below
+least_rank : (net : Net) (found : HasLeast net.fixed (λ xs. rank_of net (flag_at xs))) (other : ℕ → Bool)
+    → IsAdmissible (network_of net) other → rank_of net (flag_at found.best) ≤ rank_of net other
+least_rank net found other p =
     let n : ℕ = length net.fixed in
-    let labels : Labels = record { inside = best } in
-    let admissible : IsAdmissible net labels = record { count = fits.count; none_fixed = fits.none_fixed } in
-    let is_least : IsLeastCost net labels = record {
+    let flags : List Bool = map other (range_with_len 0 n) in
+    let same : (v : ℕ) → v < n → flag_at flags v ≡ other v =
+    λ v l. get_or-map-range_with_len other 0 n v v false l (omega arith) in
+    let fit : IsFit net.fixed flags = record {
+      count = length-map-range_with_len other 0 n;
+      none_fixed = λ v l h. same v l ∙ p.none_fixed v l h;
+    } in
+    omega (arith, found.least flags fit, same_rank net (flag_at flags) other same)
+
+-- labels of the least rank are least-inside
+ranked_least : (net : Net) (found : HasLeast net.fixed (λ xs. rank_of net (flag_at xs)))
+    → IsLeastInside net (record { inside = found.best })
+ranked_least net found =
+    let n : ℕ = length net.fixed in
+    let best : ℕ → Bool = flag_at found.best in
+    let admissible : IsAdmissible (network_of net) best = record { none_fixed = found.fits.none_fixed } in
+    let is_least : IsLeastCost (network_of net) best = record {
       admissible = admissible;
-      least =
-          λ other p.
-          cost_from_rank n (cost_of net labels) (cost_of net other) (inside_count n best) (inside_count n other.inside)
-          (count_le n other.inside) (least other.inside (record { count = p.count; none_fixed = p.none_fixed }));
+      least = λ other p.
+          cost_from_rank n (cost (network_of net) best) (cost (network_of net) other) (inside_count n best)
+          (inside_count n other) (count_le n other) (least_rank net found other p);
     } in
     record {
-      least_cost = is_least;
-      within = λ other other_least.
-          let count : length best ≡ length other.inside = fits.count ∙ sym other_least.admissible.count in
-          let meet : List Bool = both best other.inside in
-          let fit_meet = admissible_meet net labels other admissible other_least.admissible in
-          let fit_join = admissible_join net labels other admissible other_least.admissible in
-          let sum = submodular net labels other count in
-          let low = is_least.least (meet_of labels other) fit_meet in
-          let high = other_least.least (join_of labels other) fit_join in
-          let cost_is : cost_of net (meet_of labels other) ≡ cost_of net labels = omega (arith, sum, low, high) in
-          let ranks : rank_of net best ≤ rank_of net meet =
-          least meet (record { count = fit_meet.count; none_fixed = fit_meet.none_fixed }) in
-          let fewer : (v : ℕ) → v < n → one_if (flag_at meet v) ≤ one_if (flag_at best v) =
-          λ v l. rw (flag_at-both best other.inside v count) (one_or_fewer (flag_at best v) (flag_at other.inside v)) in
-          let no_fewer : inside_count n best ≤ inside_count n meet =
-          let same = ap (λ k. k * (n + 1)) cost_is in omega (arith, same, ranks) in
-          let tight = sum_below-tight n (λ v. one_if (flag_at meet v)) (λ v. one_if (flag_at best v)) fewer no_fewer in
-          λ v l h. both_if_same (flag_at best v) (flag_at other.inside v)
-          (rw (flag_at-both best other.inside v count) at (tight v l)) h;
+      count = found.fits.count;
+      labelled = record {
+        least_cost = is_least;
+        within = λ other other_least.
+            let meet : ℕ → Bool = both best other in
+            let fit_meet = admissible_both net best other admissible in
+            let low = is_least.least meet fit_meet in
+            let high =
+            other_least.least (one_of best other) (admissible_one net best other admissible other_least.admissible) in
+            let cost_is : cost (network_of net) meet ≡ cost (network_of net) best =
+            omega (arith, submodular net best other, low, high) in
+            let fewer : (v : ℕ) → v < n → one_if (meet v) ≤ one_if (best v) = λ v l. one_or_fewer (best v) (other v) in
+            let no_fewer : inside_count n best ≤ inside_count n meet =
+            let same = ap (λ k. k * (n + 1)) cost_is in omega (arith, same, least_rank net found meet fit_meet) in
+            let tight = sum_below-tight n (λ v. one_if (meet v)) (λ v. one_if (best v)) fewer no_fewer in
+            λ v l h. both_if_same (best v) (other v) (tight v l) h;
+      };
     }
 
 -- there are least-inside labels
 pub least_inside_exists : (net : Net) → (labels : Labels) × IsLeastInside net labels
 least_inside_exists net =
-    let found = has_least net.fixed (rank_of net) in
-    (record { inside = found.best }, ranked_least net found.best found.fits found.least)
+    let found = has_least net.fixed (λ xs. rank_of net (flag_at xs)) in
+    (record { inside = found.best }, ranked_least net found)

@@ -1,5 +1,6 @@
+use Rattle.flow_net.specs.Nets.{flag_at}
 use Rattle.flow_net.proofs.Duality.{value_le_cost}
 use Rattle.flow_net.proofs.laws.value_is_at_most_cost.Goals as goal
 
 pub returns : goal.returns
-returns c = value_le_cost
+returns c net flow labels valid admissible = value_le_cost net flow (flag_at labels.inside) valid admissible.labelled

@@ -10,7 +10,7 @@ returns c = λ same.
     let none = rw inside_is at c.in-None.ensures.none in
     let admissible : IsAdmissible c.args.net.now c.args.labels.now = record {
       count = sym (ap length inside_is) ∙ c.if-inside-as_slice.false ∙ ap length fixed_is;
-      none_fixed = none;
+      labelled = record { none_fixed = none };
     } in
     let equal : value_of c.args.net.now c.args.flow.now ≡ cost_of c.args.net.now c.args.labels.now =
     sym c.value.ensures.sum ∙ eqb-true c.value.result c.cost.result same ∙ c.cost.ensures.sum in

@@ -1,0 +1,307 @@
+-- Two networks whose nodes and arcs correspond judge labels and flows alike.
+--
+-- Each node of the one stands for a node of the other, each of which stands for one, and so do arcs. The ends of an arc stand
+-- for the ends of what it stands for, and all else is the same, sums too. Then labels that say the same cost the same, and
+-- flows of the same amounts are worth the same and bring the same to each node, so all that is said of them is the same. What
+-- is said of all labels of the one is said of all labels of the other, since these are labels of the one as well: those of the
+-- nodes that stand for its nodes, or of those that its nodes stand for.
+use Rattle.std.proofs.Common.{ℕ, ◌≡◌, ◌≤◌, ◌+◌, ◌↔◌, Bool, cond, not, ◌&&◌, refl, ap, ap₂, sym, subst, ◌∙◌}
+use Rattle.std.proofs.Common.{arith}
+use Rattle.flow_net.specs.Networks.{Network, arc_cost, cost, amount_in, amount_out, value, IsValidFlow, IsAdmissible}
+use Rattle.flow_net.specs.Networks.{IsLeastCost, IsLeastInside, AgreeAsNetworks}
+use Rattle.flow_net.specs.Faults.{IsFixedInside, IsOverCapacity, sink_limit, IsOverSink, total_out, IsUnbalanced, IsNotLeast}
+
+-- what the nodes and arcs of the one stand for in the other
+pub record Corresponds {Node Arc Place Link : Type 0} (net : Network Node Arc) (far : Network Place Link) : Type 0 where
+  pub node : Node → Place
+  pub back : Place → Node
+  pub arc : Arc → Link
+  pub node_there : (v : Node) → net.HasNode v → far.HasNode (node v)
+  pub back_there : (p : Place) → far.HasNode p → net.HasNode (back p)
+  pub node_back : (v : Node) → net.HasNode v → back (node v) ≡ v
+  pub back_node : (p : Place) → far.HasNode p → node (back p) ≡ p
+  pub arc_there : (a : Arc) → net.HasArc a → far.HasArc (arc a)
+  pub arc_of : (l : Link) → far.HasArc l → (a : Arc) × net.HasArc a × (arc a ≡ l)
+  pub node_sums : (f : Node → ℕ) (g : Place → ℕ) → ((v : Node) → net.HasNode v → f v ≡ g (node v))
+      → net.node_sum f ≡ far.node_sum g
+  pub arc_sums : (f : Arc → ℕ) (g : Link → ℕ) → ((a : Arc) → net.HasArc a → f a ≡ g (arc a)) → net.arc_sum f ≡ far.arc_sum g
+  pub from_there : (a : Arc) → net.HasArc a → net.HasNode (net.from a)
+  pub to_there : (a : Arc) → net.HasArc a → net.HasNode (net.to a)
+  pub from_is : (a : Arc) → net.HasArc a → node (net.from a) ≡ far.from (arc a)
+  pub to_is : (a : Arc) → net.HasArc a → node (net.to a) ≡ far.to (arc a)
+  pub same_is : (v w : Node) → net.HasNode v → net.HasNode w → net.is_same v w ≡ far.is_same (node v) (node w)
+  pub capacity_is : (a : Arc) → net.HasArc a → net.capacity a ≡ far.capacity (arc a)
+  pub fixed_is : (v : Node) → net.HasNode v → net.is_fixed v ≡ far.is_fixed (node v)
+  pub sink_is : (v : Node) → net.HasNode v → net.sink v ≡ far.sink (node v)
+
+-- labels, or amounts at nodes, that say the same of each node
+abbrev pub SameAtNodes : {Node Arc Place Link X : Type 0} {net : Network Node Arc} {far : Network Place Link}
+    → Corresponds net far → (Node → X) → (Place → X) → Type 0
+SameAtNodes {Node} {net = net} c near there = (v : Node) → net.HasNode v → near v ≡ there (c.node v)
+
+-- amounts that are the same on each arc
+abbrev pub SameOnArcs : {Node Arc Place Link : Type 0} {net : Network Node Arc} {far : Network Place Link}
+    → Corresponds net far → (Arc → ℕ) → (Link → ℕ) → Type 0
+SameOnArcs {Arc = Arc} {net = net} c near there = (a : Arc) → net.HasArc a → near a ≡ there (c.arc a)
+
+le_along : (a b c d : ℕ) → a ≡ b → c ≡ d → a ≤ c → b ≤ d
+le_along a b c d e f l = omega arith
+
+module _ {Node Arc Place Link : Type 0} (net : Network Node Arc) (far : Network Place Link) (c : Corresponds net far) where
+  -- labels of the one as labels of the other, both ways
+  abbrev near_labels : (Place → Bool) → Node → Bool
+  near_labels there v = there (c.node v)
+
+  abbrev far_labels : (Node → Bool) → Place → Bool
+  far_labels inside p = inside (c.back p)
+
+  far_same : (inside : Node → Bool) → SameAtNodes c inside (far_labels inside)
+  far_same inside v i = ap inside (sym (c.node_back v i))
+
+  -- at the node that a place is of
+  at_back : {X : Type 0} (near : Node → X) (there : Place → X) → SameAtNodes c near there → (p : Place) → far.HasNode p
+      → near (c.back p) ≡ there p
+  at_back near there h p i = h (c.back p) (c.back_there p i) ∙ ap there (c.back_node p i)
+
+  fixed_back : (p : Place) → far.HasNode p → net.is_fixed (c.back p) ≡ far.is_fixed p
+  fixed_back p i = at_back net.is_fixed far.is_fixed c.fixed_is p i
+
+  -- ---- labels
+  arc_cost_is : (inside : Node → Bool) (there : Place → Bool) → SameAtNodes c inside there → (a : Arc) → net.HasArc a
+      → arc_cost net inside a ≡ arc_cost far there (c.arc a)
+  arc_cost_is inside there h a i =
+      ap₂ (λ x y. cond (not x && y) (net.capacity a) 0)
+      (h (net.from a) (c.from_there a i) ∙ ap there (c.from_is a i)) (h (net.to a) (c.to_there a i) ∙ ap there (c.to_is a i))
+      ∙ ap (λ n. cond (not (there (far.from (c.arc a))) && there (far.to (c.arc a))) n 0) (c.capacity_is a i)
+
+  pub cost_is : (inside : Node → Bool) (there : Place → Bool) → SameAtNodes c inside there → cost net inside ≡ cost far there
+  cost_is inside there h =
+      ap₂ (λ m n. m + n) (c.arc_sums _ _ (arc_cost_is inside there h))
+      (c.node_sums _ _ (λ v i. ap₂ (λ b n. cond b 0 n) (h v i) (c.sink_is v i)))
+
+  admissible_to : (inside : Node → Bool) (there : Place → Bool) → SameAtNodes c inside there → IsAdmissible net inside
+      → IsAdmissible far there
+  admissible_to inside there h k = record {
+    none_fixed = λ p i e.
+        sym (at_back inside there h p i) ∙ k.none_fixed (c.back p) (c.back_there p i) (fixed_back p i ∙ e);
+  }
+
+  admissible_from : (inside : Node → Bool) (there : Place → Bool) → SameAtNodes c inside there → IsAdmissible far there
+      → IsAdmissible net inside
+  admissible_from inside there h k = record {
+    none_fixed = λ v i e. h v i ∙ k.none_fixed (c.node v) (c.node_there v i) (sym (c.fixed_is v i) ∙ e);
+  }
+
+  pub admissible : (inside : Node → Bool) (there : Place → Bool) → SameAtNodes c inside there
+      → IsAdmissible net inside ↔ IsAdmissible far there
+  admissible inside there h = (admissible_to inside there h, admissible_from inside there h)
+
+  least_cost_to : (inside : Node → Bool) (there : Place → Bool) → SameAtNodes c inside there → IsLeastCost net inside
+      → IsLeastCost far there
+  least_cost_to inside there h k = record {
+    admissible = admissible_to inside there h k.admissible;
+    least = λ other a.
+        le_along _ _ _ _ (cost_is inside there h) (cost_is (near_labels other) other (λ v i. refl))
+        (k.least (near_labels other) (admissible_from (near_labels other) other (λ v i. refl) a));
+  }
+
+  least_cost_from : (inside : Node → Bool) (there : Place → Bool) → SameAtNodes c inside there → IsLeastCost far there
+      → IsLeastCost net inside
+  least_cost_from inside there h k = record {
+    admissible = admissible_from inside there h k.admissible;
+    least = λ other a.
+        le_along _ _ _ _ (sym (cost_is inside there h)) (sym (cost_is other (far_labels other) (far_same other)))
+        (k.least (far_labels other) (admissible_to other (far_labels other) (far_same other) a));
+  }
+
+  pub least_cost : (inside : Node → Bool) (there : Place → Bool) → SameAtNodes c inside there
+      → IsLeastCost net inside ↔ IsLeastCost far there
+  least_cost inside there h = (least_cost_to inside there h, least_cost_from inside there h)
+
+  least_inside_to : (inside : Node → Bool) (there : Place → Bool) → SameAtNodes c inside there → IsLeastInside net inside
+      → IsLeastInside far there
+  least_inside_to inside there h k = record {
+    least_cost = least_cost_to inside there h k.least_cost;
+    within = λ other l p i e.
+        ap other (sym (c.back_node p i))
+        ∙ k.within (near_labels other) (least_cost_from (near_labels other) other (λ v j. refl) l) (c.back p) (c.back_there p i)
+        (at_back inside there h p i ∙ e);
+  }
+
+  least_inside_from : (inside : Node → Bool) (there : Place → Bool) → SameAtNodes c inside there → IsLeastInside far there
+      → IsLeastInside net inside
+  least_inside_from inside there h k = record {
+    least_cost = least_cost_from inside there h k.least_cost;
+    within = λ other l v i e.
+        far_same other v i
+        ∙ k.within (far_labels other) (least_cost_to other (far_labels other) (far_same other) l) (c.node v) (c.node_there v i)
+        (sym (h v i) ∙ e);
+  }
+
+  pub least_inside : (inside : Node → Bool) (there : Place → Bool) → SameAtNodes c inside there
+      → IsLeastInside net inside ↔ IsLeastInside far there
+  least_inside inside there h = (least_inside_to inside there h, least_inside_from inside there h)
+
+  -- ---- flows
+  pub value_is : (on_node : Node → ℕ) (at_place : Place → ℕ) → SameAtNodes c on_node at_place
+      → value net on_node ≡ value far at_place
+  value_is on_node at_place h =
+      c.node_sums _ _
+      (λ v i. ap₂ (λ b n. cond b n (on_node v)) (c.fixed_is v i) (c.sink_is v i)
+      ∙ ap (λ n. cond (far.is_fixed (c.node v)) (far.sink (c.node v)) n) (h v i))
+
+  pub amount_in_is : (on_arc : Arc → ℕ) (on_link : Link → ℕ) → SameOnArcs c on_arc on_link → (v : Node) → net.HasNode v
+      → amount_in net on_arc v ≡ amount_in far on_link (c.node v)
+  amount_in_is on_arc on_link h v i =
+      c.arc_sums _ _
+      (λ a j. ap₂ (λ b n. cond b n 0)
+      (c.same_is (net.to a) v (c.to_there a j) i ∙ ap (λ p. far.is_same p (c.node v)) (c.to_is a j)) (h a j))
+
+  amount_out_is : (on_arc : Arc → ℕ) (on_link : Link → ℕ) → SameOnArcs c on_arc on_link → (v : Node) → net.HasNode v
+      → amount_out net on_arc v ≡ amount_out far on_link (c.node v)
+  amount_out_is on_arc on_link h v i =
+      c.arc_sums _ _
+      (λ a j. ap₂ (λ b n. cond b n 0)
+      (c.same_is (net.from a) v (c.from_there a j) i ∙ ap (λ p. far.is_same p (c.node v)) (c.from_is a j)) (h a j))
+
+  pub total_out_is : (on_arc : Arc → ℕ) (on_link : Link → ℕ) (on_node : Node → ℕ) (at_place : Place → ℕ)
+      → SameOnArcs c on_arc on_link → SameAtNodes c on_node at_place → (v : Node) → net.HasNode v
+      → total_out net on_arc on_node v ≡ total_out far on_link at_place (c.node v)
+  total_out_is on_arc on_link on_node at_place h k v i =
+      ap₂ (λ m n. m + n) (amount_out_is on_arc on_link h v i) (k v i)
+
+  valid_to : (on_arc : Arc → ℕ) (on_link : Link → ℕ) (on_node : Node → ℕ) (at_place : Place → ℕ)
+      → SameOnArcs c on_arc on_link → SameAtNodes c on_node at_place → IsValidFlow net on_arc on_node
+      → IsValidFlow far on_link at_place
+  valid_to on_arc on_link on_node at_place h k f = record {
+    within_cap = λ l i.
+        let a : (a : Arc) × net.HasArc a × (c.arc a ≡ l) = c.arc_of l i in
+        le_along _ _ _ _ (h a.0 a.1 ∙ ap on_link a.2) (c.capacity_is a.0 a.1 ∙ ap far.capacity a.2) (f.within_cap a.0 a.1);
+    within_sink = λ p i.
+        le_along _ _ _ _ (at_back on_node at_place k p i) (at_back net.sink far.sink c.sink_is p i)
+        (f.within_sink (c.back p) (c.back_there p i));
+    none_fixed = λ p i e.
+        sym (at_back on_node at_place k p i) ∙ f.none_fixed (c.back p) (c.back_there p i) (fixed_back p i ∙ e);
+    balanced = λ p i e.
+        let there = c.back_there p i in
+        let here : c.node (c.back p) ≡ p = c.back_node p i in
+        subst (λ q. amount_in far on_link q ≡ total_out far on_link at_place q) here
+        (sym (amount_in_is on_arc on_link h (c.back p) there) ∙ f.balanced (c.back p) there (fixed_back p i ∙ e)
+        ∙ total_out_is on_arc on_link on_node at_place h k (c.back p) there);
+  }
+
+  valid_from : (on_arc : Arc → ℕ) (on_link : Link → ℕ) (on_node : Node → ℕ) (at_place : Place → ℕ)
+      → SameOnArcs c on_arc on_link → SameAtNodes c on_node at_place → IsValidFlow far on_link at_place
+      → IsValidFlow net on_arc on_node
+  valid_from on_arc on_link on_node at_place h k f = record {
+    within_cap = λ a i.
+        le_along _ _ _ _ (sym (h a i)) (sym (c.capacity_is a i)) (f.within_cap (c.arc a) (c.arc_there a i));
+    within_sink = λ v i.
+        le_along _ _ _ _ (sym (k v i)) (sym (c.sink_is v i)) (f.within_sink (c.node v) (c.node_there v i));
+    none_fixed = λ v i e. k v i ∙ f.none_fixed (c.node v) (c.node_there v i) (sym (c.fixed_is v i) ∙ e);
+    balanced = λ v i e.
+        amount_in_is on_arc on_link h v i ∙ f.balanced (c.node v) (c.node_there v i) (sym (c.fixed_is v i) ∙ e)
+        ∙ sym (total_out_is on_arc on_link on_node at_place h k v i);
+  }
+
+  pub valid : (on_arc : Arc → ℕ) (on_link : Link → ℕ) (on_node : Node → ℕ) (at_place : Place → ℕ)
+      → SameOnArcs c on_arc on_link → SameAtNodes c on_node at_place
+      → IsValidFlow net on_arc on_node ↔ IsValidFlow far on_link at_place
+  valid on_arc on_link on_node at_place h k = (
+    valid_to on_arc on_link on_node at_place h k,
+    valid_from on_arc on_link on_node at_place h k,
+  )
+
+  -- ---- faults
+  pub fixed_inside : (inside : Node → Bool) (there : Place → Bool) → SameAtNodes c inside there → (v : Node) → net.HasNode v
+      → IsFixedInside net inside v ↔ IsFixedInside far there (c.node v)
+  fixed_inside inside there h v i = (
+    λ f. (sym (c.fixed_is v i) ∙ f.0, sym (h v i) ∙ f.1),
+    λ f. (c.fixed_is v i ∙ f.0, h v i ∙ f.1),
+  )
+
+  pub over_capacity : (on_arc : Arc → ℕ) (on_link : Link → ℕ) → SameOnArcs c on_arc on_link → (a : Arc) → net.HasArc a
+      → IsOverCapacity net on_arc a ↔ IsOverCapacity far on_link (c.arc a)
+  over_capacity on_arc on_link h a i =
+      let amount = h a i in
+      let cap = c.capacity_is a i in
+      (λ l. omega arith, λ l. omega arith)
+
+  pub sink_limit_is : (v : Node) → net.HasNode v → sink_limit net v ≡ sink_limit far (c.node v)
+  sink_limit_is v i = ap₂ (λ b n. cond b 0 n) (c.fixed_is v i) (c.sink_is v i)
+
+  pub over_sink : (on_node : Node → ℕ) (at_place : Place → ℕ) → SameAtNodes c on_node at_place → (v : Node) → net.HasNode v
+      → IsOverSink net on_node v ↔ IsOverSink far at_place (c.node v)
+  over_sink on_node at_place h v i =
+      let amount = h v i in
+      let limit = sink_limit_is v i in
+      (λ l. omega arith, λ l. omega arith)
+
+  pub unbalanced : (on_arc : Arc → ℕ) (on_link : Link → ℕ) (on_node : Node → ℕ) (at_place : Place → ℕ)
+      → SameOnArcs c on_arc on_link → SameAtNodes c on_node at_place → (v : Node) → net.HasNode v
+      → IsUnbalanced net on_arc on_node v ↔ IsUnbalanced far on_link at_place (c.node v)
+  unbalanced on_arc on_link on_node at_place h k v i =
+      let entering = amount_in_is on_arc on_link h v i in
+      let leaving = total_out_is on_arc on_link on_node at_place h k v i in (
+        λ f. (sym (c.fixed_is v i) ∙ f.0, λ e. f.1 (entering ∙ e ∙ sym leaving)),
+        λ f. (c.fixed_is v i ∙ f.0, λ e. f.1 (sym entering ∙ e ∙ leaving)),
+      )
+
+  pub not_least : (inside : Node → Bool) (there : Place → Bool) → SameAtNodes c inside there → (v : Node) → net.HasNode v
+      → IsNotLeast net inside v ↔ IsNotLeast far there (c.node v)
+  not_least inside there h v i = (
+    λ f other l.
+        let apart = f (near_labels other) (least_inside_from (near_labels other) other (λ w j. refl) l) in
+        (sym (h v i) ∙ apart.0, apart.1),
+    λ f other l.
+        let apart = f (far_labels other) (least_inside_to other (far_labels other) (far_same other) l) in
+        (h v i ∙ apart.0, far_same other v i ∙ apart.1),
+  )
+
+-- two networks with the same nodes and arcs, the same ends of each arc, and the same of all else
+pub record AreAlike {Node Arc : Type 0} (net far : Network Node Arc) : Type 0 where
+  pub nodes : (v : Node) → net.HasNode v ↔ far.HasNode v
+  pub arcs : (a : Arc) → net.HasArc a ↔ far.HasArc a
+  pub node_sums : (f g : Node → ℕ) → ((v : Node) → net.HasNode v → f v ≡ g v) → net.node_sum f ≡ far.node_sum g
+  pub arc_sums : (f g : Arc → ℕ) → ((a : Arc) → net.HasArc a → f a ≡ g a) → net.arc_sum f ≡ far.arc_sum g
+  pub from_there : (a : Arc) → net.HasArc a → net.HasNode (net.from a)
+  pub to_there : (a : Arc) → net.HasArc a → net.HasNode (net.to a)
+  pub from_is : (a : Arc) → net.HasArc a → net.from a ≡ far.from a
+  pub to_is : (a : Arc) → net.HasArc a → net.to a ≡ far.to a
+  pub same_is : (v w : Node) → net.is_same v w ≡ far.is_same v w
+  pub capacity_is : (a : Arc) → net.HasArc a → net.capacity a ≡ far.capacity a
+  pub fixed_is : (v : Node) → net.HasNode v → net.is_fixed v ≡ far.is_fixed v
+  pub sink_is : (v : Node) → net.HasNode v → net.sink v ≡ far.sink v
+
+-- so each node and each arc stands for itself
+pub agree_as_networks : {Node Arc : Type 0} (net far : Network Node Arc) → AreAlike net far → AgreeAsNetworks net far
+agree_as_networks net far h =
+    let c : Corresponds net far = record {
+      node = λ v. v;
+      back = λ v. v;
+      arc = λ a. a;
+      node_there = λ v. (h.nodes v).0;
+      back_there = λ v. (h.nodes v).1;
+      node_back = λ v i. refl;
+      back_node = λ v i. refl;
+      arc_there = λ a. (h.arcs a).0;
+      arc_of = λ a i. (a, (h.arcs a).1 i, refl);
+      node_sums = h.node_sums;
+      arc_sums = h.arc_sums;
+      from_there = h.from_there;
+      to_there = h.to_there;
+      from_is = h.from_is;
+      to_is = h.to_is;
+      same_is = λ v w i j. h.same_is v w;
+      capacity_is = h.capacity_is;
+      fixed_is = h.fixed_is;
+      sink_is = h.sink_is;
+    } in
+    record {
+      cost_is = λ inside. cost_is net far c inside inside (λ v i. refl);
+      admissible = λ inside. admissible net far c inside inside (λ v i. refl);
+      least_cost = λ inside. least_cost net far c inside inside (λ v i. refl);
+      least_inside = λ inside. least_inside net far c inside inside (λ v i. refl);
+      value_is = λ on_node. value_is net far c on_node on_node (λ v i. refl);
+      valid = λ on_arc on_node. valid net far c on_arc on_arc on_node on_node (λ a i. refl) (λ v i. refl);
+    }

@@ -1,0 +1,91 @@
+-- Networks over any kinds of nodes and arcs. Labels are a test of nodes, and a flow is an amount on each arc and one at each
+-- node. A network of numbers (`Flows`) is one, and a network of cells and directed facets another.
+--
+--   Network                             the nodes and arcs, how to sum over them, and what each is like
+--   arc_cost net inside a               what an arc adds to the cost of labels
+--   node_cost net inside v              what a node adds to it
+--   cost net inside                     the cost of labels
+--   amount_in net on_arc v              what enters a node over arcs
+--   amount_out net on_arc v             what leaves a node over arcs
+--   node_value net on_node v            what a node adds to the value of a flow
+--   value net on_node                   the value of a flow
+--   IsValidFlow net on_arc on_node      it keeps within capacities and sinks, and is balanced at free nodes
+--   IsAdmissible net inside             no fixed node is inside
+--   IsLeastCost net inside              admissible, and no admissible labels cost less
+--   IsLeastInside net inside            of the least cost, and inside of all others of that cost
+--   AgreeAsNetworks net other           two networks of the same kinds of nodes and arcs judge labels and flows alike
+use Rattle.std.specs.Prelude.{ℕ, ◌≡◌, ◌≤◌, ◌+◌, ◌↔◌, ◌&&◌, not, Bool, true, false, if◌then◌else◌}
+
+-- which nodes and arcs there are and the sum of a number for each of them; the node that an arc leaves and the one that it
+-- enters; whether two nodes are one; the capacity of an arc; whether a node is fixed, and its sink
+pub record Network (Node Arc : Type 0) : Type 1 where
+  pub HasNode : Node → Type 0
+  pub HasArc : Arc → Type 0
+  pub node_sum : (Node → ℕ) → ℕ
+  pub arc_sum : (Arc → ℕ) → ℕ
+  pub from : Arc → Node
+  pub to : Arc → Node
+  pub is_same : Node → Node → Bool
+  pub capacity : Arc → ℕ
+  pub is_fixed : Node → Bool
+  pub sink : Node → ℕ
+
+-- what an arc costs: its capacity, where it leads from outside to inside
+abbrev pub arc_cost : {Node Arc : Type 0} → Network Node Arc → (Node → Bool) → Arc → ℕ
+arc_cost net inside a = if not (inside (net.from a)) && inside (net.to a) then net.capacity a else 0
+
+-- what a node costs: its sink, where it is outside
+abbrev pub node_cost : {Node Arc : Type 0} → Network Node Arc → (Node → Bool) → Node → ℕ
+node_cost net inside v = if inside v then 0 else net.sink v
+
+-- the cost of labels: the capacities of arcs from outside to inside, and the sinks of outside nodes
+abbrev pub cost : {Node Arc : Type 0} → Network Node Arc → (Node → Bool) → ℕ
+cost net inside = net.arc_sum (arc_cost net inside) + net.node_sum (node_cost net inside)
+
+-- what enters a node over arcs
+abbrev pub amount_in : {Node Arc : Type 0} → Network Node Arc → (Arc → ℕ) → Node → ℕ
+amount_in net on_arc v = net.arc_sum (λ a. if net.is_same (net.to a) v then on_arc a else 0)
+
+-- what leaves a node over arcs
+abbrev pub amount_out : {Node Arc : Type 0} → Network Node Arc → (Arc → ℕ) → Node → ℕ
+amount_out net on_arc v = net.arc_sum (λ a. if net.is_same (net.from a) v then on_arc a else 0)
+
+-- what a node adds to the value of a flow: its sink where it is fixed, and else the amount at its sink
+abbrev pub node_value : {Node Arc : Type 0} → Network Node Arc → (Node → ℕ) → Node → ℕ
+node_value net on_node v = if net.is_fixed v then net.sink v else on_node v
+
+-- the value of a flow: the amounts at the sinks of free nodes, and the sinks of fixed nodes
+abbrev pub value : {Node Arc : Type 0} → Network Node Arc → (Node → ℕ) → ℕ
+value net on_node = net.node_sum (node_value net on_node)
+
+-- a flow that keeps within capacities and sinks, is 0 at the sinks of fixed nodes, and is balanced at free nodes
+pub record IsValidFlow {Node Arc : Type 0} (net : Network Node Arc) (on_arc : Arc → ℕ) (on_node : Node → ℕ) : Type 0 where
+  pub within_cap : (a : Arc) → net.HasArc a → on_arc a ≤ net.capacity a
+  pub within_sink : (v : Node) → net.HasNode v → on_node v ≤ net.sink v
+  pub none_fixed : (v : Node) → net.HasNode v → net.is_fixed v ≡ true → on_node v ≡ 0
+  pub balanced :
+      (v : Node) → net.HasNode v → net.is_fixed v ≡ false → amount_in net on_arc v ≡ amount_out net on_arc v + on_node v
+
+-- no fixed node is inside
+pub record IsAdmissible {Node Arc : Type 0} (net : Network Node Arc) (inside : Node → Bool) : Type 0 where
+  pub none_fixed : (v : Node) → net.HasNode v → net.is_fixed v ≡ true → inside v ≡ false
+
+-- admissible labels that cost no more than any admissible labels
+pub record IsLeastCost {Node Arc : Type 0} (net : Network Node Arc) (inside : Node → Bool) : Type 0 where
+  pub admissible : IsAdmissible net inside
+  pub least : (other : Node → Bool) → IsAdmissible net other → cost net inside ≤ cost net other
+
+-- labels of the least cost whose inside is contained in that of all labels of that cost
+pub record IsLeastInside {Node Arc : Type 0} (net : Network Node Arc) (inside : Node → Bool) : Type 0 where
+  pub least_cost : IsLeastCost net inside
+  pub within : (other : Node → Bool) → IsLeastCost net other → (v : Node) → net.HasNode v → inside v ≡ true → other v ≡ true
+
+-- labels cost the same, and are admissible, of the least cost and the least inside together; flows are worth the same, and
+-- valid together
+pub record AgreeAsNetworks {Node Arc : Type 0} (net other : Network Node Arc) : Type 0 where
+  pub cost_is : (inside : Node → Bool) → cost net inside ≡ cost other inside
+  pub admissible : (inside : Node → Bool) → IsAdmissible net inside ↔ IsAdmissible other inside
+  pub least_cost : (inside : Node → Bool) → IsLeastCost net inside ↔ IsLeastCost other inside
+  pub least_inside : (inside : Node → Bool) → IsLeastInside net inside ↔ IsLeastInside other inside
+  pub value_is : (on_node : Node → ℕ) → value net on_node ≡ value other on_node
+  pub valid : (on_arc : Arc → ℕ) (on_node : Node → ℕ) → IsValidFlow net on_arc on_node ↔ IsValidFlow other on_arc on_node
