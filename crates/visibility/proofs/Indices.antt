@@ -1,11 +1,12 @@
 -- Places in lists of rows, and sums over lists as sums over indices.
 use Rattle.std.proofs.Common.{ℕ, zero, suc, ◌+◌, ◌<◌, ◌≤◌, ◌≡◌, refl, ap, sym, subst, ◌∙◌, arith, Bool, true, false, ⊎_elim}
 use Rattle.std.proofs.Common.{List, [], ◌∷◌, length, get_or, map, take, eqb, AllPairs, Contains}
-use Rattle.std.specs.Bool.{Decides}
 use Rattle.std.specs.List.{Any, position_or_len, sum_by}
+use Rattle.std.specs.Str.{bytes_eq}
+use Rattle.std.proofs.lemmas.Slice.Eq.{bytes_eq-Decides}
 use Rattle.std.proofs.Math.Nat.{lt_of_not-le}
 use Rattle.std.proofs.Math.Seq.{take-length}
-use Rattle.std.proofs.lemmas.Bool.{and_parts, and_from, eqb-true, eq-eqb, false_from_ne_true}
+use Rattle.std.proofs.lemmas.Bool.{eqb-true, eq-eqb, false_from_ne_true}
 use Rattle.std.proofs.lemmas.List.{get_or-map, get_or_default, length-map, same_lists}
 use Rattle.std.specs.List.Sorted.{IsPermutation}
 use Rattle.std.proofs.lemmas.Map.Keys.{IsDistinct-IsPermutation}
@@ -14,7 +15,6 @@ use Rattle.std.proofs.lemmas.List.Sums.{position_or_len_is, fails_before_first, 
 use Rattle.geo_sign.proofs.Booleans.{same_bools}
 use Rattle.flow_net.specs.Sums.{sum_below}
 use Rattle.geo_sign.specs.Rising.{IsBefore}
-use Rattle.visibility.specs.Flows.{is_equal}
 use Rattle.visibility.specs.Laws.{row_index}
 use Rattle.visibility.specs.Listings.{AreOnce}
 
@@ -23,19 +23,6 @@ pub not_before_itself : (xs : List ℕ) → IsBefore xs xs → ⊥
 not_before_itself [] h = h
 not_before_itself (x ∷ xs) h =
     ⊎_elim (λ (l : x < x). absurd (omega arith)) (λ (p : (x ≡ x) × IsBefore xs xs). not_before_itself xs p.1) h
-
--- the test of equal rows
-pub is_equal_itself : (xs : List ℕ) → is_equal xs xs ≡ true
-is_equal_itself [] = refl
-is_equal_itself (x ∷ xs) = and_from (eqb x x) (is_equal xs xs) (eq-eqb x x refl) (is_equal_itself xs)
-
-pub is_equal_means : (xs ys : List ℕ) → is_equal xs ys ≡ true → xs ≡ ys
-is_equal_means [] [] h = refl
-is_equal_means [] (y ∷ ys) h = absurd (cc)
-is_equal_means (x ∷ xs) [] h = absurd (cc)
-is_equal_means (x ∷ xs) (y ∷ ys) h =
-    let p = and_parts (eqb x y) (is_equal xs ys) h in
-    ap (λ (n : ℕ). n ∷ xs) (eqb-true x y p.0) ∙ ap (λ (t : List ℕ). y ∷ t) (is_equal_means xs ys p.1)
 
 -- rising rows stand once
 pub once_rising : (rows : List (List ℕ)) → AllPairs IsBefore rows → AreOnce rows
@@ -53,25 +40,22 @@ same_index rows i j r li lj e =
 -- and so in another order
 pub once_permuted : (xs ys : List (List ℕ)) → IsPermutation xs ys → AreOnce xs → AreOnce ys
 once_permuted xs ys p h =
-    AllPairs-from_IsDistinct same ys (IsDistinct-IsPermutation is_equal flips xs ys p (IsDistinct-from_AllPairs same xs h))
+    AllPairs-from_IsDistinct bytes_eq-Decides ys
+    (IsDistinct-IsPermutation bytes_eq flips xs ys p (IsDistinct-from_AllPairs bytes_eq-Decides xs h))
   where
-    same : (a b : List ℕ) → Decides (is_equal a b) (a ≡ b)
-    same a b = (is_equal_means a b, λ e. subst (λ (x : List ℕ). is_equal a x ≡ true) e (is_equal_itself a))
-
-    flips : (a b : List ℕ) → is_equal a b ≡ is_equal b a
+    flips : (a b : List ℕ) → bytes_eq a b ≡ bytes_eq b a
     flips a b =
-        same_bools (is_equal a b) (is_equal b a)
-        (λ h. subst (λ (x : List ℕ). is_equal x a ≡ true) (is_equal_means a b h) (is_equal_itself a))
-        (λ h. subst (λ (x : List ℕ). is_equal x b ≡ true) (is_equal_means b a h) (is_equal_itself b))
+        same_bools (bytes_eq a b) (bytes_eq b a)
+        (λ h. (bytes_eq-Decides b a).1 (sym ((bytes_eq-Decides a b).0 h)))
+        (λ h. (bytes_eq-Decides a b).1 (sym ((bytes_eq-Decides b a).0 h)))
 
 -- indices of rows that stand once are equal where the rows are
 pub index_test : (rows : List (List ℕ)) (i j : ℕ) → AreOnce rows → i < length rows → j < length rows
-    → eqb i j ≡ is_equal (get_or rows i []) (get_or rows j [])
+    → eqb i j ≡ bytes_eq (get_or rows i []) (get_or rows j [])
 index_test rows i j r li lj =
-    same_bools (eqb i j) (is_equal (get_or rows i []) (get_or rows j []))
-    (λ h. subst (λ (k : ℕ). is_equal (get_or rows i []) (get_or rows k []) ≡ true) (eqb-true i j h)
-    (is_equal_itself (get_or rows i [])))
-    (λ h. eq-eqb i j (same_index rows i j r li lj (is_equal_means (get_or rows i []) (get_or rows j []) h)))
+    same_bools (eqb i j) (bytes_eq (get_or rows i []) (get_or rows j []))
+    (λ h. (bytes_eq-Decides (get_or rows i []) (get_or rows j [])).1 (ap (λ (k : ℕ). get_or rows k []) (eqb-true i j h)))
+    (λ h. eq-eqb i j (same_index rows i j r li lj ((bytes_eq-Decides (get_or rows i []) (get_or rows j [])).0 h)))
 
 -- the first index where a test holds is within the list, where it holds somewhere
 pub first_within : {X : Type 0} (p : X → Bool) (xs : List X) → Any (λ x. p x ≡ true) xs → position_or_len p xs < length xs
@@ -85,10 +69,10 @@ first_within p xs h =
 -- the index of a row that stands once
 pub row_index_at : (rows : List (List ℕ)) (k : ℕ) → AreOnce rows → k < length rows → row_index rows (get_or rows k []) ≡ k
 row_index_at rows k r l =
-    position_or_len_is (λ other. is_equal other (get_or rows k [])) rows k [] (omega arith)
-    (λ i m. false_from_ne_true (is_equal (get_or rows i []) (get_or rows k []))
-    (λ h. r i k [] m l (is_equal_means (get_or rows i []) (get_or rows k []) h)))
-    (λ m. is_equal_itself (get_or rows k []))
+    position_or_len_is (λ other. bytes_eq other (get_or rows k [])) rows k [] (omega arith)
+    (λ i m. false_from_ne_true (bytes_eq (get_or rows i []) (get_or rows k []))
+    (λ h. r i k [] m l ((bytes_eq-Decides (get_or rows i []) (get_or rows k [])).0 h)))
+    (λ m. (bytes_eq-Decides (get_or rows k []) (get_or rows k [])).1 refl)
 
 -- what stands at the indices of rows that stand once, as a function of the rows
 pub map_of_indices : {X : Type 0} (rows : List (List ℕ)) (xs : List X) (d : X) → AreOnce rows → length xs ≡ length rows
@@ -119,6 +103,3 @@ at_index rows row h = get_or_default rows h.0 [] row h.1 ∙ h.2
 -- and what is at an index is an element
 pub index_has : (rows : List (List ℕ)) (k : ℕ) → k < length rows → Contains rows (get_or rows k [])
 index_has rows k l = (k, l, get_or_default rows k (get_or rows k []) [] l)
-
-pub le_along : (a b c d : ℕ) → a ≡ b → c ≡ d → a ≤ c → b ≤ d
-le_along a b c d e f l = omega arith

@@ -1,8 +1,7 @@
 pub mod Indices
 pub mod Listings
 pub mod Networks
-pub mod Labels
-pub mod Flows
+pub mod Numbers
 pub mod Amounts
 pub mod Validity
 pub mod Cuts

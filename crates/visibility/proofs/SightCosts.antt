@@ -9,6 +9,7 @@ use Rattle.std.proofs.Math.Nat.{mul-add, mul-le-mul_left}
 use Rattle.std.proofs.lemmas.List.Sums.{sum_by-cons, sum_by-le}
 use Rattle.flow_net.specs.declared.votes.Sight.{Sight}
 use Rattle.flow_net.specs.declared.votes.TheConstants.{SIGHT_WEIGHT_LIMIT}
+use Rattle.flow_net.specs.Networks.{arc_cost}
 use Rattle.flow_net.specs.Weights.{IsSightList, weight_where}
 use Rattle.flow_net.proofs.WeightLemmas.{weight_where-cons}
 use Rattle.geo_sign.specs.Cells.{written}
@@ -16,7 +17,7 @@ use Rattle.geo_sign.specs.Sights.{is_behind}
 use Rattle.visibility.specs.Scenes.{Scene, scanner_point}
 use Rattle.visibility.specs.Complexes.{Complex}
 use Rattle.visibility.specs.Votes.{sights_before, sink}
-use Rattle.visibility.specs.Cuts.{cost, facet_cost, IsAdmissible}
+use Rattle.visibility.specs.Cuts.{network_over, cost, IsAdmissible}
 use Rattle.visibility.specs.Laws.{HasOneBehind, LeastCostIsSmall}
 use Rattle.visibility.proofs.Amounts.{few_votes}
 
@@ -83,7 +84,7 @@ all_outside : (s : Scene) (complex : Complex) → HasOneBehind s complex.cells �
     → cost s complex (λ _. false) ≤ 140185593446400
 unfolding sink sights_before
 all_outside s complex one few =
-    let facets = sum_by-le (facet_cost s complex.cells (λ _. false)) 0 complex.facets (λ k d l. omega arith) in
+    let facets = sum_by-le (arc_cost (network_over s complex) (λ _. false)) 0 complex.facets (λ k d l. omega arith) in
     let cells = times_sum s.settings.vote (sights_before s) complex.cells in
     let pairs : sum_by (sights_before s) complex.cells ≤ sum_by (λ (sight : Sight). sight.weight) s.sights =
     few_pairs behind complex.cells s.sights one in

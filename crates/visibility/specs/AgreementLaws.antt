@@ -6,7 +6,8 @@
 --   AgreeAsScenes s r        they have the same networks, and agree over the cells of a complex
 --   ComplexesAgree           over vertices that agree a scene has the same complexes, wherever its sights end
 --   ScenesAgree              and all else is the same where its sights end at vertices that are in
-use Rattle.std.specs.Prelude.{ℕ, ◌≡◌, ◌↔◌, Bool, List, Contains}
+use Rattle.std.specs.Prelude.{ℕ, ◌≡◌, ◌↔◌, List, Contains}
+use Rattle.flow_net.specs.Networks.{AgreeAsNetworks}
 use Rattle.flow_net.specs.declared.Voted.{Voted}
 use Rattle.flow_net.specs.declared.votes.Sight.{Sight}
 use Rattle.geo_sign.specs.Tetrahedron.{DirectedFacet, facet_at}
@@ -15,8 +16,7 @@ use Rattle.geo_sign.specs.Boxes.{Agree}
 use Rattle.visibility.specs.Scenes.{Scene}
 use Rattle.visibility.specs.Complexes.{Complex, cell_of}
 use Rattle.visibility.specs.Votes.{is_fixed, capacity, sink, IsComplexOf}
-use Rattle.visibility.specs.Cuts.{cost, IsAdmissible, IsLeastCost, IsLeastInside}
-use Rattle.visibility.specs.Flows.{value, IsValidFlow}
+use Rattle.visibility.specs.Cuts.{network_over}
 use Rattle.visibility.specs.Networks.{IsNetworkOf}
 
 -- what was seen, over other vertices
@@ -34,12 +34,8 @@ pub record AgreeOverCells (s r : Scene) (complex : Complex) : Type 0 where
       → is_fixed s.vertices s.scanners row ≡ is_fixed r.vertices r.scanners row
   pub sink_is : (row : List ℕ) → Contains complex.cells row → sink s row ≡ sink r row
   pub capacity_is : (f : List ℕ) → Contains complex.facets f → capacity s (facet_at f) ≡ capacity r (facet_at f)
-  pub cost_is : (inside : List ℕ → Bool) → cost s complex inside ≡ cost r complex inside
-  pub admissible : (inside : List ℕ → Bool) → IsAdmissible s complex inside ↔ IsAdmissible r complex inside
-  pub least_cost : (inside : List ℕ → Bool) → IsLeastCost s complex inside ↔ IsLeastCost r complex inside
-  pub least_inside : (inside : List ℕ → Bool) → IsLeastInside s complex inside ↔ IsLeastInside r complex inside
-  pub value_is : (on_cell : List ℕ → ℕ) → value s complex on_cell ≡ value r complex on_cell
-  pub valid : (on_facet on_cell : List ℕ → ℕ) → IsValidFlow s complex on_facet on_cell ↔ IsValidFlow r complex on_facet on_cell
+  pub judged : AgreeAsNetworks (network_over s complex) (network_over r complex)
+  pub open judged use *
 
 -- the same networks, and what stands over a complex of the one
 pub record AgreeAsScenes (s r : Scene) : Type 0 where

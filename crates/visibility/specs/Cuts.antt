@@ -1,18 +1,39 @@
--- Labels of cells as inside or outside and what they cost, said over cells and directed facets. Labels are a test of cells.
+-- The network of cells and directed facets, labels of cells as inside or outside, and what they cost, all as of any network
+-- (Networks of flow_net). Labels are a test of cells.
 --
+--   network_over s complex             cells are its nodes, and directed facets that have a capacity its arcs
 --   is_cut s complex inside f          the facet leads from an outside cell to an inside one
 --   cut_facets s complex inside        these facets
 --   cost s complex inside              the cost of labels
 --   IsAdmissible s complex inside      no fixed cell is inside
 --   IsLeastCost s complex inside       admissible, and no admissible labels cost less
 --   IsLeastInside s complex inside     of the least cost, and inside of all others of that cost
-use Rattle.std.specs.Prelude.{ℕ, ◌≡◌, ◌+◌, ◌≤◌, ◌&&◌, not, Bool, true, false, List, filter, Contains, if◌then◌else◌}
+use Rattle.std.specs.Prelude.{ℕ, ◌&&◌, not, Bool, List, filter, Contains}
 use Rattle.std.specs.List.{sum_by}
+use Rattle.std.specs.Str.{bytes_eq}
+use Rattle.flow_net.specs.Networks as networks
+use Rattle.flow_net.specs.Networks.{Network}
 use Rattle.geo_sign.specs.Vertices.{Vertices}
 use Rattle.visibility.specs.Scenes.{Scene}
 use Rattle.geo_sign.specs.Tetrahedron.{facet_at, turned}
 use Rattle.visibility.specs.Complexes.{Complex, cell_of}
 use Rattle.visibility.specs.Votes.{is_fixed, capacity, sink}
+
+-- the listed cells and facets; a facet leads from its own cell to the cell across
+abbrev pub network_over : Scene → Complex → Network (List ℕ) (List ℕ)
+network_over s complex =
+    record {
+      HasNode = Contains complex.cells;
+      HasArc = Contains complex.facets;
+      node_sum = λ amount. sum_by amount complex.cells;
+      arc_sum = λ amount. sum_by amount complex.facets;
+      from = λ f. cell_of s.vertices complex.cells (facet_at f);
+      to = λ f. cell_of s.vertices complex.cells (turned (facet_at f));
+      is_same = bytes_eq;
+      capacity = λ f. capacity s (facet_at f);
+      is_fixed = is_fixed s.vertices s.scanners;
+      sink = sink s;
+    }
 
 -- the facet's own cell is outside and the cell across is inside
 abbrev pub is_cut : Vertices → List (List ℕ) → (List ℕ → Bool) → List ℕ → Bool
@@ -22,29 +43,18 @@ is_cut v cells inside f = not (inside (cell_of v cells (facet_at f))) && inside 
 abbrev pub cut_facets : Vertices → Complex → (List ℕ → Bool) → List (List ℕ)
 cut_facets v complex inside = filter (is_cut v complex.cells inside) complex.facets
 
--- what a facet costs: its capacity, where it leads from outside to inside
-abbrev pub facet_cost : Scene → List (List ℕ) → (List ℕ → Bool) → List ℕ → ℕ
-facet_cost s cells inside f = if is_cut s.vertices cells inside f then capacity s (facet_at f) else 0
-
--- what a cell costs: its sink, where it is outside
-abbrev pub cell_cost : Scene → (List ℕ → Bool) → List ℕ → ℕ
-cell_cost s inside row = if inside row then 0 else sink s row
-
 -- the cost of labels: the capacities of facets of outside cells with an inside cell across, and the sinks of outside cells
 abbrev pub cost : Scene → Complex → (List ℕ → Bool) → ℕ
-cost s complex inside = sum_by (facet_cost s complex.cells inside) complex.facets + sum_by (cell_cost s inside) complex.cells
+cost s complex = networks.cost (network_over s complex)
 
 -- no fixed cell is inside
-pub record IsAdmissible (s : Scene) (complex : Complex) (inside : List ℕ → Bool) : Type 0 where
-  pub none_fixed : (row : List ℕ) → Contains complex.cells row → is_fixed s.vertices s.scanners row ≡ true → inside row ≡ false
+abbrev pub IsAdmissible : Scene → Complex → (List ℕ → Bool) → Type 0
+IsAdmissible s complex = networks.IsAdmissible (network_over s complex)
 
 -- admissible labels that cost no more than any admissible labels
-pub record IsLeastCost (s : Scene) (complex : Complex) (inside : List ℕ → Bool) : Type 0 where
-  pub admissible : IsAdmissible s complex inside
-  pub least : (other : List ℕ → Bool) → IsAdmissible s complex other → cost s complex inside ≤ cost s complex other
+abbrev pub IsLeastCost : Scene → Complex → (List ℕ → Bool) → Type 0
+IsLeastCost s complex = networks.IsLeastCost (network_over s complex)
 
 -- labels of the least cost whose inside is contained in that of all labels of that cost
-pub record IsLeastInside (s : Scene) (complex : Complex) (inside : List ℕ → Bool) : Type 0 where
-  pub least_cost : IsLeastCost s complex inside
-  pub within : (other : List ℕ → Bool) → IsLeastCost s complex other → (row : List ℕ) → Contains complex.cells row
-      → inside row ≡ true → other row ≡ true
+abbrev pub IsLeastInside : Scene → Complex → (List ℕ → Bool) → Type 0
+IsLeastInside s complex = networks.IsLeastInside (network_over s complex)

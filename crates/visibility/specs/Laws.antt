@@ -14,6 +14,7 @@
 --   OneComplex                         a scene has no two lists of cells and of facets
 use Rattle.std.specs.Prelude.{ℕ, ◌≡◌, ◌≢◌, ◌<◌, ◌≤◌, ◌^◌, ◌↔◌, Bool, List, map, length, slice_index, count_by, Contains}
 use Rattle.std.specs.List.{position_or_len}
+use Rattle.std.specs.Str.{bytes_eq}
 use Rattle.flow_net.specs.declared.Voted.{Voted}
 use Rattle.flow_net.specs.declared.Labels.{Labels}
 use Rattle.flow_net.specs.declared.Flow.{Flow}
@@ -29,7 +30,7 @@ use Rattle.visibility.specs.Scenes.{Scene, scanner_point}
 use Rattle.visibility.specs.Complexes.{Complex}
 use Rattle.visibility.specs.Votes.{capacity, sink, IsComplexOf}
 use Rattle.visibility.specs.Cuts.{cost, IsAdmissible, IsLeastCost, IsLeastInside}
-use Rattle.visibility.specs.Flows.{is_equal, value, IsValidFlow}
+use Rattle.visibility.specs.Flows.{value, IsValidFlow}
 use Rattle.visibility.specs.Listings.{AreOnce}
 use Rattle.visibility.specs.Networks.{complex_of, IsNetworkInAnyOrder}
 
@@ -43,7 +44,7 @@ flow_of complex on_facet on_cell = record { on_arc = map on_facet complex.facets
 
 -- the index of a row in a list
 abbrev pub row_index : List (List ℕ) → List ℕ → ℕ
-row_index rows row = position_or_len (λ other. is_equal other row) rows
+row_index rows row = position_or_len (λ other. bytes_eq other row) rows
 
 -- the flag at the cell's index
 abbrev pub test_of : List (List ℕ) → List Bool → List ℕ → Bool

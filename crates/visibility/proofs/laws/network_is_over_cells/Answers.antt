@@ -1,7 +1,6 @@
 use Rattle.std.proofs.Common.{false}
 use Rattle.visibility.proofs.Indices.{map_of_indices}
-use Rattle.visibility.proofs.Labels.{labels_agree}
-use Rattle.visibility.proofs.Flows.{flows_agree}
+use Rattle.visibility.proofs.Numbers.{labels_agree, flows_agree}
 use Rattle.visibility.proofs.laws.network_is_over_cells.Goals as goal
 
 pub returns-clause-labels : goal.returns-clause-labels
