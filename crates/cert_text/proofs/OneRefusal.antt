@@ -6,7 +6,8 @@ use Rattle.line_text.specs.Numbers.{counted, BeginsWithNone}
 use Rattle.geo_sign.specs.Rising.{IsBefore}
 use Rattle.line_text.specs.declared.refusal.LineRefusal.{LineRefusal}
 use Rattle.line_text.specs.declared.refusal.LineRefusal.TheVariants as lines
-use Rattle.line_text.specs.Refusals.{line_after, WithMemory, RefusedNumber, AreRows, AtNumber, IsBehindEnd}
+use Rattle.line_text.specs.Refusals.{line_after, RefusedNumber, AreRows, AtNumber, IsBehindEnd}
+use Rattle.line_text.specs.Lists.{WithMemory}
 use Rattle.line_text.proofs.Fronts.{cut_or_bad_same}
 use Rattle.line_text.proofs.Parts.{part_once, part_passed, word_once, word_passed, number_once, number_passed, list_once}
 use Rattle.line_text.proofs.Parts.{list_passed, end_once, end_passed}

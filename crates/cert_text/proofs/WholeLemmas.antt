@@ -5,7 +5,8 @@ use Rattle.std.proofs.lemmas.List.{map-id, append-nil}
 use Rattle.geo_sign.specs.Rising.{IsBefore}
 use Rattle.line_text.specs.declared.refusal.LineRefusal.{LineRefusal}
 use Rattle.line_text.specs.declared.refusal.LineRefusal.TheVariants.{BadLine}
-use Rattle.line_text.specs.Refusals.{line_after, list_text, IsList, IsBehindEnd}
+use Rattle.line_text.specs.Refusals.{line_after, IsBehindEnd}
+use Rattle.line_text.specs.Lists.{list_text, IsList}
 use Rattle.line_text.proofs.Parts.{list_good, word_good}
 use Rattle.cert_text.specs.declared.certificate.FlowRow.{FlowRow}
 use Rattle.cert_text.specs.declared.certificate.SinkRow.{SinkRow}

@@ -2,7 +2,7 @@
 
 ghost use Rattle.std.specs.Prelude.{◌≡◌, ◌++◌, OnOk, OnErr, length, take};
 ghost use Rattle.std.specs.List.{flat_map};
-ghost use Rattle.line_text.specs.Refusals.{list_text};
+ghost use Rattle.line_text.specs.Lists.{list_text};
 ghost use Rattle.cert_text.specs.Certificates.{claim_of, IsWellFormed};
 ghost use Rattle.cert_text.specs.Texts.{counts_text, cert_text};
 

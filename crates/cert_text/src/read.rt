@@ -6,7 +6,8 @@ ghost use Rattle.std.specs.Prelude.{◌≡◌, ◌≤◌, ◌<◌, ◌^◌, ◌+
 ghost use Rattle.std.specs.Bool.{OnTrue, OnFalse};
 ghost use Rattle.std.specs.List.{flat_map};
 ghost use Rattle.line_text.specs.Numbers.{counted, IsBetween};
-ghost use Rattle.line_text.specs.Refusals.{line_after, WithMemory, RefusedNumber, AreRows, RisesAbove, IsRefusedRow, RefusedList, list_text, IsList};
+ghost use Rattle.line_text.specs.Refusals.{line_after, RefusedNumber, AreRows, RisesAbove, IsRefusedRow};
+ghost use Rattle.line_text.specs.Lists.{WithMemory, RefusedList, list_text, IsList};
 ghost use Rattle.geo_sign.specs.Rising.{IsBefore};
 ghost use Rattle.cert_text.specs.Certificates.{Claim, claim_of, FitCounts, IsWellFormed};
 ghost use Rattle.cert_text.specs.Texts.{counts_text, cert_text};

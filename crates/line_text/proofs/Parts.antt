@@ -5,7 +5,8 @@ use Rattle.std.specs.List.{flat_map}
 use Rattle.line_text.specs.Numbers.{counted, BeginsWithNone, IsBetween}
 use Rattle.line_text.specs.declared.refusal.LineRefusal.{LineRefusal}
 use Rattle.line_text.specs.Refusals.{line_after, RefusedWord, RefusedNumber, AreRows, AreCounted, IsRefusedRow, AtPart, AtWord}
-use Rattle.line_text.specs.Refusals.{AtNumber, AtRows, AtList, RefusedList, list_text, IsList, IsBehindEnd}
+use Rattle.line_text.specs.Refusals.{AtNumber, AtRows, AtList, IsBehindEnd}
+use Rattle.line_text.specs.Lists.{RefusedList, list_text, IsList}
 use Rattle.line_text.proofs.Codes.{IsCode, behind_same, code_list, counted_between_code}
 use Rattle.line_text.proofs.Fronts.{cut_or_bad_same, row_same, row_not_good}
 

@@ -13,7 +13,8 @@ pub use Rattle.geo_sign.proofs.Rising.{before_trans}
 use Rattle.line_text.specs.Numbers.{BeginsWithNone}
 use Rattle.line_text.specs.declared.refusal.LineRefusal.{LineRefusal}
 use Rattle.line_text.specs.declared.refusal.LineRefusal.TheVariants.{BadLine, Order, Cut, NoMemory}
-use Rattle.line_text.specs.Refusals.{line_after, IsCutOrBad, WithMemory, Rise, RisesAbove, AreRows, IsRefusedRow}
+use Rattle.line_text.specs.Refusals.{line_after, IsCutOrBad, Rise, RisesAbove, AreRows, IsRefusedRow}
+use Rattle.line_text.specs.Lists.{WithMemory}
 
 pub WithMemory-holds : (r : LineRefusal) (P : Type 0) → P → WithMemory r P
 WithMemory-holds (BadLine n) P p = p

@@ -3,7 +3,6 @@
 --   space, line_feed    the bytes that end a number within a line, and at its end
 --   ended n end         the decimal text of a number and the byte that ends it
 --   Lacks byte text     no byte of the text is this one
---   IsPlain token       no sign and no leading zero
 --   BeginsWithNone      no text of a form stands at the front of this one
 --   counted text n      a text, and the number that ends its last line
 --   signed_ended z end  the decimal text of a signed number and the byte that ends it
@@ -40,12 +39,6 @@ IsSignedBetween least greatest z = (least ≤ℤ z) × (z ≤ℤ greatest)
 -- no byte of the text is this one
 abbrev pub Lacks : ℕ → List ℕ → Type 0
 Lacks byte text = (k : ℕ) → k < length text → slice_index text k ≢ byte
-
--- a first byte that is no plus sign, and no zero with more behind it
-pub record IsPlain (token : List ℕ) : Type 0 where
-  pub some : 0 < length token
-  pub no_plus : slice_index token 0 ≢ 43
-  pub no_zero : slice_index token 0 ≡ 48 → length token ≡ 1
 
 -- no text of the form stands at the front of this one
 abbrev pub BeginsWithNone : {A : Type 0} → (A → Type 0) → (A → List ℕ) → List ℕ → Type 0

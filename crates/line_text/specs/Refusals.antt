@@ -2,7 +2,6 @@
 --
 --   line_after n k               the number of the line k lines behind line n; it stays at the last number of 64 bits
 --   IsCutOrBad n text r          how a line that is not of its form is refused
---   WithMemory r P               want of memory, or the fact
 --   RefusedWord, RefusedNumber   line n, a fixed text, a word and a number, is refused
 --   Rise order rows              rows that rise strictly by their keys, where they have to
 --   RisesAbove order rows row    a row comes behind the last of these rows, where it has to
@@ -13,8 +12,6 @@
 --   AtPart                       a part is refused, or it is good and something is said of what is behind
 --   AtWord, AtNumber             the same of a line of a fixed text, of a word and a number
 --   AtRows, AtList               the same of so many rows, of a list with its length before it
---   RefusedList                  a list is refused
---   list_text, IsList            the text of a whole list, and when its rows are good
 --   IsBehindEnd n rest r         something follows the last line, as a line n of its own
 use Rattle.std.specs.Prelude.{ℕ, ◌≡◌, ◌⊎◌, ◌+◌, ◌-◌, ◌<◌, ◌^◌, min, Option, Some, None, List, [], ◌∷◌, ◌++◌, All, AllPairs}
 use Rattle.std.specs.Prelude.{Contains, length, map}
@@ -34,11 +31,6 @@ IsCutOrBad n text Cut = Lacks line_feed text
 IsCutOrBad n text (BadLine m) = (m ≡ n) × Contains text line_feed
 IsCutOrBad n text (Order m) = ⊥
 IsCutOrBad n text NoMemory = ⊥
-
--- a fact about the text, where memory was found
-abbrev pub WithMemory : LineRefusal → Type 0 → Type 0
-WithMemory NoMemory P = Unit {0}
-WithMemory _ P = P
 
 -- line n is not this fixed text
 abbrev pub RefusedWord : List ℕ → ℕ → List ℕ → LineRefusal → Type 0
@@ -131,18 +123,6 @@ AtList IsForm line_of order word n text r Next =
     AtNumber word 0 (2 ^ 64 - 1) n text r
     (λ count rows.
     AtRows IsForm line_of order count (line_after n 1) rows r (λ _ rest. Next (line_after (line_after n 1) count) rest))
-
--- a list is refused, at its length or at one of its rows
-abbrev pub RefusedList : {A : Type 0} → (A → Type 0) → (A → List ℕ) → Option (A → List ℕ) → (word : List ℕ) → ℕ → List ℕ
-    → LineRefusal → Type 0
-RefusedList IsForm line_of order word n text r = AtList IsForm line_of order word n text r (λ _ _. ⊥)
-
--- the text of a whole list, and when its rows are good
-abbrev pub list_text : {A : Type 0} → (A → List ℕ) → List ℕ → List A → List ℕ
-list_text line_of word rows = counted word (length rows) ++ flat_map line_of rows
-
-abbrev pub IsList : {A : Type 0} → (A → Type 0) → Option (A → List ℕ) → List A → Type 0
-IsList IsForm order rows = (length rows < 2 ^ 64) × AreRows IsForm order rows
 
 -- something follows the last line: it begins line n
 abbrev pub IsBehindEnd : ℕ → List ℕ → LineRefusal → Type 0

@@ -5,7 +5,8 @@ ghost use Rattle.std.specs.Prelude.{◌≡◌, ◌<◌, ◌≤◌, ◌^◌, ◌+
 ghost use Rattle.std.specs.Bool.{OnTrue, OnFalse};
 ghost use Rattle.std.specs.Fmt.{signed_decimal};
 ghost use Rattle.std.specs.Int.Signed.{mag};
-ghost use Rattle.line_text.specs.Numbers.{ended, counted, signed_ended, BeginsWithNone, Lacks, IsPlain, IsBetween, IsSignedBetween};
+ghost use Rattle.line_text.specs.Numbers.{ended, counted, signed_ended, BeginsWithNone, Lacks, IsBetween, IsSignedBetween};
+ghost use Rattle.line_text.specs.Tokens.{IsPlain};
 
 /// The place of the first such byte, or the length where there is none.
 fn place_of(text: &[u8], byte: u8) -> usize

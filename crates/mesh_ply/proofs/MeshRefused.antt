@@ -7,7 +7,8 @@ use Rattle.geo_sign.specs.Point.{Point, IsWithin}
 use Rattle.line_text.specs.Numbers.{counted}
 use Rattle.line_text.specs.declared.refusal.LineRefusal.{LineRefusal}
 use Rattle.line_text.specs.declared.refusal.LineRefusal.TheVariants as lines
-use Rattle.line_text.specs.Refusals.{line_after, WithMemory, AreCounted, AtWord, AtNumber, IsBehindEnd}
+use Rattle.line_text.specs.Refusals.{line_after, AreCounted, AtWord, AtNumber, IsBehindEnd}
+use Rattle.line_text.specs.Lists.{WithMemory}
 use Rattle.line_text.proofs.Parts.{word_once, word_passed, number_once, number_passed, rows_once, rows_passed, rows_good}
 use Rattle.line_text.proofs.Parts.{end_once, end_passed}
 use Rattle.mesh_ply.specs.Meshes.{IsFace}

@@ -5,7 +5,8 @@ use Rattle.std.proofs.lemmas.Bool.{cases_lt}
 use Rattle.std.proofs.lemmas.List.{get_or-map, length-map, ext_get_or, get_or_append_left, get_or-append_right}
 use Rattle.std.proofs.lemmas.List.Elements.{filter-append}
 use Rattle.std.proofs.lemmas.List.Sums.{length-filter, count_by-le-length}
-use Rattle.mesh_ply.specs.Meshes.{below, is_used, used, new_number, marked, number_among, IsFace}
+use Rattle.mesh_ply.specs.Meshes.{below, is_used, used, new_number, IsFace}
+use Rattle.mesh_ply.specs.Marks.{marked, number_among}
 use Rattle.std.specs.List.{All}
 
 pub length_below : (n : ℕ) → length (below n) ≡ n

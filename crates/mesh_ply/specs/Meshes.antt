@@ -7,7 +7,6 @@
 --   is_used facets v      whether some facet has the vertex v
 --   used facets n         the vertices below n that some facet has, rising
 --   new_number facets v   the new number of a vertex that facets have
---   marked, number_among  the same by marks of the vertices
 --   point_at places v     the place of a vertex
 --   Surface, mesh_of      points and faces; those of a list of facets
 --   IsMesh points faces   the mesh is valid
@@ -47,13 +46,6 @@ used facets n = filter (is_used facets) (below n)
 -- the new number of a vertex: how many vertices below it some facet has
 abbrev pub new_number : List (List ℕ) → ℕ → ℕ
 new_number facets v = length (used facets v)
-
--- the vertices below n that have a mark, rising, and how many these are
-abbrev pub marked : List Bool → ℕ → List ℕ
-marked marks n = filter (λ v. slice_index_or marks v false) (below n)
-
-abbrev pub number_among : List Bool → ℕ → ℕ
-number_among marks v = length (marked marks v)
 
 -- the place of a vertex
 abbrev pub point_at : List Point → ℕ → Point

@@ -5,7 +5,6 @@
 --   IsCoordinate z                    a coordinate of the box
 --   point_line p                      the line of a point
 --   face_line f                       the line of a face
---   text_behind_count                 the text behind the number of points
 --   mesh_text points faces            the text of a mesh
 --   IsPrinted points faces            a mesh that has a text: valid, its points in the box
 use Rattle.std.specs.Prelude.{ℕ, ◌≤◌, ℤ, unsigned_abs, List, [], ◌∷◌, ◌++◌, All, length, codes}
@@ -66,13 +65,6 @@ point_line p = signed_ended p.x space ++ (signed_ended p.y space ++ signed_ended
 -- 3 a b c
 abbrev pub face_line : List ℕ → List ℕ
 face_line f = (51 ∷ space ∷ []) ++ facet_fields f line_feed
-
--- the text behind the number of points
-abbrev pub text_behind_count : List Point → List (List ℕ) → List ℕ
-text_behind_count points faces =
-    x_line ++ (y_line ++ (z_line
-    ++ (counted face_word (length faces)
-    ++ (list_line ++ (header_end ++ (flat_map point_line points ++ flat_map face_line faces))))))
 
 -- the header, a line for each point, a line for each face
 abbrev pub mesh_text : List Point → List (List ℕ) → List ℕ

@@ -6,7 +6,8 @@
 
 ghost use Rattle.std.specs.Prelude.{◌≡◌, ◌<◌, ◌^◌, ◌||◌, ℕ, false, IfOk, All, AllPairs, length, map, slice_index, slice_index_or};
 ghost use Rattle.geo_sign.specs.Rising.{IsBefore};
-ghost use Rattle.mesh_ply.specs.Meshes.{below, is_vertex_of, is_used, marked, number_among, point_at, mesh_of, IsFace, IsFaceList, IsMesh};
+ghost use Rattle.mesh_ply.specs.Meshes.{below, is_vertex_of, is_used, point_at, mesh_of, IsFace, IsFaceList, IsMesh};
+ghost use Rattle.mesh_ply.specs.Marks.{marked, number_among};
 
 use crate::{Mesh, NoMemory};
 use geo_sign::Point;

@@ -5,9 +5,11 @@
 ghost use Rattle.std.specs.Prelude.{◌≡◌, ◌<◌, ◌≤◌, ◌^◌, ◌++◌, ◌⊎◌, None, ℕ, List, IfOk, IfErr, IsErr, MatchResult, length};
 ghost use Rattle.std.specs.List.{flat_map};
 ghost use Rattle.geo_sign.specs.Point.{Point, IsWithin};
-ghost use Rattle.line_text.specs.Refusals.{WithMemory, AreCounted, IsRefusedRow};
+ghost use Rattle.line_text.specs.Refusals.{AreCounted, IsRefusedRow};
+ghost use Rattle.line_text.specs.Lists.{WithMemory};
 ghost use Rattle.mesh_ply.specs.Meshes.{IsFace};
-ghost use Rattle.mesh_ply.specs.Texts.{point_line, face_line, text_behind_count, mesh_text, IsPrinted};
+ghost use Rattle.mesh_ply.specs.Texts.{point_line, face_line, mesh_text, IsPrinted};
+ghost use Rattle.mesh_ply.specs.TextParts.{text_behind_count};
 ghost use Rattle.mesh_ply.specs.Refusals.{AtPoints, AtFaceCount, AtMesh, IsRefusedMesh};
 ghost use Rattle.mesh_ply.specs.declared.refusal.MeshRefusal.{MeshRefusal};
 ghost use Rattle.geo_sign.specs.declared.point.TheConstants.{BOX_LIMIT};

@@ -11,7 +11,8 @@ use Rattle.std.proofs.lemmas.List.Folds.{list_all-append}
 use Rattle.std.proofs.Math.Nat.{mul-le-mul_left, mul-le-mul_right, mul_assoc, one-le-pow, pow-le-pow_right, mul-div-mul_right}
 use Rattle.std.proofs.Math.Nat.{div-eq_of_lt, le_trans}
 use Rattle.num_text.specs.WholeNumbers.{significant, are_digits}
-use Rattle.num_text.specs.Decimals.{nearest, within_limit, DecimalParts, is_decimal, is_long, exponent_of}
+use Rattle.num_text.specs.Decimals.{nearest, DecimalParts, is_decimal, is_long, exponent_of}
+use Rattle.num_text.specs.Steps.{within_limit}
 use Rattle.num_text.proofs.DigitLemmas.{value_below, value_small, significant_value, significant_digits}
 use Rattle.num_text.specs.declared.decimal.TheConstants.{SCALED_LIMIT}
 

@@ -10,8 +10,8 @@
 -- nearest         N / M in units, to the nearest whole number, halves upwards
 -- in_range        a number under its sign, if it is within the limit
 -- scaled_of       the number of units that a token is, or why it is none
-use Rattle.std.specs.Prelude.{ℕ, ◌+◌, ◌*◌, ◌/◌, ◌^◌, ℤ, List, ◌++◌, Bool, not, ◌==◌, ◌||◌, ◌&&◌, nat_lt, length, Option, None}
-use Rattle.std.specs.Prelude.{Some, Result, Ok, Err, if◌then◌else◌}
+use Rattle.std.specs.Prelude.{ℕ, ◌+◌, ◌*◌, ◌/◌, ◌^◌, ℤ, List, ◌++◌, Bool, not, ◌==◌, ◌||◌, ◌&&◌, nat_lt, length}
+use Rattle.std.specs.Prelude.{Result, Ok, Err, if◌then◌else◌}
 use Rattle.std.specs.List.{before_first, after_first, position_or_len}
 use Rattle.std.specs.Str.Parse.{digits_value}
 use Rattle.num_text.specs.declared.refusal.NumRefusal.{NumRefusal}
@@ -84,10 +84,6 @@ nearest n m unit = (2 * n * unit + m) / (2 * m)
 -- a number of units under its sign, which halves moved away from zero, if it is within the limit
 abbrev pub in_range : Bool → ℕ → Result ℤ NumRefusal
 in_range is_negative n = if nat_lt SCALED_LIMIT n then Err OutOfRange else Ok (signed is_negative n)
-
--- a number of units, if it is within the limit
-abbrev pub within_limit : ℕ → Option ℕ
-within_limit n = if nat_lt SCALED_LIMIT n then None else Some n
 
 -- the number of units that a token with these parts is, or the first reason why it is none
 abbrev pub scaled_parts : DecimalParts → ℕ → Result ℤ NumRefusal

@@ -1,3 +1,4 @@
 pub mod WholeNumbers
 pub mod Decimals
+pub mod Steps
 pub mod Views

@@ -11,7 +11,8 @@ ghost use Rattle.std.specs.List.{list_all, position_or_len};
 ghost use Rattle.std.specs.Char.{is_ascii_digit};
 ghost use Rattle.std.specs.Str.Parse.{digits_value};
 ghost use Rattle.num_text.specs.WholeNumbers.{are_digits, significant};
-ghost use Rattle.num_text.specs.Decimals.{is_exponent_mark, is_point, parts_of, is_decimal, is_long, exponent_of, numerator, denominator, nearest, within_limit, scaled_of};
+ghost use Rattle.num_text.specs.Decimals.{is_exponent_mark, is_point, parts_of, is_decimal, is_long, exponent_of, numerator, denominator, nearest, scaled_of};
+ghost use Rattle.num_text.specs.Steps.{within_limit};
 ghost use Rattle.num_text.specs.Views.{parts_view};
 ghost use Rattle.num_text.specs.declared.decimal.TheConstants.{SCALED_LIMIT, UNIT_LIMIT};
 

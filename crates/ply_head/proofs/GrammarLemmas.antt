@@ -10,7 +10,8 @@ use Rattle.ply_head.specs.declared.refusal.HeadRefusal.{HeadRefusal}
 use Rattle.ply_head.specs.Lines.{parts_of, is_line_feed, line_text}
 use Rattle.ply_head.specs.Statements.{Statement, nothing, format, element, property, finish}
 use Rattle.ply_head.specs.Answers.{◌>>=◌}
-use Rattle.ply_head.specs.Headers.{line_at, with_property, step_of, Step, goes, ends, header_from, header_of}
+use Rattle.ply_head.specs.Headers.{with_property, step_of, Step, goes, ends, header_from, header_of}
+use Rattle.ply_head.specs.Reading.{line_at}
 use Rattle.ply_head.specs.Spelling.{joined}
 use Rattle.ply_head.specs.Grammar.{Says, Adds, AddsProperty, Leads, IsLine, HasHeader}
 use Rattle.ply_head.proofs.HeadLemmas.{Parts, line_and, some_part, with_property_last}

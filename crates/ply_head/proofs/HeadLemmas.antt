@@ -8,7 +8,8 @@ use Rattle.std.proofs.lemmas.Bool.{le-ltb, lt-ltb}
 use Rattle.std.proofs.lemmas.Bool.Decides.{nat_tests}
 use Rattle.ply_head.specs.Lines.{parts_of, is_line_feed, line_text}
 use Rattle.ply_head.specs.Answers.{◌>>=◌}
-use Rattle.ply_head.specs.Headers.{line_at, with_property, has_property}
+use Rattle.ply_head.specs.Headers.{with_property, has_property}
+use Rattle.ply_head.specs.Reading.{line_at}
 use Rattle.ply_head.specs.declared.header.Property.{Property}
 use Rattle.ply_head.specs.declared.header.Element.{Element}
 use Rattle.ply_head.specs.declared.refusal.HeadRefusal.{HeadRefusal}

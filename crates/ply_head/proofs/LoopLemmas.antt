@@ -7,7 +7,8 @@ use Rattle.std.proofs.lemmas.List.Splits.{join_with_byte-slice_split}
 use Rattle.ply_head.specs.Lines.{parts_of, words_of}
 use Rattle.ply_head.specs.Statements.{statement_of_words}
 use Rattle.ply_head.specs.Answers.{◌>>=◌}
-use Rattle.ply_head.specs.Headers.{Fails, line_at, text_of_line, step_of, Step, goes, ends, then_lines, header_from, IsEndOf}
+use Rattle.ply_head.specs.Headers.{Fails, text_of_line, step_of, Step, goes, ends, then_lines, header_from}
+use Rattle.ply_head.specs.Reading.{line_at, IsEndOf}
 use Rattle.ply_head.specs.declared.header.Header.{Header}
 use Rattle.ply_head.specs.declared.refusal.HeadRefusal.{HeadRefusal}
 use Rattle.ply_head.specs.declared.refusal.HeadRefusal.TheVariants.{LongHeader, NoMemory}

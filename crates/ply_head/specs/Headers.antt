@@ -1,13 +1,12 @@
 -- The header of a text, or the first reason why it has none.
 --
 -- Gives, Fails    what a call returned is what a definition says, unless memory ran out
--- text_of_line, line_at   a line without its end, or why it is none
+-- text_of_line    a line without its end, or why it is none
 -- has_property, has_element   a name is one of those that stand before
 -- with_property   the elements, the last of which has a property more
 -- Step, step_of   what a line makes of the header so far
 -- header_from     the header that lines from a number on make, and the body
 -- header_of       the header and the body of a text
--- IsEndOf         a text is the end of another
 --
 -- These say the refusals in their order. specs/Grammar says in the format's own words which
 -- texts have a header, and a law of the crate that both agree.
@@ -39,11 +38,6 @@ Gives view (Err e) read = Fails e read
 abbrev pub text_of_line : ℕ → List ℕ → List (List ℕ) → Result (List ℕ) HeadRefusal
 text_of_line n part [] = if nat_lt (length part) 1002 then Err HeadCut else Err (LongLine n)
 text_of_line n part (next ∷ more) = if nat_lt 1000 (length (line_text part)) then Err (LongLine n) else Ok (line_text part)
-
--- line n at the front of these parts, and the parts behind it
-abbrev pub line_at : ℕ → List (List ℕ) → Result (List ℕ × List (List ℕ)) HeadRefusal
-line_at n [] = Err HeadCut
-line_at n (part ∷ more) = text_of_line n part more >>= λ text. Ok (text, more)
 
 -- a property has the name
 abbrev pub has_property : List ℕ → List Property → Bool
@@ -100,9 +94,3 @@ unfoldable pub header_of : List ℕ → Result (Header × List ℕ) HeadRefusal
 header_of bytes =
     if starts_with nat_eq bytes (codes "ply\n") then header_from 2 None (parts_of (drop 4 bytes))
     else (if starts_with nat_eq bytes (codes "ply\r\n") then header_from 2 None (parts_of (drop 5 bytes)) else Err NotPly)
-
--- a text is the end of another
-pub record IsEndOf (body bytes : List ℕ) : Type 0 where
-  pub from : ℕ
-  pub fits : from ≤ length bytes
-  pub is : body ≡ drop from bytes

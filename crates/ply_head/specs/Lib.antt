@@ -3,6 +3,7 @@ pub mod Optional
 pub mod Lines
 pub mod Statements
 pub mod Headers
+pub mod Reading
 pub mod StatementViews
 pub mod StepViews
 pub mod Spelling

@@ -2,7 +2,8 @@
 
 ghost use Rattle.std.specs.Prelude.{◌≡◌, IfOk};
 ghost use Rattle.ply_head.specs.Lines.{parts_of, line_text};
-ghost use Rattle.ply_head.specs.Headers.{Gives, line_at, IsEndOf};
+ghost use Rattle.ply_head.specs.Headers.{Gives};
+ghost use Rattle.ply_head.specs.Reading.{line_at, IsEndOf};
 
 use crate::refusal::HeadRefusal;
 

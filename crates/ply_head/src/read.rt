@@ -2,7 +2,8 @@
 
 ghost use Rattle.std.specs.Prelude.{◌≡◌, ◌≤◌, length, drop, None, Err, IfOk, IfSome, IfNone};
 ghost use Rattle.ply_head.specs.Lines.{parts_of};
-ghost use Rattle.ply_head.specs.Headers.{Gives, header_from, header_of, IsEndOf};
+ghost use Rattle.ply_head.specs.Headers.{Gives, header_from, header_of};
+ghost use Rattle.ply_head.specs.Reading.{IsEndOf};
 ghost use Rattle.ply_head.specs.Grammar.{HasHeader};
 ghost use Rattle.ply_head.specs.Readable.{IsReadable};
 

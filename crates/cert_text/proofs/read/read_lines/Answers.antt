@@ -1,5 +1,5 @@
 use Rattle.std.proofs.Common.{◌+◌, inl}
-use Rattle.line_text.specs.Refusals.{WithMemory, RefusedList}
+use Rattle.line_text.specs.Lists.{WithMemory, RefusedList}
 use Rattle.line_text.proofs.Rows.{IfErr-holds, WithMemory-holds, WithMemory-weaker, some_left, none_left}
 use Rattle.line_text.proofs.Parts.{word_refused, behind_word, list_refused}
 use Rattle.cert_text.specs.Rows.{IsCellRow, IsFlowRow, IsSinkRow, cell_order, flow_order, sink_order}

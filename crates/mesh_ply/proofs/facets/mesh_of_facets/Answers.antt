@@ -3,7 +3,8 @@ use Rattle.std.specs.List.{All, AllPairs}
 use Rattle.std.proofs.lemmas.List.{length-map}
 use Rattle.geo_sign.specs.Rising.{IsBefore}
 use Rattle.geo_sign.specs.Point.{Point}
-use Rattle.mesh_ply.specs.Meshes.{below, is_used, new_number, marked, number_among, point_at, mesh_of, IsFace, IsMesh}
+use Rattle.mesh_ply.specs.Meshes.{below, is_used, new_number, point_at, mesh_of, IsFace, IsMesh}
+use Rattle.mesh_ply.specs.Marks.{marked, number_among}
 use Rattle.mesh_ply.proofs.Vertices.{length_below, marked_used, number_in_table, facets_same}
 use Rattle.mesh_ply.proofs.Renumbered.{mesh_valid, faces_rise}
 use Rattle.mesh_ply.proofs.facets.mesh_of_facets.Goals as goal

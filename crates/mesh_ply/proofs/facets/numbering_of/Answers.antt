@@ -2,7 +2,8 @@ use Rattle.std.proofs.Common.{ℕ, ◌≡◌, ◌+◌, ◌++◌, ◌∙◌, refl
 use Rattle.std.proofs.Common.{length, map}
 use Rattle.std.proofs.lemmas.List.{length-map, map-append, append-nil, get_or_read}
 use Rattle.geo_sign.specs.Point.{Point, origin}
-use Rattle.mesh_ply.specs.Meshes.{below, marked, number_among, point_at}
+use Rattle.mesh_ply.specs.Meshes.{below, point_at}
+use Rattle.mesh_ply.specs.Marks.{marked, number_among}
 use Rattle.mesh_ply.proofs.Vertices.{below_more, filter_below_more, length_filter_below}
 use Rattle.mesh_ply.proofs.facets.numbering_of.Goals as goal
 use Rattle.mesh_ply.proofs.facets.numbering_of.Goals.{then-marks-v+in_ok-push-2, else-marks-v}

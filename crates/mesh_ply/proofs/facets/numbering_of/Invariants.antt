@@ -1,5 +1,6 @@
 use Rattle.std.proofs.Common.{◌≡◌, map}
-use Rattle.mesh_ply.specs.Meshes.{below, marked, number_among, point_at}
+use Rattle.mesh_ply.specs.Meshes.{below, point_at}
+use Rattle.mesh_ply.specs.Marks.{marked, number_among}
 use Rattle.mesh_ply.proofs.facets.numbering_of.Given as goal
 
 abbrev pub invariant-loop-v : goal.invariant-loop-v

@@ -1,4 +1,4 @@
-use Rattle.line_text.specs.Refusals.{WithMemory}
+use Rattle.line_text.specs.Lists.{WithMemory}
 use Rattle.line_text.proofs.Rows.{IfErr-holds, IfErr-weaker, WithMemory-holds, WithMemory-weaker}
 use Rattle.line_text.proofs.Parts.{word_good, number_refused, number_good}
 use Rattle.mesh_ply.specs.Refusals.{AtFaceCount, AtMesh}

@@ -1,5 +1,6 @@
 use Rattle.std.proofs.Common.{◌+◌, None, inl, arith}
-use Rattle.line_text.specs.Refusals.{WithMemory, IsRefusedRow}
+use Rattle.line_text.specs.Refusals.{IsRefusedRow}
+use Rattle.line_text.specs.Lists.{WithMemory}
 use Rattle.line_text.proofs.Rows.{IfErr-holds, WithMemory-weaker, some_left}
 use Rattle.mesh_ply.specs.Meshes.{IsFace}
 use Rattle.mesh_ply.specs.Texts.{face_line}

@@ -1,5 +1,5 @@
 use Rattle.std.proofs.Common.{◌+◌, ◌*◌, ◌/◌, ◌-◌, ◌^◌, ℕ, arith, ap, ◌∙◌}
-use Rattle.num_text.specs.Decimals.{within_limit}
+use Rattle.num_text.specs.Steps.{within_limit}
 use Rattle.num_text.proofs.ScaleLemmas.{nearest_up, nearest_down}
 use Rattle.num_text.proofs.decimal.nearest_units.Goals as goal
 

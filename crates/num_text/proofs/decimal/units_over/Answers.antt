@@ -1,5 +1,5 @@
 use Rattle.std.proofs.Common.{arith, sym, ap}
-use Rattle.num_text.specs.Decimals.{within_limit}
+use Rattle.num_text.specs.Steps.{within_limit}
 use Rattle.num_text.proofs.ScaleLemmas.{power_fits, power_some, few_none}
 use Rattle.num_text.proofs.decimal.units_over.Goals as goal
 

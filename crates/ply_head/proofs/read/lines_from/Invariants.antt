@@ -1,6 +1,7 @@
 use Rattle.std.proofs.Common.{◌≡◌, None}
 use Rattle.ply_head.specs.Lines.{parts_of}
-use Rattle.ply_head.specs.Headers.{header_from, IsEndOf}
+use Rattle.ply_head.specs.Headers.{header_from}
+use Rattle.ply_head.specs.Reading.{IsEndOf}
 use Rattle.ply_head.proofs.read.lines_from.Given as goal
 
 abbrev pub invariant-loop-number : goal.invariant-loop-number

@@ -1,0 +1,30 @@
+-- Lists with their length before them, and what is said of a refusal that may be want of memory.
+--
+--   WithMemory r P               want of memory, or the fact
+--   RefusedList                  a list is refused
+--   list_text, IsList            the text of a whole list, and when its rows are good
+use Rattle.std.specs.Prelude.{ℕ, ◌≡◌, ◌⊎◌, ◌+◌, ◌-◌, ◌<◌, ◌^◌, min, Option, Some, None, List, [], ◌∷◌, ◌++◌, All, AllPairs}
+use Rattle.std.specs.Prelude.{Contains, length, map}
+use Rattle.std.specs.List.{flat_map}
+use Rattle.line_text.specs.Numbers.{line_feed, counted, Lacks, BeginsWithNone, IsBetween}
+use Rattle.geo_sign.specs.Rising.{IsBefore}
+use Rattle.line_text.specs.declared.refusal.LineRefusal.{LineRefusal}
+use Rattle.line_text.specs.declared.refusal.LineRefusal.TheVariants.{BadLine, Order, Cut, NoMemory}
+use Rattle.line_text.specs.Refusals.{AreRows, AtList}
+
+-- a fact about the text, where memory was found
+abbrev pub WithMemory : LineRefusal → Type 0 → Type 0
+WithMemory NoMemory P = Unit {0}
+WithMemory _ P = P
+
+-- a list is refused, at its length or at one of its rows
+abbrev pub RefusedList : {A : Type 0} → (A → Type 0) → (A → List ℕ) → Option (A → List ℕ) → (word : List ℕ) → ℕ → List ℕ
+    → LineRefusal → Type 0
+RefusedList IsForm line_of order word n text r = AtList IsForm line_of order word n text r (λ _ _. ⊥)
+
+-- the text of a whole list, and when its rows are good
+abbrev pub list_text : {A : Type 0} → (A → List ℕ) → List ℕ → List A → List ℕ
+list_text line_of word rows = counted word (length rows) ++ flat_map line_of rows
+
+abbrev pub IsList : {A : Type 0} → (A → Type 0) → Option (A → List ℕ) → List A → Type 0
+IsList IsForm order rows = (length rows < 2 ^ 64) × AreRows IsForm order rows

@@ -1,0 +1,11 @@
+-- What a token of a printed number begins with.
+--
+--   IsPlain token       no sign and no leading zero
+use Rattle.std.specs.Prelude.{ℕ, ◌≡◌, ◌≢◌, ◌<◌, ◌≤◌, ℤ, ◌≤ℤ◌, List, [], ◌∷◌, ◌++◌, length, slice_index, decimal}
+use Rattle.std.specs.Fmt.{signed_decimal}
+
+-- a first byte that is no plus sign, and no zero with more behind it
+pub record IsPlain (token : List ℕ) : Type 0 where
+  pub some : 0 < length token
+  pub no_plus : slice_index token 0 ≢ 43
+  pub no_zero : slice_index token 0 ≡ 48 → length token ≡ 1

@@ -1,0 +1,18 @@
+-- Marks of vertices, and the numbers that they give.
+--
+--   marked marks n          the marked numbers below n, rising
+--   number_among marks v    the new number of a vertex, by marks
+use Rattle.std.specs.Prelude.{ℕ, zero, suc, ◌≡◌, ◌<◌, ◌==◌, ◌^◌, Bool, false, List, [], ◌∷◌, ◌++◌, length, slice_index_or, map}
+use Rattle.std.specs.Prelude.{filter, All, AllPairs}
+use Rattle.std.specs.List.{list_any}
+use Rattle.geo_sign.specs.Rising.{IsBefore}
+use Rattle.geo_sign.specs.Point.{Point, origin}
+use Rattle.mesh_ply.specs.Meshes.{below}
+
+-- the marked numbers below n, rising
+abbrev pub marked : List Bool → ℕ → List ℕ
+marked marks n = filter (λ v. slice_index_or marks v false) (below n)
+
+-- how many marked numbers are below v
+abbrev pub number_among : List Bool → ℕ → ℕ
+number_among marks v = length (marked marks v)
