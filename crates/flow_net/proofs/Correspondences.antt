@@ -67,11 +67,19 @@ module _ {Node Arc Place Link : Type 0} (net : Network Node Arc) (far : Network 
   fixed_back p i = at_back net.is_fixed far.is_fixed c.fixed_is p i
 
   -- ---- labels
+  -- at the ends of an arc
+  pub ends_say : (inside : Node → Bool) (there : Place → Bool) → SameAtNodes c inside there → (a : Arc) → net.HasArc a
+      → (inside (net.from a) ≡ there (far.from (c.arc a))) × (inside (net.to a) ≡ there (far.to (c.arc a)))
+  ends_say inside there h a i = (
+    h (net.from a) (c.from_there a i) ∙ ap there (c.from_is a i),
+    h (net.to a) (c.to_there a i) ∙ ap there (c.to_is a i),
+  )
+
   arc_cost_is : (inside : Node → Bool) (there : Place → Bool) → SameAtNodes c inside there → (a : Arc) → net.HasArc a
       → arc_cost net inside a ≡ arc_cost far there (c.arc a)
   arc_cost_is inside there h a i =
-      ap₂ (λ x y. cond (not x && y) (net.capacity a) 0)
-      (h (net.from a) (c.from_there a i) ∙ ap there (c.from_is a i)) (h (net.to a) (c.to_there a i) ∙ ap there (c.to_is a i))
+      let ends = ends_say inside there h a i in
+      ap₂ (λ x y. cond (not x && y) (net.capacity a) 0) ends.0 ends.1
       ∙ ap (λ n. cond (not (there (far.from (c.arc a))) && there (far.to (c.arc a))) n 0) (c.capacity_is a i)
 
   pub cost_is : (inside : Node → Bool) (there : Place → Bool) → SameAtNodes c inside there → cost net inside ≡ cost far there
@@ -274,34 +282,35 @@ pub record AreAlike {Node Arc : Type 0} (net far : Network Node Arc) : Type 0 wh
   pub sink_is : (v : Node) → net.HasNode v → net.sink v ≡ far.sink v
 
 -- so each node and each arc stands for itself
+abbrev pub itself : {Node Arc : Type 0} {net far : Network Node Arc} → AreAlike net far → Corresponds net far
+itself h = record {
+  node = λ v. v;
+  back = λ v. v;
+  arc = λ a. a;
+  node_there = λ v. (h.nodes v).0;
+  back_there = λ v. (h.nodes v).1;
+  node_back = λ v i. refl;
+  back_node = λ v i. refl;
+  arc_there = λ a. (h.arcs a).0;
+  arc_of = λ a i. (a, (h.arcs a).1 i, refl);
+  node_sums = h.node_sums;
+  arc_sums = h.arc_sums;
+  from_there = h.from_there;
+  to_there = h.to_there;
+  from_is = h.from_is;
+  to_is = h.to_is;
+  same_is = λ v w i j. h.same_is v w;
+  capacity_is = h.capacity_is;
+  fixed_is = h.fixed_is;
+  sink_is = h.sink_is;
+}
+
 pub agree_as_networks : {Node Arc : Type 0} (net far : Network Node Arc) → AreAlike net far → AgreeAsNetworks net far
-agree_as_networks net far h =
-    let c : Corresponds net far = record {
-      node = λ v. v;
-      back = λ v. v;
-      arc = λ a. a;
-      node_there = λ v. (h.nodes v).0;
-      back_there = λ v. (h.nodes v).1;
-      node_back = λ v i. refl;
-      back_node = λ v i. refl;
-      arc_there = λ a. (h.arcs a).0;
-      arc_of = λ a i. (a, (h.arcs a).1 i, refl);
-      node_sums = h.node_sums;
-      arc_sums = h.arc_sums;
-      from_there = h.from_there;
-      to_there = h.to_there;
-      from_is = h.from_is;
-      to_is = h.to_is;
-      same_is = λ v w i j. h.same_is v w;
-      capacity_is = h.capacity_is;
-      fixed_is = h.fixed_is;
-      sink_is = h.sink_is;
-    } in
-    record {
-      cost_is = λ inside. cost_is net far c inside inside (λ v i. refl);
-      admissible = λ inside. admissible net far c inside inside (λ v i. refl);
-      least_cost = λ inside. least_cost net far c inside inside (λ v i. refl);
-      least_inside = λ inside. least_inside net far c inside inside (λ v i. refl);
-      value_is = λ on_node. value_is net far c on_node on_node (λ v i. refl);
-      valid = λ on_arc on_node. valid net far c on_arc on_arc on_node on_node (λ a i. refl) (λ v i. refl);
-    }
+agree_as_networks net far h = record {
+  cost_is = λ inside. cost_is net far (itself h) inside inside (λ v i. refl);
+  admissible = λ inside. admissible net far (itself h) inside inside (λ v i. refl);
+  least_cost = λ inside. least_cost net far (itself h) inside inside (λ v i. refl);
+  least_inside = λ inside. least_inside net far (itself h) inside inside (λ v i. refl);
+  value_is = λ on_node. value_is net far (itself h) on_node on_node (λ v i. refl);
+  valid = λ on_arc on_node. valid net far (itself h) on_arc on_arc on_node on_node (λ a i. refl) (λ v i. refl);
+}

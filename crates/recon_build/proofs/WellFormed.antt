@@ -98,7 +98,7 @@ flow_list s complex claim is few few_sights short valid =
             fits =
                 omega (
                   arith,
-                  valid.within_capacity (get_or keys k []) h.there,
+                  valid.within_cap (get_or keys k []) h.there,
                   capacity_fits s (facet_at (get_or keys k [])) few_sights,
                 );
           });

@@ -1,32 +1,33 @@
 -- The first of a list, by number and as it stands.
-use Rattle.std.proofs.Common.{ℕ, ◌≡◌, ◌<◌, refl, ap, sym, subst, ◌∙◌, arith, List, [], length, get_or}
+use Rattle.std.proofs.Common.{ℕ, ◌≡◌, ◌<◌, ◌↔◌, refl, ap, sym, subst, ◌∙◌, arith, List, [], length, get_or}
 use Rattle.flow_check.specs.Firsts.{IsFirst, NoneBelow}
 use Rattle.visibility.proofs.Indices.{at_index, index_has}
 use Rattle.recon_check.specs.Claims.{IsFirstOf, NoneOf}
 
 -- what holds by number where it holds of what stands there
-pub record Stands (rows : List (List ℕ)) (P : ℕ → Type 0) (Q : List ℕ → Type 0) : Type 0 where
-  pub to_rows : (k : ℕ) → k < length rows → P k → Q (get_or rows k [])
-  pub to_numbers : (k : ℕ) → k < length rows → Q (get_or rows k []) → P k
+pub record Stands (rows : List (List ℕ)) (n : ℕ) (P : ℕ → Type 0) (Q : List ℕ → Type 0) : Type 0 where
+  pub count : n ≡ length rows
+  pub same : (k : ℕ) → k < n → P k ↔ Q (get_or rows k [])
 
-pub first_over : (rows : List (List ℕ)) (n k : ℕ) (P : ℕ → Type 0) (Q : List ℕ → Type 0) → n ≡ length rows → Stands rows P Q
+pub first_over : (rows : List (List ℕ)) (n k : ℕ) (P : ℕ → Type 0) (Q : List ℕ → Type 0) → Stands rows n P Q
     → IsFirst n P k → IsFirstOf rows Q (get_or rows k [])
-first_over rows n k P Q e stands h =
-    let l : k < length rows = omega (arith, h.in_range) in
+first_over rows n k P Q stands h =
+    let l : k < n = h.in_range in
     record {
       place = k;
       first = record {
-        in_range = l;
-        has = stands.to_rows k l h.has;
-        none_before = λ i m q. h.none_before i m (stands.to_numbers i (omega arith) q);
+        in_range = omega (arith, l, stands.count);
+        has = (stands.same k l).0 h.has;
+        none_before = λ i m q. h.none_before i m ((stands.same i (omega arith)).1 q);
       };
       row_is = refl;
     }
 
-pub none_over : (rows : List (List ℕ)) (n : ℕ) (P : ℕ → Type 0) (Q : List ℕ → Type 0) → n ≡ length rows → Stands rows P Q
+pub none_over : (rows : List (List ℕ)) (n : ℕ) (P : ℕ → Type 0) (Q : List ℕ → Type 0) → Stands rows n P Q
     → NoneBelow n P → NoneOf rows Q
-none_over rows n P Q e stands none row there q =
-    none there.0 (omega (arith, there.1)) (stands.to_numbers there.0 there.1 (subst Q (sym (at_index rows row there)) q))
+none_over rows n P Q stands none row there q =
+    let l : there.0 < n = omega (arith, there.1, stands.count) in
+    none there.0 l ((stands.same there.0 l).1 (subst Q (sym (at_index rows row there)) q))
 
 -- a property has one first number
 pub one_first : (n j k : ℕ) (P : ℕ → Type 0) → IsFirst n P j → IsFirst n P k → j ≡ k

@@ -11,19 +11,20 @@ use Rattle.std.proofs.lemmas.List.Sums.{sum_by-cons}
 use Rattle.geo_sign.specs.Rising.{IsBefore}
 use Rattle.geo_sign.proofs.Rising.{rising_law}
 use Rattle.solution.specs.Solutions.{stated, listed}
-use Rattle.visibility.specs.Flows.{is_equal}
-use Rattle.visibility.proofs.Indices.{is_equal_itself, is_equal_means, not_before_itself}
+use Rattle.std.specs.Str.{bytes_eq}
+use Rattle.std.proofs.lemmas.Slice.Eq.{bytes_eq-Decides}
+use Rattle.visibility.proofs.Indices.{not_before_itself}
 use Rattle.recon_check.specs.Claims.{is_among}
 use Rattle.recon_check.proofs.Walks.{stated_says}
 
 -- ---- what is among rows
 pub among_from : (rows : List (List ℕ)) (row : List ℕ) → Contains rows row → is_among rows row ≡ true
-among_from rows row h = list_any-from_Any (λ other. is_equal other row) rows (h.0, row, h.1, h.2, is_equal_itself row)
+among_from rows row h = list_any-from_Any (λ other. bytes_eq other row) rows (h.0, row, h.1, h.2, (bytes_eq-Decides row row).1 refl)
 
 pub among_means : (rows : List (List ℕ)) (row : List ℕ) → is_among rows row ≡ true → Contains rows row
 among_means rows row h =
-    let found = Any-from_list_any (λ other. is_equal other row) rows h in
-    subst (λ (r : List ℕ). Contains rows r) (is_equal_means found.1 row found.4) (found.0, found.2, found.3)
+    let found = Any-from_list_any (λ other. bytes_eq other row) rows h in
+    subst (λ (r : List ℕ). Contains rows r) ((bytes_eq-Decides found.1 row).0 found.4) (found.0, found.2, found.3)
 
 -- ---- what a test keeps
 pub kept_has : (test : List ℕ → Bool) (rows : List (List ℕ)) (row : List ℕ) → Contains rows row → test row ≡ true
@@ -79,16 +80,16 @@ pub stated_row : {Row : Type 0} (about : Row → List ℕ) (amount : Row → ℕ
     → stated about amount rows (about (get_or rows i d)) ≡ amount (get_or rows i d)
 stated_row about amount [] rising i d l = absurd (omega arith)
 stated_row about amount (row ∷ rows) rising zero d l =
-    ap (λ (b : Bool). cond b (amount row) (stated about amount rows (about row))) (is_equal_itself (about row))
+    ap (λ (b : Bool). cond b (amount row) (stated about amount rows (about row))) ((bytes_eq-Decides (about row) (about row)).1 refl)
 stated_row about amount (row ∷ rows) rising (suc i) d l =
     let m : i < length rows = omega arith in
     let before : IsBefore (about row) (about (get_or rows i d)) =
     subst (λ (key : List ℕ). IsBefore (about row) key) (get_or-map about rows i d [] m)
     (rising 0 (suc i) [] (omega arith) (omega (arith, m, length-map rows about))) in
-    let differs : is_equal (about row) (about (get_or rows i d)) ≡ false =
+    let differs : bytes_eq (about row) (about (get_or rows i d)) ≡ false =
     false_from_ne_true _
     (λ e. not_before_itself (about (get_or rows i d))
-    (subst (λ (key : List ℕ). IsBefore key (about (get_or rows i d))) (is_equal_means _ _ e) before)) in
+    (subst (λ (key : List ℕ). IsBefore key (about (get_or rows i d))) ((bytes_eq-Decides _ _).0 e) before)) in
     ap (λ (b : Bool). cond b (amount row) (stated about amount rows (about (get_or rows i d)))) differs
     ∙ stated_row about amount rows (λ j k e n o. rising (suc j) (suc k) e (omega arith) (omega arith)) i d m
 

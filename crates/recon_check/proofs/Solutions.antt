@@ -1,84 +1,47 @@
 -- A solution is a certificate without a fault, and the text of its mesh.
-use Rattle.std.proofs.Common.{ℕ, ◌≡◌, ◌≤◌, ◌&&◌, ◌++◌, not, refl, ap, sym, subst, ◌∙◌, arith, Bool, cond, List, map, All}
+use Rattle.std.proofs.Common.{ℕ, ◌≡◌, ◌≤◌, ◌++◌, refl, ap, sym, subst, ◌∙◌, Bool, List, map, All}
 use Rattle.std.proofs.Common.{Contains}
-use Rattle.std.specs.List.{sum_by}
 use Rattle.std.proofs.lemmas.List.Elements.{All-weaker}
 use Rattle.cert_text.specs.Certificates.{Claim, IsWellFormed}
 use Rattle.cert_text.specs.Rows.{IsFlowRow, IsSinkRow}
 use Rattle.cert_text.specs.declared.certificate.FlowRow.{FlowRow}
 use Rattle.cert_text.specs.declared.certificate.SinkRow.{SinkRow}
+use Rattle.flow_net.proofs.Correspondences.{itself, cost_is, least_inside}
 use Rattle.flow_net.specs.declared.votes.Settings.{Settings}
 use Rattle.geo_sign.specs.Vertices.{corners}
 use Rattle.mesh_ply.specs.Meshes.{Surface, mesh_of}
 use Rattle.solution.specs.Scans.{points_of, scene_of_scan}
 use Rattle.solution.specs.Solutions.{flow_on, sink_at, flow_row, sink_row, HasCounts, IsSolution}
 use Rattle.geo_sign.proofs.Booleans.{same_bools}
-use Rattle.solution.proofs.Uniqueness.{filter_same}
+use Rattle.solution.proofs.Uniqueness.{cut_same}
 use Rattle.scan.specs.Shown.{Shown}
 use Rattle.visibility.specs.Scenes.{Scene}
-use Rattle.geo_sign.specs.Tetrahedron.{facet_at, turned}
-use Rattle.visibility.specs.Complexes.{Complex, cell_of}
-use Rattle.visibility.specs.Votes.{capacity, sink, IsComplexOf}
-use Rattle.visibility.specs.Cuts.{is_cut, cut_facets, facet_cost, cell_cost, cost, IsLeastInside}
-use Rattle.visibility.proofs.Networks.{IsJoined, joined}
-use Rattle.visibility.proofs.Indices.{index_has}
+use Rattle.visibility.specs.Complexes.{Complex}
+use Rattle.visibility.specs.Votes.{IsComplexOf}
+use Rattle.visibility.specs.Cuts.{network_over, cost, IsLeastInside}
+use Rattle.visibility.proofs.ListingAgreements.{by_itself}
 use Rattle.recon_check.specs.Answers.{best_surface}
 use Rattle.recon_check.specs.Claims.{is_inside}
 use Rattle.recon_check.specs.Faults.{IsBest}
 use Rattle.recon_check.specs.Networks.{IsBestSurface}
-use Rattle.recon_check.proofs.Lists.{among_from, among_means, among_kept, kept_has, kept_passes, kept_there, sum_same}
+use Rattle.recon_check.proofs.Lists.{among_from, among_means, among_kept, kept_has, kept_passes, kept_there}
 use Rattle.recon_check.proofs.Lists.{rows_listed, listed_there}
 
 -- two tests agree on the cells
 abbrev pub Agree : Complex → (List ℕ → Bool) → (List ℕ → Bool) → Type 0
 Agree complex inside other = (row : List ℕ) → Contains complex.cells row → inside row ≡ other row
 
--- tests that agree cut the same facets
-cut_at : (s : Scene) (complex : Complex) (inside other : List ℕ → Bool) → IsComplexOf s complex → Agree complex inside other
-    → (f : List ℕ) → Contains complex.facets f
-    → is_cut s.vertices complex.cells inside f ≡ is_cut s.vertices complex.cells other f
-cut_at s complex inside other is same f there =
-    let j : IsJoined s complex.cells f = joined s complex.cells f (is.facets_are.only f there) in
-    let own : inside (cell_of s.vertices complex.cells (facet_at f)) ≡ other (cell_of s.vertices complex.cells (facet_at f)) =
-    same (cell_of s.vertices complex.cells (facet_at f)) (index_has complex.cells _ j.own) in
-    let across : inside (cell_of s.vertices complex.cells (turned (facet_at f)))
-    ≡ other (cell_of s.vertices complex.cells (turned (facet_at f))) =
-    same (cell_of s.vertices complex.cells (turned (facet_at f))) (index_has complex.cells _ j.across) in
-    ap (λ (t : Bool). not t && inside (cell_of s.vertices complex.cells (turned (facet_at f)))) own
-    ∙ ap (λ (t : Bool). not (other (cell_of s.vertices complex.cells (facet_at f))) && t) across
-
-pub cut_same : (s : Scene) (complex : Complex) (inside other : List ℕ → Bool) → IsComplexOf s complex
-    → Agree complex inside other → cut_facets s.vertices complex inside ≡ cut_facets s.vertices complex other
-cut_same s complex inside other is same =
-    filter_same (is_cut s.vertices complex.cells inside) (is_cut s.vertices complex.cells other) complex.facets
-    (cut_at s complex inside other is same)
-
--- and cost the same
+-- tests that agree cost the same
 pub cost_same : (s : Scene) (complex : Complex) (inside other : List ℕ → Bool) → IsComplexOf s complex
     → Agree complex inside other → cost s complex inside ≡ cost s complex other
 cost_same s complex inside other is same =
-    let facets : sum_by (facet_cost s complex.cells inside) complex.facets
-    ≡ sum_by (facet_cost s complex.cells other) complex.facets =
-    sum_same (facet_cost s complex.cells inside) (facet_cost s complex.cells other) complex.facets
-    (λ f there. ap (λ (b : Bool). cond b (capacity s (facet_at f)) 0) (cut_at s complex inside other is same f there)) in
-    let cells : sum_by (cell_cost s inside) complex.cells ≡ sum_by (cell_cost s other) complex.cells =
-    sum_same (cell_cost s inside) (cell_cost s other) complex.cells
-    (λ row there. ap (λ (b : Bool). cond b 0 (sink s row)) (same row there)) in
-    omega (arith, facets, cells)
+    cost_is (network_over s complex) (network_over s complex) (itself (by_itself s complex is)) inside other same
 
 -- and are the least inside together
 pub least_same : (s : Scene) (complex : Complex) (inside other : List ℕ → Bool) → IsComplexOf s complex
     → Agree complex inside other → IsLeastInside s complex inside → IsLeastInside s complex other
-least_same s complex inside other is same h = record {
-  least_cost = record {
-    admissible =
-        record { none_fixed = λ row there fixed. sym (same row there) ∙ h.least_cost.admissible.none_fixed row there fixed };
-    least = λ any admissible. let equal = cost_same s complex inside other is same in
-        let least = h.least_cost.least any admissible in
-        omega arith;
-  };
-  within = λ any least row there passes. h.within any least row there (same row there ∙ passes);
-}
+least_same s complex inside other is same =
+    (least_inside (network_over s complex) (network_over s complex) (itself (by_itself s complex is)) inside other same).0
 
 -- a solution's mesh is the surface of its certificate's labels
 pub best_from : (scan : Shown) (settings : Settings) (surface : Surface) (claim : Claim)

@@ -22,7 +22,7 @@ use Rattle.visibility.specs.Cuts.{cost, cut_facets, IsAdmissible}
 use Rattle.visibility.specs.Laws.{test_of, row_index, AgreeAsLabels}
 use Rattle.visibility.specs.Networks.{complex_of, IsNetworkOf}
 use Rattle.visibility.specs.Listings.{IsListingOf}
-use Rattle.visibility.proofs.Labels.{labels_agree}
+use Rattle.visibility.proofs.Numbers.{labels_agree}
 use Rattle.visibility.proofs.Listings.{rising_listing, in_any_order}
 use Rattle.visibility.proofs.Indices.{at_index, once_rising, row_index_at}
 use Rattle.vote_net.specs.Counts.{AreCellsOf, AreIdsOf}
@@ -32,7 +32,8 @@ use Rattle.recon_check.specs.Faults.{IsBest}
 use Rattle.recon_check.specs.Networks.{cutting_of, IsNetworkOfScan}
 use Rattle.recon_check.specs.declared.network.Network.{Network}
 use Rattle.recon_check.proofs.Bridge.{labels_by}
-use Rattle.recon_check.proofs.Solutions.{Agree, cut_same}
+use Rattle.recon_check.proofs.Solutions.{Agree}
+use Rattle.solution.proofs.Uniqueness.{cut_same}
 
 -- the flags of a test of cells say what the test says
 test_agrees : (complex : Complex) (inside : List ℕ → Bool) → AllPairs IsBefore complex.cells

@@ -4,6 +4,8 @@ use Rattle.std.proofs.Common.{cond, List, [], ◌++◌, length, slice_get, All, 
 use Rattle.std.specs.Bool.{⊤}
 use Rattle.std.proofs.lemmas.Bool.{cases_lt, false≢true}
 use Rattle.std.proofs.lemmas.List.Elements.{All-contains}
+use Rattle.flow_net.specs.Faults.{IsFixedInside, IsOverCapacity, sink_limit, IsOverSink, total_out, IsUnbalanced, IsNotLeast}
+use Rattle.flow_net.specs.Networks.{amount_in as entering_of}
 use Rattle.cert_text.specs.Stamps.{StampView}
 use Rattle.cert_text.specs.Certificates.{Claim, IsWellFormed}
 use Rattle.cert_text.specs.Refusals.{IsRefused}
@@ -23,7 +25,7 @@ use Rattle.visibility.specs.Scenes.{Scene}
 use Rattle.geo_sign.specs.Tetrahedron.{facet_at}
 use Rattle.visibility.specs.Complexes.{Complex}
 use Rattle.visibility.specs.Votes.{is_fixed, capacity, sink}
-use Rattle.visibility.specs.Cuts.{cost, IsAdmissible, IsLeastInside}
+use Rattle.visibility.specs.Cuts.{network_over, cost, IsAdmissible, IsLeastInside}
 use Rattle.visibility.specs.Flows.{value, IsValidFlow}
 use Rattle.visibility.proofs.Ordered.{one_complex}
 use Rattle.recon_check.specs.Answers.{best_surface, surface_text, IsSolved, stated_count, count_here, earlier, IsOtherCount}
@@ -32,9 +34,7 @@ use Rattle.recon_check.specs.Stamps.{IsStampedFor}
 use Rattle.recon_check.proofs.OneStamp.{not_other, one_stamp}
 use Rattle.recon_check.specs.Claims.{is_inside, facets_of, cells_of, IsStray, AreThere, NoneOf}
 use Rattle.recon_check.specs.Differences.{IsFirstDifference}
-use Rattle.recon_check.specs.Faults.{IsFixedInside, IsOverCapacity, sink_limit, IsOverSink, entering as entering_of}
-use Rattle.recon_check.specs.Faults.{leaving as leaving_of, IsUnbalanced, IsNotLeast, IsWithinFacets, IsWithinLimits}
-use Rattle.recon_check.specs.Faults.{IsCertified, IsBest}
+use Rattle.recon_check.specs.Faults.{IsWithinFacets, IsWithinLimits, IsCertified, IsBest}
 use Rattle.recon_check.specs.Laws.{OneAnswer}
 use Rattle.recon_check.specs.declared.answer.Answer.{Answer}
 use Rattle.recon_check.specs.declared.answer.Answer.TheVariants.{Yes, No}
@@ -71,9 +71,9 @@ Passes scan s complex claim mesh (NoSuchCell k) = All (Contains complex.cells) c
 Passes scan s complex claim mesh (NoSuchFacet k) = All (Contains complex.facets) (facets_of claim)
 Passes scan s complex claim mesh (NoSuchSink k) = All (Contains complex.cells) (cells_of claim)
 Passes scan s complex claim mesh (FixedInside cell) = IsAdmissible s complex (is_inside claim)
-Passes scan s complex claim mesh (OverCapacity facet flow cap) = NoneOf complex.facets (IsOverCapacity s claim)
-Passes scan s complex claim mesh (OverSink cell flow cap) = NoneOf complex.cells (IsOverSink s claim)
-Passes scan s complex claim mesh (Unbalanced cell entering leaving) = NoneOf complex.cells (IsUnbalanced s complex claim)
+Passes scan s complex claim mesh (OverCapacity facet flow cap) = NoneOf complex.facets (IsOverCapacity (network_over s complex) (flow_on claim))
+Passes scan s complex claim mesh (OverSink cell flow cap) = NoneOf complex.cells (IsOverSink (network_over s complex) (sink_at claim))
+Passes scan s complex claim mesh (Unbalanced cell entering leaving) = NoneOf complex.cells (IsUnbalanced (network_over s complex) (flow_on claim) (sink_at claim))
 Passes scan s complex claim mesh (NotEqual a b) = value s complex (sink_at claim) ≡ cost s complex (is_inside claim)
 Passes scan s complex claim mesh (NotLeast cell) = IsLeastInside s complex (is_inside claim)
 Passes scan s complex claim mesh (WrongCost a b) = claim.counts.cost ≡ cost s complex (is_inside claim)
@@ -102,16 +102,16 @@ fails scan s complex claim mesh (NoSuchCell k) h p = not_stray complex.cells cla
 fails scan s complex claim mesh (NoSuchFacet k) h p = not_stray complex.facets (facets_of claim) k p h.1
 fails scan s complex claim mesh (NoSuchSink k) h p = not_stray complex.cells (cells_of claim) k p h.2
 fails scan s complex claim mesh (FixedInside cell) h p =
-    not_first_of complex.cells cell (IsFixedInside s claim)
+    not_first_of complex.cells cell (IsFixedInside (network_over s complex) (is_inside claim))
     (λ row there fault. let outside = p.none_fixed row there fault.0 in false≢true (sym outside ∙ fault.1)) h.1
 fails scan s complex claim mesh (OverCapacity facet flow cap) h p =
-    not_first_of complex.facets facet (IsOverCapacity s claim) p h.2
-fails scan s complex claim mesh (OverSink cell flow cap) h p = not_first_of complex.cells cell (IsOverSink s claim) p h.1
+    not_first_of complex.facets facet (IsOverCapacity (network_over s complex) (flow_on claim)) p h.2
+fails scan s complex claim mesh (OverSink cell flow cap) h p = not_first_of complex.cells cell (IsOverSink (network_over s complex) (sink_at claim)) p h.1
 fails scan s complex claim mesh (Unbalanced cell entering leaving) h p =
-    not_first_of complex.cells cell (IsUnbalanced s complex claim) p h.1
+    not_first_of complex.cells cell (IsUnbalanced (network_over s complex) (flow_on claim) (sink_at claim)) p h.1
 fails scan s complex claim mesh (NotEqual a b) h p = h.5 (h.3 ∙ p ∙ sym h.4)
 fails scan s complex claim mesh (NotLeast cell) h p =
-    not_first_of complex.cells cell (IsNotLeast s complex claim)
+    not_first_of complex.cells cell (IsNotLeast (network_over s complex) (is_inside claim))
     (λ row there fault. let apart = fault (is_inside claim) p in false≢true (sym apart.1 ∙ apart.0)) h.1
 fails scan s complex claim mesh (WrongCost a b) h p = h.3 (h.1 ∙ p ∙ sym h.2)
 fails scan s complex claim mesh (MeshDiffers place) h p =
@@ -119,11 +119,11 @@ fails scan s complex claim mesh (MeshDiffers place) h p =
 
 -- ---- what is known where a later fault is
 none_over_capacity : (s : Scene) (complex : Complex) (claim : Claim) → IsValidFlow s complex (flow_on claim) (sink_at claim)
-    → NoneOf complex.facets (IsOverCapacity s claim)
-none_over_capacity s complex claim valid f there over = let within = valid.within_capacity f there in omega arith
+    → NoneOf complex.facets (IsOverCapacity (network_over s complex) (flow_on claim))
+none_over_capacity s complex claim valid f there over = let within = valid.within_cap f there in omega arith
 
 none_over_sink : (s : Scene) (complex : Complex) (claim : Claim) → IsValidFlow s complex (flow_on claim) (sink_at claim)
-    → NoneOf complex.cells (IsOverSink s claim)
+    → NoneOf complex.cells (IsOverSink (network_over s complex) (sink_at claim))
 none_over_sink s complex claim valid row there over = by (is_fixed s.vertices s.scanners row) refl over
   where
     by : (b : Bool) → is_fixed s.vertices s.scanners row ≡ b → cond b 0 (sink s row) < sink_at claim row → ⊥
@@ -131,7 +131,7 @@ none_over_sink s complex claim valid row there over = by (is_fixed s.vertices s.
     by false free over = let within = valid.within_sink row there in omega arith
 
 none_unbalanced : (s : Scene) (complex : Complex) (claim : Claim) → IsValidFlow s complex (flow_on claim) (sink_at claim)
-    → NoneOf complex.cells (IsUnbalanced s complex claim)
+    → NoneOf complex.cells (IsUnbalanced (network_over s complex) (flow_on claim) (sink_at claim))
 none_unbalanced s complex claim valid row there fault = fault.1 (valid.balanced row there fault.0)
 
 by_there : (scan : Shown) (s : Scene) (complex : Complex) (claim : Claim) (mesh : List ℕ) → AreThere complex claim
@@ -152,15 +152,16 @@ by_admissible scan s complex claim mesh there admissible reason l =
 by_facets : (scan : Shown) (s : Scene) (complex : Complex) (claim : Claim) (mesh : List ℕ) → IsWithinFacets s complex claim
     → (reason : Reason) → level reason < 5 → Passes scan s complex claim mesh reason
 unfolding level
-by_facets scan s complex claim mesh h (OverCapacity facet flow cap) l = h.within_capacity
+by_facets scan s complex claim mesh h (OverCapacity facet flow cap) l = h.within.within_caps
 by_facets scan s complex claim mesh h reason l =
-    by_admissible scan s complex claim mesh h.there (admissible_from s complex claim h.none_fixed) reason (omega arith)
+    by_admissible scan s complex claim mesh h.there (admissible_from s complex claim h.within.none_fixed) reason (omega arith)
 
 by_limits : (scan : Shown) (s : Scene) (complex : Complex) (claim : Claim) (mesh : List ℕ) → IsWithinLimits s complex claim
     → (reason : Reason) → level reason < 6 → Passes scan s complex claim mesh reason
 unfolding level
-by_limits scan s complex claim mesh h (OverSink cell flow cap) l = h.within_sink
-by_limits scan s complex claim mesh h reason l = by_facets scan s complex claim mesh h.within_facets reason (omega arith)
+by_limits scan s complex claim mesh h (OverSink cell flow cap) l = h.within.within_sinks
+by_limits scan s complex claim mesh h reason l =
+    by_facets scan s complex claim mesh (record { there = h.there; within = h.within.within_arcs }) reason (omega arith)
 
 by_valid : (scan : Shown) (s : Scene) (complex : Complex) (claim : Claim) (mesh : List ℕ) → AreThere complex claim
     → IsAdmissible s complex (is_inside claim) → IsValidFlow s complex (flow_on claim) (sink_at claim) → (reason : Reason)
@@ -278,28 +279,28 @@ same_kind scan s complex claim mesh (NoSuchFacet i) (NoSuchFacet j) e h k =
 same_kind scan s complex claim mesh (NoSuchSink i) (NoSuchSink j) e h k =
     ap NoSuchSink (one_first (length (cells_of claim)) i j (IsStray complex.cells (cells_of claim)) h.2 k.2)
 same_kind scan s complex claim mesh (FixedInside a) (FixedInside b) e h k =
-    ap FixedInside (one_first_of complex.cells a b (IsFixedInside s claim) h.1 k.1)
+    ap FixedInside (one_first_of complex.cells a b (IsFixedInside (network_over s complex) (is_inside claim)) h.1 k.1)
 same_kind scan s complex claim mesh (OverCapacity a flow cap) (OverCapacity b flow' cap') e h k =
-    let same : a ≡ b = one_first_of complex.facets a b (IsOverCapacity s claim) h.2 k.2 in
+    let same : a ≡ b = one_first_of complex.facets a b (IsOverCapacity (network_over s complex) (flow_on claim)) h.2 k.2 in
     let flows : flow ≡ flow' = h.3 ∙ ap (flow_on claim) same ∙ sym k.3 in
     let caps : cap ≡ cap' = h.4 ∙ ap (λ (f : List ℕ). capacity s (facet_at f)) same ∙ sym k.4 in
     cc
 same_kind scan s complex claim mesh (OverSink a flow cap) (OverSink b flow' cap') e h k =
-    let same : a ≡ b = one_first_of complex.cells a b (IsOverSink s claim) h.1 k.1 in
+    let same : a ≡ b = one_first_of complex.cells a b (IsOverSink (network_over s complex) (sink_at claim)) h.1 k.1 in
     let flows : flow ≡ flow' = h.2 ∙ ap (sink_at claim) same ∙ sym k.2 in
-    let caps : cap ≡ cap' = h.3 ∙ ap (sink_limit s) same ∙ sym k.3 in
+    let caps : cap ≡ cap' = h.3 ∙ ap (sink_limit (network_over s complex)) same ∙ sym k.3 in
     cc
 same_kind scan s complex claim mesh (Unbalanced a entering leaving) (Unbalanced b entering' leaving') e h k =
-    let same : a ≡ b = one_first_of complex.cells a b (IsUnbalanced s complex claim) h.1 k.1 in
-    let ins : entering ≡ entering' = h.2 ∙ ap (entering_of s complex claim) same ∙ sym k.2 in
-    let outs : leaving ≡ leaving' = h.3 ∙ ap (leaving_of s complex claim) same ∙ sym k.3 in
+    let same : a ≡ b = one_first_of complex.cells a b (IsUnbalanced (network_over s complex) (flow_on claim) (sink_at claim)) h.1 k.1 in
+    let ins : entering ≡ entering' = h.2 ∙ ap (entering_of (network_over s complex) (flow_on claim)) same ∙ sym k.2 in
+    let outs : leaving ≡ leaving' = h.3 ∙ ap (total_out (network_over s complex) (flow_on claim) (sink_at claim)) same ∙ sym k.3 in
     cc
 same_kind scan s complex claim mesh (NotEqual a b) (NotEqual a' b') e h k =
     let values : a ≡ a' = h.3 ∙ sym k.3 in
     let costs : b ≡ b' = h.4 ∙ sym k.4 in
     cc
 same_kind scan s complex claim mesh (NotLeast a) (NotLeast b) e h k =
-    ap NotLeast (one_first_of complex.cells a b (IsNotLeast s complex claim) h.1 k.1)
+    ap NotLeast (one_first_of complex.cells a b (IsNotLeast (network_over s complex) (is_inside claim)) h.1 k.1)
 same_kind scan s complex claim mesh (WrongCost a b) (WrongCost a' b') e h k =
     let told : a ≡ a' = h.1 ∙ sym k.1 in
     let costs : b ≡ b' = h.2 ∙ sym k.2 in

@@ -8,8 +8,9 @@ use Rattle.line_text.proofs.Rows.{before_trans}
 use Rattle.flow_check.specs.Firsts.{IsFirst}
 use Rattle.geo_sign.specs.Rising.{IsBefore}
 use Rattle.solution.specs.Solutions.{stated}
-use Rattle.visibility.specs.Flows.{is_equal}
-use Rattle.visibility.proofs.Indices.{is_equal_itself, is_equal_means, not_before_itself}
+use Rattle.std.specs.Str.{bytes_eq}
+use Rattle.std.proofs.lemmas.Slice.Eq.{bytes_eq-Decides}
+use Rattle.visibility.proofs.Indices.{not_before_itself}
 use Rattle.recon_check.specs.Claims.{is_among, IsStray}
 
 -- a list differs from one that it comes before
@@ -178,8 +179,8 @@ among_says = record {
     either true = refl
     either false = refl
 
-    differs : (row key : List ℕ) → row ≢ key → is_equal row key ≡ false
-    differs row key ne = false_from_ne_true (is_equal row key) (λ h. ne (is_equal_means row key h))
+    differs : (row key : List ℕ) → row ≢ key → bytes_eq row key ≡ false
+    differs row key ne = false_from_ne_true (bytes_eq row key) (λ h. ne ((bytes_eq-Decides row key).0 h))
 
     absent : (rows : List (List ℕ)) (key : List ℕ) → NoneAbout (λ row. row) rows key → is_among rows key ≡ false
     absent [] key none = refl
@@ -189,12 +190,12 @@ among_says = record {
 
     other : (rows : List (List ℕ)) (row key : List ℕ) → row ≢ key → is_among (rows ++ row ∷ []) key ≡ is_among rows key
     other [] row key ne = ap (λ (b : Bool). b || false) (differs row key ne)
-    other (r ∷ rows) row key ne = ap (λ (b : Bool). is_equal r key || b) (other rows row key ne)
+    other (r ∷ rows) row key ne = ap (λ (b : Bool). bytes_eq r key || b) (other rows row key ne)
 
     first : (rows : List (List ℕ)) (row key : List ℕ) → row ≡ key → is_among (rows ++ row ∷ []) key ≡ true
     first [] row key same =
-        ap (λ (b : Bool). b || false) (subst (λ (k : List ℕ). is_equal row k ≡ true) same (is_equal_itself row))
-    first (r ∷ rows) row key same = ap (λ (b : Bool). is_equal r key || b) (first rows row key same) ∙ either (is_equal r key)
+        ap (λ (b : Bool). b || false) (subst (λ (k : List ℕ). bytes_eq row k ≡ true) same ((bytes_eq-Decides row row).1 refl))
+    first (r ∷ rows) row key same = ap (λ (b : Bool). bytes_eq r key || b) (first rows row key same) ∙ either (bytes_eq r key)
 
 -- the amounts that rows state
 pub stated_says : {Row : Type 0} (about : Row → List ℕ) (amount : Row → ℕ) → Says about amount 0 (stated about amount)
@@ -204,8 +205,8 @@ stated_says {Row} about amount = record {
   first = first;
 }
   where
-    differs : (row : Row) (key : List ℕ) → about row ≢ key → is_equal (about row) key ≡ false
-    differs row key ne = false_from_ne_true (is_equal (about row) key) (λ h. ne (is_equal_means (about row) key h))
+    differs : (row : Row) (key : List ℕ) → about row ≢ key → bytes_eq (about row) key ≡ false
+    differs row key ne = false_from_ne_true (bytes_eq (about row) key) (λ h. ne ((bytes_eq-Decides (about row) key).0 h))
 
     absent : (rows : List Row) (key : List ℕ) → NoneAbout about rows key → stated about amount rows key ≡ 0
     absent [] key none = refl
@@ -216,13 +217,13 @@ stated_says {Row} about amount = record {
     other : (rows : List Row) (row : Row) (key : List ℕ) → about row ≢ key
         → stated about amount (rows ++ row ∷ []) key ≡ stated about amount rows key
     other [] row key ne = ap (λ (b : Bool). cond b (amount row) 0) (differs row key ne)
-    other (r ∷ rows) row key ne = ap (cond (is_equal (about r) key) (amount r)) (other rows row key ne)
+    other (r ∷ rows) row key ne = ap (cond (bytes_eq (about r) key) (amount r)) (other rows row key ne)
 
     first : (rows : List Row) (row : Row) (key : List ℕ) → NoneAbout about rows key → about row ≡ key
         → stated about amount (rows ++ row ∷ []) key ≡ amount row
     first [] row key none same =
         ap (λ (b : Bool). cond b (amount row) 0)
-        (subst (λ (k : List ℕ). is_equal (about row) k ≡ true) same (is_equal_itself (about row)))
+        (subst (λ (k : List ℕ). bytes_eq (about row) k ≡ true) same ((bytes_eq-Decides (about row) (about row)).1 refl))
     first (r ∷ rows) row key none same =
         ap (λ (b : Bool). cond b (amount r) (stated about amount (rows ++ row ∷ []) key)) (differs r key (none 0 (omega arith)))
         ∙ first rows row key (λ i l. none (suc i) (omega arith)) same

@@ -22,6 +22,8 @@ use Rattle.cert_text.specs.Refusals.{IsRefused}
 use Rattle.cert_text.specs.Texts.{cert_text}
 use Rattle.cert_text.specs.declared.refusal.CertRefusal.TheVariants as refusals
 use Rattle.flow_check.specs.Firsts.{IsFirst}
+use Rattle.flow_net.specs.Faults.{IsFixedInside, IsOverCapacity, sink_limit, IsOverSink, total_out, IsUnbalanced, IsNotLeast}
+use Rattle.flow_net.specs.Networks.{amount_in as entering}
 use Rattle.flow_net.specs.declared.votes.Settings.{Settings}
 use Rattle.geo_sign.specs.Vertices.{corners, vertices_of}
 use Rattle.mesh_ply.specs.Meshes.{Surface, mesh_of}
@@ -33,12 +35,11 @@ use Rattle.visibility.specs.Scenes.{Scene}
 use Rattle.geo_sign.specs.Tetrahedron.{facet_at}
 use Rattle.visibility.specs.Complexes.{Complex}
 use Rattle.visibility.specs.Votes.{capacity, IsComplexOf}
-use Rattle.visibility.specs.Cuts.{cost, cut_facets, IsAdmissible}
+use Rattle.visibility.specs.Cuts.{network_over, cost, cut_facets, IsAdmissible}
 use Rattle.visibility.specs.Flows.{value, IsValidFlow}
 use Rattle.recon_check.specs.Claims.{is_inside, facets_of, cells_of, IsStray, AreThere, IsFirstOf}
 use Rattle.recon_check.specs.Differences.{IsFirstDifference}
-use Rattle.recon_check.specs.Faults.{IsFixedInside, IsOverCapacity, sink_limit, IsOverSink, entering, leaving, IsUnbalanced}
-use Rattle.recon_check.specs.Faults.{IsNotLeast, IsWithinFacets, IsWithinLimits, IsCertified, IsBest}
+use Rattle.recon_check.specs.Faults.{IsWithinFacets, IsWithinLimits, IsCertified, IsBest}
 use Rattle.recon_check.specs.Stamps.{IsStampedFor, IsOtherStamp}
 use Rattle.recon_check.specs.declared.answer.Answer.{Answer}
 use Rattle.recon_check.specs.declared.answer.Answer.TheVariants.{Yes, No}
@@ -105,21 +106,24 @@ IsReason scan s complex claim mesh (NoSuchSink k) =
     All (Contains complex.cells) claim.inside × All (Contains complex.facets) (facets_of claim)
     × IsFirst (length (cells_of claim)) (IsStray complex.cells (cells_of claim)) k
 IsReason scan s complex claim mesh (FixedInside cell) =
-    AreThere complex claim × IsFirstOf complex.cells (IsFixedInside s claim) cell
+    AreThere complex claim × IsFirstOf complex.cells (IsFixedInside (network_over s complex) (is_inside claim)) cell
 IsReason scan s complex claim mesh (OverCapacity facet flow cap) =
-    AreThere complex claim × IsAdmissible s complex (is_inside claim) × IsFirstOf complex.facets (IsOverCapacity s claim) facet
+    AreThere complex claim × IsAdmissible s complex (is_inside claim)
+    × IsFirstOf complex.facets (IsOverCapacity (network_over s complex) (flow_on claim)) facet
     × (flow ≡ flow_on claim facet) × (cap ≡ capacity s (facet_at facet))
 IsReason scan s complex claim mesh (OverSink cell flow cap) =
-    IsWithinFacets s complex claim × IsFirstOf complex.cells (IsOverSink s claim) cell
-    × (flow ≡ sink_at claim cell) × (cap ≡ sink_limit s cell)
+    IsWithinFacets s complex claim × IsFirstOf complex.cells (IsOverSink (network_over s complex) (sink_at claim)) cell
+    × (flow ≡ sink_at claim cell) × (cap ≡ sink_limit (network_over s complex) cell)
 IsReason scan s complex claim mesh (Unbalanced cell amount_in amount_out) =
-    IsWithinLimits s complex claim × IsFirstOf complex.cells (IsUnbalanced s complex claim) cell
-    × (amount_in ≡ entering s complex claim cell) × (amount_out ≡ leaving s complex claim cell)
+    IsWithinLimits s complex claim
+    × IsFirstOf complex.cells (IsUnbalanced (network_over s complex) (flow_on claim) (sink_at claim)) cell
+    × (amount_in ≡ entering (network_over s complex) (flow_on claim) cell)
+    × (amount_out ≡ total_out (network_over s complex) (flow_on claim) (sink_at claim) cell)
 IsReason scan s complex claim mesh (NotEqual a b) =
     AreThere complex claim × IsAdmissible s complex (is_inside claim) × IsValidFlow s complex (flow_on claim) (sink_at claim)
     × (a ≡ value s complex (sink_at claim)) × (b ≡ cost s complex (is_inside claim)) × (a ≢ b)
 IsReason scan s complex claim mesh (NotLeast cell) =
-    IsCertified s complex claim × IsFirstOf complex.cells (IsNotLeast s complex claim) cell
+    IsCertified s complex claim × IsFirstOf complex.cells (IsNotLeast (network_over s complex) (is_inside claim)) cell
 IsReason scan s complex claim mesh (WrongCost stated least) =
     IsBest s complex claim × (stated ≡ claim.counts.cost) × (least ≡ cost s complex (is_inside claim)) × (stated ≢ least)
 IsReason scan s complex claim mesh (MeshDiffers place) =

@@ -10,16 +10,16 @@
 --   NoneOf rows P                none of a list has it
 use Rattle.std.specs.Prelude.{ℕ, ◌≡◌, Bool, List, [], All, Contains, length, map, slice_index_or}
 use Rattle.std.specs.List.{list_any}
+use Rattle.std.specs.Str.{bytes_eq}
 use Rattle.cert_text.specs.Certificates.{Claim}
 use Rattle.cert_text.specs.declared.certificate.FlowRow.{FlowRow}
 use Rattle.cert_text.specs.declared.certificate.SinkRow.{SinkRow}
 use Rattle.flow_check.specs.Firsts.{IsFirst}
 use Rattle.visibility.specs.Complexes.{Complex}
-use Rattle.visibility.specs.Flows.{is_equal}
 
 -- the row is one of the list
 abbrev pub is_among : List (List ℕ) → List ℕ → Bool
-is_among rows row = list_any (λ other. is_equal other row) rows
+is_among rows row = list_any (λ other. bytes_eq other row) rows
 
 -- the certificate has the cell as inside
 abbrev pub is_inside : Claim → List ℕ → Bool

@@ -21,8 +21,7 @@ use Rattle.visibility.proofs.Indices.{at_index, map_of_indices}
 use Rattle.visibility.proofs.Members.{same_map}
 use Rattle.visibility.proofs.ListingAgreements.{with_rising}
 use Rattle.visibility.proofs.Networks.{node_count, arc_count, nodes_once, arcs_once}
-use Rattle.visibility.proofs.Labels.{labels_agree}
-use Rattle.visibility.proofs.Flows.{flows_agree}
+use Rattle.visibility.proofs.Numbers.{labels_agree, flows_agree}
 use Rattle.solution.specs.Solutions.{IsCertificate, flow_on, sink_at, flow_row, sink_row, flow_rows, sink_rows, stated}
 use Rattle.solution.proofs.RowLists.{Makes, map_stated, listed_same}
 
@@ -31,7 +30,7 @@ pub flags_are : (s : Scene) (voted : Voted) (labels : Labels) → IsNetworkInAny
     → map (test_of voted.cells labels.inside) voted.cells ≡ labels.inside
 flags_are s voted labels network least =
     map_of_indices voted.cells labels.inside false (nodes_once s voted network)
-    (least.least_cost.admissible.count ∙ node_count s voted network)
+    (least.count ∙ node_count s voted network)
 
 -- the amounts on arcs are amounts by facet
 pub on_arcs_are : (s : Scene) (voted : Voted) (flow : Flow) → IsNetworkInAnyOrder s voted → IsValidFlowNet voted.net flow

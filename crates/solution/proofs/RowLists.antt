@@ -5,8 +5,9 @@ use Rattle.std.proofs.lemmas.Bool.{eq-eqb, ne_eqb, eqb-true, false_from_ne_true}
 use Rattle.std.proofs.lemmas.List.{take_more, map-append, get_or-map, length-map, same_lists}
 use Rattle.std.proofs.lemmas.List.Elements.{filter-append}
 use Rattle.geo_sign.specs.Rising.{IsBefore}
-use Rattle.visibility.specs.Flows.{is_equal}
-use Rattle.visibility.proofs.Indices.{not_before_itself, is_equal_itself, is_equal_means}
+use Rattle.std.specs.Str.{bytes_eq}
+use Rattle.std.proofs.lemmas.Slice.Eq.{bytes_eq-Decides}
+use Rattle.visibility.proofs.Indices.{not_before_itself}
 use Rattle.solution.specs.Solutions.{stated, listed}
 
 -- an element more that passes the test
@@ -97,7 +98,7 @@ pub record Makes {Row : Type 0} (make : List ℕ → ℕ → Row) (about : Row �
 
 -- rows about another key come before those of a key in vain
 stated_past : {Row : Type 0} (make : List ℕ → ℕ → Row) (about : Row → List ℕ) (amount : Row → ℕ) → Makes make about amount
-    → (row key : List ℕ) (n : ℕ) (rows : List Row) → is_equal row key ≡ false
+    → (row key : List ℕ) (n : ℕ) (rows : List Row) → bytes_eq row key ≡ false
     → stated about amount (listed_first make row n rows) key ≡ stated about amount rows key
 unfolding listed_first
 stated_past {Row} make about amount makes row key n rows other = by (not (eqb n 0))
@@ -105,13 +106,13 @@ stated_past {Row} make about amount makes row key n rows other = by (not (eqb n 
     by : (b : Bool) → stated about amount (cond b (make row n ∷ rows) rows) key ≡ stated about amount rows key
     by true =
         ap (λ (t : Bool). cond t (amount (make row n)) (stated about amount rows key))
-        (ap (λ (k : List ℕ). is_equal k key) (makes.about_is row n) ∙ other)
+        (ap (λ (k : List ℕ). bytes_eq k key) (makes.about_is row n) ∙ other)
     by false = refl
 
 -- a key that no row is about
 stated_none : {Row : Type 0} (make : List ℕ → ℕ → Row) (about : Row → List ℕ) (amount : Row → ℕ) → Makes make about amount
     → (rows : List (List ℕ)) (on : List ℕ → ℕ) (key : List ℕ)
-    → ((j : ℕ) → j < length rows → is_equal (get_or rows j []) key ≡ false) → stated about amount (listed make rows on) key ≡ 0
+    → ((j : ℕ) → j < length rows → bytes_eq (get_or rows j []) key ≡ false) → stated about amount (listed make rows on) key ≡ 0
 stated_none make about amount makes [] on key other = refl
 stated_none make about amount makes (row ∷ rows) on key other =
     ap (λ (list : List _). stated about amount list key) (listed-cons make row rows on)
@@ -132,19 +133,19 @@ stated_first {Row} make about amount makes key n rows none = by (not (eqb n 0)) 
     by : (b : Bool) → not (eqb n 0) ≡ b → stated about amount (cond b (make key n ∷ rows) rows) key ≡ n
     by true e =
         ap (λ (t : Bool). cond t (amount (make key n)) (stated about amount rows key))
-        (ap (λ (k : List ℕ). is_equal k key) (makes.about_is key n) ∙ is_equal_itself key)
+        (ap (λ (k : List ℕ). bytes_eq k key) (makes.about_is key n) ∙ (bytes_eq-Decides key key).1 refl)
         ∙ makes.amount_is key n
     by false e = none ∙ sym (eqb-true n 0 (not_false (eqb n 0) e))
 
-differs : (row other : List ℕ) → IsBefore row other → is_equal row other ≡ false
+differs : (row other : List ℕ) → IsBefore row other → bytes_eq row other ≡ false
 differs row other before =
-    false_from_ne_true (is_equal row other)
-    (λ h. not_before_itself other (subst (λ (r : List ℕ). IsBefore r other) (is_equal_means row other h) before))
+    false_from_ne_true (bytes_eq row other)
+    (λ h. not_before_itself other (subst (λ (r : List ℕ). IsBefore r other) ((bytes_eq-Decides row other).0 h) before))
 
-differs_back : (row other : List ℕ) → IsBefore row other → is_equal other row ≡ false
+differs_back : (row other : List ℕ) → IsBefore row other → bytes_eq other row ≡ false
 differs_back row other before =
-    false_from_ne_true (is_equal other row)
-    (λ h. not_before_itself other (subst (λ (r : List ℕ). IsBefore r other) (sym (is_equal_means other row h)) before))
+    false_from_ne_true (bytes_eq other row)
+    (λ h. not_before_itself other (subst (λ (r : List ℕ). IsBefore r other) (sym ((bytes_eq-Decides other row).0 h)) before))
 
 stated_at : {Row : Type 0} (make : List ℕ → ℕ → Row) (about : Row → List ℕ) (amount : Row → ℕ) → Makes make about amount
     → (rows : List (List ℕ)) (on : List ℕ → ℕ) → AllPairs IsBefore rows → (k : ℕ) → k < length rows

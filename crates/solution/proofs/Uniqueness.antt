@@ -1,18 +1,18 @@
 -- Two solutions of one scan are the same but for their flows.
-use Rattle.std.proofs.Common.{ℕ, suc, ◌≡◌, ◌&&◌, ◌++◌, not, refl, ap, sym, subst, ◌∙◌, arith, Bool, true, false, cond, List, []}
+use Rattle.std.proofs.Common.{ℕ, suc, ◌≡◌, ◌&&◌, ◌++◌, not, refl, ap, ap₂, sym, subst, ◌∙◌, arith, Bool, cond, List, []}
 use Rattle.std.proofs.Common.{◌∷◌, filter, Contains}
 use Rattle.geo_sign.proofs.Booleans.{same_bools}
 use Rattle.cert_text.specs.Certificates.{Counts}
+use Rattle.flow_net.proofs.Correspondences.{itself, ends_say}
 use Rattle.geo_sign.specs.Vertices.{corners}
 use Rattle.mesh_ply.specs.Meshes.{mesh_of}
 use Rattle.visibility.specs.Scenes.{Scene}
 use Rattle.geo_sign.specs.Tetrahedron.{facet_at, turned}
 use Rattle.visibility.specs.Complexes.{Complex, cell_of}
 use Rattle.visibility.specs.Votes.{IsComplexOf}
-use Rattle.visibility.specs.Cuts.{cost, is_cut, cut_facets, IsLeastInside}
-use Rattle.visibility.proofs.Networks.{IsJoined, joined}
+use Rattle.visibility.specs.Cuts.{network_over, cost, is_cut, cut_facets, IsLeastInside}
+use Rattle.visibility.proofs.ListingAgreements.{by_itself}
 use Rattle.visibility.proofs.Ordered.{one_complex}
-use Rattle.visibility.proofs.Indices.{index_has}
 use Rattle.solution.specs.Scans.{points_of, scene_of_scan}
 use Rattle.solution.specs.Laws.{SolutionLaw}
 
@@ -36,21 +36,16 @@ same_cost : (s : Scene) (complex : Complex) (inside other : List ℕ → Bool) �
 same_cost s complex inside other a b =
     omega (arith, a.least_cost.least other b.least_cost.admissible, b.least_cost.least inside a.least_cost.admissible)
 
-same_cut : (s : Scene) (complex : Complex) (inside other : List ℕ → Bool) → IsComplexOf s complex
-    → IsLeastInside s complex inside → IsLeastInside s complex other
+-- tests that agree on the cells cut the same facets
+pub cut_same : (s : Scene) (complex : Complex) (inside other : List ℕ → Bool) → IsComplexOf s complex
+    → ((row : List ℕ) → Contains complex.cells row → inside row ≡ other row)
     → cut_facets s.vertices complex inside ≡ cut_facets s.vertices complex other
-same_cut s complex inside other is a b =
+cut_same s complex inside other is same =
     filter_same (is_cut s.vertices complex.cells inside) (is_cut s.vertices complex.cells other) complex.facets
     (λ f there.
-    let j : IsJoined s complex.cells f = joined s complex.cells f (is.facets_are.only f there) in
-    let own : inside (cell_of s.vertices complex.cells (facet_at f)) ≡ other (cell_of s.vertices complex.cells (facet_at f)) =
-    agree s complex inside other a b (cell_of s.vertices complex.cells (facet_at f)) (index_has complex.cells _ j.own) in
-    let across : inside (cell_of s.vertices complex.cells (turned (facet_at f)))
-    ≡ other (cell_of s.vertices complex.cells (turned (facet_at f))) =
-    agree s complex inside other a b (cell_of s.vertices complex.cells (turned (facet_at f)))
-    (index_has complex.cells _ j.across) in
-    ap (λ (t : Bool). not t && inside (cell_of s.vertices complex.cells (turned (facet_at f)))) own
-    ∙ ap (λ (t : Bool). not (other (cell_of s.vertices complex.cells (facet_at f))) && t) across)
+    let ends =
+    ends_say (network_over s complex) (network_over s complex) (itself (by_itself s complex is)) inside other same f there in
+    ap₂ (λ x y. not x && y) ends.0 ends.1)
 
 same_counts : (a b : Counts) → a.points ≡ b.points → a.scanners ≡ b.scanners → a.sights ≡ b.sights → a.vote ≡ b.vote
     → a.smooth ≡ b.smooth → a.cost ≡ b.cost → a ≡ b
@@ -110,7 +105,7 @@ solution_law scan settings mesh other_mesh claim other a b =
     let complexes : b.complex ≡ a.complex = one_complex s b.complex a.complex b.complex_is a.complex_is in
     let least : IsLeastInside s a.complex b.inside = subst (λ (c : Complex). IsLeastInside s c b.inside) complexes b.least in
     let cut : cut_facets s.vertices a.complex a.inside ≡ cut_facets s.vertices b.complex b.inside =
-    same_cut s a.complex a.inside b.inside a.complex_is a.least least
+    cut_same s a.complex a.inside b.inside a.complex_is (agree s a.complex a.inside b.inside a.least least)
     ∙ ap (λ (c : Complex). cut_facets s.vertices c b.inside) (sym complexes) in
     let costs : cost s a.complex a.inside ≡ cost s b.complex b.inside =
     same_cost s a.complex a.inside b.inside a.least least ∙ ap (λ (c : Complex). cost s c b.inside) (sym complexes) in

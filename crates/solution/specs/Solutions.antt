@@ -9,6 +9,7 @@
 --   IsSolution                      the surface and the certificate of the least-inside labels of least cost
 --   surface_of mesh                 a mesh's points and faces
 use Rattle.std.specs.Prelude.{ℕ, ◌≡◌, ◌==◌, ◌++◌, not, Bool, List, [], ◌∷◌, length, map, filter, if◌then◌else◌}
+use Rattle.std.specs.Str.{bytes_eq}
 use Rattle.cert_text.specs.Certificates.{Claim}
 use Rattle.cert_text.specs.declared.certificate.FlowRow.{FlowRow}
 use Rattle.cert_text.specs.declared.certificate.SinkRow.{SinkRow}
@@ -21,13 +22,13 @@ use Rattle.visibility.specs.Scenes.{Scene}
 use Rattle.visibility.specs.Complexes.{Complex}
 use Rattle.visibility.specs.Votes.{IsComplexOf}
 use Rattle.visibility.specs.Cuts.{cost, cut_facets, IsLeastInside}
-use Rattle.visibility.specs.Flows.{is_equal, value, IsValidFlow}
+use Rattle.visibility.specs.Flows.{value, IsValidFlow}
 use Rattle.solution.specs.Scans.{points_of, scene_of_scan}
 
 -- the amount in the first row about a cell or facet, and 0 where no row is about it
 abbrev pub stated : {Row : Type 0} → (Row → List ℕ) → (Row → ℕ) → List Row → List ℕ → ℕ
 stated about amount [] key = 0
-stated about amount (row ∷ rows) key = if is_equal (about row) key then amount row else stated about amount rows key
+stated about amount (row ∷ rows) key = if bytes_eq (about row) key then amount row else stated about amount rows key
 
 -- what flows over a facet by the certificate's own rows
 abbrev pub flow_on : Claim → List ℕ → ℕ

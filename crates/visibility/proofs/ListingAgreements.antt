@@ -7,6 +7,7 @@ use Rattle.flow_net.proofs.Correspondences.{AreAlike, agree_as_networks}
 use Rattle.geo_sign.specs.Tetrahedron.{DirectedFacet, facet_at, turned}
 use Rattle.visibility.specs.Scenes.{Scene}
 use Rattle.visibility.specs.Complexes.{Complex, HasFacet, cell_of}
+use Rattle.visibility.specs.Votes.{IsComplexOf}
 use Rattle.visibility.specs.Cuts.{network_over}
 use Rattle.visibility.specs.Listings.{IsListingOf, AgreeInAnyOrder}
 use Rattle.visibility.specs.ListingLaws.{ListingsAgree}
@@ -55,3 +56,7 @@ listings_agree s c d h k = agree_as_networks (network_over s c) (network_over s 
 -- a listing and its rising lists
 pub with_rising : (s : Scene) (listing : Complex) → (h : IsListingOf s listing) → AgreeInAnyOrder s listing h.complex
 with_rising s listing h = listings_agree s listing h.complex h (rising_listing s h.complex h.complex_is)
+
+-- the network over a scene's cells and facets stands for itself
+pub by_itself : (s : Scene) (complex : Complex) → IsComplexOf s complex → AreAlike (network_over s complex) (network_over s complex)
+by_itself s complex is = alike s complex complex (rising_listing s complex is) (rising_listing s complex is)

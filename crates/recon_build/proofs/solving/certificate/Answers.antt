@@ -86,7 +86,7 @@ inside_rows-requires c =
       arith,
       ap length c.as_slice-cells.ensures,
       ap length c.as_slice.ensures,
-      c.requires.cut.labels.least_cost.admissible.count,
+      c.requires.cut.labels.count,
       node_count (scene_of_scan (shown_of c.args.scan.now) c.args.settings) c.args.cut.now.voted.now c.requires.network,
     )
 

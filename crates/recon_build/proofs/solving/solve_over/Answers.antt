@@ -46,7 +46,7 @@ facets-requires g c =
       sym (corner_count c.args.tetra (points_of (shown_of c.args.scan.now)) c.requires.1.1.0.points),
       network.listing,
       subst (AreIdsOf c.args.tetra.slots c.args.counted.voted.cells) (sym c.deref.ensures.value) c.requires.1.1.1.1.1,
-      c.in_ok-labels.ensures.least.least_cost.admissible.count ∙ node_count s c.args.counted.voted network,
+      c.in_ok-labels.ensures.least.count ∙ node_count s c.args.counted.voted network,
       ((with_rising s (complex_of c.args.counted.voted) network.listing).admissible _).1 least.least_cost.admissible,
     ) in
     (cut.0, (cut.1, (cut.2, (cut.3, (cut.4, cut.5)))))
