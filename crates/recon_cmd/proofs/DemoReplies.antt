@@ -29,6 +29,7 @@ use Rattle.recon_cmd.specs.Stamps.{stamp_for}
 use Rattle.recon_cmd.specs.Steps.{IsAnswered, IsReplied}
 use Rattle.recon_cmd.specs.Words.{demo}
 use Rattle.recon_cmd.specs.declared.answer.Reply.{Reply}
+use Rattle.recon_cmd.specs.declared.options.understood.TheConstants.{DEFAULT_SMOOTH, DEFAULT_VOTE}
 use Rattle.recon_cmd.specs.declared.status.Status.{Status}
 use Rattle.recon_cmd.specs.declared.status.Status.TheVariants.{Done}
 use Rattle.recon_cmd.proofs.ScanTextLengths.{scan_text_fits}
@@ -70,7 +71,7 @@ printed_is_read scan text why is other fails =
 -- what `build` says of the generated scan
 pub demonstrated : (count seed : ℕ) (scan : Shown) (settings : Settings) (solved : Solved) (built line : List ℕ)
     → length (generated_text count seed) ≤ file_limit → read_as default_options (generated_text count seed) ≡ Ok scan
-    → settings.vote ≡ 8 → settings.smooth ≡ 1
+    → settings.vote ≡ DEFAULT_VOTE → settings.smooth ≡ DEFAULT_SMOOTH
     → IsSolution scan settings (surface_of solved.mesh) (claim_of solved.cert)
     → IsMesh solved.mesh.points.items solved.mesh.faces.items → IsWellFormed (claim_of solved.cert)
     → (claim_of solved.cert).stamp ≡ Some (stamp_for default_options (generated_text count seed))

@@ -63,6 +63,8 @@ use Rattle.recon_cmd.specs.Refusals.{refusal_line}
 use Rattle.recon_cmd.specs.Stamps.{stamp_for}
 use Rattle.recon_cmd.specs.Verdicts.{verdict_line, verdict_status}
 use Rattle.recon_cmd.specs.Words.{Asked, SurfaceNames, cells, build, check, slice, demo}
+use Rattle.recon_cmd.specs.declared.answer.reading.TheConstants.{FILE_LIMIT}
+use Rattle.recon_cmd.specs.declared.options.understood.TheConstants.{DEFAULT_SMOOTH, DEFAULT_UNIT, DEFAULT_VOTE}
 use Rattle.recon_cmd.specs.declared.status.Status.{Status}
 use Rattle.recon_cmd.specs.declared.status.Status.TheVariants.{Done, BadWords, Refused}
 
@@ -87,7 +89,7 @@ refusal reads line = record { status = Refused; reads = reads; writes = []; line
 
 -- how many bytes a file that is read may have
 abbrev pub file_limit : ℕ
-file_limit = 4294967296
+file_limit = FILE_LIMIT
 
 -- what the scan shows that the bytes of a file are, in the unit and with the fixed scanner of these options, or why they are
 -- none
@@ -267,7 +269,7 @@ SliceAnswer output height mesh answer = RefusesSlice mesh answer ⊎ WritesSlice
 
 -- what a command is told where no word says otherwise
 abbrev pub default_options : Options
-default_options = record { unit = 1; vote = 8; smooth = 1; fixed = None }
+default_options = record { unit = DEFAULT_UNIT; vote = DEFAULT_VOTE; smooth = DEFAULT_SMOOTH; fixed = None }
 
 -- the text of the generated scan
 abbrev pub generated_text : (count seed : ℕ) → List ℕ

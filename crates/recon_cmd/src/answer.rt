@@ -5,6 +5,7 @@ ghost use Rattle.recon_cmd.specs.Answers.{file_limit};
 ghost use Rattle.recon_cmd.specs.Replies.{line_bytes, texts_of};
 ghost use Rattle.recon_cmd.specs.Steps.{CarriesOut, IsReplied, ReadsFor, StopsFor};
 ghost use Rattle.recon_cmd.specs.Words.{asked};
+ghost use Rattle.recon_cmd.specs.declared.answer.Stop.TheVariants as stops;
 
 mod build;
 mod cells;
@@ -27,7 +28,7 @@ pub use export::export_mesh;
 use host::{Host, say_all, write_file};
 pub use reading::FILE_LIMIT;
 use slice::reply_to_slice;
-use std::alloc::Global;
+use std::alloc::{AllocError, Global};
 
 /// A line that is said last.
 #[derive(Drop)]
@@ -73,6 +74,14 @@ pub enum Stop {
     NoMemory,
 }
 
+impl From<AllocError> for Stop {
+    ghost from_gives = { λ _ stop. stop ≡ stops.NoMemory };
+
+    fn from(_: AllocError) -> Self {
+        Stop::NoMemory
+    }
+}
+
 /// Reads what a command reads, each file of as many bytes as the limit at most, and makes its answer. Nothing is written or
 /// said.
 pub fn reply_to<'a, H: Host>(
@@ -92,10 +101,7 @@ pub fn reply_to<'a, H: Host>(
         Command::Build(names, options) => reply_to_build(alloc, host, names, options, limit),
         Command::Check(names, options) => reply_to_check(alloc, host, names, options, limit),
         Command::Slice(words) => reply_to_slice(alloc, host, words),
-        Command::Demo(demo) => match reply_to_demo(alloc, *demo) {
-            Ok(reply) => Ok(reply),
-            Err(_) => Err(Stop::NoMemory),
-        },
+        Command::Demo(demo) => Ok(reply_to_demo(alloc, *demo)?),
     }
 }
 

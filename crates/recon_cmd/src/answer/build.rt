@@ -40,15 +40,8 @@ pub fn reply_to_build<'a, H: Host>(
     ensures reads { ReadsFor (Some (build (build_names names.now) (options_view options.now))) (H.state host.old) (H.state host.new) }
     ensures cause { StopsFor result (H.state host.old).faults (H.state host.new).faults }
 {
-    let reading = match read_input(alloc, host, names.input, options, limit) {
-        Ok(reading) => reading,
-        Err(stop) => return Err(stop),
-    };
-    match reading {
-        Reading::Scan(scan, bytes) => match reply_to_scan(alloc, &scan, bytes, names, options) {
-            Ok(reply) => Ok(reply),
-            Err(_) => Err(Stop::NoMemory),
-        },
+    match read_input(alloc, host, names.input, options, limit)? {
+        Reading::Scan(scan, bytes) => Ok(reply_to_scan(alloc, &scan, bytes, names, options)?),
         Reading::Refused(line) => Ok(refusal(alloc, line)),
     }
 }

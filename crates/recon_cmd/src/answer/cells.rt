@@ -41,15 +41,8 @@ pub fn reply_to_cells<'a, H: Host>(
     ensures reads { ReadsFor (Some (cells (cells_names names.now) (options_view options.now))) (H.state host.old) (H.state host.new) }
     ensures cause { StopsFor result (H.state host.old).faults (H.state host.new).faults }
 {
-    let reading = match read_input(alloc, host, names.input, options, limit) {
-        Ok(reading) => reading,
-        Err(stop) => return Err(stop),
-    };
-    match reading {
-        Reading::Scan(scan, _) => match reply_to_scan(alloc, &scan, names.output) {
-            Ok(reply) => Ok(reply),
-            Err(_) => Err(Stop::NoMemory),
-        },
+    match read_input(alloc, host, names.input, options, limit)? {
+        Reading::Scan(scan, _) => Ok(reply_to_scan(alloc, &scan, names.output)?),
         Reading::Refused(line) => Ok(refusal(alloc, line)),
     }
 }

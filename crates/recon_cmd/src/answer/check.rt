@@ -47,11 +47,7 @@ pub fn reply_to_check<'a, H: Host>(
     ensures closed { (H.state host.new).writing ≡ false }
     ensures cause { StopsFor result (H.state host.old).faults (H.state host.new).faults }
 {
-    let reading = match read_input(alloc, host, names.input, options, limit) {
-        Ok(reading) => reading,
-        Err(stop) => return Err(stop),
-    };
-    match reading {
+    match read_input(alloc, host, names.input, options, limit)? {
         Reading::Scan(scan, bytes) => {
             let stamp = stamp_of(bytes, options.unit, options.fixed);
             reply_to_scan(alloc, host, &scan, &stamp, names, options, limit)
@@ -118,10 +114,7 @@ fn reply_to_mesh<'a, H: Host>(
         Err(ReadRefusal::Failed) => return Err(Stop::Failed),
         Err(ReadRefusal::NoMemory) => return Err(Stop::NoMemory),
     };
-    match reply_to_texts(alloc, scan, stamp, names.output, options, mesh, &cert) {
-        Ok(reply) => Ok(reply),
-        Err(_) => Err(Stop::NoMemory),
-    }
+    Ok(reply_to_texts(alloc, scan, stamp, names.output, options, mesh, &cert)?)
 }
 
 // The verdict on a mesh and a certificate, and what follows from it.

@@ -9,6 +9,7 @@ use crate::NoMemory;
 use crate::answer::stamps::stamp_of;
 use crate::answer::{Line, Reply};
 use crate::lines::{line_of_build, line_of_demo};
+use crate::options::{DEFAULT_SMOOTH, DEFAULT_UNIT, DEFAULT_VOTE};
 use crate::status::Status;
 use crate::words::Demo;
 use flow_net::Settings;
@@ -17,21 +18,16 @@ use recon_build::solve_scan;
 use scan::{Scan, ScanRefusal, push_scan, read_scan};
 use std::alloc::{AllocError, Global};
 
-// The weights of `build` where no word says otherwise.
-const VOTE: u32 = 8;
-
-const SMOOTH: u32 = 1;
-
 /// Makes the answer of `demo`. The scan is printed and read as a file would be, and its surface is found; no text of it is
 /// made.
 pub fn reply_to_demo<'a>(alloc: Global, demo: Demo) -> Result<Reply<'a>, NoMemory>
     ensures { IfOk result (λ reply. Demonstrates demo.count demo.seed (answer_of 0 reply)) }
 {
     let (scan, text) = reread_scan(alloc, demo)?;
-    let stamp = stamp_of(text, 1, None);
+    let stamp = stamp_of(text, DEFAULT_UNIT, None);
     let settings = Settings {
-        vote: VOTE,
-        smooth: SMOOTH,
+        vote: DEFAULT_VOTE,
+        smooth: DEFAULT_SMOOTH,
     };
     let solved = solve_scan(alloc, &scan, settings, Some(stamp))?;
     let built = line_of_build(alloc, &solved.cert, solved.mesh.faces.len())?;
@@ -52,7 +48,7 @@ fn reread_scan(alloc: Global, demo: Demo) -> Result<(Scan, Vec<u8>), NoMemory>
     let scan = gen_scan(alloc, demo.count, demo.seed)?;
     let mut text = Vec::new(alloc);
     push_scan(&mut text, &scan)?;
-    match read_scan(alloc, &text, 1, None) {
+    match read_scan(alloc, &text, DEFAULT_UNIT, None) {
         Ok(read) => Ok((read, text)),
         Err(why) => match why {
             ScanRefusal::NoMemory => Err(AllocError),

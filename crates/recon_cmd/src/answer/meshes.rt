@@ -37,10 +37,7 @@ pub fn read_mesh_file<H: Host>(alloc: Global, host: &mut H, name: &str) -> Resul
         Err(ReadRefusal::Failed) => return Err(Stop::Failed),
         Err(ReadRefusal::NoMemory) => return Err(Stop::NoMemory),
     };
-    match understand_mesh(alloc, &bytes) {
-        Ok(reading) => Ok(reading),
-        Err(_) => Err(Stop::NoMemory),
-    }
+    Ok(understand_mesh(alloc, &bytes)?)
 }
 
 // What the bytes of a mesh's file come to.

@@ -10,8 +10,8 @@ use crate::answer::{Line, Stop};
 use crate::lines::{line_of_refusal, line_of_too_long_scan};
 use crate::options::Options;
 use host::{Host, ReadRefusal, read_all};
-use scan::{Scan, ScanRefusal, read_scan};
-use std::alloc::{AllocError, Global};
+use scan::{Scan, read_scan};
+use std::alloc::Global;
 
 /// How many bytes a file that is read may have.
 pub const FILE_LIMIT: u64 = 4_294_967_296;
@@ -47,10 +47,7 @@ pub fn read_input<H: Host>(
         Err(ReadRefusal::Failed) => return Err(Stop::Failed),
         Err(ReadRefusal::NoMemory) => return Err(Stop::NoMemory),
     };
-    match understand_scan(alloc, bytes, options) {
-        Ok(reading) => Ok(reading),
-        Err(_) => Err(Stop::NoMemory),
-    }
+    Ok(understand_scan(alloc, bytes, options)?)
 }
 
 // What the bytes of a scan's file come to.

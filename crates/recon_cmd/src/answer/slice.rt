@@ -32,15 +32,8 @@ pub fn reply_to_slice<'a, H: Host>(
     ensures reads { ReadsFor (Some (slice_asked words.now)) (H.state host.old) (H.state host.new) }
     ensures cause { StopsFor result (H.state host.old).faults (H.state host.new).faults }
 {
-    let reading = match read_mesh_file(alloc, host, words.mesh) {
-        Ok(reading) => reading,
-        Err(stop) => return Err(stop),
-    };
-    match reading {
-        MeshReading::Mesh(mesh) => match reply_to_mesh(alloc, &mesh, words.height, words.output) {
-            Ok(reply) => Ok(reply),
-            Err(_) => Err(Stop::NoMemory),
-        },
+    match read_mesh_file(alloc, host, words.mesh)? {
+        MeshReading::Mesh(mesh) => Ok(reply_to_mesh(alloc, &mesh, words.height, words.output)?),
         MeshReading::Refused(line) => Ok(refusal(alloc, line)),
     }
 }
