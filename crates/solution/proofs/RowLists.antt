@@ -1,6 +1,7 @@
 -- Rows of a certificate: those of amounts that are not 0, and what rows state.
 use Rattle.std.proofs.Common.{ℕ, zero, suc, ◌≡◌, ◌≢◌, ◌+◌, ◌<◌, ◌++◌, not, refl, ap, sym, subst, ◌∙◌, arith, Bool, true, false}
-use Rattle.std.proofs.Common.{cond, List, [], ◌∷◌, length, get_or, take, map, filter, eqb, AllPairs}
+use Rattle.std.proofs.Common.{cond, List, [], ◌∷◌, Some, None, ◌==◌, if◌then◌else◌, length, get_or, take, map, filter, eqb, AllPairs}
+use Rattle.std.specs.List.{cons_option, filter_map, zip}
 use Rattle.std.proofs.lemmas.Bool.{eq-eqb, ne_eqb, eqb-true, false_from_ne_true}
 use Rattle.std.proofs.lemmas.List.{take_more, map-append, get_or-map, length-map, same_lists}
 use Rattle.std.proofs.lemmas.List.Elements.{filter-append}
@@ -10,58 +11,46 @@ use Rattle.std.proofs.lemmas.Slice.Eq.{bytes_eq-Decides}
 use Rattle.visibility.proofs.Indices.{not_before_itself}
 use Rattle.solution.specs.Solutions.{stated, listed}
 
--- an element more that passes the test
-pub filter_more_yes : (test : List ℕ → Bool) (rows : List (List ℕ)) (i : ℕ) → i < length rows → test (get_or rows i []) ≡ true
-    → filter test (take (i + 1) rows) ≡ filter test (take i rows) ++ get_or rows i [] ∷ []
-filter_more_yes test rows i within passes =
-    ap (filter test) (take_more rows i [] within) ∙ filter-append test (take i rows) (get_or rows i [] ∷ [])
-    ∙ ap (λ (b : Bool). filter test (take i rows) ++ cond b (get_or rows i [] ∷ []) []) passes
-
--- an element more that fails it
-pub filter_more_no : (test : List ℕ → Bool) (rows : List (List ℕ)) (i : ℕ) → i < length rows → test (get_or rows i []) ≡ false
-    → filter test (take (i + 1) rows) ≡ filter test (take i rows)
-filter_more_no test rows i within fails =
-    ap (filter test) (take_more rows i [] within) ∙ filter-append test (take i rows) (get_or rows i [] ∷ [])
-    ∙ ap (λ (b : Bool). filter test (take i rows) ++ cond b (get_or rows i [] ∷ []) []) fails
-    ∙ append-none (filter test (take i rows))
+-- the rows with a flag, by pairs of rows and flags
+filtered_pairs : (test : List ℕ → Bool) (rows : List (List ℕ))
+    → filter_map (λ (p : List ℕ × Bool). if p.1 then Some p.0 else None) (zip rows (map test rows)) ≡ filter test rows
+filtered_pairs test [] = refl
+filtered_pairs test (row ∷ rows) = by (test row) (filtered_pairs test rows)
   where
-    append-none : (xs : List (List ℕ)) → xs ++ [] ≡ xs
-    append-none [] = refl
-    append-none (x ∷ xs) = ap (λ (zs : List (List ℕ)). x ∷ zs) (append-none xs)
+    by : (b : Bool) {others kept : List (List ℕ)} → others ≡ kept
+        → cons_option (cond b (Some row) None) others ≡ cond b (row ∷ kept) kept
+    by true same = ap (λ (list : List (List ℕ)). row ∷ list) same
+    by false same = same
 
--- the test of a row is the flag at its place
-pub flag_is : (test : List ℕ → Bool) (rows : List (List ℕ)) (flags : List Bool) (i : ℕ) (flag : Bool) → map test rows ≡ flags
-    → i < length rows → get_or flags i false ≡ flag → test (get_or rows i []) ≡ flag
-flag_is test rows flags i flag same within is =
-    sym (get_or-map test rows i [] false within) ∙ ap (λ (list : List Bool). get_or list i false) same ∙ is
+pub filtered_zip : (test : List ℕ → Bool) (rows : List (List ℕ)) (flags : List Bool) → map test rows ≡ flags
+    → filter_map (λ (p : List ℕ × Bool). if p.1 then Some p.0 else None) (zip rows flags) ≡ filter test rows
+filtered_zip test rows flags same =
+    subst (λ (list : List Bool).
+    filter_map (λ (p : List ℕ × Bool). if p.1 then Some p.0 else None) (zip rows list) ≡ filter test rows) same
+    (filtered_pairs test rows)
 
--- the amount of a row is the one at its place
-amount_is : (on : List ℕ → ℕ) (rows : List (List ℕ)) (amounts : List ℕ) (i : ℕ) → map on rows ≡ amounts → i < length rows
-    → on (get_or rows i []) ≡ get_or amounts i 0
-amount_is on rows amounts i same within = sym (get_or-map on rows i [] 0 within) ∙ ap (λ (list : List ℕ). get_or list i 0) same
+-- the rows of amounts that are not 0, by pairs of keys and amounts
+listed_pairs : {Row : Type 0} (make : List ℕ → ℕ → Row) (keys : List (List ℕ)) (on : List ℕ → ℕ)
+    → map (λ (p : List ℕ × ℕ). make p.0 p.1) (filter (λ (p : List ℕ × ℕ). not (p.1 == 0)) (zip keys (map on keys)))
+    ≡ listed make keys on
+listed_pairs make [] on = refl
+listed_pairs {Row} make (key ∷ keys) on = by (not (eqb (on key) 0)) _ _ (listed_pairs make keys on)
+  where
+    by : (b : Bool) (pairs : List (List ℕ × ℕ)) (kept : List (List ℕ))
+        → map (λ (p : List ℕ × ℕ). make p.0 p.1) pairs ≡ map (λ (k : List ℕ). make k (on k)) kept
+        → map (λ (p : List ℕ × ℕ). make p.0 p.1) (cond b ((key, on key) ∷ pairs) pairs)
+        ≡ map (λ (k : List ℕ). make k (on k)) (cond b (key ∷ kept) kept)
+    by true pairs kept same = ap (λ (rows : List Row). make key (on key) ∷ rows) same
+    by false pairs kept same = same
 
--- a row more, of an amount that is not 0
-pub listed_more_yes : {Row : Type 0} (make : List ℕ → ℕ → Row) (rows : List (List ℕ)) (amounts : List ℕ) (on : List ℕ → ℕ)
-    (i : ℕ) → map on rows ≡ amounts → i < length rows → get_or amounts i 0 ≢ 0
-    → listed make (take (i + 1) rows) on ≡ listed make (take i rows) on ++ make (get_or rows i []) (get_or amounts i 0) ∷ []
-listed_more_yes {Row} make rows amounts on i same within some =
-    let is : on (get_or rows i []) ≡ get_or amounts i 0 = amount_is on rows amounts i same within in
-    let passes : not (eqb (on (get_or rows i [])) 0) ≡ true =
-    ap not (ne_eqb (on (get_or rows i [])) 0 (λ none. some (sym is ∙ none))) in
-    ap (map (λ (key : List ℕ). make key (on key)))
-    (filter_more_yes (λ (key : List ℕ). not (eqb (on key) 0)) rows i within passes)
-    ∙ map-append (λ (key : List ℕ). make key (on key)) (filter (λ (key : List ℕ). not (eqb (on key) 0)) (take i rows))
-    (get_or rows i [] ∷ [])
-    ∙ ap (λ (n : ℕ). listed make (take i rows) on ++ make (get_or rows i []) n ∷ []) is
-
--- no row more, where the amount is 0
-pub listed_more_no : {Row : Type 0} (make : List ℕ → ℕ → Row) (rows : List (List ℕ)) (amounts : List ℕ) (on : List ℕ → ℕ)
-    (i : ℕ) → map on rows ≡ amounts → i < length rows → get_or amounts i 0 ≡ 0
-    → listed make (take (i + 1) rows) on ≡ listed make (take i rows) on
-listed_more_no make rows amounts on i same within none =
-    let fails : not (eqb (on (get_or rows i [])) 0) ≡ false =
-    ap not (eq-eqb (on (get_or rows i [])) 0 (amount_is on rows amounts i same within ∙ none)) in
-    ap (map (λ (key : List ℕ). make key (on key))) (filter_more_no (λ (key : List ℕ). not (eqb (on key) 0)) rows i within fails)
+pub listed_zip : {Row : Type 0} (make : List ℕ → ℕ → Row) (keys : List (List ℕ)) (amounts : List ℕ) (on : List ℕ → ℕ)
+    → map on keys ≡ amounts
+    → map (λ (p : List ℕ × ℕ). make p.0 p.1) (filter (λ (p : List ℕ × ℕ). not (p.1 == 0)) (zip keys amounts))
+    ≡ listed make keys on
+listed_zip make keys amounts on same =
+    subst (λ (list : List ℕ).
+    map (λ (p : List ℕ × ℕ). make p.0 p.1) (filter (λ (p : List ℕ × ℕ). not (p.1 == 0)) (zip keys list)) ≡ listed make keys on)
+    same (listed_pairs make keys on)
 
 -- the rows of a list, by the amount of its first element
 listed_first : {Row : Type 0} → (List ℕ → ℕ → Row) → List ℕ → ℕ → List Row → List Row

@@ -80,36 +80,6 @@ returns-clause-states c listing =
     sinks_moved rows cells given amounts on_sink at a b e f =
         subst (λ (list : List (List ℕ)). IsPermutation (sink_rows list at) rows) a (f at (ap (map at) a ∙ (e ∙ sym b)))
 
-pub inside_rows-requires : goal.inside_rows-requires
-inside_rows-requires c =
-    omega (
-      arith,
-      ap length c.as_slice-cells.ensures,
-      ap length c.as_slice.ensures,
-      c.requires.cut.labels.count,
-      node_count (scene_of_scan (shown_of c.args.scan.now) c.args.settings) c.args.cut.now.voted.now c.requires.network,
-    )
-
-pub flow_rows-requires : goal.flow_rows-requires
-flow_rows-requires c =
-    omega (
-      arith,
-      ap length c.as_slice-2.ensures,
-      ap length c.as_slice-3.ensures,
-      c.requires.cut.flow.arc_count,
-      arc_count (scene_of_scan (shown_of c.args.scan.now) c.args.settings) c.args.cut.now.voted.now c.requires.network,
-    )
-
-pub sink_rows-requires : goal.sink_rows-requires
-sink_rows-requires c =
-    omega (
-      arith,
-      ap length c.as_slice-cells.ensures,
-      ap length c.as_slice-4.ensures,
-      c.requires.cut.flow.node_count,
-      node_count (scene_of_scan (shown_of c.args.scan.now) c.args.settings) c.args.cut.now.voted.now c.requires.network,
-    )
-
 pub returns-clause-well_formed : goal.returns-clause-well_formed
 returns-clause-well_formed c =
     let s : Scene = scene_of_scan (shown_of c.args.scan.now) c.args.settings in
