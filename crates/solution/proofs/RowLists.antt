@@ -1,10 +1,9 @@
 -- Rows of a certificate: those of amounts that are not 0, and what rows state.
-use Rattle.std.proofs.Common.{ℕ, zero, suc, ◌≡◌, ◌≢◌, ◌+◌, ◌<◌, ◌++◌, not, refl, ap, sym, subst, ◌∙◌, arith, Bool, true, false}
-use Rattle.std.proofs.Common.{cond, List, [], ◌∷◌, Some, None, ◌==◌, if◌then◌else◌, length, get_or, take, map, filter, eqb, AllPairs}
+use Rattle.std.proofs.Common.{ℕ, zero, suc, ◌≡◌, ◌<◌, not, refl, ap, sym, subst, ◌∙◌, arith, Bool, true, false}
+use Rattle.std.proofs.Common.{cond, List, [], ◌∷◌, Some, None, ◌==◌, if◌then◌else◌, length, get_or, map, filter, eqb, AllPairs}
 use Rattle.std.specs.List.{cons_option, filter_map, zip}
-use Rattle.std.proofs.lemmas.Bool.{eq-eqb, ne_eqb, eqb-true, false_from_ne_true}
-use Rattle.std.proofs.lemmas.List.{take_more, map-append, get_or-map, length-map, same_lists}
-use Rattle.std.proofs.lemmas.List.Elements.{filter-append}
+use Rattle.std.proofs.lemmas.Bool.{eqb-true, false_from_ne_true}
+use Rattle.std.proofs.lemmas.List.{get_or-map, length-map, same_lists}
 use Rattle.geo_sign.specs.Rising.{IsBefore}
 use Rattle.std.specs.Str.{bytes_eq}
 use Rattle.std.proofs.lemmas.Slice.Eq.{bytes_eq-Decides}

@@ -3,8 +3,7 @@ use Rattle.std.proofs.Common.{ℕ, ◌≡◌, ◌+◌, ◌<◌, ◌≤◌, ◌++
 use Rattle.std.proofs.lemmas.List.{take_more, length-map, get_or-map, map-append}
 use Rattle.flow_net.specs.Weights.{IsWeighed, IsSightList}
 use Rattle.flow_net.specs.declared.votes.Settings.{Settings}
-use Rattle.flow_net.specs.declared.votes.Sight.{Sight}
-use Rattle.geo_sign.specs.Point.{Point, origin}
+use Rattle.geo_sign.specs.Point.{origin}
 use Rattle.merge.specs.Merging.{index_among}
 use Rattle.merge.proofs.Distinct.{few}
 use Rattle.merge.proofs.Indices.{each_stands}

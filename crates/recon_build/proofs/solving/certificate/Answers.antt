@@ -1,8 +1,7 @@
-use Rattle.std.proofs.Common.{ℕ, ◌≡◌, ◌<◌, ◌≤◌, ◌^◌, refl, ap, sym, subst, ◌∙◌, arith, Bool, List, length, map, filter}
+use Rattle.std.proofs.Common.{ℕ, ◌≡◌, ◌<◌, ◌≤◌, ◌^◌, refl, ap, sym, subst, ◌∙◌, arith, Bool, List, map, filter}
 use Rattle.std.specs.List.Sorted.{IsPermutation}
 use Rattle.cert_text.specs.declared.certificate.FlowRow.{FlowRow}
 use Rattle.cert_text.specs.declared.certificate.SinkRow.{SinkRow}
-use Rattle.visibility.proofs.Networks.{node_count, arc_count}
 use Rattle.scan.specs.Views.{shown_of}
 use Rattle.visibility.specs.Laws.{test_of, amount_of}
 use Rattle.visibility.specs.Networks.{complex_of, IsNetworkInAnyOrder}
@@ -44,7 +43,8 @@ returns-clause-states c listing =
       arcs_are = c.requires.network.arcs_are;
     } in
     let few : s.vertices.count ≤ 2 ^ 32 = omega (arith, few_vertices c.args.scan.now c.args.settings) in
-    certificate_is s voted c.args.cut.now.labels.now c.args.cut.now.flow.now _ network c.requires.cut.labels c.requires.cut.flow c.requires.cut.equal
+    certificate_is s voted c.args.cut.now.labels.now c.args.cut.now.flow.now _ network c.requires.cut.labels
+    c.requires.cut.flow c.requires.cut.equal
     c.least_cost.ensures
     (inside_are s few (complex_of voted) listing (test_of voted.cells c.args.cut.now.labels.now.inside) _
     (inside_moved _ _ _ _ _ _ c.as_slice-cells.ensures c.as_slice.ensures
