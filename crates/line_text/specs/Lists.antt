@@ -3,13 +3,12 @@
 --   WithMemory r P               want of memory, or the fact
 --   RefusedList                  a list is refused
 --   list_text, IsList            the text of a whole list, and when its rows are good
-use Rattle.std.specs.Prelude.{ℕ, ◌≡◌, ◌⊎◌, ◌+◌, ◌-◌, ◌<◌, ◌^◌, min, Option, Some, None, List, [], ◌∷◌, ◌++◌, All, AllPairs}
-use Rattle.std.specs.Prelude.{Contains, length, map}
+use Rattle.std.specs.Prelude.{ℕ, ◌<◌, ◌^◌, Option, List, ◌++◌}
+use Rattle.std.specs.Prelude.{length}
 use Rattle.std.specs.List.{flat_map}
-use Rattle.line_text.specs.Numbers.{line_feed, counted, Lacks, BeginsWithNone, IsBetween}
-use Rattle.geo_sign.specs.Rising.{IsBefore}
+use Rattle.line_text.specs.Numbers.{counted}
 use Rattle.line_text.specs.declared.refusal.LineRefusal.{LineRefusal}
-use Rattle.line_text.specs.declared.refusal.LineRefusal.TheVariants.{BadLine, Order, Cut, NoMemory}
+use Rattle.line_text.specs.declared.refusal.LineRefusal.TheVariants.{NoMemory}
 use Rattle.line_text.specs.Refusals.{AreRows, AtList}
 
 -- a fact about the text, where memory was found

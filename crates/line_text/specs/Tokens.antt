@@ -1,8 +1,7 @@
 -- What a token of a printed number begins with.
 --
 --   IsPlain token       no sign and no leading zero
-use Rattle.std.specs.Prelude.{ℕ, ◌≡◌, ◌≢◌, ◌<◌, ◌≤◌, ℤ, ◌≤ℤ◌, List, [], ◌∷◌, ◌++◌, length, slice_index, decimal}
-use Rattle.std.specs.Fmt.{signed_decimal}
+use Rattle.std.specs.Prelude.{ℕ, ◌≡◌, ◌≢◌, ◌<◌, List, length, slice_index}
 
 -- a first byte that is no plus sign, and no zero with more behind it
 pub record IsPlain (token : List ℕ) : Type 0 where

@@ -2,11 +2,8 @@
 --
 --   marked marks n          the marked numbers below n, rising
 --   number_among marks v    the new number of a vertex, by marks
-use Rattle.std.specs.Prelude.{ℕ, zero, suc, ◌≡◌, ◌<◌, ◌==◌, ◌^◌, Bool, false, List, [], ◌∷◌, ◌++◌, length, slice_index_or, map}
-use Rattle.std.specs.Prelude.{filter, All, AllPairs}
-use Rattle.std.specs.List.{list_any}
-use Rattle.geo_sign.specs.Rising.{IsBefore}
-use Rattle.geo_sign.specs.Point.{Point, origin}
+use Rattle.std.specs.Prelude.{ℕ, Bool, false, List, length, slice_index_or}
+use Rattle.std.specs.Prelude.{filter}
 use Rattle.mesh_ply.specs.Meshes.{below}
 
 -- the marked numbers below n, rising

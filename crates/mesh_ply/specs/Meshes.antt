@@ -10,7 +10,7 @@
 --   point_at places v     the place of a vertex
 --   Surface, mesh_of      points and faces; those of a list of facets
 --   IsMesh points faces   the mesh is valid
-use Rattle.std.specs.Prelude.{ℕ, zero, suc, ◌≡◌, ◌<◌, ◌==◌, ◌^◌, Bool, false, List, [], ◌∷◌, ◌++◌, length, slice_index_or, map}
+use Rattle.std.specs.Prelude.{ℕ, zero, suc, ◌≡◌, ◌<◌, ◌==◌, ◌^◌, Bool, List, [], ◌∷◌, ◌++◌, length, slice_index_or, map}
 use Rattle.std.specs.Prelude.{filter, All, AllPairs}
 use Rattle.std.specs.List.{list_any}
 use Rattle.geo_sign.specs.Rising.{IsBefore}

@@ -1,13 +1,10 @@
 -- Parts of the text of a mesh, as they are read one after another.
 --
 --   text_behind_count                 the text behind the number of points
-use Rattle.std.specs.Prelude.{ℕ, ◌≤◌, ℤ, unsigned_abs, List, [], ◌∷◌, ◌++◌, All, length, codes}
+use Rattle.std.specs.Prelude.{ℕ, List, ◌++◌, length}
 use Rattle.std.specs.List.{flat_map}
-use Rattle.geo_sign.specs.Point.{Point, IsWithin}
-use Rattle.line_text.specs.Numbers.{space, line_feed, counted, signed_ended}
-use Rattle.line_text.specs.Facets.{facet_fields}
-use Rattle.mesh_ply.specs.Meshes.{IsMesh}
-use Rattle.geo_sign.specs.declared.point.TheConstants.{BOX_LIMIT}
+use Rattle.geo_sign.specs.Point.{Point}
+use Rattle.line_text.specs.Numbers.{counted}
 use Rattle.mesh_ply.specs.Texts.{x_line, y_line, z_line, face_word, list_line, header_end, point_line, face_line}
 
 -- the text behind the number of points
