@@ -73,7 +73,7 @@ impl Forest {
     /// No node is in the forest.
     pub fn new(alloc: Global, preflow: Preflow) -> Result<Forest, NoMemory> {
         let nodes = preflow.wiring.nodes;
-        let fuel = preflow.room.len().saturating_mul(FUEL);
+        let fuel = preflow.wiring.slots.len().saturating_mul(FUEL);
         let outside = Branch {
             parent: FREE,
             distance: 0,
@@ -159,11 +159,11 @@ impl Forest {
         let mut at = node;
         for _ in 0..self.preflow.wiring.nodes {
             let up = self.branch[at].parent as usize;
-            if up >= self.preflow.room.len() {
+            if up >= self.preflow.wiring.slots.len() {
                 return most.min(self.preflow.excess[at]);
             }
             let slot = self.preflow.wiring.slot(up);
-            most = most.min(self.preflow.room[slot.twin as usize]);
+            most = most.min(self.preflow.wiring.slot(slot.twin as usize).room);
             at = slot.head as usize;
         }
         0
@@ -184,21 +184,22 @@ impl Forest {
     /// Sends an amount to a node along its branch into its sink. Nodes that this cuts off look for a parent.
     fn send_along(&mut self, node: usize, amount: u64)
         requires { node < self.old.preflow.wiring.nodes }
-        ensures { self.new.preflow.wiring ≡ self.old.preflow.wiring }
+        ensures nodes { self.new.preflow.wiring.nodes ≡ self.old.preflow.wiring.nodes }
+        ensures slots { length self.new.preflow.wiring.slots.items ≡ length self.old.preflow.wiring.slots.items }
     {
         self.preflow.sink[node] = self.preflow.sink[node].saturating_sub(amount);
         let mut at = node;
         for _ in 0..self.preflow.wiring.nodes {
             self.burn(1);
             let up = self.branch[at].parent as usize;
-            if up >= self.preflow.room.len() {
+            if up >= self.preflow.wiring.slots.len() {
                 self.take_from(at, amount);
                 return;
             }
             let slot = self.preflow.wiring.slot(up);
             let down = slot.twin as usize;
-            self.preflow.shift(down, up, amount);
-            if self.preflow.room[down] == 0 {
+            self.preflow.wiring.shift(down, amount);
+            if self.preflow.wiring.slot(down).room == 0 {
                 self.orphan(at);
             }
             at = slot.head as usize;
@@ -217,7 +218,7 @@ impl Forest {
             let other = self.branch[along.head as usize];
             if other.distance < least
                 && other.is_in_tree()
-                && self.preflow.room[along.twin as usize] > 0
+                && self.preflow.wiring.slot(along.twin as usize).room > 0
             {
                 least = other.distance;
                 parent = slot as u32;
@@ -243,7 +244,7 @@ impl Forest {
             if parent == along.twin {
                 self.orphan(head);
             }
-            if parent != FREE && self.preflow.room[along.twin as usize] > 0 {
+            if parent != FREE && self.preflow.wiring.slot(along.twin as usize).room > 0 {
                 self.enqueue(head);
             }
         }
@@ -302,7 +303,8 @@ impl Forest {
     /// Sends to a node until its sink is full, or it has left the forest.
     fn serve(&mut self, node: usize)
         requires { node < self.old.preflow.wiring.nodes }
-        ensures { self.new.preflow.wiring ≡ self.old.preflow.wiring }
+        ensures nodes { self.new.preflow.wiring.nodes ≡ self.old.preflow.wiring.nodes }
+        ensures slots { length self.new.preflow.wiring.slots.items ≡ length self.old.preflow.wiring.slots.items }
     {
         for _ in 0..self.fuel {
             if self.fuel == 0 || self.preflow.sink[node] == 0 || !self.branch[node].is_in_tree() {
@@ -319,7 +321,8 @@ impl Forest {
     /// Makes a node the parent of those to which it has an arc with room, and serves them.
     fn grow(&mut self, node: usize)
         requires { node < self.old.preflow.wiring.nodes }
-        ensures { self.new.preflow.wiring ≡ self.old.preflow.wiring }
+        ensures nodes { self.new.preflow.wiring.nodes ≡ self.old.preflow.wiring.nodes }
+        ensures slots { length self.new.preflow.wiring.slots.items ≡ length self.old.preflow.wiring.slots.items }
     {
         let (start, end) = self.preflow.wiring.around(node);
         for slot in start..end {
@@ -330,7 +333,7 @@ impl Forest {
             self.burn(1);
             let along = self.preflow.wiring.slot(slot);
             let head = along.head as usize;
-            if self.preflow.room[slot] > 0 && self.branch[head].parent == FREE {
+            if along.room > 0 && self.branch[head].parent == FREE {
                 self.branch[head] = Branch {
                     parent: along.twin,
                     distance: parent.distance.saturating_add(1),
@@ -355,7 +358,8 @@ impl Forest {
 
     /// Grows until nothing grows, or the fuel is used.
     pub fn run(&mut self)
-        ensures { self.new.preflow.wiring ≡ self.old.preflow.wiring }
+        ensures nodes { self.new.preflow.wiring.nodes ≡ self.old.preflow.wiring.nodes }
+        ensures slots { length self.new.preflow.wiring.slots.items ≡ length self.old.preflow.wiring.slots.items }
     {
         self.plant();
         for _ in 0..self.fuel {

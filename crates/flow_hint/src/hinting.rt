@@ -57,7 +57,7 @@ fn hint_from(alloc: Global, net: &Net, start: Start) -> Result<Option<Hint>, NoM
         return Ok(None);
     };
     let (preflow, inside) = sent(alloc, preflow)?;
-    let refund = preflow.into_refund(alloc, net)?;
+    let refund = preflow.into_refund(net);
     let refund = given_back(alloc, refund)?;
     if !refund.is_settled() {
         return Ok(None);
@@ -71,10 +71,10 @@ fn hint_from(alloc: Global, net: &Net, start: Start) -> Result<Option<Hint>, NoM
 }
 
 /// A hint at a largest flow, or None where there is none: where capacities come to more than 2^62, or there are no arcs
-/// between free nodes, or more than fit in 32 bits, or giving back took too long.
+/// between free nodes, or more arcs than fit in 32 bits, or giving back took too long.
 ///
 /// Nothing is promised of its time, which on the networks of scans is about linear in the network. Beside its answer it
-/// takes 16 bytes an arc between free nodes and at most 48 a node.
+/// takes 16 bytes an arc, 4 more where the arcs of a node do not stand side by side in the network, and at most 48 a node.
 pub fn find_hint(alloc: Global, net: &Net) -> Result<Option<Hint>, NoMemory>
     ensures arcs { IfOk result (λ found. IfSome found (λ hint. length hint.flow.on_arc ≡ length net.now.arcs)) }
     ensures sinks { IfOk result (λ found. IfSome found (λ hint. length hint.flow.on_sink ≡ length net.now.fixed)) }

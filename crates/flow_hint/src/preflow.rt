@@ -7,8 +7,8 @@ ghost use Rattle.std.specs.Prelude.{◌≡◌, ◌+◌, ◌<◌, ◌≤◌, leng
 use crate::NoMemory;
 use crate::refund::Refund;
 use crate::survey::Survey;
-use crate::wiring::{Pair, Wiring};
-use flow_net::Net;
+use crate::wiring::Wiring;
+use flow_net::{Arc, Net};
 use std::alloc::Global;
 
 /// How a hint starts.
@@ -23,17 +23,14 @@ pub enum Start {
 /// Amounts on the arcs of a network, and what has entered each node and not left it.
 #[derive(Debug, Drop)]
 pub struct Preflow {
-    /// The arcs between free nodes.
+    /// The arcs, and how much more can flow along each between free nodes.
     pub wiring: Wiring,
-    /// How much more can flow along the arc of each slot.
-    pub room: Vec<u64>,
     /// What has entered each node and not left it.
     pub excess: Vec<u64>,
     /// How much more can leave at each node.
     pub sink: Vec<u64>,
     /// How much has come to each node from fixed nodes.
     source: Vec<u64>,
-    pub ghost room_count: { length room.items ≡ length wiring.slots.items },
     pub ghost excess_count: { length excess.items ≡ wiring.nodes },
     pub ghost sink_count: { length sink.items ≡ wiring.nodes },
     pub ghost source_count: { length source.items ≡ wiring.nodes },
@@ -52,6 +49,28 @@ fn free_sinks(alloc: Global, net: &Net) -> Result<Vec<u64>, NoMemory>
     Ok(sinks)
 }
 
+/// How much more can flow along an arc between free nodes, where every arc is full or all are empty.
+fn room(arcs: &[Arc], arc: &Arc, is_full: bool) -> u64 {
+    match arc.pair {
+        // A pair of full arcs is the pair with its two rooms exchanged.
+        Some(reverse) if is_full && reverse < arcs.len() => arcs[reverse].cap,
+        Some(_) => arc.cap,
+        None => 0,
+    }
+}
+
+/// Writes the slots of all arcs.
+fn lay(net: &Net, wiring: &mut Wiring, is_full: bool)
+    requires { wiring.old.nodes ≡ length net.now.fixed }
+    ensures { wiring.new.nodes ≡ wiring.old.nodes }
+{
+    let arcs = net.arcs.as_slice();
+    for number in 0..arcs.len() {
+        let arc = arcs[number];
+        wiring.lay(&arc, number, room(arcs, &arc, is_full));
+    }
+}
+
 impl Preflow {
     /// The amounts at the start: fixed nodes send all that they can, other arcs are full or empty, and sinks have taken
     /// what they can. None where the sums of capacities are too large or there are no arcs between free nodes.
@@ -62,68 +81,31 @@ impl Preflow {
     {
         let survey = Survey::new(alloc, net)?;
         let is_full = start == Start::Full && !survey.owes();
-        if !survey.is_small() {
+        if !survey.is_fit() {
             return Ok(None);
         }
         let Survey {
-            degree,
-            paired,
             source,
             balance,
             ..
         } = survey;
-        let Some(wiring) = Wiring::new(alloc, degree, paired)? else {
+        let Some(mut wiring) = Wiring::new(alloc, net)? else {
             return Ok(None);
         };
+        lay(net, &mut wiring, is_full);
         let excess = if is_full {
             balance
         } else {
             Vec::from_slice(alloc, source.as_slice())?
         };
-        let room = vec![in alloc; 0u64; wiring.slots.len()]?;
         let mut preflow = Preflow {
             wiring,
-            room,
             excess,
             sink: free_sinks(alloc, net)?,
             source,
         };
-        preflow.lay(alloc, net, is_full)?;
         preflow.settle();
         Ok(Some(preflow))
-    }
-
-    /// Writes the slots of a pair of arcs, and their rooms.
-    fn lay_pair(&mut self, net: &Net, pair: Pair, number: usize, is_full: bool)
-        requires nodes { self.old.wiring.nodes ≡ length net.now.fixed }
-        requires number { number < length net.now.arcs }
-        requires slot { pair.slot < length self.old.wiring.slots.items }
-        requires twin { pair.twin < length self.old.wiring.slots.items }
-        requires reverse { pair.reverse < length net.now.arcs }
-        ensures nodes { self.new.wiring.nodes ≡ self.old.wiring.nodes }
-        ensures slots { length self.new.wiring.slots.items ≡ length self.old.wiring.slots.items }
-    {
-        let arc = net.arcs.as_slice()[number];
-        let reverse = net.arcs.as_slice()[pair.reverse].cap;
-        self.wiring.join(pair, arc.from, arc.to);
-        // A pair of full arcs is the pair with its two rooms exchanged.
-        self.room[pair.slot] = if is_full { reverse } else { arc.cap };
-        self.room[pair.twin] = if is_full { arc.cap } else { reverse };
-    }
-
-    /// Writes the slots of all pairs of arcs, and their rooms.
-    fn lay(&mut self, alloc: Global, net: &Net, is_full: bool) -> Result<(), NoMemory>
-        requires { self.old.wiring.nodes ≡ length net.now.fixed }
-        ensures { self.new.wiring.nodes ≡ self.old.wiring.nodes }
-    {
-        let mut numbering = self.wiring.numbering(alloc)?;
-        let arcs = net.arcs.as_slice();
-        for number in 0..arcs.len() {
-            if let Some(pair) = numbering.take(arcs, number) {
-                self.lay_pair(net, pair, number, is_full);
-            }
-        }
-        Ok(())
     }
 
     /// Lets what is at each node leave there, as far as there is room.
@@ -135,16 +117,6 @@ impl Preflow {
             self.excess[node] -= amount;
             self.sink[node] -= amount;
         }
-    }
-
-    /// Sends an amount along the arc of a slot.
-    pub fn shift(&mut self, slot: usize, twin: usize, amount: u64)
-        requires slot { slot < length self.old.wiring.slots.items }
-        requires twin { twin < length self.old.wiring.slots.items }
-        ensures { self.new.wiring ≡ self.old.wiring }
-    {
-        self.room[slot] = self.room[slot].saturating_sub(amount);
-        self.room[twin] = self.room[twin].saturating_add(amount);
     }
 
     /// Lets an amount come to a node, and leave there as far as there is room. Answers what the node has then.
@@ -159,46 +131,22 @@ impl Preflow {
         arrived - leaves
     }
 
-    /// Writes for a pair of arcs what flows on each in place of what more could flow.
-    fn turn_pair(&mut self, net: &Net, pair: Pair, number: usize)
-        requires number { number < length net.now.arcs }
-        requires slot { pair.slot < length self.old.wiring.slots.items }
-        requires twin { pair.twin < length self.old.wiring.slots.items }
-        requires reverse { pair.reverse < length net.now.arcs }
-        ensures { self.new.wiring ≡ self.old.wiring }
-    {
-        let arcs = net.arcs.as_slice();
-        let on_arc = arcs[number].cap.saturating_sub(self.room[pair.slot]);
-        let on_reverse = arcs[pair.reverse].cap.saturating_sub(self.room[pair.twin]);
-        self.room[pair.slot] = on_reverse;
-        self.room[pair.twin] = on_arc;
-    }
-
     /// The amounts that can go back to the fixed nodes.
-    pub fn into_refund(self, alloc: Global, net: &Net) -> Result<Refund, NoMemory> {
-        let mut preflow = self;
-        let mut numbering = preflow.wiring.numbering(alloc)?;
-        let arcs = net.arcs.as_slice();
-        for number in 0..arcs.len() {
-            if let Some(pair) = numbering.take(arcs, number) {
-                preflow.turn_pair(net, pair, number);
-            }
-        }
+    pub fn into_refund(self, net: &Net) -> Refund {
         let Preflow {
-            wiring,
-            room,
+            mut wiring,
             excess,
             sink,
             source,
-        } = preflow;
+        } = self;
+        wiring.turn_back(net);
         let mut refund = Refund {
             wiring,
-            back: room,
             excess,
             sink,
             source,
         };
         refund.settle();
-        Ok(refund)
+        refund
     }
 }

@@ -10,17 +10,14 @@ use std::alloc::Global;
 /// Amounts on the arcs of a network, and what has entered each node and not left it.
 #[derive(Debug, Drop)]
 pub struct Refund {
-    /// The arcs between free nodes.
+    /// The arcs, and how much can go back along each: what flows on its reverse.
     pub wiring: Wiring,
-    /// How much can go back along each slot: what flows on the reverse of its arc.
-    pub back: Vec<u64>,
     /// What has entered each node and not left it.
     pub excess: Vec<u64>,
     /// How much more can leave at each node.
     pub sink: Vec<u64>,
     /// How much has come to each node from fixed nodes.
     pub source: Vec<u64>,
-    pub ghost back_count: { length back.items ≡ length wiring.slots.items },
     pub ghost excess_count: { length excess.items ≡ wiring.nodes },
     pub ghost sink_count: { length sink.items ≡ wiring.nodes },
     pub ghost source_count: { length source.items ≡ wiring.nodes },
@@ -46,9 +43,11 @@ impl Refund {
     /// Sends an amount back along a slot.
     pub fn give(&mut self, slot: usize, amount: u64)
         requires { slot < length self.old.wiring.slots.items }
-        ensures { self.new.wiring ≡ self.old.wiring }
+        ensures nodes { self.new.wiring.nodes ≡ self.old.wiring.nodes }
+        ensures slots { length self.new.wiring.slots.items ≡ length self.old.wiring.slots.items }
     {
-        self.back[slot] = self.back[slot].saturating_sub(amount);
+        let left = self.wiring.slot(slot).room.saturating_sub(amount);
+        self.wiring.set_room(slot, left);
     }
 
     /// Lets an amount come to a node, and go to fixed nodes as far as it came from there.
@@ -67,13 +66,10 @@ impl Refund {
         ensures { IfOk result (λ amounts. length amounts.items ≡ length net.now.arcs) }
     {
         let arcs = net.arcs.as_slice();
-        let mut numbering = self.wiring.numbering(alloc)?;
         let mut amounts = vec![in alloc; 0u64; arcs.len()]?;
         for number in 0..arcs.len() {
-            if let Some(pair) = numbering.take(arcs, number) {
-                amounts[number] = self.back[pair.twin];
-                amounts[pair.reverse] = self.back[pair.slot];
-            }
+            let slot = self.wiring.slot(self.wiring.slot_of(number));
+            amounts[number] = self.wiring.slot(slot.twin as usize).room;
         }
         Ok(amounts)
     }

@@ -106,7 +106,9 @@ impl Rounds {
         for slot in start..end {
             let against = self.preflow.wiring.slot(slot);
             let tail = against.head as usize;
-            if self.level[tail] == NONE && self.preflow.room[against.twin as usize] > 0 {
+            if self.level[tail] == NONE
+                && self.preflow.wiring.slot(against.twin as usize).room > 0
+            {
                 self.mark(tail, level);
             }
         }
@@ -192,13 +194,13 @@ impl Rounds {
     }
 
     /// Sends from a slot to its head, which then waits if it keeps some.
-    fn send(&mut self, slot: usize, head: usize, twin: usize, amount: u64)
+    fn send(&mut self, slot: usize, head: usize, amount: u64)
         requires slot { slot < length self.old.preflow.wiring.slots.items }
-        requires twin { twin < length self.old.preflow.wiring.slots.items }
         requires head { head < self.old.preflow.wiring.nodes }
-        ensures { self.new.preflow.wiring ≡ self.old.preflow.wiring }
+        ensures nodes { self.new.preflow.wiring.nodes ≡ self.old.preflow.wiring.nodes }
+        ensures slots { length self.new.preflow.wiring.slots.items ≡ length self.old.preflow.wiring.slots.items }
     {
-        self.preflow.shift(slot, twin, amount);
+        self.preflow.wiring.shift(slot, amount);
         if self.preflow.arrive(head, amount) > 0 && !self.is_waiting[head] {
             self.level[head] = self.level[head].max(1);
             self.put(head);
@@ -210,7 +212,8 @@ impl Rounds {
     /// The level of the node becomes one more than the least to which an arc with room leads.
     fn send_down(&mut self, node: usize, amount: u64) -> u64
         requires { node < self.old.preflow.wiring.nodes }
-        ensures { self.new.preflow.wiring ≡ self.old.preflow.wiring }
+        ensures nodes { self.new.preflow.wiring.nodes ≡ self.old.preflow.wiring.nodes }
+        ensures slots { length self.new.preflow.wiring.slots.items ≡ length self.old.preflow.wiring.slots.items }
     {
         let level = self.level[node];
         let mut left = amount;
@@ -220,10 +223,10 @@ impl Rounds {
             self.fuel = self.fuel.saturating_sub(1);
             let along = self.preflow.wiring.slot(slot);
             let head = along.head as usize;
-            let room = self.preflow.room[slot];
+            let room = along.room;
             if room > 0 && self.level[head] < level {
                 let part = left.min(room);
-                self.send(slot, head, along.twin as usize, part);
+                self.send(slot, head, part);
                 left -= part;
                 if left == 0 {
                     return 0;
@@ -239,7 +242,8 @@ impl Rounds {
     /// Moves the excess of a node down as far as it goes, and lifts the node if it keeps some.
     fn discharge(&mut self, node: usize)
         requires { node < self.old.preflow.wiring.nodes }
-        ensures { self.new.preflow.wiring ≡ self.old.preflow.wiring }
+        ensures nodes { self.new.preflow.wiring.nodes ≡ self.old.preflow.wiring.nodes }
+        ensures slots { length self.new.preflow.wiring.slots.items ≡ length self.old.preflow.wiring.slots.items }
     {
         let amount = self.preflow.excess[node];
         let left = self.send_down(node, amount);
@@ -251,7 +255,8 @@ impl Rounds {
 
     /// Moves the excess of nodes that wait, until the fuel is used.
     fn drain(&mut self)
-        ensures { self.new.preflow.wiring ≡ self.old.preflow.wiring }
+        ensures nodes { self.new.preflow.wiring.nodes ≡ self.old.preflow.wiring.nodes }
+        ensures slots { length self.new.preflow.wiring.slots.items ≡ length self.old.preflow.wiring.slots.items }
     {
         self.fuel = self.preflow.wiring.nodes.saturating_mul(FUEL);
         for _ in 0..self.fuel {
@@ -267,7 +272,8 @@ impl Rounds {
 
     /// Moves excess to sinks until none moves, or the rounds are over.
     pub fn run(&mut self, alloc: Global) -> Result<(), NoMemory>
-        ensures { self.new.preflow.wiring ≡ self.old.preflow.wiring }
+        ensures nodes { self.new.preflow.wiring.nodes ≡ self.old.preflow.wiring.nodes }
+        ensures slots { length self.new.preflow.wiring.slots.items ≡ length self.old.preflow.wiring.slots.items }
     {
         for _ in 0..MOST_ROUNDS {
             if !self.find_levels() {

@@ -1,6 +1,6 @@
 //! What one pass over the arcs of a network adds up. It stands on the network alone.
 
-ghost use Rattle.std.specs.Prelude.{◌≡◌, ◌+◌, length, IfOk};
+ghost use Rattle.std.specs.Prelude.{◌≡◌, length, IfOk};
 
 use crate::NoMemory;
 use flow_net::Net;
@@ -15,10 +15,8 @@ const SIGN: u64 = 9_223_372_036_854_775_808;
 /// What the arcs of a network come to.
 #[derive(Debug, Drop)]
 pub struct Survey {
-    /// For each node how many arcs lead from it to free nodes, behind one more place.
-    pub degree: Vec<u32>,
-    /// How many arcs there are between free nodes.
-    pub paired: usize,
+    /// Whether there is an arc between free nodes.
+    pub has_pairs: bool,
     /// What comes to each node from fixed nodes where these send all that they can.
     pub source: Vec<u64>,
     /// What is left at each node where every arc is full: what enters it less what leaves it, in two's complement.
@@ -30,39 +28,35 @@ pub struct Survey {
 impl Survey {
     /// The sums over the arcs of a network.
     pub fn new(alloc: Global, net: &Net) -> Result<Survey, NoMemory>
-        ensures degrees { IfOk result (λ survey. length survey.degree.items ≡ length net.now.fixed + 1) }
         ensures sources { IfOk result (λ survey. length survey.source.items ≡ length net.now.fixed) }
         ensures balances { IfOk result (λ survey. length survey.balance.items ≡ length net.now.fixed) }
     {
         let nodes = net.fixed.as_slice().len();
-        let mut degree = vec![in alloc; 0u32; nodes + 1]?;
         let mut source = vec![in alloc; 0u64; nodes]?;
         let mut balance = vec![in alloc; 0u64; nodes]?;
-        let mut paired: usize = 0;
+        let mut has_pairs = false;
         let mut total: u64 = 0;
         for arc in net.arcs.as_slice() {
             total = total.saturating_add(arc.cap);
             balance[arc.to] = balance[arc.to].wrapping_add(arc.cap);
             if arc.pair.is_some() {
                 balance[arc.from] = balance[arc.from].wrapping_sub(arc.cap);
-                degree[arc.from + 1] = degree[arc.from + 1].saturating_add(1);
-                paired = paired.saturating_add(1);
+                has_pairs = true;
             } else {
                 source[arc.to] = source[arc.to].saturating_add(arc.cap);
             }
         }
         Ok(Survey {
-            degree,
-            paired,
+            has_pairs,
             source,
             balance,
             total,
         })
     }
 
-    /// Whether no sum of capacities is too large for its type.
-    pub fn is_small(&self) -> bool {
-        self.total <= MOST_IN_ALL
+    /// Whether there are arcs between free nodes, and no sum of capacities is too large for its type.
+    pub fn is_fit(&self) -> bool {
+        self.has_pairs && self.total <= MOST_IN_ALL
     }
 
     /// Whether a node would owe an amount where every arc is full.

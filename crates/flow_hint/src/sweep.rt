@@ -86,11 +86,9 @@ impl Sweep {
             return self.below[node] as usize;
         }
         self.cursor[node] = self.cursor[node].saturating_add(1);
-        if self.refund.back[slot] == 0 {
-            return node;
-        }
-        let head = self.refund.wiring.slot(slot).head as usize;
-        if self.is_seen[head] {
+        let along = self.refund.wiring.slot(slot);
+        let head = along.head as usize;
+        if along.room == 0 || self.is_seen[head] {
             return node;
         }
         self.enter(head, node as u32);
@@ -127,7 +125,8 @@ impl Sweep {
     /// Gives an amount back from a node to those that have not given back, and answers what is left.
     fn hand_on(&mut self, node: usize, amount: u64) -> u64
         requires { node < self.old.refund.wiring.nodes }
-        ensures { self.new.refund.wiring ≡ self.old.refund.wiring }
+        ensures nodes { self.new.refund.wiring.nodes ≡ self.old.refund.wiring.nodes }
+        ensures slots { length self.new.refund.wiring.slots.items ≡ length self.old.refund.wiring.slots.items }
     {
         let mut left = amount;
         let (start, end) = self.refund.wiring.around(node);
@@ -135,8 +134,9 @@ impl Sweep {
             if left == 0 {
                 break;
             }
-            let most = self.refund.back[slot].min(left);
-            let head = self.refund.wiring.slot(slot).head as usize;
+            let along = self.refund.wiring.slot(slot);
+            let most = along.room.min(left);
+            let head = along.head as usize;
             if most > 0 && self.cursor[head] != NONE {
                 self.refund.give(slot, most);
                 self.refund.arrive(head, most);
@@ -149,7 +149,8 @@ impl Sweep {
     /// A node gives back what it has.
     fn give(&mut self, node: usize)
         requires { node < self.old.refund.wiring.nodes }
-        ensures { self.new.refund.wiring ≡ self.old.refund.wiring }
+        ensures nodes { self.new.refund.wiring.nodes ≡ self.old.refund.wiring.nodes }
+        ensures slots { length self.new.refund.wiring.slots.items ≡ length self.old.refund.wiring.slots.items }
     {
         self.cursor[node] = NONE;
         let amount = self.refund.excess[node];
@@ -159,7 +160,8 @@ impl Sweep {
 
     /// Gives back what can be given in one sweep.
     pub fn run(&mut self)
-        ensures { self.new.refund.wiring ≡ self.old.refund.wiring }
+        ensures nodes { self.new.refund.wiring.nodes ≡ self.old.refund.wiring.nodes }
+        ensures slots { length self.new.refund.wiring.slots.items ≡ length self.old.refund.wiring.slots.items }
     {
         self.search_all();
         let left = self.left.min(self.order.len());

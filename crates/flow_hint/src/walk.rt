@@ -41,7 +41,7 @@ impl Walk {
     /// No node is on the path.
     pub fn new(alloc: Global, refund: Refund) -> Result<Walk, NoMemory> {
         let nodes = refund.wiring.nodes;
-        let fuel = refund.back.len().saturating_mul(FUEL);
+        let fuel = refund.wiring.slots.len().saturating_mul(FUEL);
         let cursor = vec![in alloc; 0u32; nodes]?;
         let depth = vec![in alloc; NONE; nodes]?;
         let path = vec![in alloc; 0u32; nodes + 1]?;
@@ -78,7 +78,7 @@ impl Walk {
     fn most_from(&self, place: usize, amount: u64) -> u64 {
         let mut most = amount;
         for at in place..self.steps {
-            most = most.min(self.refund.back[self.path[at] as usize]);
+            most = most.min(self.refund.wiring.slot(self.path[at] as usize).room);
         }
         most
     }
@@ -86,14 +86,15 @@ impl Walk {
     /// Sends an amount back along the path from a place on, and answers the place of the first slot that can take no more,
     /// or the end of the path.
     fn give_from(&mut self, place: usize, amount: u64) -> usize
-        ensures { self.new.refund.wiring ≡ self.old.refund.wiring }
+        ensures nodes { self.new.refund.wiring.nodes ≡ self.old.refund.wiring.nodes }
+        ensures slots { length self.new.refund.wiring.slots.items ≡ length self.old.refund.wiring.slots.items }
     {
         self.burn(self.steps.saturating_sub(place).saturating_mul(2));
         let mut cut = self.steps;
         for at in place..self.steps {
             let slot = self.path[at] as usize;
             self.refund.give(slot, amount);
-            if self.refund.back[slot] == 0 {
+            if self.refund.wiring.slot(slot).room == 0 {
                 cut = cut.min(at);
             }
         }
@@ -120,7 +121,7 @@ impl Walk {
     {
         let (start, end) = self.refund.wiring.around(node);
         for slot in start.max(self.cursor[node] as usize)..end {
-            if self.refund.back[slot] > 0 {
+            if self.refund.wiring.slot(slot).room > 0 {
                 self.cursor[node] = slot as u32;
                 return Some(slot);
             }
@@ -141,7 +142,8 @@ impl Walk {
 
     /// Takes as much as can go round it off a cycle, which the path has from a place on. It ends at that node.
     fn cancel(&mut self, place: usize)
-        ensures { self.new.refund.wiring ≡ self.old.refund.wiring }
+        ensures nodes { self.new.refund.wiring.nodes ≡ self.old.refund.wiring.nodes }
+        ensures slots { length self.new.refund.wiring.slots.items ≡ length self.old.refund.wiring.slots.items }
     {
         let amount = self.most_from(place, u64::MAX);
         let cut = self.give_from(place, amount);
@@ -153,7 +155,8 @@ impl Walk {
     /// Goes on from the end of the path, and says whether it could.
     fn extend(&mut self, node: usize) -> bool
         requires { node < self.old.refund.wiring.nodes }
-        ensures { self.new.refund.wiring ≡ self.old.refund.wiring }
+        ensures nodes { self.new.refund.wiring.nodes ≡ self.old.refund.wiring.nodes }
+        ensures slots { length self.new.refund.wiring.slots.items ≡ length self.old.refund.wiring.slots.items }
     {
         let Some(slot) = self.next_slot(node) else {
             return false;
@@ -173,7 +176,8 @@ impl Walk {
     fn pay(&mut self, start: usize, end: usize)
         requires start { start < self.old.refund.wiring.nodes }
         requires end { end < self.old.refund.wiring.nodes }
-        ensures { self.new.refund.wiring ≡ self.old.refund.wiring }
+        ensures nodes { self.new.refund.wiring.nodes ≡ self.old.refund.wiring.nodes }
+        ensures slots { length self.new.refund.wiring.slots.items ≡ length self.old.refund.wiring.slots.items }
     {
         let most = self.refund.excess[start].min(self.refund.source[end]);
         let amount = self.most_from(0, most);
@@ -186,7 +190,8 @@ impl Walk {
     /// Gives back the excess of a node, as far as the fuel goes.
     fn walk_from(&mut self, start: usize)
         requires { start < self.old.refund.wiring.nodes }
-        ensures { self.new.refund.wiring ≡ self.old.refund.wiring }
+        ensures nodes { self.new.refund.wiring.nodes ≡ self.old.refund.wiring.nodes }
+        ensures slots { length self.new.refund.wiring.slots.items ≡ length self.old.refund.wiring.slots.items }
     {
         self.depth[start] = 0;
         for _ in 0..self.fuel {
@@ -207,7 +212,8 @@ impl Walk {
 
     /// Gives back the excess of each node.
     pub fn run(&mut self)
-        ensures { self.new.refund.wiring ≡ self.old.refund.wiring }
+        ensures nodes { self.new.refund.wiring.nodes ≡ self.old.refund.wiring.nodes }
+        ensures slots { length self.new.refund.wiring.slots.items ≡ length self.old.refund.wiring.slots.items }
     {
         for node in 0..self.refund.wiring.nodes {
             if self.refund.excess[node] > 0 {

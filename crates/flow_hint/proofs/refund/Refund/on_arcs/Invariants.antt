@@ -2,7 +2,4 @@ use Rattle.std.proofs.Common.{◌≡◌, length}
 use Rattle.flow_hint.proofs.refund.Refund.on_arcs.Given as goal
 
 abbrev pub invariant-loop-number : goal.invariant-loop-number
-invariant-loop-number l = record {
-  slots : l.numbering.slots ≡ length l.self.wiring.slots.items;
-  arcs : length l.amounts.items ≡ length l.net.arcs;
-}
+invariant-loop-number l = length l.amounts.items ≡ length l.net.arcs
