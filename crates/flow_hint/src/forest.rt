@@ -9,6 +9,7 @@ ghost use Rattle.std.specs.Prelude.{◌≡◌, ◌<◌, length, slice_index, Eac
 
 use crate::NoMemory;
 use crate::preflow::Preflow;
+use crate::wiring::Slot;
 use std::alloc::Global;
 
 /// The parent of a node outside the forest.
@@ -151,11 +152,11 @@ impl Forest {
         }
     }
 
-    /// How much can come to a node along its branch into its sink.
+    /// How much can come to a node of the forest along its branch.
     fn most_along(&self, node: usize) -> u64
         requires { node < self.now.preflow.wiring.nodes }
     {
-        let mut most = self.preflow.sink[node];
+        let mut most = u64::MAX;
         let mut at = node;
         for _ in 0..self.preflow.wiring.nodes {
             let up = self.branch[at].parent as usize;
@@ -181,13 +182,12 @@ impl Forest {
         }
     }
 
-    /// Sends an amount to a node along its branch into its sink. Nodes that this cuts off look for a parent.
+    /// Sends an amount to a node along its branch. Nodes that this cuts off look for a parent.
     fn send_along(&mut self, node: usize, amount: u64)
         requires { node < self.old.preflow.wiring.nodes }
         ensures nodes { self.new.preflow.wiring.nodes ≡ self.old.preflow.wiring.nodes }
         ensures slots { length self.new.preflow.wiring.slots.items ≡ length self.old.preflow.wiring.slots.items }
     {
-        self.preflow.sink[node] = self.preflow.sink[node].saturating_sub(amount);
         let mut at = node;
         for _ in 0..self.preflow.wiring.nodes {
             self.burn(1);
@@ -300,25 +300,62 @@ impl Forest {
         self.orphaned = 0;
     }
 
-    /// Sends to a node until its sink is full, or it has left the forest.
-    fn serve(&mut self, node: usize)
-        requires { node < self.old.preflow.wiring.nodes }
+    /// Sends along a slot, from a node of the forest into the sink of its head, as much as goes there. Nodes that this cuts
+    /// off find a parent or leave the forest.
+    fn feed(&mut self, node: usize, slot: usize)
+        requires node { node < self.old.preflow.wiring.nodes }
+        requires slot { slot < length self.old.preflow.wiring.slots.items }
+        ensures nodes { self.new.preflow.wiring.nodes ≡ self.old.preflow.wiring.nodes }
+        ensures slots { length self.new.preflow.wiring.slots.items ≡ length self.old.preflow.wiring.slots.items }
+    {
+        let along = self.preflow.wiring.slot(slot);
+        let head = along.head as usize;
+        let sink = self.preflow.sink[head];
+        let amount = self.most_along(node).min(along.room).min(sink);
+        self.preflow.sink[head] = sink - amount;
+        self.preflow.wiring.shift(slot, amount);
+        self.send_along(node, amount);
+        let cut = self.orphaned;
+        self.adopt_cut(cut);
+        self.adopt_rest(cut);
+    }
+
+    /// Makes a node the parent of the head of a slot.
+    fn join(&mut self, node: usize, along: Slot)
+        requires node { node < self.old.preflow.wiring.nodes }
+        requires head { along.head < self.old.preflow.wiring.nodes }
+        ensures { self.new.preflow ≡ self.old.preflow }
+    {
+        let head = along.head as usize;
+        self.branch[head] = Branch {
+            parent: along.twin,
+            distance: self.branch[node].distance.saturating_add(1),
+        };
+        self.enqueue(head);
+    }
+
+    /// Goes along a slot from a node of the forest, while there is room, to a head outside: into its sink, and once that is full
+    /// the head joins the forest. A head whose last arc is full would leave the forest at once, so it does not join before.
+    fn reach(&mut self, node: usize, slot: usize)
+        requires node { node < self.old.preflow.wiring.nodes }
+        requires slot { slot < length self.old.preflow.wiring.slots.items }
         ensures nodes { self.new.preflow.wiring.nodes ≡ self.old.preflow.wiring.nodes }
         ensures slots { length self.new.preflow.wiring.slots.items ≡ length self.old.preflow.wiring.slots.items }
     {
         for _ in 0..self.fuel {
-            if self.fuel == 0 || self.preflow.sink[node] == 0 || !self.branch[node].is_in_tree() {
+            let along = self.preflow.wiring.slot(slot);
+            if self.fuel == 0 || along.room == 0 || !self.branch[node].is_in_tree() {
                 return;
             }
-            let amount = self.most_along(node);
-            self.send_along(node, amount);
-            let cut = self.orphaned;
-            self.adopt_cut(cut);
-            self.adopt_rest(cut);
+            if self.preflow.sink[along.head as usize] == 0 {
+                self.join(node, along);
+                return;
+            }
+            self.feed(node, slot);
         }
     }
 
-    /// Makes a node the parent of those to which it has an arc with room, and serves them.
+    /// Goes from a node along its slots to those outside the forest.
     fn grow(&mut self, node: usize)
         requires { node < self.old.preflow.wiring.nodes }
         ensures nodes { self.new.preflow.wiring.nodes ≡ self.old.preflow.wiring.nodes }
@@ -326,20 +363,13 @@ impl Forest {
     {
         let (start, end) = self.preflow.wiring.around(node);
         for slot in start..end {
-            let parent = self.branch[node];
-            if parent.parent == FREE {
+            if self.branch[node].parent == FREE {
                 return;
             }
             self.burn(1);
             let along = self.preflow.wiring.slot(slot);
-            let head = along.head as usize;
-            if along.room > 0 && self.branch[head].parent == FREE {
-                self.branch[head] = Branch {
-                    parent: along.twin,
-                    distance: parent.distance.saturating_add(1),
-                };
-                self.enqueue(head);
-                self.serve(head);
+            if along.room > 0 && self.branch[along.head as usize].parent == FREE {
+                self.reach(node, slot);
             }
         }
     }
