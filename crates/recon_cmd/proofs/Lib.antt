@@ -2,8 +2,10 @@ pub mod Headline
 pub mod Carrying
 pub mod Readings
 pub mod Completeness
+pub mod PrintedSurfaces
 pub mod ScanReplies
 pub mod BuiltAccepted
+pub mod BuiltSliced
 pub mod CheckEnds
 pub mod CheckReplies
 pub mod DemoReplies

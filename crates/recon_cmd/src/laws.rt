@@ -2,7 +2,7 @@
 //! laws.
 ghost use Rattle.recon_cmd.specs.CheckLaws.{CheckIsExact, RefusedIsNotChecked, BuiltIsAccepted, CheckAnswerIsOne, DemoAnswerIsOne, StampedIsKept};
 ghost use Rattle.recon_cmd.specs.Headline.{DoneIsBest};
-ghost use Rattle.recon_cmd.specs.Laws.{AcceptedIsDone, RefusedIsRefused, AcceptedIsBuilt, RefusedIsNotBuilt, CellsAnswerIsOne, BuildAnswerIsOneButForFlows, SliceAnswerIsOne, ExportAnswerIsOne};
+ghost use Rattle.recon_cmd.specs.Laws.{AcceptedIsDone, RefusedIsRefused, AcceptedIsBuilt, RefusedIsNotBuilt, CellsAnswerIsOne, BuildAnswerIsOneButForFlows, SliceAnswerIsOne, BuiltIsSliced, ExportAnswerIsOne};
 
 /// Where the host tells its files and no call fails, `cells` on a scan that is accepted is done, or finds no memory, and
 /// so is `build`.
@@ -49,6 +49,12 @@ pub fn a_check_says_what_its_files_are()
 /// of the two files, if they are no longer than the limit, or finds no memory.
 pub fn a_surface_that_was_built_is_accepted()
     ensures { BuiltIsAccepted }
+{}
+
+/// Where `build` was done, and `slice` of its mesh follows at any height, in which no call fails, it writes the loops if the mesh's
+/// file is no longer than the limit, or finds no memory: it refuses no mesh of `build`, as open or otherwise.
+pub fn a_surface_that_was_built_is_sliced()
+    ensures { BuiltIsSliced }
 {}
 
 /// A certificate that has the stamp of this run, and of which `upgrade` says yes, is written as it is. So what `upgrade` wrote it
