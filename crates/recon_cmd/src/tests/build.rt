@@ -1,14 +1,12 @@
 //! Runs of `build`: the surface of small scans, the texts of some of them, and that a run stops at a failure.
 
-use super::{
-    FOUR, FOUR_CERT, FOUR_DIGEST, FOUR_MESH, FOUR_OF_A_TOOL, NO_POINT, NO_POINT_DIGEST, ended,
-    is_text, plain, run_on, run_with, stamped, wrote_nothing,
+use super::fixtures::{
+    BUILD, FOUR, FOUR_BUILT, FOUR_CERT, FOUR_DIGEST, FOUR_MESH, FOUR_OF_A_TOOL, NO_POINT,
+    NO_POINT_DIGEST, ended, is_text, plain, run_on, run_over, stamped, wrote_nothing,
 };
 use host::HostCall;
 use std::alloc::Global;
 use std::test::Fail;
-
-const WORDS: [&str; 4] = ["build", "in", "mesh", "cert"];
 
 // The options under which an empty inside is as cheap as one cell inside.
 const LIGHT: [&str; 6] = ["build", "in", "mesh", "cert", "vote=1", "smooth=1"];
@@ -119,7 +117,7 @@ fn small_scans_say_their_counts_and_their_cost(rt: HostRuntime) -> Result<(), Fa
     let alloc = rt.alloc();
     let cases: [(&[&str], &[&str], &[&str], &str); 8] = [
         (
-            &WORDS,
+            &BUILD,
             &["0 0 0 0"],
             &["100 0 0"],
             "points 1 scanners 1 sights 1 inside 0 faces 0 cost 8\n",
@@ -131,25 +129,25 @@ fn small_scans_say_their_counts_and_their_cost(rt: HostRuntime) -> Result<(), Fa
             "points 1 scanners 1 sights 1 inside 0 faces 0 cost 5\n",
         ),
         (
-            &WORDS,
+            &BUILD,
             &["2097151 0 0 0"],
             &["100 0 0"],
             "points 1 scanners 1 sights 1 inside 0 faces 0 cost 8\n",
         ),
         (
-            &WORDS,
+            &BUILD,
             &PLANE,
             &["0 0 1000"],
             "points 4 scanners 1 sights 4 inside 0 faces 0 cost 32\n",
         ),
         (
-            &WORDS,
+            &BUILD,
             &FOUR_FROM_ONE,
             &["0 0 0"],
             "points 4 scanners 1 sights 4 inside 0 faces 0 cost 32\n",
         ),
         (
-            &WORDS,
+            &BUILD,
             &FOUR_ROWS,
             &FOUR_AND_ONE_INSIDE,
             "points 4 scanners 5 sights 4 inside 0 faces 0 cost 32\n",
@@ -161,7 +159,7 @@ fn small_scans_say_their_counts_and_their_cost(rt: HostRuntime) -> Result<(), Fa
             "points 4 scanners 4 sights 5 inside 1 faces 4 cost 4\n",
         ),
         (
-            &WORDS,
+            &BUILD,
             &FOUR_AND_ONE_THROUGH,
             &FIVE_SCANNERS,
             "points 4 scanners 5 sights 5 inside 1 faces 4 cost 20\n",
@@ -181,16 +179,16 @@ fn a_surface_is_written_with_its_certificate(rt: HostRuntime) -> Result<(), Fail
     let of_a_tool: [&str; 6] = ["build", "in", "mesh", "cert", "scanner=1,1,1", "unit=1000"];
     let cases: [(&[&str], &str, &str, &str, Option<(&str, &str)>); 4] = [
         (
-            &WORDS,
+            &BUILD,
             NO_POINT,
             "points 0 scanners 1 sights 0 inside 0 faces 0 cost 0\n",
             NO_MESH,
             Some((NO_POINT_CERT, NO_POINT_DIGEST)),
         ),
         (
-            &WORDS,
+            &BUILD,
             FOUR,
-            "points 4 scanners 4 sights 4 inside 1 faces 4 cost 4\n",
+            FOUR_BUILT,
             FOUR_MESH,
             Some((FOUR_CERT, FOUR_DIGEST)),
         ),
@@ -246,17 +244,12 @@ fn binary(alloc: Global, kind: &str) -> Result<Vec<u8>, Fail> {
 fn a_binary_scan_is_built_unless_it_needs_floats(rt: HostRuntime) -> Result<(), Fail> {
     let alloc = rt.alloc();
     let cases = [
-        (
-            "int",
-            0,
-            "points 4 scanners 4 sights 4 inside 1 faces 4 cost 4\n",
-            Some(FOUR_MESH),
-        ),
+        ("int", 0, FOUR_BUILT, Some(FOUR_MESH)),
         ("float", 3, "refused 9 binary_float vertex_x\n", None),
     ];
     for (kind, status, said, mesh) in cases {
         let bytes = binary(alloc, kind)?;
-        let ran = run_on(alloc, &WORDS, Some(&bytes))?;
+        let ran = run_on(alloc, &BUILD, Some(&bytes))?;
         assert!(rt;
             ended(&ran, status, said) && is_text(&ran.mesh, mesh),
             "{said:?}"
@@ -290,7 +283,7 @@ fn ends_with(file: &Option<Vec<u8>>, text: &str) -> bool {
 fn the_cells_of_the_cube_are_those_of_the_tie_rule(rt: HostRuntime) -> Result<(), Fail> {
     let alloc = rt.alloc();
     let text = plain(alloc, &CUBE, &CUBE_SCANNERS)?;
-    let ran = run_on(alloc, &WORDS, Some(text.as_bytes()))?;
+    let ran = run_on(alloc, &BUILD, Some(text.as_bytes()))?;
     assert!(rt;
         ended(
             &ran,
@@ -308,10 +301,11 @@ fn the_cells_of_the_cube_are_those_of_the_tie_rule(rt: HostRuntime) -> Result<()
 fn a_run_stops_at_a_call_that_fails(rt: HostRuntime) -> Result<(), Fail> {
     let alloc = rt.alloc();
     let failing = vec![in alloc; (HostCall::Append, 2)]?;
-    let cut = run_with(alloc, &WORDS, Some(FOUR.as_bytes()), 100, failing)?;
+    let four = [Some(FOUR.as_bytes()), None, None, None];
+    let cut = run_over(alloc, &BUILD, four, 100, failing)?;
     assert!(rt; ended(&cut, 4, "") && is_text(&cut.mesh, FOUR_MESH.get(..100)));
     assert!(rt; is_text(&cut.cert, None));
-    let unread = run_on(alloc, &WORDS, None)?;
+    let unread = run_on(alloc, &BUILD, None)?;
     assert!(rt; ended(&unread, 4, "") && wrote_nothing(&unread));
     Ok(())
 }

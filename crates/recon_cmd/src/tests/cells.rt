@@ -1,15 +1,10 @@
 //! Runs of `cells`: the cells of small scans, and that a run stops at a failure.
 
-use super::{NO_POINT, ended, is_text, run_on, run_with};
+use super::fixtures::{CELLS, NO_POINT, ONE_POINT, ended, is_text, run_on, run_over};
 use host::HostCall;
 use std::test::Fail;
 
-const WORDS: [&str; 3] = ["cells", "in", "out"];
-
 const NO_POINT_CELLS: &str = "cells 6\n0 1 2 4\n1 2 3 4\n1 3 4 5\n2 3 4 6\n3 4 5 6\n3 5 6 7\n";
-
-const ONE_POINT: &str =
-    "ply\nformat ascii 1.0\nelement vertex 1\nproperty int x\nproperty int y\nproperty int z\nproperty int scanner\nelement scanner 1\nproperty int x\nproperty int y\nproperty int z\nend_header\n0 0 0 0\n100 0 0\n";
 
 // Two rows of one point, seen by a scanner that the words name.
 const ONE_POINT_TWICE: &str =
@@ -24,14 +19,14 @@ fn small_scans_give_their_cells(rt: HostRuntime) -> Result<(), Fail> {
     let fixed: [&str; 5] = ["cells", "in", "out", "scanner=0,0,0.7", "unit=1"];
     let cases: [(&[&str], Option<&str>, u8, &str, Option<&str>); 4] = [
         (
-            &WORDS,
+            &CELLS,
             Some(NO_POINT),
             0,
             "points 0 cells 6\n",
             Some(NO_POINT_CELLS),
         ),
         (
-            &WORDS,
+            &CELLS,
             Some(ONE_POINT),
             0,
             "points 1 cells 12\n",
@@ -44,7 +39,7 @@ fn small_scans_give_their_cells(rt: HostRuntime) -> Result<(), Fail> {
             "points 1 cells 12\n",
             Some(ONE_POINT_CELLS),
         ),
-        (&WORDS, None, 4, "", None),
+        (&CELLS, None, 4, "", None),
     ];
     for (words, input, status, said, output) in cases {
         let bytes = match input {
@@ -64,7 +59,8 @@ fn small_scans_give_their_cells(rt: HostRuntime) -> Result<(), Fail> {
 fn a_failed_append_leaves_a_front_and_says_nothing(rt: HostRuntime) -> Result<(), Fail> {
     let alloc = rt.alloc();
     let failing = vec![in alloc; (HostCall::Append, 2)]?;
-    let ran = run_with(alloc, &WORDS, Some(NO_POINT.as_bytes()), 10, failing)?;
+    let none = [Some(NO_POINT.as_bytes()), None, None, None];
+    let ran = run_over(alloc, &CELLS, none, 10, failing)?;
     assert!(rt; ended(&ran, 4, "") && is_text(&ran.output, Some("cells 6\n0 ")));
     Ok(())
 }

@@ -1,14 +1,15 @@
 //! Runs of `check`: the verdict on a mesh and a certificate, one line for each reason, and what was built.
 
-use super::{FOUR, FOUR_CERT, FOUR_MESH, PIECE, Ran, ended, owned, written};
+use super::fixtures::{
+    BUILD, CHECK, FOUR, FOUR_CERT, FOUR_CHECKED, FOUR_MESH, ONE_POINT, PIECE, Ran, ended, files_of,
+    owned, run_over, with_part,
+};
 use crate::run;
 use gen_scan::gen_scan;
 use host::MemHost;
 use scan::push_scan;
 use std::alloc::Global;
 use std::test::Fail;
-
-const WORDS: [&str; 4] = ["check", "in", "mesh", "cert"];
 
 // A run over the files `in`, `mesh` and `cert`, of which the last two need not be there.
 pub fn check(
@@ -18,36 +19,13 @@ pub fn check(
     mesh: Option<&[u8]>,
     cert: Option<&[u8]>,
 ) -> Result<Ran, Fail> {
-    let files = vec![in alloc;
-        (String::from_str(alloc, "in")?, Some(input.to_vec(alloc)?)),
-        (String::from_str(alloc, "mesh")?, copied(alloc, mesh)?),
-        (String::from_str(alloc, "cert")?, copied(alloc, cert)?),
-    ]?;
-    let mut host = MemHost::new(alloc, files, PIECE, 1_048_576, Vec::new(alloc))?;
-    let status = run(alloc, &owned(alloc, words)?, &mut host);
-    Ok(Ran {
-        status,
-        said: host.said().to_vec(alloc)?,
-        output: None,
-        mesh: written(alloc, &host, "mesh")?,
-        cert: written(alloc, &host, "cert")?,
-    })
-}
-
-// The bytes, if there are any.
-fn copied(alloc: Global, bytes: Option<&[u8]>) -> Result<Option<Vec<u8>>, Fail> {
-    match bytes {
-        Some(bytes) => Ok(Some(bytes.to_vec(alloc)?)),
-        None => Ok(None),
-    }
-}
-
-// A text, with another part in the place of the first one like this.
-pub fn with_part(alloc: Global, text: &str, old: &str, new: &str) -> Result<String, Fail> {
-    match text.split_once(old) {
-        Some((before, behind)) => Ok(format!(in alloc; "{before}{new}{behind}")?),
-        None => Err(Fail::new("the text has no such part")),
-    }
+    run_over(
+        alloc,
+        words,
+        [Some(input), None, mesh, cert],
+        PIECE,
+        Vec::new(alloc),
+    )
 }
 
 // The flow and the sink of the four points.
@@ -59,38 +37,38 @@ fn a_certificate_is_right_or_has_a_first_fault(rt: HostRuntime) -> Result<(), Fa
     let light: [&str; 6] = ["check", "in", "mesh", "cert", "vote=1", "smooth=1"];
     let smooth: [&str; 5] = ["check", "in", "mesh", "cert", "smooth=2"];
     let cases: [(&[&str], &str, &str, u8, &str); 19] = [
-        (&WORDS, "", "", 0, "yes inside 1 faces 4 cost 4\n"),
+        (&CHECK, "", "", 0, FOUR_CHECKED),
         (
-            &WORDS,
+            &CHECK,
             "8 9 10 1\n",
             "8 9 10 01\n",
             1,
             "no 1 cert_line line 11\n",
         ),
         (
-            &WORDS,
+            &CHECK,
             "8 9 10 1\n8 10 11 1\n",
             "8 10 11 1\n8 9 10 1\n",
             1,
             "no 2 cert_order line 12\n",
         ),
-        (&WORDS, "end\n", "", 1, "no 3 cert_cut\n"),
+        (&CHECK, "end\n", "", 1, "no 3 cert_cut\n"),
         (
-            &WORDS,
+            &CHECK,
             "points 4",
             "points 3",
             1,
             "no 4 other_counts points stated 3 here 4\n",
         ),
         (
-            &WORDS,
+            &CHECK,
             "scanners 4\nsights 4",
             "scanners 5\nsights 5",
             1,
             "no 4 other_counts scanners stated 5 here 4\n",
         ),
         (
-            &WORDS,
+            &CHECK,
             "sights 4",
             "sights 5",
             1,
@@ -111,49 +89,49 @@ fn a_certificate_is_right_or_has_a_first_fault(rt: HostRuntime) -> Result<(), Fa
             "no 4 other_counts smooth stated 1 here 2\n",
         ),
         (
-            &WORDS,
+            &CHECK,
             "8 9 10 11\n",
             "0 1 2 3\n",
             1,
             "no 5 no_such_cell row 0\n",
         ),
         (
-            &WORDS,
+            &CHECK,
             "8 9 10 1\n",
             "0 1 2 1\n",
             1,
             "no 6 no_such_facet row 0\n",
         ),
         (
-            &WORDS,
+            &CHECK,
             "8 9 10 11 4",
             "0 1 2 3 4",
             1,
             "no 7 no_such_sink row 0\n",
         ),
         (
-            &WORDS,
+            &CHECK,
             "8 9 10 1\n",
             "8 9 10 2\n",
             1,
             "no 9 over_capacity 8 9 10 flow 2 cap 1\n",
         ),
         (
-            &WORDS,
+            &CHECK,
             "8 9 10 11 4",
             "8 9 10 11 33",
             1,
             "no 10 over_sink 8 9 10 11 flow 33 cap 32\n",
         ),
         (
-            &WORDS,
+            &CHECK,
             "8 9 10 11 4",
             "8 9 10 11 3",
             1,
             "no 11 unbalanced 8 9 10 11 in 4 out 3\n",
         ),
         (
-            &WORDS,
+            &CHECK,
             FLOW,
             "flow 0\nsink 0\n",
             1,
@@ -161,13 +139,13 @@ fn a_certificate_is_right_or_has_a_first_fault(rt: HostRuntime) -> Result<(), Fa
         ),
         (&light, "vote 8", "vote 1", 1, "no 13 not_least 8 9 10 11\n"),
         (
-            &WORDS,
+            &CHECK,
             "cost 4",
             "cost 5",
             1,
             "no 14 wrong_cost stated 5 cost 4\n",
         ),
-        (&WORDS, "end\n", "end\n\n", 1, "no 1 cert_line line 18\n"),
+        (&CHECK, "end\n", "end\n\n", 1, "no 1 cert_line line 18\n"),
     ];
     for (words, old, new, status, said) in cases {
         let cert = with_part(alloc, FOUR_CERT, old, new)?;
@@ -182,10 +160,6 @@ fn a_certificate_is_right_or_has_a_first_fault(rt: HostRuntime) -> Result<(), Fa
     }
     Ok(())
 }
-
-// One point, which has no cell without a corner of the box.
-const ONE_POINT: &str =
-    "ply\nformat ascii 1.0\nelement vertex 1\nproperty int x\nproperty int y\nproperty int z\nproperty int scanner\nelement scanner 1\nproperty int x\nproperty int y\nproperty int z\nend_header\n0 0 0 0\n100 0 0\n";
 
 const ONE_POINT_CERT: &str =
     "recon certificate 1\npoints 1\nscanners 1\nsights 1\nvote 8\nsmooth 1\ncost 8\ninside 1\n0 1 2 8\nflow 0\nsink 0\nend\n";
@@ -206,7 +180,7 @@ fn other_files_give_a_reason_or_are_not_there(rt: HostRuntime) -> Result<(), Fai
         (FOUR, mesh, None, 4, ""),
     ];
     for (input, mesh, cert, status, said) in cases {
-        let ran = check(alloc, &WORDS, input.as_bytes(), mesh, cert)?;
+        let ran = check(alloc, &CHECK, input.as_bytes(), mesh, cert)?;
         assert!(rt; ended(&ran, status, said), "{said:?}");
     }
     Ok(())
@@ -215,8 +189,8 @@ fn other_files_give_a_reason_or_are_not_there(rt: HostRuntime) -> Result<(), Fai
 // So many rows that a program which tries every four points comes to no end in the time of a test.
 const ROWS: u32 = 1000;
 
-// How many bytes the host has room for.
-const ROOM: usize = 16_777_216;
+// How many bytes the host has room for in each file.
+const LARGE: usize = 16_777_216;
 
 #[test]
 fn what_was_built_is_accepted(rt: HostRuntime) -> Result<(), Fail> {
@@ -224,19 +198,11 @@ fn what_was_built_is_accepted(rt: HostRuntime) -> Result<(), Fail> {
     let scan = gen_scan(alloc, ROWS, 7)?;
     let mut text = Vec::new(alloc);
     push_scan(&mut text, &scan)?;
-    let files = vec![in alloc;
-        (String::from_str(alloc, "in")?, Some(text)),
-        (String::from_str(alloc, "mesh")?, None),
-        (String::from_str(alloc, "cert")?, None),
-    ]?;
-    let mut host = MemHost::new(alloc, files, PIECE, ROOM, Vec::new(alloc))?;
-    let built = run(
-        alloc,
-        &owned(alloc, &["build", "in", "mesh", "cert"])?,
-        &mut host,
-    );
+    let files = files_of(alloc, [Some(&text), None, None, None])?;
+    let mut host = MemHost::new(alloc, files, PIECE, LARGE, Vec::new(alloc))?;
+    let built = run(alloc, &owned(alloc, &BUILD)?, &mut host);
     let line = host.said().to_vec(alloc)?;
-    let checked = run(alloc, &owned(alloc, &WORDS)?, &mut host);
+    let checked = run(alloc, &owned(alloc, &CHECK)?, &mut host);
     assert!(rt; built == 0 && checked == 0);
     let verdict = host.said().strip_prefix(&line).ok_or("another line")?;
     let numbers = verdict

@@ -1,11 +1,9 @@
 //! Runs of `export`: a mesh in a form of the test's own, and the words that `run` alone does not know.
-ghost use Rattle.std.specs.Prelude.{◌≡◌, false, IfOk};
-ghost use Rattle.host.specs.Memory.{state_of, AreNumbers};
 
-use super::{FOUR_MESH, PIECE, is_text, owned, written};
+use super::fixtures::{PIECE, owned};
+use super::forms::{beginning, shows};
 use crate::{run, run_forms};
 use geo_sign::Point;
-use host::{HostCall, MemHost};
 use mesh_form::{Form, NoMemory, Receipt};
 use num_text::push_whole;
 use std::alloc::Global;
@@ -64,61 +62,28 @@ impl Form for Tally {
     }
 }
 
-// The files that a run is made over: `mesh`, and `a`, `b` and `c`, of which the last holds something.
-fn host_with(alloc: Global, mesh: &str, failing: Vec<(HostCall, u64)>) -> Result<MemHost, Fail>
-    requires { AreNumbers failing.items }
-    ensures { IfOk result (λ host. (state_of host).writing ≡ false) }
-{
-    let files = vec![in alloc;
-        (
-            String::from_str(alloc, "mesh")?,
-            Some(mesh.as_bytes().to_vec(alloc)?)
-        ),
-        (String::from_str(alloc, "a")?, None),
-        (String::from_str(alloc, "b")?, None),
-        (
-            String::from_str(alloc, "c")?,
-            Some(b"before".to_vec(alloc)?)
-        ),
-    ]?;
-    Ok(MemHost::new(alloc, files, PIECE, 1_048_576, failing)?)
-}
-
-// Whether the three outputs hold these texts.
-fn hold(alloc: Global, host: &MemHost, texts: [Option<&str>; 3]) -> Result<bool, Fail> {
-    let [a, b, c] = texts;
-    Ok(
-        is_text(&written(alloc, host, "a")?, a)
-            && is_text(&written(alloc, host, "b")?, b)
-            && is_text(&written(alloc, host, "c")?, c),
-    )
-}
-
 #[test]
 fn a_form_of_the_callers_own_is_written(rt: HostRuntime) -> Result<(), Fail> {
     let alloc = rt.alloc();
-    let mut host = host_with(alloc, FOUR_MESH, Vec::new(alloc))?;
+    let mut host = beginning(alloc, PIECE, Vec::new(alloc))?;
     let mut forms: Vec<Box<dyn Form>> = Vec::new(alloc);
     forms.push(Box::new(alloc, Tally::new(alloc))?)?;
-    let words = owned(alloc, &["export", "mesh", "c"])?;
+    let words = owned(alloc, &["export", "mesh", "in"])?;
     let status = run_forms(alloc, &words, &mut host, &mut forms);
-    assert!(rt; status == 0 && host.said() == b"exported 1 points 4 faces 4\n".as_slice());
-    assert!(rt; hold(alloc, &host, [None, None, Some("points 4 faces 4")])?);
+    let texts = [None, None, Some("points 4 faces 4")];
+    assert!(rt; status == 0 && shows(&host, texts, "exported 1 points 4 faces 4\n"));
     Ok(())
 }
 
 #[test]
 fn run_alone_knows_no_forms(rt: HostRuntime) -> Result<(), Fail> {
     let alloc = rt.alloc();
-    for words in [["export", "mesh", "a"], ["export", "mesh", "c"]] {
-        let mut host = host_with(alloc, FOUR_MESH, Vec::new(alloc))?;
+    for words in [["export", "mesh", "out"], ["export", "mesh", "in"]] {
+        let mut host = beginning(alloc, PIECE, Vec::new(alloc))?;
         let status = run(alloc, &owned(alloc, &words)?, &mut host);
+        let texts = [None, None, Some("before")];
         assert!(rt;
-            status == 2 && host.said() == b"refused words\n".as_slice(),
-            "{words:?}"
-        );
-        assert!(rt;
-            hold(alloc, &host, [None, None, Some("before")])?,
+            status == 2 && shows(&host, texts, "refused words\n"),
             "{words:?}"
         );
     }

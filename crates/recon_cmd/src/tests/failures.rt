@@ -1,76 +1,26 @@
 //! Calls of the host fail one after another, and bytes come in any pieces: which status, files and line are left.
-ghost use Rattle.std.specs.Prelude.{◌≡◌, ◌<◌, All, false, length, IfOk};
-ghost use Rattle.host.specs.Memory.{state_of, AreNumbers};
 
-use super::{FOUR, FOUR_CERT, FOUR_DIGEST, FOUR_MESH, owned, stamped};
+use super::fixtures::{
+    BUILD, FOUR, FOUR_BUILT, FOUR_CERT, FOUR_DIGEST, FOUR_MESH, ROOM, files_of, host_with, leaves,
+    owned, stamped,
+};
 use crate::run;
 use host::{HostCall, MemHost};
-use std::alloc::Global;
 use std::test::Fail;
 
-const BUILD: [&str; 4] = ["build", "in", "mesh", "cert"];
-
-// How many bytes the host has room for in each file.
-const ROOM: usize = 65_536;
-
-// What a host holds before a run.
-#[derive(Clone, Copy)]
-struct Files<'a> {
-    scan: &'a [u8],
-    output: &'a [u8],
-    mesh: &'a [u8],
-    cert: &'a [u8],
-}
-
-// A host with these files.
-fn host_with(
-    alloc: Global,
-    files: Files,
-    pieces: Vec<usize>,
-    failing: Vec<(HostCall, u64)>,
-) -> Result<MemHost, Fail>
-    requires some { 0 < length pieces.items }
-    requires pieces { All (λ piece. 0 < piece) pieces.items }
-    requires failing { AreNumbers failing.items }
-    ensures { IfOk result (λ host. (state_of host).writing ≡ false) }
-{
-    let files = vec![in alloc;
-        (
-            String::from_str(alloc, "in")?,
-            Some(files.scan.to_vec(alloc)?)
-        ),
-        (
-            String::from_str(alloc, "out")?,
-            Some(files.output.to_vec(alloc)?)
-        ),
-        (
-            String::from_str(alloc, "mesh")?,
-            Some(files.mesh.to_vec(alloc)?)
-        ),
-        (
-            String::from_str(alloc, "cert")?,
-            Some(files.cert.to_vec(alloc)?)
-        ),
-    ]?;
-    Ok(MemHost::with_pieces(alloc, files, pieces, ROOM, failing)?)
-}
-
 // The four points, where the outputs held something else.
-fn four_and_old() -> Files<'static> {
-    Files {
-        scan: FOUR.as_bytes(),
-        output: b"old",
-        mesh: b"old",
-        cert: b"old",
-    }
+fn beginning() -> [Option<&'static [u8]>; 4] {
+    let old = Some("old".as_bytes());
+    [Some(FOUR.as_bytes()), old, old, old]
 }
 
-// Whether a file of this name has these bytes.
-fn holds(host: &MemHost, name: &str, bytes: &str) -> bool {
-    match host.file(name) {
-        Some(found) => found == bytes.as_bytes(),
-        None => false,
-    }
+// Whether the outputs have these texts, and this was said.
+fn shows(host: &MemHost, mesh: &str, cert: &str, said: &str) -> bool {
+    leaves(
+        host,
+        [Some(FOUR), Some("old"), Some(mesh), Some(cert)],
+        said,
+    )
 }
 
 // A call behind so many of its kind fails. The next one of that kind would fail too, and so would one more call of others, so that
@@ -105,12 +55,10 @@ fn a_run_stops_at_its_first_failed_call(rt: HostRuntime) -> Result<(), Fail> {
             (HostCall::Create, 3),
             (HostCall::Say, 1),
         ]?;
-        let mut host = host_with(alloc, four_and_old(), vec![in alloc; 100]?, failing)?;
+        let mut host = host_with(alloc, beginning(), 100, failing)?;
         let status = run(alloc, &owned(alloc, &BUILD)?, &mut host);
         assert!(rt; status == 4 && host.fault_count() == 1, "{call:?} {number}");
-        assert!(rt; holds(&host, "mesh", mesh), "{call:?} {number}");
-        assert!(rt; holds(&host, "cert", cert), "{call:?} {number}");
-        assert!(rt; host.said().is_empty(), "{call:?} {number}");
+        assert!(rt; shows(&host, mesh, cert, ""), "{call:?} {number}");
     }
     Ok(())
 }
@@ -122,15 +70,13 @@ fn pieces_of_any_size_give_the_same_files(rt: HostRuntime) -> Result<(), Fail> {
     let words = owned(alloc, &BUILD)?;
     let cert = stamped(alloc, FOUR_CERT, FOUR_DIGEST)?;
     let failing = vec![in alloc; (HostCall::Say, 2)]?;
-    let mut host = host_with(alloc, four_and_old(), vec![in alloc; 20]?, failing)?;
+    let mut host = host_with(alloc, beginning(), 20, failing)?;
     assert_eq!(rt; run(alloc, &words, &mut host), 4);
-    assert!(rt; holds(&host, "mesh", FOUR_MESH) && holds(&host, "cert", &cert));
-    assert!(rt; host.said() == b"points 4 scanners 4 ".as_slice());
+    assert!(rt; shows(&host, FOUR_MESH, &cert, "points 4 scanners 4 "));
     let pieces = vec![in alloc; 1, 100, 7]?;
-    let mut host = host_with(alloc, four_and_old(), pieces, Vec::new(alloc))?;
+    let files = files_of(alloc, beginning())?;
+    let mut host = MemHost::with_pieces(alloc, files, pieces, ROOM, Vec::new(alloc))?;
     assert_eq!(rt; run(alloc, &words, &mut host), 0);
-    assert!(rt; holds(&host, "mesh", FOUR_MESH) && holds(&host, "cert", &cert));
-    let line = b"points 4 scanners 4 sights 4 inside 1 faces 4 cost 4\n";
-    assert!(rt; host.said() == line.as_slice());
+    assert!(rt; shows(&host, FOUR_MESH, &cert, FOUR_BUILT));
     Ok(())
 }

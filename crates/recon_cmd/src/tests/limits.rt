@@ -1,16 +1,12 @@
 //! Limits that are met exactly: scans, certificates and meshes that are just allowed, and the next ones, which are refused.
 
-use super::check::{check, with_part};
-use super::{FOUR, FOUR_CERT, FOUR_MESH, ended, is_text, run_on, wrote_nothing};
+use super::check::check;
+use super::fixtures::{
+    BUILD, CHECK, FOUR, FOUR_BUILT, FOUR_CERT, FOUR_MESH, ended, is_text, run_on, with_part,
+    wrote_nothing,
+};
 use std::alloc::Global;
 use std::test::Fail;
-
-const BUILD: [&str; 4] = ["build", "in", "mesh", "cert"];
-
-const CHECK: [&str; 4] = ["check", "in", "mesh", "cert"];
-
-// What is said of the four points.
-const BUILT: &str = "points 4 scanners 4 sights 4 inside 1 faces 4 cost 4\n";
 
 // A text with so many copies of another one in it, before the first place where `before` stands.
 fn with_copies(
@@ -37,7 +33,7 @@ fn headers_are_read_up_to_their_limits(rt: HostRuntime) -> Result<(), Fail> {
     let format = "format ascii 1.0\n";
     let line = with_part(alloc, FOUR, format, "comment \r\nformat ascii 1.0\n")?;
     let cases: [(&str, &str, &str, u32, u8, &str); 6] = [
-        (line.as_str(), "\r\n", "c", 992, 0, BUILT),
+        (line.as_str(), "\r\n", "c", 992, 0, FOUR_BUILT),
         (
             line.as_str(),
             "\r\n",
@@ -48,7 +44,7 @@ fn headers_are_read_up_to_their_limits(rt: HostRuntime) -> Result<(), Fail> {
         ),
         ("ply\nc", "c", "c", 1000, 3, "refused 6 head_cut\n"),
         ("ply\nc", "c", "c", 1001, 3, "refused 3 long_line line 2\n"),
-        (FOUR, "element vertex", "comment\n", 988, 0, BUILT),
+        (FOUR, "element vertex", "comment\n", 988, 0, FOUR_BUILT),
         (
             FOUR,
             "element vertex",
@@ -93,7 +89,7 @@ fn counts_and_rows_are_read_up_to_their_limits(rt: HostRuntime) -> Result<(), Fa
             "end_header",
             "element junk 4294967295\nend_header",
             0,
-            BUILT,
+            FOUR_BUILT,
         ),
         (
             "end_header",

@@ -7,8 +7,10 @@ ghost use Rattle.mesh_ply.specs.Meshes.{IsMesh};
 ghost use Rattle.std.specs.Prelude.{◌≡◌, false, IfOk};
 ghost use Rattle.host.specs.Memory.{state_of};
 
-use super::forms::{FOUR_OBJ, FOUR_OFF, LINE};
-use super::{FOUR, FOUR_CERT, FOUR_DIGEST, FOUR_MESH, in_three_forms};
+use super::fixtures::{
+    BUILD, CHECK, EXPORT, FOUR, FOUR_BUILT, FOUR_CERT, FOUR_DIGEST, FOUR_EXPORTED, FOUR_MESH,
+    FOUR_OBJ, FOUR_OFF, host_with, in_three_forms, leaves, owned, stamped,
+};
 use crate::{NoMemory, run};
 use cert_text::push_cert;
 use flow_net::Settings;
@@ -19,15 +21,9 @@ use scan::{Scan, ScanRefusal, push_scan, read_scan};
 use std::alloc::Global;
 use std::test::Fail;
 
-const BUILD: [&str; 4] = ["build", "in", "mesh", "cert"];
-
-const CHECK: [&str; 4] = ["check", "in", "mesh", "cert"];
-
 // What `build` says of the four points, and what `check` says behind it.
-const BUILT: &[u8] = b"points 4 scanners 4 sights 4 inside 1 faces 4 cost 4\n";
-
-const CHECKED: &[u8] =
-    b"points 4 scanners 4 sights 4 inside 1 faces 4 cost 4\nyes inside 1 faces 4 cost 4\n";
+const BUILT_AND_CHECKED: &str =
+    "points 4 scanners 4 sights 4 inside 1 faces 4 cost 4\nyes inside 1 faces 4 cost 4\n";
 
 // What there is before the two runs: the host, the words of each, and the certificate that `build` is to write.
 #[derive(Drop)]
@@ -38,46 +34,17 @@ struct Beginning {
     cert: String,
 }
 
-// The words as a command line has them.
-fn words_of(alloc: Global, words: &[&str]) -> Result<Vec<String>, NoMemory> {
-    let mut owned = Vec::new(alloc);
-    for word in words {
-        owned.push(String::from_str(alloc, word)?)?;
-    }
-    Ok(owned)
-}
-
 // The four points, and outputs that hold something else.
 fn begin(alloc: Global) -> Result<Beginning, NoMemory>
     ensures { IfOk result (λ before. (state_of before.host).writing ≡ false) }
 {
-    let files = vec![in alloc;
-        (
-            String::from_str(alloc, "in")?,
-            Some(FOUR.as_bytes().to_vec(alloc)?)
-        ),
-        (
-            String::from_str(alloc, "mesh")?,
-            Some(b"old".to_vec(alloc)?)
-        ),
-        (
-            String::from_str(alloc, "cert")?,
-            Some(b"old".to_vec(alloc)?)
-        ),
-    ]?;
-    let mut cert = String::from_str(alloc, "recon certificate 2\nscan ")?;
-    cert.push_str(FOUR_DIGEST)?;
-    cert.push_str("\nunit 1\nscanner none\n")?;
-    cert.push_str(
-        FOUR_CERT
-            .strip_prefix("recon certificate 1\n")
-            .unwrap_or(""),
-    )?;
+    let old = Some("old".as_bytes());
+    let held = [Some(FOUR.as_bytes()), None, old, old];
     Ok(Beginning {
-        host: MemHost::new(alloc, files, 100, 4096, Vec::new(alloc))?,
-        build: words_of(alloc, &BUILD)?,
-        check: words_of(alloc, &CHECK)?,
-        cert,
+        host: host_with(alloc, held, 100, Vec::new(alloc))?,
+        build: owned(alloc, &BUILD)?,
+        check: owned(alloc, &CHECK)?,
+        cert: stamped(alloc, FOUR_CERT, FOUR_DIGEST)?,
     })
 }
 
@@ -91,12 +58,9 @@ fn begin_or_again(alloc: Global) -> Result<Beginning, NoMemory>
     }
 }
 
-// Whether the outputs have these bytes, and this was said.
-fn shows(host: &MemHost, mesh: &str, cert: &str, said: &[u8]) -> bool {
-    host.file("mesh") == Some(mesh.as_bytes())
-        && host.file("cert") == Some(cert.as_bytes())
-        && host.said() == said
-        && host.fault_count() == 0
+// Whether the outputs have these texts, and this was said.
+fn shows(host: &MemHost, mesh: &str, cert: &str, said: &str) -> bool {
+    leaves(host, [Some(FOUR), None, Some(mesh), Some(cert)], said) && host.fault_count() == 0
 }
 
 #[test]
@@ -105,35 +69,26 @@ fn a_command_without_memory_leaves_all_as_it_was(rt: HostRuntime) -> Result<(), 
     let mut before = begin_or_again(alloc)?;
     let mut status = run(alloc, &before.build, &mut before.host);
     if status == 5 {
-        assert!(rt; shows(&before.host, "old", "old", b""));
+        assert!(rt; shows(&before.host, "old", "old", ""));
         status = run(alloc, &before.build, &mut before.host);
     }
-    assert!(rt; status == 0 && shows(&before.host, FOUR_MESH, &before.cert, BUILT));
+    assert!(rt; status == 0 && shows(&before.host, FOUR_MESH, &before.cert, FOUR_BUILT));
     status = run(alloc, &before.check, &mut before.host);
     if status == 5 {
-        assert!(rt; shows(&before.host, FOUR_MESH, &before.cert, BUILT));
+        assert!(rt; shows(&before.host, FOUR_MESH, &before.cert, FOUR_BUILT));
         status = run(alloc, &before.check, &mut before.host);
     }
-    assert!(rt; status == 0 && shows(&before.host, FOUR_MESH, &before.cert, CHECKED));
+    assert!(rt; status == 0 && shows(&before.host, FOUR_MESH, &before.cert, BUILT_AND_CHECKED));
     Ok(())
 }
-
-const EXPORT: [&str; 5] = ["export", "mesh", "a", "b", "c"];
 
 // The mesh of the four points, and outputs that hold something else.
 fn begin_export(alloc: Global) -> Result<MemHost, NoMemory>
     ensures { IfOk result (λ host. (state_of host).writing ≡ false) }
 {
-    let files = vec![in alloc;
-        (
-            String::from_str(alloc, "mesh")?,
-            Some(FOUR_MESH.as_bytes().to_vec(alloc)?)
-        ),
-        (String::from_str(alloc, "a")?, Some(b"old".to_vec(alloc)?)),
-        (String::from_str(alloc, "b")?, Some(b"old".to_vec(alloc)?)),
-        (String::from_str(alloc, "c")?, Some(b"old".to_vec(alloc)?)),
-    ]?;
-    MemHost::new(alloc, files, 100, 4096, Vec::new(alloc))
+    let old = Some("old".as_bytes());
+    let held = [old, old, Some(FOUR_MESH.as_bytes()), old];
+    host_with(alloc, held, 100, Vec::new(alloc))
 }
 
 // The same, made again where there was no memory.
@@ -146,15 +101,11 @@ fn begin_export_or_again(alloc: Global) -> Result<MemHost, NoMemory>
     }
 }
 
-// Whether the outputs have these bytes, and this was said.
+// Whether the outputs have these texts, and this was said.
 fn shows_forms(host: &MemHost, texts: [&str; 3], said: &str) -> bool {
-    let [a, b, c] = texts;
-    host.file("a") == Some(a.as_bytes())
-        && host.file("b") == Some(b.as_bytes())
-        && host.file("c") == Some(c.as_bytes())
-        && host.file("mesh") == Some(FOUR_MESH.as_bytes())
-        && host.said() == said.as_bytes()
-        && host.fault_count() == 0
+    let [output, cert, input] = texts;
+    let held = [Some(input), Some(output), Some(FOUR_MESH), Some(cert)];
+    leaves(host, held, said) && host.fault_count() == 0
 }
 
 // The status of an export, which is 5 too where there is no memory for the forms.
@@ -170,9 +121,9 @@ fn export_on(alloc: Global, words: &[String], host: &mut MemHost) -> u8
 #[test]
 fn an_export_without_memory_leaves_all_as_it_was(rt: HostRuntime) -> Result<(), Fail> {
     let alloc = rt.alloc();
-    let words = match words_of(alloc, &EXPORT) {
+    let words = match owned(alloc, &EXPORT) {
         Ok(words) => words,
-        Err(_) => words_of(alloc, &EXPORT)?,
+        Err(_) => owned(alloc, &EXPORT)?,
     };
     let mut host = begin_export_or_again(alloc)?;
     let mut status = export_on(alloc, &words, &mut host);
@@ -182,7 +133,7 @@ fn an_export_without_memory_leaves_all_as_it_was(rt: HostRuntime) -> Result<(), 
         status = export_on(alloc, &words, &mut host);
     }
     let texts = [FOUR_MESH, FOUR_OFF, FOUR_OBJ];
-    assert!(rt; status == 0 && shows_forms(&host, texts, LINE));
+    assert!(rt; status == 0 && shows_forms(&host, texts, FOUR_EXPORTED));
     Ok(())
 }
 

@@ -1,10 +1,8 @@
 //! What is said of a scan that is refused: the line of each refusal, and that no file is made.
 
-use super::{FOUR, ended, run_on, wrote_nothing};
+use super::fixtures::{BUILD, FOUR, ended, run_on, with_part, wrote_nothing};
 use std::alloc::Global;
 use std::test::Fail;
-
-const WORDS: [&str; 4] = ["build", "in", "mesh", "cert"];
 
 // The properties of a vertex of the four points.
 const PROPERTIES: &str = "property int x\nproperty int y\nproperty int z\nproperty int scanner\n";
@@ -12,14 +10,6 @@ const PROPERTIES: &str = "property int x\nproperty int y\nproperty int z\nproper
 const FIRST_ROW: &str = "100 100 100 0\n";
 
 const LAST_ROW: &str = "-1000 -1000 1000\n";
-
-// The file of the four points, with another text in the place of the first one like this.
-fn four_with(alloc: Global, old: &str, new: &str) -> Result<String, Fail> {
-    match FOUR.split_once(old) {
-        Some((before, behind)) => Ok(format!(in alloc; "{before}{new}{behind}")?),
-        None => Err(Fail::new("the file has no such text")),
-    }
-}
 
 #[test]
 fn each_refusal_says_its_line(rt: HostRuntime) -> Result<(), Fail> {
@@ -98,8 +88,8 @@ fn each_refusal_says_its_line(rt: HostRuntime) -> Result<(), Fail> {
         ),
     ];
     for (old, new, said) in cases {
-        let text = four_with(alloc, old, new)?;
-        let ran = run_on(alloc, &WORDS, Some(text.as_bytes()))?;
+        let text = with_part(alloc, FOUR, old, new)?;
+        let ran = run_on(alloc, &BUILD, Some(text.as_bytes()))?;
         assert!(rt; ended(&ran, 3, said) && wrote_nothing(&ran), "{said:?}");
     }
     Ok(())
@@ -132,12 +122,12 @@ fn headers_and_lists_are_refused_by_their_line_or_place(rt: HostRuntime) -> Resu
     let long_line = with_comments(alloc, 1, 1000)?;
     let long_header = with_comments(alloc, 1000, 0)?;
     let cases: [(&[&str], &str, &str); 5] = [
-        (&WORDS, long_line.as_str(), "refused 3 long_line line 3\n"),
-        (&WORDS, long_header.as_str(), "refused 4 long_header\n"),
-        (&WORDS, HEAD_CUT, "refused 6 head_cut\n"),
+        (&BUILD, long_line.as_str(), "refused 3 long_line line 3\n"),
+        (&BUILD, long_header.as_str(), "refused 4 long_header\n"),
+        (&BUILD, HEAD_CUT, "refused 6 head_cut\n"),
         (&fixed, FOUR, "refused 11 two_scanners\n"),
         (
-            &WORDS,
+            &BUILD,
             BAD_COUNT,
             "refused 16 bad_count element 0 row 0 property 0\n",
         ),

@@ -1,9 +1,8 @@
 //! Runs of `slice`: the loops of small meshes, and what is refused.
 ghost use Rattle.host.specs.Memory.{AreNumbers};
 
-use super::{FOUR_MESH, PIECE, Ran, ended, is_text, owned, written};
-use crate::run;
-use host::{HostCall, MemHost};
+use super::fixtures::{FOUR_MESH, PIECE, Ran, ended, is_text, run_over};
+use host::HostCall;
 use std::alloc::Global;
 use std::test::Fail;
 
@@ -16,22 +15,13 @@ fn ran(
 ) -> Result<Ran, Fail>
     requires { AreNumbers failing.items }
 {
-    let files = vec![in alloc;
-        (
-            String::from_str(alloc, "mesh")?,
-            Some(mesh.as_bytes().to_vec(alloc)?)
-        ),
-        (String::from_str(alloc, "out")?, None),
-    ]?;
-    let mut host = MemHost::new(alloc, files, PIECE, 1_048_576, failing)?;
-    let status = run(alloc, &owned(alloc, words)?, &mut host);
-    Ok(Ran {
-        status,
-        said: host.said().to_vec(alloc)?,
-        output: written(alloc, &host, "out")?,
-        mesh: written(alloc, &host, "mesh")?,
-        cert: None,
-    })
+    run_over(
+        alloc,
+        words,
+        [None, None, Some(mesh.as_bytes()), None],
+        PIECE,
+        failing,
+    )
 }
 
 // The four points without their last face.

@@ -7,8 +7,8 @@
 //! failed call but the one that closes the file which is being written.
 ghost use Rattle.std.specs.Prelude.{◌<◌};
 
+use super::fixtures::{in_three_forms, owned, plain};
 use super::watched::{Files, Watched};
-use super::{in_three_forms, owned, plain};
 use gen_scan::gen_scan;
 use geo_sign::Point;
 use host::HostCall;

@@ -1,19 +1,13 @@
 //! Files that are longer than the limit, by the call under `run` that is told the limit: as long as it is read, and a byte more is
 //! refused.
 
+use super::fixtures::{
+    BUILD, CELLS, CHECK, FOUR, FOUR_CERT, FOUR_CHECKED, FOUR_MESH, UPGRADE, owned,
+};
 use super::watched::{Files, Watched};
-use super::{FOUR, FOUR_CERT, FOUR_MESH, owned};
 use crate::whole_run::run_within;
 use std::alloc::Global;
 use std::test::Fail;
-
-const CELLS: [&str; 3] = ["cells", "in", "out"];
-
-const BUILD: [&str; 4] = ["build", "in", "mesh", "cert"];
-
-const CHECK: [&str; 4] = ["check", "in", "mesh", "cert"];
-
-const UPGRADE: [&str; 5] = ["upgrade", "in", "mesh", "cert", "out"];
 
 // The bytes of a text, made as long as this by others behind them.
 fn lengthened(alloc: Global, text: &str, length: usize) -> Result<Vec<u8>, Fail> {
@@ -64,7 +58,7 @@ fn a_file_is_refused_where_it_is_longer_than_the_limit(rt: HostRuntime) -> Resul
             "refused 19 too_long cert\n",
         ),
         (&CHECK, whole, 0, whole, 1, "no 1 cert_line line 18\n"),
-        (&CHECK, whole, 0, 0, 0, "yes inside 1 faces 4 cost 4\n"),
+        (&CHECK, whole, 0, 0, 0, FOUR_CHECKED),
     ];
     for (words, limit, mesh, cert, status, said) in cases {
         let files = Files {

@@ -2,18 +2,13 @@
 
 ghost use Rattle.host.specs.Memory.{AreNumbers};
 
-use super::{
-    FOUR, FOUR_CERT, FOUR_DIGEST, FOUR_MESH, FOUR_OF_A_TOOL, PIECE, Ran, ended, is_text, owned,
-    stamped, written,
+use super::fixtures::{
+    CHECK, FOUR, FOUR_CERT, FOUR_CHECKED, FOUR_DIGEST, FOUR_MESH, FOUR_OF_A_TOOL, PIECE, Ran,
+    UPGRADE, ended, is_text, run_over, stamped,
 };
-use crate::run;
-use host::{HostCall, MemHost};
+use host::HostCall;
 use std::alloc::Global;
 use std::test::Fail;
-
-const WORDS: [&str; 5] = ["upgrade", "in", "mesh", "cert", "out"];
-
-const CHECK: [&str; 4] = ["check", "in", "mesh", "cert"];
 
 // A run over the files `in`, `mesh` and `cert`, where `out` is not there, and calls may fail.
 fn ran(
@@ -25,30 +20,13 @@ fn ran(
 ) -> Result<Ran, Fail>
     requires { AreNumbers failing.items }
 {
-    let files = vec![in alloc;
-        (
-            String::from_str(alloc, "in")?,
-            Some(input.as_bytes().to_vec(alloc)?)
-        ),
-        (
-            String::from_str(alloc, "mesh")?,
-            Some(FOUR_MESH.as_bytes().to_vec(alloc)?)
-        ),
-        (
-            String::from_str(alloc, "cert")?,
-            Some(cert.as_bytes().to_vec(alloc)?)
-        ),
-        (String::from_str(alloc, "out")?, None),
-    ]?;
-    let mut host = MemHost::new(alloc, files, PIECE, 1_048_576, failing)?;
-    let status = run(alloc, &owned(alloc, words)?, &mut host);
-    Ok(Ran {
-        status,
-        said: host.said().to_vec(alloc)?,
-        output: written(alloc, &host, "out")?,
-        mesh: written(alloc, &host, "mesh")?,
-        cert: written(alloc, &host, "cert")?,
-    })
+    let held = [
+        Some(input.as_bytes()),
+        None,
+        Some(FOUR_MESH.as_bytes()),
+        Some(cert.as_bytes()),
+    ];
+    run_over(alloc, words, held, PIECE, failing)
 }
 
 // What is upgraded once is written again as it is.
@@ -57,7 +35,7 @@ fn a_certificate_gets_the_stamp_of_the_run(rt: HostRuntime) -> Result<(), Fail> 
     let alloc = rt.alloc();
     let wanted = stamped(alloc, FOUR_CERT, FOUR_DIGEST)?;
     for cert in [FOUR_CERT, wanted.as_str()] {
-        let ran = ran(alloc, &WORDS, FOUR, cert, Vec::new(alloc))?;
+        let ran = ran(alloc, &UPGRADE, FOUR, cert, Vec::new(alloc))?;
         assert!(rt; ended(&ran, 0, "upgraded cost 4\n"), "{cert:?}");
         assert!(rt; is_text(&ran.output, Some(wanted.as_str())), "{cert:?}");
         assert!(rt; is_text(&ran.cert, Some(cert)), "{cert:?}");
@@ -76,10 +54,10 @@ fn a_certificate_of_another_run_is_told_as_that(rt: HostRuntime) -> Result<(), F
     let other = format!(in alloc; "no 16 other_scan stated {FOUR_DIGEST} here {WITH_A_SPACE}\n")?;
     let unit: [&str; 5] = ["check", "in", "mesh", "cert", "unit=2"];
     let cases: [(&[&str], &str, u8, &str); 4] = [
-        (&CHECK, FOUR, 0, "yes inside 1 faces 4 cost 4\n"),
+        (&CHECK, FOUR, 0, FOUR_CHECKED),
         (&CHECK, longer.as_str(), 1, other.as_str()),
         (&unit, FOUR, 1, "no 17 other_unit stated 1 here 2\n"),
-        (&WORDS, longer.as_str(), 1, other.as_str()),
+        (&UPGRADE, longer.as_str(), 1, other.as_str()),
     ];
     for (words, input, status, said) in cases {
         let ran = ran(alloc, words, input, &cert, Vec::new(alloc))?;
@@ -129,7 +107,7 @@ fn nothing_is_written_where_it_is_not_yes(rt: HostRuntime) -> Result<(), Fail> {
         assert!(rt; ran.output.is_none(), "{said:?}");
     }
     let failing = vec![in alloc; (HostCall::Create, 1)]?;
-    let stopped = ran(alloc, &WORDS, FOUR, FOUR_CERT, failing)?;
+    let stopped = ran(alloc, &UPGRADE, FOUR, FOUR_CERT, failing)?;
     assert!(rt; ended(&stopped, 4, "") && stopped.output.is_none());
     Ok(())
 }

@@ -1,16 +1,14 @@
 //! A host in memory that counts its calls, and what is called after a call has failed.
-ghost use Rattle.std.specs.Prelude.{◌≡◌, ◌<◌, false, All, length, IfOk};
-ghost use Rattle.host.specs.Memory.{state_of, AreNumbers};
+ghost use Rattle.std.specs.Prelude.{◌≡◌, ◌<◌, false, IfOk};
+ghost use Rattle.host.specs.Memory.{state_of};
 
+use super::fixtures::host_with;
 use host::{Failed, Host, HostCall, MemHost};
 use std::alloc::Global;
 use std::test::Fail;
 
 // The names of the files.
 pub const NAMES: [&str; 4] = ["in", "out", "mesh", "cert"];
-
-// How many bytes a file may have.
-const ROOM: usize = 65_536;
 
 /// The bytes of the four files of a host.
 #[derive(Drop)]
@@ -91,30 +89,18 @@ impl Watched {
         requires piece { 0 < piece }
         ensures { IfOk result (λ watched. (state_of watched.host).writing ≡ false) }
     {
-        let files = vec![in alloc;
-            (
-                String::from_str(alloc, "in")?,
-                Some(files.input.to_vec(alloc)?)
-            ),
-            (
-                String::from_str(alloc, "out")?,
-                Some(files.output.to_vec(alloc)?)
-            ),
-            (
-                String::from_str(alloc, "mesh")?,
-                Some(files.mesh.to_vec(alloc)?)
-            ),
-            (
-                String::from_str(alloc, "cert")?,
-                Some(files.cert.to_vec(alloc)?)
-            ),
-        ]?;
+        let held = [
+            Some(files.input.as_slice()),
+            Some(files.output.as_slice()),
+            Some(files.mesh.as_slice()),
+            Some(files.cert.as_slice()),
+        ];
         let failing = match failing {
             Some((call, behind)) => vec![in alloc; (call, u64::from(behind) + 1)]?,
             None => Vec::new(alloc),
         };
         Ok(Watched {
-            host: MemHost::new(alloc, files, piece, ROOM, failing)?,
+            host: host_with(alloc, held, piece, failing)?,
             counts: [0; 6],
             closed: 0,
             later: 0,

@@ -1,13 +1,13 @@
 //! Runs on scans whose rows have weights, several scanners or none.
 
 use super::check::check;
-use super::{FOUR_MESH, ended, is_text, run_on, wrote_nothing};
+use super::fixtures::{FOUR_BUILT, FOUR_CHECKED, FOUR_MESH, ended, is_text, run_on, wrote_nothing};
 use std::alloc::Global;
 use std::test::Fail;
 
-const BUILD: [&str; 6] = ["build", "in", "mesh", "cert", "vote=1", "smooth=1"];
+const LIGHT: [&str; 6] = ["build", "in", "mesh", "cert", "vote=1", "smooth=1"];
 
-const CHECK: [&str; 6] = ["check", "in", "mesh", "cert", "vote=1", "smooth=1"];
+const CHECK_LIGHT: [&str; 6] = ["check", "in", "mesh", "cert", "vote=1", "smooth=1"];
 
 const ONE_SCANNER: &str = "property int scanner\n";
 
@@ -27,7 +27,7 @@ fn four(alloc: Global, properties: &str, seen: [&str; 4]) -> Result<String, Fail
 #[test]
 fn a_weight_counts_as_so_many_sights(rt: HostRuntime) -> Result<(), Fail> {
     let alloc = rt.alloc();
-    let inside = "points 4 scanners 4 sights 4 inside 1 faces 4 cost 4\n";
+    let inside = FOUR_BUILT;
     let outside = "points 4 scanners 4 sights 4 inside 0 faces 0 cost 4\n";
     let cases = [
         (ONE_SCANNER, ["0", "1", "2", "3"], outside),
@@ -53,7 +53,7 @@ fn a_weight_counts_as_so_many_sights(rt: HostRuntime) -> Result<(), Fail> {
     ];
     for (properties, seen, said) in cases {
         let text = four(alloc, properties, seen)?;
-        let ran = run_on(alloc, &BUILD, Some(text.as_bytes()))?;
+        let ran = run_on(alloc, &LIGHT, Some(text.as_bytes()))?;
         assert!(rt; ended(&ran, 0, said), "{properties:?} {seen:?}");
     }
     Ok(())
@@ -86,12 +86,12 @@ fn a_point_is_seen_by_each_scanner_of_its_list(rt: HostRuntime) -> Result<(), Fa
         (
             "property uchar weight\nproperty list uint uchar scanner\n",
             ["7 0", "2 2 1 1", "1 1 2", "1 1 3"],
-            "points 4 scanners 4 sights 4 inside 1 faces 4 cost 4\n",
+            FOUR_BUILT,
         ),
     ];
     for (properties, seen, said) in cases {
         let text = four(alloc, properties, seen)?;
-        let ran = run_on(alloc, &BUILD, Some(text.as_bytes()))?;
+        let ran = run_on(alloc, &LIGHT, Some(text.as_bytes()))?;
         assert!(rt; ended(&ran, 0, said), "{seen:?}");
     }
     Ok(())
@@ -101,12 +101,18 @@ fn a_point_is_seen_by_each_scanner_of_its_list(rt: HostRuntime) -> Result<(), Fa
 fn what_was_built_of_weighed_sights_is_accepted(rt: HostRuntime) -> Result<(), Fail> {
     let alloc = rt.alloc();
     let weighed = four(alloc, WEIGHED, ["0 2", "1 1", "2 1", "3 1"])?;
-    let built = run_on(alloc, &BUILD, Some(weighed.as_bytes()))?;
+    let built = run_on(alloc, &LIGHT, Some(weighed.as_bytes()))?;
     assert!(rt; is_text(&built.mesh, Some(FOUR_MESH)));
     let mesh = built.mesh.ok_or("a mesh")?;
     let cert = built.cert.ok_or("a certificate")?;
-    let ran = check(alloc, &CHECK, weighed.as_bytes(), Some(&mesh), Some(&cert))?;
-    assert!(rt; ended(&ran, 0, "yes inside 1 faces 4 cost 4\n"));
+    let ran = check(
+        alloc,
+        &CHECK_LIGHT,
+        weighed.as_bytes(),
+        Some(&mesh),
+        Some(&cert),
+    )?;
+    assert!(rt; ended(&ran, 0, FOUR_CHECKED));
     Ok(())
 }
 
@@ -157,7 +163,7 @@ fn a_weight_or_a_scanner_that_is_none_is_refused(rt: HostRuntime) -> Result<(), 
     ];
     for (properties, seen, said) in cases {
         let text = four(alloc, properties, seen)?;
-        let ran = run_on(alloc, &BUILD, Some(text.as_bytes()))?;
+        let ran = run_on(alloc, &LIGHT, Some(text.as_bytes()))?;
         assert!(rt; ended(&ran, 3, said) && wrote_nothing(&ran), "{said:?}");
     }
     Ok(())
@@ -200,7 +206,7 @@ fn seen_often(alloc: Global, count: u32) -> Result<Vec<u8>, Fail> {
 fn more_sights_than_the_limit_are_refused(rt: HostRuntime) -> Result<(), Fail> {
     let alloc = rt.alloc();
     let bytes = seen_often(alloc, 8_388_609)?;
-    let ran = run_on(alloc, &BUILD, Some(&bytes))?;
+    let ran = run_on(alloc, &LIGHT, Some(&bytes))?;
     assert!(rt; ended(&ran, 3, "refused 22 too_many_sights row 0\n") && wrote_nothing(&ran));
     Ok(())
 }
