@@ -10,7 +10,7 @@
 --
 -- These say the refusals in their order. specs/Grammar says in the format's own words which
 -- texts have a header, and a law of the crate that both agree.
-use Rattle.std.specs.Prelude.{ℕ, Bool, ◌+◌, ◌≡◌, ◌≤◌, List, [], ◌∷◌, ◌++◌, nat_eq, nat_lt, length, drop, codes, Option, Some}
+use Rattle.std.specs.Prelude.{ℕ, Bool, ◌+◌, ◌≡◌, List, [], ◌∷◌, ◌++◌, nat_eq, nat_lt, length, drop, codes, Option, Some}
 use Rattle.std.specs.Prelude.{None, Result, Ok, Err, if◌then◌else◌}
 use Rattle.std.specs.List.{list_any, join_with_byte, starts_with}
 use Rattle.std.specs.Str.{bytes_eq}

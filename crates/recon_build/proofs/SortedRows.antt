@@ -8,6 +8,7 @@ use Rattle.std.proofs.lemmas.List.{get_or-map, get_or_default, length-map, same_
 use Rattle.std.proofs.lemmas.List.Elements.{Contains-get_or}
 use Rattle.std.proofs.lemmas.List.Kept.{AllPairs-filter}
 use Rattle.std.proofs.lemmas.List.Sorted.{IsPermutation-map, IsPermutation-sym, Contains-permutation}
+use Rattle.geo_sign.proofs.CellRows.{last_below}
 use Rattle.cert_text.specs.declared.certificate.FlowRow.{FlowRow}
 use Rattle.cert_text.specs.declared.certificate.SinkRow.{SinkRow}
 use Rattle.geo_sign.specs.Cells.{IsRisingCell}
@@ -24,7 +25,7 @@ use Rattle.visibility.specs.Listings.{AreOnce, IsListingOf}
 use Rattle.visibility.specs.Scenes.{Scene}
 use Rattle.visibility.proofs.Indices.{once_permuted}
 use Rattle.visibility.proofs.Listings.{cells_once, facets_once, facet_back, rising_cell}
-use Rattle.visibility.proofs.Ordered.{facets_are_ordered, form_below}
+use Rattle.visibility.proofs.Ordered.{facets_are_ordered}
 use Rattle.vote_net.specs.Gathered.{row_key, facet_key}
 use Rattle.vote_net.proofs.KeyOrders.{AreSmall, rows_before, facets_before}
 use Rattle.recon_build.specs.RowKeys.{key_of_flow, key_of_sink}
@@ -111,7 +112,7 @@ cells_keep v few k l = by_rising v (λ row. IsRisingCell v l → row_key row ≤
       where
         small : (e f g i : ℕ) → IsRisingCell v (e ∷ f ∷ g ∷ i ∷ []) → AreSmall (tetrahedron e f g i)
         small e f g i r =
-            let below : i < v.count = form_below v e f g i r.3 in
+            let below : i < v.count = last_below v e f g i r.3 in
             let x = r.0 in let y = r.1 in let z = r.2 in
             record {
               a = omega (arith, x, y, z, below, few);

@@ -6,6 +6,7 @@ use Rattle.std.proofs.lemmas.Bool.{eqb-false}
 use Rattle.std.proofs.lemmas.List.{get_or-map, length-map}
 use Rattle.std.proofs.lemmas.List.Kept.{AllPairs-filter}
 use Rattle.std.specs.Option.{option_map}
+use Rattle.geo_sign.proofs.CellRows.{last_below}
 use Rattle.cert_text.specs.Stamps.{IsVersion}
 use Rattle.cert_text.specs.declared.stamp.Stamp.{Stamp}
 use Rattle.cert_text.specs.Certificates.{Claim, FitCounts, AreCellRows, IsFlowList, IsSinkList, IsWellFormed, stamp_view}
@@ -23,7 +24,7 @@ use Rattle.visibility.specs.Votes.{IsComplexOf}
 use Rattle.visibility.specs.Flows.{IsValidFlow}
 use Rattle.visibility.specs.Laws.{IsOrdered}
 use Rattle.visibility.proofs.Amounts.{capacity_fits, sink_fits}
-use Rattle.visibility.proofs.Ordered.{facets_are_ordered, form_below}
+use Rattle.visibility.proofs.Ordered.{facets_are_ordered}
 use Rattle.flow_net.specs.declared.votes.Settings.{Settings}
 use Rattle.scan.specs.ScanRows.{point_limit}
 use Rattle.scan.specs.Views.{shown_of}
@@ -64,7 +65,7 @@ cell_is v (a ∷ []) few h = elim h [ ]
 cell_is v (a ∷ b ∷ []) few h = elim h [ ]
 cell_is v (a ∷ b ∷ c ∷ []) few h = elim h [ ]
 cell_is v (a ∷ b ∷ c ∷ d ∷ e ∷ rest) few h = elim h [ ]
-cell_is v (a ∷ b ∷ c ∷ d ∷ []) few h = let below : d < v.count = form_below v a b c d h.3 in (h.0, h.1, h.2, omega arith)
+cell_is v (a ∷ b ∷ c ∷ d ∷ []) few h = let below : d < v.count = last_below v a b c d h.3 in (h.0, h.1, h.2, omega arith)
 
 a_cell : (s : Scene) (complex : Complex) → IsComplexOf s complex → s.vertices.count ≤ 8 + point_limit → (row : List ℕ)
     → Contains complex.cells row → IsCellRow row

@@ -46,10 +46,6 @@ kept_has test (first ∷ rows) row h passes = pick (λ k. kept_has test rows row
 pub kept_there : (test : List ℕ → Bool) (rows : List (List ℕ)) → All (Contains rows) (filter test rows)
 kept_there test rows = All-filter test (Contains rows) rows (All-contains_itself rows)
 
-pub kept_from : (test : List ℕ → Bool) (rows : List (List ℕ)) (row : List ℕ) → Contains (filter test rows) row
-    → Contains rows row
-kept_from test rows row h = All-contains (Contains rows) (filter test rows) row (kept_there test rows) h
-
 pub kept_passes : (test : List ℕ → Bool) (rows : List (List ℕ)) (row : List ℕ) → Contains (filter test rows) row
     → test row ≡ true
 kept_passes test rows row h = All-contains (λ (r : List ℕ). test r ≡ true) (filter test rows) row (filter_passes test rows) h
@@ -65,13 +61,6 @@ among_kept rows keys rise keys_rise there =
     ))
 
 -- ---- sums of terms that agree
-pub sum_same : (f g : List ℕ → ℕ) (rows : List (List ℕ)) → ((row : List ℕ) → Contains rows row → f row ≡ g row)
-    → sum_by f rows ≡ sum_by g rows
-sum_same f g [] same = refl
-sum_same f g (row ∷ rows) same =
-    let first : f row ≡ g row = same row (0, omega arith, refl) in
-    let rest : sum_by f rows ≡ sum_by g rows = sum_same f g rows (λ other h. same other (suc h.0, omega (arith, h.1), h.2)) in
-    omega (arith, first, rest, sum_by-cons f row rows, sum_by-cons g row rows)
 
 -- ---- rows that state amounts
 -- what rising rows state of the key of one of them is its amount

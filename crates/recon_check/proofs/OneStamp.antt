@@ -1,5 +1,6 @@
 -- A stamp has one first part that differs, and none where it is that of this run.
 use Rattle.std.proofs.Common.{ℕ, ◌≡◌, ap, sym, subst, ◌∙◌, Option, Some, List}
+use Rattle.std.proofs.lemmas.Option.{same_Some}
 use Rattle.geo_sign.specs.Point.{Point}
 use Rattle.cert_text.specs.Stamps.{StampView}
 use Rattle.cert_text.specs.Certificates.{Claim}
@@ -43,21 +44,8 @@ one_part here stated (OtherFixed p q) (OtherFixed a b) h k =
 one_part here stated (OtherFixed p q) _ h k = absurd k
 one_part here stated _ other h k = absurd h
 
-some_same : {A : Type 0} (a b : A) → Some a ≡ Some b → a ≡ b
-some_same a b e = cc
-
 pub one_stamp : (here : StampView) (claim : Claim) (reason other : Reason) → IsOtherStamp here claim reason
     → IsOtherStamp here claim other → reason ≡ other
 one_stamp here claim reason other h k =
-    let same : k.stated ≡ h.stated = some_same k.stated h.stated (sym k.stamp_is ∙ h.stamp_is) in
+    let same : k.stated ≡ h.stated = same_Some k.stated h.stated (sym k.stamp_is ∙ h.stamp_is) in
     one_part here h.stated reason other h.part (subst (λ (s : StampView). IsOtherPart here s other) same k.part)
-
-stamp_with : List ℕ → ℕ → Option Point → StampView
-stamp_with d u p = record { digest = d; unit = u; fixed = p }
-
--- two stamps with the same parts
-pub stamp_same : (a b : StampView) → a.digest ≡ b.digest → a.unit ≡ b.unit → a.fixed ≡ b.fixed → a ≡ b
-unfolding stamp_with
-stamp_same a b digest unit fixed =
-    ap (λ (d : List ℕ). stamp_with d a.unit a.fixed) digest
-    ∙ (ap (λ (u : ℕ). stamp_with b.digest u a.fixed) unit ∙ ap (λ (p : Option Point). stamp_with b.digest b.unit p) fixed)

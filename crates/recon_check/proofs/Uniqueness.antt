@@ -500,7 +500,7 @@ refused_or_holds scan settings stamp mesh cert (No CertCut) h =
 refused_or_holds scan settings stamp mesh cert (No reason) h = inr h
 
 -- a text has one claim
-one_claim : (cert : List ℕ) (claim other : Claim) → IsWellFormed claim → IsWellFormed other → cert ≡ cert_text claim
+pub one_claim : (cert : List ℕ) (claim other : Claim) → IsWellFormed claim → IsWellFormed other → cert ≡ cert_text claim
     → cert ≡ cert_text other → claim ≡ other
 one_claim cert claim other w v a b = (cert_code claim other [] [] w v (ap (λ (text : List ℕ). text ++ []) (sym a ∙ b))).0
 

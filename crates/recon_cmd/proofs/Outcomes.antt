@@ -209,30 +209,6 @@ obeyed asked status writes line result before mid after fits answered answers re
     obeyed_by (λ s. StatusFits s asked) (most_reads asked) (AnswerOf asked) status writes line result before mid after tt fits
     answered answers reads same carried
 
-pub reading_failed : (asked : Asked) (before after : State) → ReadsFor (Some asked) before after
-    → Rose before.faults after.faults → Outcome (Some asked) Failed before after
-reading_failed asked before after reads rose =
-    failed_by (λ s. StatusFits s (Some asked)) (most_reads (Some asked)) (AnswerOf (Some asked)) before after tt reads rose
-
-pub no_memory : (asked : Asked) (before after : State) → ReadsFor (Some asked) before after → after.faults ≡ before.faults
-    → Outcome (Some asked) NoMemory before after
-no_memory asked before after reads same =
-    starved_by (λ s. StatusFits s (Some asked)) (most_reads (Some asked)) (AnswerOf (Some asked)) before after tt reads same
-
--- words that are no command
-pub words_refused : (result : Status) (before after : State) → before.writing ≡ false
-    → CarriesOut [] bad_words_line BadWords result before after → Outcome None result before after
-words_refused result before after closed carried =
-    obeyed None BadWords [] bad_words_line result before before after tt tt (answers before.told)
-    (record { told = refl; writing = closed; opens = omega arith; no_more = no_more before.told }) refl carried
-  where
-    answers : (o : Option Told)
-        → IfSome o
-        (λ told. (reads : ℕ)
-        × AnswerOf None told.files (record { status = BadWords; reads = reads; writes = []; line = bad_words_line }))
-    answers None = tt
-    answers (Some told) = (0, refl)
-
     no_more : (o : Option Told)
         → IfSome o (λ old. (answer : Answer) → AnswerOf None old.files answer → before.opens ≤ before.opens + answer.reads)
     no_more None = tt

@@ -28,10 +28,6 @@ pub record AreFormats (forms : List Received) (texts : List (List ℕ)) : Type 0
   pub forms_are : forms ≡ ply ∷ off ∷ obj ∷ []
   pub texts_are : texts ≡ mesh_text ply.points ply.faces ∷ off_text off.points off.faces ∷ obj_text obj.points obj.faces ∷ []
 
--- what the text of a form is, by what it has received
-abbrev Spells : Type 0
-Spells = List Point → List (List ℕ) → List ℕ
-
 -- by the types of the three boxes
 pub by_kinds : {V B : Type 0} (kind : B → V) (received : B → Received) (text : B → List ℕ) (u v w : V) (boxes : List B)
     → map kind boxes ≡ u ∷ v ∷ w ∷ []

@@ -5,7 +5,7 @@ use Rattle.std.proofs.lemmas.Bool.{cases_lt}
 use Rattle.std.proofs.lemmas.List.{get_or-map}
 use Rattle.geo_sign.specs.Point.{Point, IsWithin, origin}
 use Rattle.geo_sign.specs.declared.point.TheConstants.{DATA_LIMIT}
-use Rattle.merge.proofs.Distinct.{distinct, keep}
+use Rattle.merge.proofs.Distinct.{distinct, keep, apart}
 use Rattle.scan.specs.Shown.{Shown, IsShown}
 use Rattle.visibility.specs.SceneViews.{IsSightOf}
 use Rattle.solution.specs.Scans.{points_of, sight_of, sights_of}
@@ -14,15 +14,6 @@ use Rattle.solution.proofs.SightLists.{no_sight, seen_at, index_below, sight_cou
 -- ---- points
 pub points_within : (scan : Shown) → IsShown scan → All (IsWithin DATA_LIMIT) (points_of scan)
 points_within scan is = keep (IsWithin DATA_LIMIT) scan.points is.points
-
-apart : (list : List Point) → AllPairs (λ p q. p ≢ q) list → (j k : ℕ) → j < length list → k < length list
-    → get_or list j origin ≡ get_or list k origin → j ≡ k
-apart list pairs j k l m h =
-    ⊎_elim (λ (a : j < k). absurd (pairs j k origin a m h))
-    (λ (a : k ≤ j).
-    ⊎_elim (λ (b : k < j). absurd (pairs k j origin b l (sym h))) (λ (b : j ≤ k). let e : j ≡ k = omega (arith, a, b) in e)
-    (cases_lt k j))
-    (cases_lt j k)
 
 pub points_apart : (scan : Shown) (j k : ℕ) → j < length (points_of scan) → k < length (points_of scan)
     → get_or (points_of scan) j origin ≡ get_or (points_of scan) k origin → j ≡ k

@@ -4,26 +4,21 @@ use Rattle.std.proofs.Common.{map, Contains}
 use Rattle.std.specs.List.{position_or_len, sum_by}
 use Rattle.std.proofs.lemmas.List.Sums.{sum_by-cons, position_or_len_is, fails_before_first, passes_at_first}
 use Rattle.std.proofs.lemmas.List.Sums.{prefix_len-le-length}
+use Rattle.geo_sign.proofs.Members.{here, there}
 use Rattle.visibility.proofs.Indices.{index_has}
 
 -- equal at each argument
 pub equal : {A B : Type 0} {f g : A → B} → ((x : A) → f x ≡ g x) → f ≡ g
 equal h = λ k. λ x. h x k
 
-head_in : {X : Type 0} (x : X) (xs : List X) → Contains (x ∷ xs) x
-head_in x xs = (0, omega arith, refl)
-
-tail_in : {X : Type 0} (x y : X) (xs : List X) → Contains xs y → Contains (x ∷ xs) y
-tail_in x y xs h = (suc h.0, (let l : h.0 < length xs = h.1 in omega arith), h.2)
-
 pub same_map : {X Y : Type 0} (f g : X → Y) (xs : List X) → ((x : X) → Contains xs x → f x ≡ g x) → map f xs ≡ map g xs
 same_map f g [] h = refl
-same_map f g (x ∷ xs) h = ap₂ (λ y ys. y ∷ ys) (h x (head_in x xs)) (same_map f g xs (λ y c. h y (tail_in x y xs c)))
+same_map f g (x ∷ xs) h = ap₂ (λ y ys. y ∷ ys) (h x (here x xs)) (same_map f g xs (λ y c. h y (there x y xs c)))
 
 pub same_sum : {X : Type 0} (f g : X → ℕ) (xs : List X) → ((x : X) → Contains xs x → f x ≡ g x) → sum_by f xs ≡ sum_by g xs
 same_sum f g [] h = refl
 same_sum f g (x ∷ xs) h =
-    sum_by-cons f x xs ∙ ap₂ (λ m n. m + n) (h x (head_in x xs)) (same_sum f g xs (λ y c. h y (tail_in x y xs c)))
+    sum_by-cons f x xs ∙ ap₂ (λ m n. m + n) (h x (here x xs)) (same_sum f g xs (λ y c. h y (there x y xs c)))
     ∙ sym (sum_by-cons g x xs)
 
 pub same_position : (p q : List ℕ → Bool) (rows : List (List ℕ)) → ((row : List ℕ) → Contains rows row → p row ≡ q row)

@@ -66,9 +66,3 @@ joined s cells f h =
       own = first_within (λ row. has_facet s.vertices row (facet_at f)) cells h.own;
       across = first_within (λ row. has_facet s.vertices row (turned (facet_at f))) cells h.across;
     }
-
-pub joined_at : (s : Scene) (voted : Voted) (j : ℕ) → IsNetworkInAnyOrder s voted → j < length voted.facets
-    → IsJoined s voted.cells (get_or voted.facets j [])
-joined_at s voted j n l =
-    joined s voted.cells (get_or voted.facets j [])
-    (has_capacity s (complex_of voted) n.listing (get_or voted.facets j []) (index_has voted.facets j l))

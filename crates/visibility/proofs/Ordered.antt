@@ -1,6 +1,7 @@
 -- How facets that have a capacity are written, and that there is one list of them.
 use Rattle.std.proofs.Common.{ℕ, ◌<◌, ◌≡◌, ◌≢◌, ap, subst, ◌∙◌, arith, Bool, true, false, cond, inl, inr, ⊎_elim, List, [], ◌∷◌}
 use Rattle.std.proofs.Common.{Contains, pos, int_lt}
+use Rattle.geo_sign.proofs.CellRows.{last_below}
 use Rattle.geo_sign.specs.Tetrahedron.{Tetrahedron, tetrahedron, facet_at, numbers_of}
 use Rattle.geo_sign.specs.Vertices.{Vertices, orientation_of}
 use Rattle.geo_sign.specs.Cells.{IsRisingCell, FormCell, IsCell, written}
@@ -20,9 +21,6 @@ record IsRisingShape (n : ℕ) (t : Tetrahedron) : Type 0 where
   c_below : t.c < n
   d_below : t.d < n
 
-pub form_below : (v : Vertices) (a b c d : ℕ) → FormCell v a b c d → d < v.count
-form_below v a b c d h = ⊎_elim (λ (k : IsCell v a b c d). k.has_d.0) (λ (k : IsCell v a b d c). k.has_c.0) h
-
 shape : (v : Vertices) (row : List ℕ) → IsRisingCell v row → IsRisingShape v.count (written v row)
 unfolding written
 shape v [] h = elim h [ ]
@@ -30,7 +28,7 @@ shape v (a ∷ []) h = elim h [ ]
 shape v (a ∷ b ∷ []) h = elim h [ ]
 shape v (a ∷ b ∷ c ∷ []) h = elim h [ ]
 shape v (a ∷ b ∷ c ∷ d ∷ e ∷ rest) h = elim h [ ]
-shape v (a ∷ b ∷ c ∷ d ∷ []) h = by (int_lt (pos 0) (orientation_of v a b c d)) (form_below v a b c d h.3)
+shape v (a ∷ b ∷ c ∷ d ∷ []) h = by (int_lt (pos 0) (orientation_of v a b c d)) (last_below v a b c d h.3)
   where
     by : (positive : Bool) → d < v.count → IsRisingShape v.count (cond positive (tetrahedron a b c d) (tetrahedron a b d c))
     by true l = record {

@@ -5,6 +5,7 @@ use Rattle.std.proofs.Common.{int_lt}
 use Rattle.std.proofs.lemmas.Bool.{and_parts, and_from, or_cases, eqb-true, eq-eqb, false_from_ne_true}
 use Rattle.std.proofs.lemmas.List.{get_or-map, length-map}
 use Rattle.std.proofs.lemmas.List.Sums.{position_or_len_is, passes_at_first}
+use Rattle.geo_sign.proofs.Among.{same_itself, same_means}
 use Rattle.flow_net.specs.Nets.{arc_at, flag_at, no_arc, IsReverse, IsValidArc, IsValidNet}
 use Rattle.flow_net.specs.declared.Arc.{Arc}
 use Rattle.geo_sign.specs.Tetrahedron.{Tetrahedron, DirectedFacet, tetrahedron, facet, facet_of, facet_at, numbers_of, turned}
@@ -28,16 +29,6 @@ same_means f g h =
     let p = and_parts (eqb f.a g.a && eqb f.b g.b) (eqb f.c g.c) h in
     let q = and_parts (eqb f.a g.a) (eqb f.b g.b) p.0 in
     (eqb-true f.a g.a q.0, eqb-true f.b g.b q.1, eqb-true f.c g.c p.1)
-
-pub same_facets : (f g : DirectedFacet) → is_same_facet f g ≡ true → f ≡ g
-same_facets f g h =
-    let p = same_means f g h in
-    ap (λ (n : ℕ). facet n f.b f.c) p.0 ∙ ap (λ (n : ℕ). facet g.a n f.c) p.1 ∙ ap (λ (n : ℕ). facet g.a g.b n) p.2
-
-pub is_same_itself : (f : DirectedFacet) → is_same_facet f f ≡ true
-is_same_itself f =
-    and_from (eqb f.a f.a && eqb f.b f.b) (eqb f.c f.c)
-    (and_from (eqb f.a f.a) (eqb f.b f.b) (eq-eqb f.a f.a refl) (eq-eqb f.b f.b refl)) (eq-eqb f.c f.c refl)
 
 -- four numbers of which no two are equal
 pub record AreApart (t : Tetrahedron) : Type 0 where
@@ -137,8 +128,8 @@ facet_index_at : (facets : List (List ℕ)) (j : ℕ) → AreOnce facets
 facet_index_at facets j r three l =
     position_or_len_is (λ numbers. is_same_facet (facet_at numbers) (facet_at (get_or facets j []))) facets j [] (omega arith)
     (λ k m. false_from_ne_true (is_same_facet (facet_at (get_or facets k [])) (facet_at (get_or facets j [])))
-    (λ h. clash k m (same_facets (facet_at (get_or facets k [])) (facet_at (get_or facets j [])) h)))
-    (λ m. is_same_itself (facet_at (get_or facets j [])))
+    (λ h. clash k m (same_means (facet_at (get_or facets k [])) (facet_at (get_or facets j [])) h)))
+    (λ m. same_itself (facet_at (get_or facets j [])))
   where
     clash : (k : ℕ) → k < j → facet_at (get_or facets k []) ≡ facet_at (get_or facets j []) → ⊥
     clash k m e =

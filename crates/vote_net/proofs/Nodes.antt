@@ -12,6 +12,7 @@ use Rattle.std.proofs.lemmas.List.{get_or-map, get_or_default, length-map, same_
 use Rattle.std.proofs.lemmas.List.Elements.{Contains-get_or}
 use Rattle.std.proofs.lemmas.List.Sorted.{IsPermutation-sym, Contains-permutation}
 use Rattle.std.proofs.lemmas.List.Sums.{position_or_len_is}
+use Rattle.geo_sign.proofs.Among.{same_itself, same_means}
 use Rattle.flow_net.specs.Nets.{flag_at}
 use Rattle.flow_net.specs.declared.Arc.{Arc}
 use Rattle.geo_sign.specs.Tetrahedron.{Tetrahedron, DirectedFacet, facet_of, facet_at, numbers_of, turned, is_same_facet}
@@ -22,7 +23,6 @@ use Rattle.visibility.specs.Scenes.{Scene}
 use Rattle.visibility.specs.Complexes.{has_facet, HasFacet, cell_index, cell_of, Complex}
 use Rattle.visibility.specs.Votes.{is_fixed, capacity, HasCapacity, IsFacetList, IsComplexOf}
 use Rattle.visibility.specs.Networks.{facet_index, arc_of}
-use Rattle.visibility.proofs.Validity.{same_facets, is_same_itself}
 use Rattle.geo_sign.specs.RowLaws.{IsRowOf, IsPositive}
 use Rattle.geo_sign.proofs.RowLaws.{one_row, cells_are_rows}
 use Rattle.cell_laws.proofs.RisingRows.{row_law}
@@ -77,10 +77,10 @@ side_with_is t f m l e one =
     itself : (k : ℕ) → k ≡ m → is_same_facet (least_first (facet_of t k)) f ≡ true
     itself k h =
         subst (λ (g : DirectedFacet). is_same_facet (least_first (facet_of t k)) g ≡ true)
-        (ap (λ (i : ℕ). least_first (facet_of t i)) h ∙ e) (is_same_itself (least_first (facet_of t k)))
+        (ap (λ (i : ℕ). least_first (facet_of t i)) h ∙ e) (same_itself (least_first (facet_of t k)))
 
     found : (k : ℕ) → k < 4 → is_same_facet (least_first (facet_of t k)) f ≡ true → k ≡ m
-    found k h i = one k h (same_facets (least_first (facet_of t k)) f i)
+    found k h i = one k h (same_means (least_first (facet_of t k)) f i)
 
     not_here : (k : ℕ) → is_same_facet (least_first (facet_of t k)) f ≡ false → k ≢ m
     not_here k i h = absurd (true≢false (sym (itself k h) ∙ i))
@@ -435,9 +435,9 @@ module _ (s : Scene) (slots : List (Option Cell)) (fixed : List Bool) (cells : A
             let same : m ≡ j =
             one_index sides side_at_is sides_are_apart m j bm l
             (sym (ap (λ (r : List ℕ). facet_at r) (facet_here m [] bm))
-            ∙ same_facets (facet_at (get_or complex_facets m [])) f e) in
+            ∙ same_means (facet_at (get_or complex_facets m [])) f e) in
             omega (arith, lm, same)))
-            (λ _. subst (λ (r : List ℕ). is_same_facet (facet_at r) f ≡ true) (sym (facet_here j [] l)) (is_same_itself f))
+            (λ _. subst (λ (r : List ℕ). is_same_facet (facet_at r) f ≡ true) (sym (facet_here j [] l)) (same_itself f))
 
         module _ (nodes numbers crossed : List ℕ) (are_nodes : AreNumbered id_of_row rows nodes)
             (are_numbers : AreNumbered number_of_side sides numbers) (counts : AreCrossings s slots crossed) where
