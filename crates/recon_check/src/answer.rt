@@ -23,9 +23,9 @@ pub enum Which {
 /// certificate is outside, or 0. Rows are counted from 0 in their list.
 #[derive(Clone, Copy, Debug, PartialEq, Eq)]
 pub enum Reason {
-    /// A line of the certificate, counted from 1, isn't of the form that stands there.
+    /// A line of the certificate, counted from 1, is not of the form that stands there.
     CertLine(u64),
-    /// The row in a line of the certificate doesn't rise above the row before it.
+    /// The row in a line of the certificate does not rise above the row before it.
     CertOrder(u64),
     /// The certificate ends before an expected line does.
     CertCut,
@@ -126,7 +126,7 @@ pub enum Reason {
         /// What the labels cost.
         cost: u64,
     },
-    /// The mesh isn't the text of the surface of the labels.
+    /// The mesh is not the text of the surface of the labels.
     MeshDiffers {
         /// The first place, counted from 0, at which the two differ; the length of the shorter where the other goes on.
         place: usize,
@@ -145,6 +145,6 @@ pub enum Answer {
         /// What the labels cost.
         cost: u64,
     },
-    /// The first reason why it isn't so, in the order of the variants.
+    /// The first reason why it is not so, in the order of the variants.
     No(Reason),
 }

@@ -1,7 +1,7 @@
 //! The rows of a certificate as flags and amounts by number. It stands on `cert_text` alone.
 //!
 //! The rows rise, and so do the cells and facets, so one walk along both finds the rows that are there, and the first that
-//! isn't.
+//! is not.
 
 ghost use Rattle.std.specs.Prelude.{◌≡◌, ◌≢◌, ◌<◌, [], IfOk, IfErr, IfSome, IfNone, All, AllPairs, Contains, OnOk, length, map, slice_index_or};
 ghost use Rattle.geo_sign.specs.Rising.{IsBefore};
@@ -15,7 +15,7 @@ use crate::stop::Stop;
 use cert_text::{FlowRow, Row, SinkRow};
 use std::alloc::Global;
 
-// The row at this place, if it is about the key.
+/// The row at this place, if it is about the key.
 fn row_about<R: Row>(rows: &[R], place: usize, key: &[u32]) -> Option<R>
     ensures some { IfSome result (λ row. (place < length rows.now) × (row ≡ slice_index_or rows.now place row) × (R.key row ≡ key.now)) }
     ensures none { IfNone result (place < length rows.now → slice_index_or (map R.key rows.now) place [] ≢ key.now) }

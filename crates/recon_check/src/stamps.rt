@@ -58,7 +58,7 @@ fn other_part(stated: &Stamp, here: &Stamp) -> Option<Reason>
 }
 
 /// The first part of a certificate's stamp that is not that of this run, if there is one. A certificate without a stamp
-/// doesn't say which scan it belongs to.
+/// does not say which scan it belongs to.
 pub fn other_stamp(stamp: &Stamp, cert: &Certificate) -> Option<Reason>
     ensures same { IfNone result (IsStampedFor (stamp_view stamp.now) (claim_of cert.now)) }
     ensures other { IfSome result (IsOtherStamp (stamp_view stamp.now) (claim_of cert.now)) }

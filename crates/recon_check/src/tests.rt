@@ -7,19 +7,19 @@ use scan::read_scan;
 use std::alloc::Global;
 use std::test::Fail;
 
-// Four points round the origin, each seen from ten times itself.
+/// Four points round the origin, each seen from ten times itself.
 const SCAN: &str =
     "ply\nformat ascii 1.0\nelement vertex 4\nproperty int x\nproperty int y\nproperty int z\nproperty int scanner\nelement scanner 4\nproperty int x\nproperty int y\nproperty int z\nend_header\n100 100 100 0\n100 -100 -100 1\n-100 100 -100 2\n-100 -100 100 3\n1000 1000 1000\n1000 -1000 -1000\n-1000 1000 -1000\n-1000 -1000 1000\n";
 
-// The surface of the one inner cell.
+/// The surface of the one inner cell.
 const MESH: &str =
     "ply\nformat ascii 1.0\nelement vertex 4\nproperty int x\nproperty int y\nproperty int z\nelement face 4\nproperty list uchar int vertex_indices\nend_header\n100 100 100\n100 -100 -100\n-100 100 -100\n-100 -100 100\n3 0 1 2\n3 0 2 3\n3 0 3 1\n3 1 3 2\n";
 
-// The certificate: each facet into the cell is full, and the cell's sink takes it all.
+/// The certificate: each facet into the cell is full, and the cell's sink takes it all.
 const CERT: &str =
     "recon certificate 1\npoints 4\nscanners 4\nsights 4\nvote 8\nsmooth 1\ncost 4\ninside 1\n8 9 10 11\nflow 4\n8 9 10 1\n8 10 11 1\n8 11 9 1\n9 11 10 1\nsink 1\n8 9 10 11 4\nend\n";
 
-// A text with one part replaced.
+/// A text with one part replaced.
 fn replaced(alloc: Global, text: &str, part: &str, other: &str) -> Result<String, Fail> {
     let (front, back) = text.split_once(part).ok_or("no such part")?;
     let mut whole = String::from_str(alloc, front)?;
@@ -28,7 +28,7 @@ fn replaced(alloc: Global, text: &str, part: &str, other: &str) -> Result<String
     Ok(whole)
 }
 
-// The stamp of a run at unit 1, without a fixed scanner.
+/// The stamp of a run at unit 1, without a fixed scanner.
 fn stamp_of(digest: [u8; 32]) -> Stamp {
     Stamp {
         digest,
@@ -37,7 +37,7 @@ fn stamp_of(digest: [u8; 32]) -> Stamp {
     }
 }
 
-// The answer for a scan, where a sight weighs `vote` and a facet 1, and for a certificate.
+/// The answer for a scan, where a sight weighs `vote` and a facet 1, and for a certificate.
 fn answer(alloc: Global, scan: &str, vote: u32, mesh: &[u8], cert: &str) -> Result<Answer, Fail> {
     let scan = read_scan(alloc, scan.as_bytes(), 1, None)?;
     let settings = Settings::new(vote, 1).ok_or("settings")?;
@@ -148,7 +148,7 @@ fn a_surface_is_accepted_where_it_is_best(rt: HostRuntime) -> Result<(), Fail> {
     Ok(())
 }
 
-// The certificate in the second version, with these three lines behind its first.
+/// The certificate in the second version, with these three lines behind its first.
 fn stamped(alloc: Global, scan: &str, unit: &str, scanner: &str) -> Result<String, Fail> {
     let mut first = String::from_str(alloc, "certificate 2\n")?;
     first.push_str(scan)?;

@@ -124,7 +124,7 @@ pub fn text_of_cells(alloc: Global, cells: &[[u32; 4]]) -> Result<Vec<u8>, NoMem
     Ok(text)
 }
 
-// Adds a line for each cell.
+/// Adds a line for each cell.
 fn push_rows(text: &mut Vec<u8>, cells: &[[u32; 4]]) -> Result<(), NoMemory>
     ensures { OnOk result (text.new.items ≡ text.old.items ++ flat_map row_line cells.now) }
 {
@@ -134,7 +134,7 @@ fn push_rows(text: &mut Vec<u8>, cells: &[[u32; 4]]) -> Result<(), NoMemory>
     Ok(())
 }
 
-// Adds the line of a cell.
+/// Adds the line of a cell.
 #[tactic(auto, unfolding(crate::specs::Lines::row_line))]
 fn push_row(text: &mut Vec<u8>, cell: [u32; 4]) -> Result<(), NoMemory>
     ensures { OnOk result (text.new.items ≡ text.old.items ++ row_line cell) }

@@ -13,7 +13,7 @@ pub use export::{ExportWords, understand_export};
 use scan::POINT_LIMIT;
 pub use slice::SliceWords;
 
-// The options of each command.
+/// The options of each command.
 const CELLS_KEYS: [Key; 2] = [Key::Unit, Key::Scanner];
 
 const BUILD_KEYS: [Key; 4] = [Key::Unit, Key::Vote, Key::Smooth, Key::Scanner];
@@ -99,7 +99,7 @@ pub fn understand(words: &[String]) -> Option<Command<'_>>
     }
 }
 
-// What the words behind `cells` ask for.
+/// What the words behind `cells` ask for.
 fn cells_command(words: &[String]) -> Option<Command<'_>>
     ensures { option_map asked result ≡ cells_of (map string_bytes words.now) }
 {
@@ -117,7 +117,7 @@ fn cells_command(words: &[String]) -> Option<Command<'_>>
     Some(Command::Cells(names, options))
 }
 
-// What the words behind `build` ask for.
+/// What the words behind `build` ask for.
 fn build_command(words: &[String]) -> Option<Command<'_>>
     ensures { option_map asked result ≡ build_of (map string_bytes words.now) }
 {
@@ -136,7 +136,7 @@ fn build_command(words: &[String]) -> Option<Command<'_>>
     Some(Command::Build(names, options))
 }
 
-// What the words behind `check` ask for.
+/// What the words behind `check` ask for.
 fn check_command(words: &[String]) -> Option<Command<'_>>
     ensures { option_map asked result ≡ check_of (map string_bytes words.now) }
 {
@@ -156,7 +156,7 @@ fn check_command(words: &[String]) -> Option<Command<'_>>
     Some(Command::Check(names, options))
 }
 
-// What the words behind `upgrade` ask for.
+/// What the words behind `upgrade` ask for.
 fn upgrade_command(words: &[String]) -> Option<Command<'_>>
     ensures { option_map asked result ≡ upgrade_of (map string_bytes words.now) }
 {
@@ -181,7 +181,7 @@ fn upgrade_command(words: &[String]) -> Option<Command<'_>>
     Some(Command::Check(names, options))
 }
 
-// What the words behind `slice` ask for.
+/// What the words behind `slice` ask for.
 fn slice_command(words: &[String]) -> Option<Command<'_>>
     ensures { option_map asked result ≡ slice_of (map string_bytes words.now) }
 {
@@ -199,7 +199,7 @@ fn slice_command(words: &[String]) -> Option<Command<'_>>
     }))
 }
 
-// What the words behind `demo` ask for.
+/// What the words behind `demo` ask for.
 fn demo_command(words: &[String]) -> Option<Command<'_>>
     ensures { option_map asked result ≡ demo_of (map string_bytes words.now) }
 {
@@ -211,21 +211,21 @@ fn demo_command(words: &[String]) -> Option<Command<'_>>
     Some(Command::Demo(Demo { count, seed }))
 }
 
-// Whether neither of two names is empty, and they are not one.
+/// Whether neither of two names is empty, and they are not one.
 fn are_two_names(a: &str, b: &str) -> bool
     ensures { result ≡ are_names (a.now ∷ b.now ∷ []) }
 {
     !a.is_empty() && !b.is_empty() && a != b
 }
 
-// Whether none of three names is empty, and no two are one.
+/// Whether none of three names is empty, and no two are one.
 fn are_three_names(a: &str, b: &str, c: &str) -> bool
     ensures { result ≡ are_names (a.now ∷ b.now ∷ c.now ∷ []) }
 {
     !a.is_empty() && !b.is_empty() && !c.is_empty() && a != b && a != c && b != c
 }
 
-// Whether none of four names is empty, and no two are one.
+/// Whether none of four names is empty, and no two are one.
 fn are_four_names(a: &str, b: &str, c: &str, d: &str) -> bool
     ensures { result ≡ are_names (a.now ∷ b.now ∷ c.now ∷ d.now ∷ []) }
 {

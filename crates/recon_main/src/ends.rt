@@ -46,8 +46,8 @@ pub fn ends<H: Host>(alloc: Global, args: io::Result<Args>, host: &mut H) -> Exi
     ExitCode::from(status)
 }
 
-// The status of a run on these words, where `export` writes PLY, OFF and OBJ. Where there is no memory for the three forms,
-// nothing is done.
+/// The status of a run on these words, where `export` writes PLY, OFF and OBJ. Where there is no memory for the three forms,
+/// nothing is done.
 fn run_on<H: Host>(alloc: Global, words: &[String], host: &mut H) -> u8
     requires { (H.state host.old).writing ≡ false }
     ensures { RunsOrIdles (map string_bytes words.now) result (H.state host.old) (H.state host.new) }
@@ -58,7 +58,7 @@ fn run_on<H: Host>(alloc: Global, words: &[String], host: &mut H) -> u8
     }
 }
 
-// The same, and no status where there is no memory for the forms.
+/// The same, and no status where there is no memory for the forms.
 fn run_in_forms<H: Host>(alloc: Global, words: &[String], host: &mut H) -> Result<u8, AllocError>
     requires { (H.state host.old).writing ≡ false }
     ensures ran { IfOk result (λ status. RunsOn (map string_bytes words.now) status (H.state host.old) (H.state host.new)) }
@@ -71,7 +71,7 @@ fn run_in_forms<H: Host>(alloc: Global, words: &[String], host: &mut H) -> Resul
     Ok(run_forms(alloc, words, host, &mut forms))
 }
 
-// All but the first.
+/// All but the first.
 fn words_behind_name(alloc: Global, mut args: Args) -> Result<Vec<String>, AllocError>
     ensures { IfOk result (λ words. words.items ≡ drop 1 (into_iter_items args)) }
 {

@@ -49,7 +49,7 @@ impl<R: Files + Print + Drop> RealHost<R, R::File> {
         self.faults
     }
 
-    // The answer of a call of the system, an error of which is counted as a fault.
+    /// The answer of a call of the system, an error of which is counted as a fault.
     fn counted<T: Drop>(&mut self, answer: io::Result<T>) -> Result<T, Failed>
         ensures ok { IfOk answer (λ value. result ≡ Ok value) }
         ensures kept { OnOk answer (self.new ≡ self.old) }
@@ -80,7 +80,7 @@ impl<R: Files + Print + Drop> Host for RealHost<R, R::File> {
         Ok(())
     }
 
-    // All clauses but the last are those of `Host`; the last is what the file gave.
+    /// All clauses but the last are those of `Host`; the last is what the file gave.
     fn read(&mut self, buffer: &mut [u8]) -> Result<usize, Failed>
         requires { IsTrue (state_of self.old).reading }
         ensures within { IfOk result (λ count. count ≤ length buffer.new) }
@@ -103,7 +103,7 @@ impl<R: Files + Print + Drop> Host for RealHost<R, R::File> {
         Ok(())
     }
 
-    // All clauses but the last are those of `Host`; the last is what the file took.
+    /// All clauses but the last are those of `Host`; the last is what the file took.
     fn append(&mut self, bytes: &[u8]) -> Result<usize, Failed>
         requires { IsTrue (state_of self.old).writing }
         ensures front { IfOk result (λ count. IsFront count bytes.now) }

@@ -12,7 +12,7 @@ use std::io::{ErrorKind, Read, Write};
 use std::rt::Files;
 use std::{fs, io};
 
-// How often a call that is interrupted is made.
+/// How often a call that is interrupted is made.
 const MOST_TRIES: u32 = 1000;
 
 /// Opens a file to read it.

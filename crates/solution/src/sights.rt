@@ -24,7 +24,7 @@ pub struct SeenPoints {
     pub sights: Vec<Sight>,
 }
 
-// The sights of a scan. `of_row` has the index of each row's point among the distinct points.
+/// The sights of a scan. `of_row` has the index of each row's point among the distinct points.
 fn sights_of(alloc: Global, scan: &Scan, of_row: &[u32]) -> Result<Vec<Sight>, NoMemory>
     requires { of_row.now ≡ map (index_among (points_of (shown_of scan.now))) scan.now.points.items }
     ensures { IfOk result (λ sights. sights.items ≡ sights_in (shown_of scan.now)) }

@@ -45,7 +45,7 @@ pub fn export_mesh<H: Host>(
     }
 }
 
-// Hands the mesh to each form, and writes their texts.
+/// Hands the mesh to each form, and writes their texts.
 fn hand_out<H: Host>(
     alloc: Global,
     host: &mut H,
@@ -73,7 +73,7 @@ fn hand_out<H: Host>(
     }
 }
 
-// Writes the text of each form to its output, in order, and says the line.
+/// Writes the text of each form to its output, in order, and says the line.
 fn write_forms<H: Host>(
     host: &mut H,
     outputs: &[String],
@@ -97,7 +97,7 @@ fn write_forms<H: Host>(
     }
 }
 
-// The text of an ended form.
+/// The text of an ended form.
 fn text_of(form: &Box<dyn Form>) -> &[u8]
     requires { (received form.now).stage ≡ Ended }
     ensures { result.now ≡ text_of form.now }

@@ -11,7 +11,7 @@ use scan::push_scan;
 use std::alloc::Global;
 use std::test::Fail;
 
-// A run over the files `in`, `mesh` and `cert`, of which the last two need not be there.
+/// A run over the files `in`, `mesh` and `cert`, of which the last two need not be there.
 pub fn check(
     alloc: Global,
     words: &[&str],
@@ -28,7 +28,7 @@ pub fn check(
     )
 }
 
-// The flow and the sink of the four points.
+/// The flow and the sink of the four points.
 const FLOW: &str = "flow 4\n8 9 10 1\n8 10 11 1\n8 11 9 1\n9 11 10 1\nsink 1\n8 9 10 11 4\n";
 
 #[test]
@@ -164,7 +164,7 @@ fn a_certificate_is_right_or_has_a_first_fault(rt: HostRuntime) -> Result<(), Fa
 const ONE_POINT_CERT: &str =
     "recon certificate 1\npoints 1\nscanners 1\nsights 1\nvote 8\nsmooth 1\ncost 8\ninside 1\n0 1 2 8\nflow 0\nsink 0\nend\n";
 
-// Where the scan is refused, no other file is asked for.
+/// Where the scan is refused, no other file is asked for.
 #[test]
 fn other_files_give_a_reason_or_are_not_there(rt: HostRuntime) -> Result<(), Fail> {
     let alloc = rt.alloc();
@@ -186,10 +186,10 @@ fn other_files_give_a_reason_or_are_not_there(rt: HostRuntime) -> Result<(), Fai
     Ok(())
 }
 
-// So many rows that a program which tries every four points comes to no end in the time of a test.
+/// So many rows that a program which tries every four points comes to no end in the time of a test.
 const ROWS: u32 = 1000;
 
-// How many bytes the host has room for in each file.
+/// How many bytes the host has room for in each file.
 const LARGE: usize = 16_777_216;
 
 #[test]

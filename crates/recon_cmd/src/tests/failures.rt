@@ -8,13 +8,13 @@ use crate::run;
 use host::{HostCall, MemHost};
 use std::test::Fail;
 
-// The four points, where the outputs held something else.
+/// The four points, where the outputs held something else.
 fn beginning() -> [Option<&'static [u8]>; 4] {
     let old = Some("old".as_bytes());
     [Some(FOUR.as_bytes()), old, old, old]
 }
 
-// Whether the outputs have these texts, and this was said.
+/// Whether the outputs have these texts, and this was said.
 fn shows(host: &MemHost, mesh: &str, cert: &str, said: &str) -> bool {
     leaves(
         host,
@@ -23,8 +23,8 @@ fn shows(host: &MemHost, mesh: &str, cert: &str, said: &str) -> bool {
     )
 }
 
-// A call behind so many of its kind fails. The next one of that kind would fail too, and so would one more call of others, so that
-// one fault shows that none of them was made: no call is tried again, no file is opened or made again, and nothing is said.
+/// A call behind so many of its kind fails. The next one of that kind would fail too, and so would one more call of others, so that
+/// one fault shows that none of them was made: no call is tried again, no file is opened or made again, and nothing is said.
 #[test]
 fn a_run_stops_at_its_first_failed_call(rt: HostRuntime) -> Result<(), Fail> {
     let alloc = rt.alloc();
@@ -63,7 +63,7 @@ fn a_run_stops_at_its_first_failed_call(rt: HostRuntime) -> Result<(), Fail> {
     Ok(())
 }
 
-// A line that is said in short pieces is said in part, and pieces that come in turn change nothing.
+/// A line that is said in short pieces is said in part, and pieces that come in turn change nothing.
 #[test]
 fn pieces_of_any_size_give_the_same_files(rt: HostRuntime) -> Result<(), Fail> {
     let alloc = rt.alloc();

@@ -21,11 +21,11 @@ use scan::{Scan, ScanRefusal, push_scan, read_scan};
 use std::alloc::Global;
 use std::test::Fail;
 
-// What `build` says of the four points, and what `check` says behind it.
+/// What `build` says of the four points, and what `check` says behind it.
 const BUILT_AND_CHECKED: &str =
     "points 4 scanners 4 sights 4 inside 1 faces 4 cost 4\nyes inside 1 faces 4 cost 4\n";
 
-// What there is before the two runs: the host, the words of each, and the certificate that `build` is to write.
+/// What there is before the two runs: the host, the words of each, and the certificate that `build` is to write.
 #[derive(Drop)]
 struct Beginning {
     host: MemHost,
@@ -34,7 +34,7 @@ struct Beginning {
     cert: String,
 }
 
-// The four points, and outputs that hold something else.
+/// The four points, and outputs that hold something else.
 fn begin(alloc: Global) -> Result<Beginning, NoMemory>
     ensures { IfOk result (λ before. (state_of before.host).writing ≡ false) }
 {
@@ -48,7 +48,7 @@ fn begin(alloc: Global) -> Result<Beginning, NoMemory>
     })
 }
 
-// The same, made again where there was no memory.
+/// The same, made again where there was no memory.
 fn begin_or_again(alloc: Global) -> Result<Beginning, NoMemory>
     ensures { IfOk result (λ before. (state_of before.host).writing ≡ false) }
 {
@@ -58,7 +58,7 @@ fn begin_or_again(alloc: Global) -> Result<Beginning, NoMemory>
     }
 }
 
-// Whether the outputs have these texts, and this was said.
+/// Whether the outputs have these texts, and this was said.
 fn shows(host: &MemHost, mesh: &str, cert: &str, said: &str) -> bool {
     leaves(host, [Some(FOUR), None, Some(mesh), Some(cert)], said) && host.fault_count() == 0
 }
@@ -82,7 +82,7 @@ fn a_command_without_memory_leaves_all_as_it_was(rt: HostRuntime) -> Result<(), 
     Ok(())
 }
 
-// The mesh of the four points, and outputs that hold something else.
+/// The mesh of the four points, and outputs that hold something else.
 fn begin_export(alloc: Global) -> Result<MemHost, NoMemory>
     ensures { IfOk result (λ host. (state_of host).writing ≡ false) }
 {
@@ -91,7 +91,7 @@ fn begin_export(alloc: Global) -> Result<MemHost, NoMemory>
     host_with(alloc, held, 100, Vec::new(alloc))
 }
 
-// The same, made again where there was no memory.
+/// The same, made again where there was no memory.
 fn begin_export_or_again(alloc: Global) -> Result<MemHost, NoMemory>
     ensures { IfOk result (λ host. (state_of host).writing ≡ false) }
 {
@@ -101,14 +101,14 @@ fn begin_export_or_again(alloc: Global) -> Result<MemHost, NoMemory>
     }
 }
 
-// Whether the outputs have these texts, and this was said.
+/// Whether the outputs have these texts, and this was said.
 fn shows_forms(host: &MemHost, texts: [&str; 3], said: &str) -> bool {
     let [output, cert, input] = texts;
     let held = [Some(input), Some(output), Some(FOUR_MESH), Some(cert)];
     leaves(host, held, said) && host.fault_count() == 0
 }
 
-// The status of an export, which is 5 too where there is no memory for the forms.
+/// The status of an export, which is 5 too where there is no memory for the forms.
 fn export_on(alloc: Global, words: &[String], host: &mut MemHost) -> u8
     requires { (state_of host.old).writing ≡ false }
 {
@@ -137,7 +137,7 @@ fn an_export_without_memory_leaves_all_as_it_was(rt: HostRuntime) -> Result<(), 
     Ok(())
 }
 
-// The scan of the four points.
+/// The scan of the four points.
 fn scan_of(alloc: Global) -> Result<Scan, ScanRefusal> {
     match read_scan(alloc, FOUR.as_bytes(), 1, None) {
         Ok(scan) => Ok(scan),
@@ -145,7 +145,7 @@ fn scan_of(alloc: Global) -> Result<Scan, ScanRefusal> {
     }
 }
 
-// Its surface, of the weights 8 and 1.
+/// Its surface, of the weights 8 and 1.
 fn solved_of(alloc: Global, scan: &Scan) -> Result<Solved, NoMemory>
     ensures valid { IfOk result (λ solved. IsMesh solved.mesh.points.items solved.mesh.faces.items) }
     ensures well_formed { IfOk result (λ solved. IsWellFormed (claim_of solved.cert)) }
@@ -157,7 +157,7 @@ fn solved_of(alloc: Global, scan: &Scan) -> Result<Solved, NoMemory>
     }
 }
 
-// Each text is added to one that has no room behind it.
+/// Each text is added to one that has no room behind it.
 #[test]
 fn a_text_without_memory_is_as_it_was(rt: HostRuntime) -> Result<(), Fail> {
     let alloc = rt.alloc();

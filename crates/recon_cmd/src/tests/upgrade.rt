@@ -10,7 +10,7 @@ use host::HostCall;
 use std::alloc::Global;
 use std::test::Fail;
 
-// A run over the files `in`, `mesh` and `cert`, where `out` is not there, and calls may fail.
+/// A run over the files `in`, `mesh` and `cert`, where `out` is not there, and calls may fail.
 fn ran(
     alloc: Global,
     words: &[&str],
@@ -29,7 +29,7 @@ fn ran(
     run_over(alloc, words, held, PIECE, failing)
 }
 
-// What is upgraded once is written again as it is.
+/// What is upgraded once is written again as it is.
 #[test]
 fn a_certificate_gets_the_stamp_of_the_run(rt: HostRuntime) -> Result<(), Fail> {
     let alloc = rt.alloc();
@@ -43,7 +43,7 @@ fn a_certificate_gets_the_stamp_of_the_run(rt: HostRuntime) -> Result<(), Fail> 
     Ok(())
 }
 
-// The digest of the four points with a space behind their last line.
+/// The digest of the four points with a space behind their last line.
 const WITH_A_SPACE: &str = "0cb668842e25bd2a3da3f92f22ce4fcb8027a687bb2c865b5382b42ac849301c";
 
 #[test]
@@ -67,7 +67,7 @@ fn a_certificate_of_another_run_is_told_as_that(rt: HostRuntime) -> Result<(), F
     Ok(())
 }
 
-// The scanner of the words is in the scan's own units, and that of the certificate in scaled ones.
+/// The scanner of the words is in the scan's own units, and that of the certificate in scaled ones.
 #[test]
 fn a_fixed_scanner_is_stated_in_scaled_units(rt: HostRuntime) -> Result<(), Fail> {
     let alloc = rt.alloc();

@@ -37,7 +37,7 @@ pub fn understand_export(words: &[String], forms: usize) -> Option<ExportWords<'
     })
 }
 
-// Whether none of the names is empty, and no two are one.
+/// Whether none of the names is empty, and no two are one.
 fn are_all_names(names: &[String]) -> bool
     ensures { result ≡ are_names (map string_bytes names.now) }
 {
@@ -50,7 +50,7 @@ fn are_all_names(names: &[String]) -> bool
     true
 }
 
-// Whether the name is none of these.
+/// Whether the name is none of these.
 fn is_none_of(name: &str, others: &[String]) -> bool
     ensures { result ≡ is_other name.now (map string_bytes others.now) }
 {

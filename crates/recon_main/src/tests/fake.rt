@@ -30,7 +30,7 @@ impl Plan {
         }
     }
 
-    // How many bytes the next call moves at most, unless it is interrupted or fails.
+    /// How many bytes the next call moves at most, unless it is interrupted or fails.
     fn next(&mut self) -> io::Result<usize> {
         if self.left > 0 {
             self.left -= 1;

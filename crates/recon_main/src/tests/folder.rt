@@ -6,11 +6,11 @@ use std::alloc::Global;
 use std::fs;
 use std::test::Fail;
 
-// Four points round the origin, each seen from ten times itself.
+/// Four points round the origin, each seen from ten times itself.
 const SCAN: &str =
     "ply\nformat ascii 1.0\nelement vertex 4\nproperty int x\nproperty int y\nproperty int z\nproperty int scanner\nelement scanner 4\nproperty int x\nproperty int y\nproperty int z\nend_header\n100 100 100 0\n100 -100 -100 1\n-100 100 -100 2\n-100 -100 100 3\n1000 1000 1000\n1000 -1000 -1000\n-1000 1000 -1000\n-1000 -1000 1000\n";
 
-// The words that build its surface.
+/// The words that build its surface.
 fn build_words(alloc: Global) -> Result<Vec<String>, Fail> {
     Ok(vec![in alloc;
         String::from_str(alloc, "build")?,
@@ -20,7 +20,7 @@ fn build_words(alloc: Global) -> Result<Vec<String>, Fail> {
     ]?)
 }
 
-// What a run on these words leaves in memory.
+/// What a run on these words leaves in memory.
 fn built_in_memory(alloc: Global) -> Result<MemHost, Fail> {
     let files = vec![in alloc;
         (
@@ -37,7 +37,7 @@ fn built_in_memory(alloc: Global) -> Result<MemHost, Fail> {
     Ok(host)
 }
 
-// A run in the folder leaves what one in memory leaves, whatever stands where it writes: nothing, and then longer files.
+/// A run in the folder leaves what one in memory leaves, whatever stands where it writes: nothing, and then longer files.
 #[test]
 fn outputs_are_those_of_a_run_in_memory(rt: HostRuntime) -> Result<(), Fail> {
     let alloc = rt.alloc();

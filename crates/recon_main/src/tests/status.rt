@@ -10,7 +10,7 @@ use std::io::{Error, ErrorKind};
 use std::process::ExitCode;
 use std::test::Fail;
 
-// A host without a file.
+/// A host without a file.
 fn empty_host(alloc: Global) -> Result<MemHost, Fail>
     ensures { IfOk result (λ host. (state_of host).writing ≡ false) }
 {
@@ -56,7 +56,7 @@ fn words_that_are_no_text_are_no_command(rt: HostRuntime) -> Result<(), Fail> {
     Ok(())
 }
 
-// The status of the program over a system that hands in these words, and of whose says one fails, if it is not 0.
+/// The status of the program over a system that hands in these words, and of whose says one fails, if it is not 0.
 fn status_on(memory: Global, words: &'static [&'static [u8]], failing: u32) -> ExitCode {
     let plan = Plan::new(1, 3, 0);
     let system = Fake::new(memory, words, plan, plan, Plan::new(1, 3, failing));

@@ -5,7 +5,7 @@ use crate::retried::{create_retried, open_retried, read_retried, write_retried};
 use host::{Host, append_all, read_all, say_all};
 use std::alloc::Global;
 
-// Calls that move three bytes at most.
+/// Calls that move three bytes at most.
 fn threes() -> Plan {
     Plan::new(0, 3, 0)
 }
@@ -60,7 +60,7 @@ fn an_answer_is_what_was_moved(rt: HostRuntime) {
     assert!(rt; matches!(write_retried(&mut writer, b""), Ok(0)));
 }
 
-// Ten bytes are read in four calls, and a fifth that finds the end.
+/// Ten bytes are read in four calls, and a fifth that finds the end.
 #[test]
 fn a_read_that_fails_is_a_fault(rt: HostRuntime) {
     for (failing, whole) in [(0, true), (1, false), (3, false), (5, false), (6, true)] {
@@ -76,7 +76,7 @@ fn a_read_that_fails_is_a_fault(rt: HostRuntime) {
     }
 }
 
-// Ten bytes are written in four calls.
+/// Ten bytes are written in four calls.
 #[test]
 fn a_write_that_fails_is_a_fault(rt: HostRuntime) {
     for (failing, whole) in [(0, true), (1, false), (2, false), (4, false), (5, true)] {
