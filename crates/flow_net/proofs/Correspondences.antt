@@ -7,7 +7,7 @@
 -- nodes that stand for its nodes, or of those that its nodes stand for.
 use Rattle.std.proofs.Common.{ℕ, ◌≡◌, ◌≤◌, ◌+◌, ◌↔◌, Bool, cond, not, ◌&&◌, refl, ap, ap₂, sym, subst, ◌∙◌}
 use Rattle.std.proofs.Common.{arith}
-use Rattle.flow_net.specs.Networks.{Network, arc_cost, cost, amount_in, amount_out, value, IsValidFlow, IsAdmissible}
+use Rattle.flow_net.specs.Networks.{Network, cost, amount_in, amount_out, value, IsValidFlow, IsAdmissible}
 use Rattle.flow_net.specs.Networks.{IsLeastCost, IsLeastInside, AgreeAsNetworks}
 use Rattle.flow_net.specs.Faults.{IsFixedInside, IsOverCapacity, sink_limit, IsOverSink, total_out, IsUnbalanced, IsNotLeast}
 
@@ -66,205 +66,160 @@ module _ {Node Arc Place Link : Type 0} (net : Network Node Arc) (far : Network 
   fixed_back : (p : Place) → far.HasNode p → net.is_fixed (c.back p) ≡ far.is_fixed p
   fixed_back p i = at_back net.is_fixed far.is_fixed c.fixed_is p i
 
-  -- ---- labels
-  -- at the ends of an arc
-  pub ends_say : (inside : Node → Bool) (there : Place → Bool) → SameAtNodes c inside there → (a : Arc) → net.HasArc a
-      → (inside (net.from a) ≡ there (far.from (c.arc a))) × (inside (net.to a) ≡ there (far.to (c.arc a)))
-  ends_say inside there h a i = (
-    h (net.from a) (c.from_there a i) ∙ ap there (c.from_is a i),
-    h (net.to a) (c.to_there a i) ∙ ap there (c.to_is a i),
-  )
-
-  arc_cost_is : (inside : Node → Bool) (there : Place → Bool) → SameAtNodes c inside there → (a : Arc) → net.HasArc a
-      → arc_cost net inside a ≡ arc_cost far there (c.arc a)
-  arc_cost_is inside there h a i =
-      let ends = ends_say inside there h a i in
-      ap₂ (λ x y. cond (not x && y) (net.capacity a) 0) ends.0 ends.1
-      ∙ ap (λ n. cond (not (there (far.from (c.arc a))) && there (far.to (c.arc a))) n 0) (c.capacity_is a i)
-
-  pub cost_is : (inside : Node → Bool) (there : Place → Bool) → SameAtNodes c inside there → cost net inside ≡ cost far there
-  cost_is inside there h =
-      ap₂ (λ m n. m + n) (c.arc_sums _ _ (arc_cost_is inside there h))
-      (c.node_sums _ _ (λ v i. ap₂ (λ b n. cond b 0 n) (h v i) (c.sink_is v i)))
-
-  admissible_to : (inside : Node → Bool) (there : Place → Bool) → SameAtNodes c inside there → IsAdmissible net inside
-      → IsAdmissible far there
-  admissible_to inside there h k = record {
-    none_fixed = λ p i e.
-        sym (at_back inside there h p i) ∙ k.none_fixed (c.back p) (c.back_there p i) (fixed_back p i ∙ e);
-  }
-
-  admissible_from : (inside : Node → Bool) (there : Place → Bool) → SameAtNodes c inside there → IsAdmissible far there
-      → IsAdmissible net inside
-  admissible_from inside there h k = record {
-    none_fixed = λ v i e. h v i ∙ k.none_fixed (c.node v) (c.node_there v i) (sym (c.fixed_is v i) ∙ e);
-  }
-
-  pub admissible : (inside : Node → Bool) (there : Place → Bool) → SameAtNodes c inside there
-      → IsAdmissible net inside ↔ IsAdmissible far there
-  admissible inside there h = (admissible_to inside there h, admissible_from inside there h)
-
-  least_cost_to : (inside : Node → Bool) (there : Place → Bool) → SameAtNodes c inside there → IsLeastCost net inside
-      → IsLeastCost far there
-  least_cost_to inside there h k = record {
-    admissible = admissible_to inside there h k.admissible;
-    least = λ other a.
-        le_along _ _ _ _ (cost_is inside there h) (cost_is (near_labels other) other (λ v i. refl))
-        (k.least (near_labels other) (admissible_from (near_labels other) other (λ v i. refl) a));
-  }
-
-  least_cost_from : (inside : Node → Bool) (there : Place → Bool) → SameAtNodes c inside there → IsLeastCost far there
-      → IsLeastCost net inside
-  least_cost_from inside there h k = record {
-    admissible = admissible_from inside there h k.admissible;
-    least = λ other a.
-        le_along _ _ _ _ (sym (cost_is inside there h)) (sym (cost_is other (far_labels other) (far_same other)))
-        (k.least (far_labels other) (admissible_to other (far_labels other) (far_same other) a));
-  }
-
-  pub least_cost : (inside : Node → Bool) (there : Place → Bool) → SameAtNodes c inside there
-      → IsLeastCost net inside ↔ IsLeastCost far there
-  least_cost inside there h = (least_cost_to inside there h, least_cost_from inside there h)
-
-  least_inside_to : (inside : Node → Bool) (there : Place → Bool) → SameAtNodes c inside there → IsLeastInside net inside
-      → IsLeastInside far there
-  least_inside_to inside there h k = record {
-    least_cost = least_cost_to inside there h k.least_cost;
-    within = λ other l p i e.
-        ap other (sym (c.back_node p i))
-        ∙ k.within (near_labels other) (least_cost_from (near_labels other) other (λ v j. refl) l) (c.back p) (c.back_there p i)
-        (at_back inside there h p i ∙ e);
-  }
-
-  least_inside_from : (inside : Node → Bool) (there : Place → Bool) → SameAtNodes c inside there → IsLeastInside far there
-      → IsLeastInside net inside
-  least_inside_from inside there h k = record {
-    least_cost = least_cost_from inside there h k.least_cost;
-    within = λ other l v i e.
-        far_same other v i
-        ∙ k.within (far_labels other) (least_cost_to other (far_labels other) (far_same other) l) (c.node v) (c.node_there v i)
-        (sym (h v i) ∙ e);
-  }
-
-  pub least_inside : (inside : Node → Bool) (there : Place → Bool) → SameAtNodes c inside there
-      → IsLeastInside net inside ↔ IsLeastInside far there
-  least_inside inside there h = (least_inside_to inside there h, least_inside_from inside there h)
-
-  -- ---- flows
-  pub value_is : (on_node : Node → ℕ) (at_place : Place → ℕ) → SameAtNodes c on_node at_place
-      → value net on_node ≡ value far at_place
-  value_is on_node at_place h =
-      c.node_sums _ _
-      (λ v i. ap₂ (λ b n. cond b n (on_node v)) (c.fixed_is v i) (c.sink_is v i)
-      ∙ ap (λ n. cond (far.is_fixed (c.node v)) (far.sink (c.node v)) n) (h v i))
-
-  pub amount_in_is : (on_arc : Arc → ℕ) (on_link : Link → ℕ) → SameOnArcs c on_arc on_link → (v : Node) → net.HasNode v
-      → amount_in net on_arc v ≡ amount_in far on_link (c.node v)
-  amount_in_is on_arc on_link h v i =
-      c.arc_sums _ _
-      (λ a j. ap₂ (λ b n. cond b n 0)
-      (c.same_is (net.to a) v (c.to_there a j) i ∙ ap (λ p. far.is_same p (c.node v)) (c.to_is a j)) (h a j))
-
-  amount_out_is : (on_arc : Arc → ℕ) (on_link : Link → ℕ) → SameOnArcs c on_arc on_link → (v : Node) → net.HasNode v
-      → amount_out net on_arc v ≡ amount_out far on_link (c.node v)
-  amount_out_is on_arc on_link h v i =
-      c.arc_sums _ _
-      (λ a j. ap₂ (λ b n. cond b n 0)
-      (c.same_is (net.from a) v (c.from_there a j) i ∙ ap (λ p. far.is_same p (c.node v)) (c.from_is a j)) (h a j))
-
-  pub total_out_is : (on_arc : Arc → ℕ) (on_link : Link → ℕ) (on_node : Node → ℕ) (at_place : Place → ℕ)
-      → SameOnArcs c on_arc on_link → SameAtNodes c on_node at_place → (v : Node) → net.HasNode v
-      → total_out net on_arc on_node v ≡ total_out far on_link at_place (c.node v)
-  total_out_is on_arc on_link on_node at_place h k v i =
-      ap₂ (λ m n. m + n) (amount_out_is on_arc on_link h v i) (k v i)
-
-  valid_to : (on_arc : Arc → ℕ) (on_link : Link → ℕ) (on_node : Node → ℕ) (at_place : Place → ℕ)
-      → SameOnArcs c on_arc on_link → SameAtNodes c on_node at_place → IsValidFlow net on_arc on_node
-      → IsValidFlow far on_link at_place
-  valid_to on_arc on_link on_node at_place h k f = record {
-    within_cap = λ l i.
-        let a : (a : Arc) × net.HasArc a × (c.arc a ≡ l) = c.arc_of l i in
-        le_along _ _ _ _ (h a.0 a.1 ∙ ap on_link a.2) (c.capacity_is a.0 a.1 ∙ ap far.capacity a.2) (f.within_cap a.0 a.1);
-    within_sink = λ p i.
-        le_along _ _ _ _ (at_back on_node at_place k p i) (at_back net.sink far.sink c.sink_is p i)
-        (f.within_sink (c.back p) (c.back_there p i));
-    none_fixed = λ p i e.
-        sym (at_back on_node at_place k p i) ∙ f.none_fixed (c.back p) (c.back_there p i) (fixed_back p i ∙ e);
-    balanced = λ p i e.
-        let there = c.back_there p i in
-        let here : c.node (c.back p) ≡ p = c.back_node p i in
-        subst (λ q. amount_in far on_link q ≡ total_out far on_link at_place q) here
-        (sym (amount_in_is on_arc on_link h (c.back p) there) ∙ f.balanced (c.back p) there (fixed_back p i ∙ e)
-        ∙ total_out_is on_arc on_link on_node at_place h k (c.back p) there);
-  }
-
-  valid_from : (on_arc : Arc → ℕ) (on_link : Link → ℕ) (on_node : Node → ℕ) (at_place : Place → ℕ)
-      → SameOnArcs c on_arc on_link → SameAtNodes c on_node at_place → IsValidFlow far on_link at_place
-      → IsValidFlow net on_arc on_node
-  valid_from on_arc on_link on_node at_place h k f = record {
-    within_cap = λ a i.
-        le_along _ _ _ _ (sym (h a i)) (sym (c.capacity_is a i)) (f.within_cap (c.arc a) (c.arc_there a i));
-    within_sink = λ v i.
-        le_along _ _ _ _ (sym (k v i)) (sym (c.sink_is v i)) (f.within_sink (c.node v) (c.node_there v i));
-    none_fixed = λ v i e. k v i ∙ f.none_fixed (c.node v) (c.node_there v i) (sym (c.fixed_is v i) ∙ e);
-    balanced = λ v i e.
-        amount_in_is on_arc on_link h v i ∙ f.balanced (c.node v) (c.node_there v i) (sym (c.fixed_is v i) ∙ e)
-        ∙ sym (total_out_is on_arc on_link on_node at_place h k v i);
-  }
-
-  pub valid : (on_arc : Arc → ℕ) (on_link : Link → ℕ) (on_node : Node → ℕ) (at_place : Place → ℕ)
-      → SameOnArcs c on_arc on_link → SameAtNodes c on_node at_place
-      → IsValidFlow net on_arc on_node ↔ IsValidFlow far on_link at_place
-  valid on_arc on_link on_node at_place h k = (
-    valid_to on_arc on_link on_node at_place h k,
-    valid_from on_arc on_link on_node at_place h k,
-  )
-
-  -- ---- faults
-  pub fixed_inside : (inside : Node → Bool) (there : Place → Bool) → SameAtNodes c inside there → (v : Node) → net.HasNode v
-      → IsFixedInside net inside v ↔ IsFixedInside far there (c.node v)
-  fixed_inside inside there h v i = (
-    λ f. (sym (c.fixed_is v i) ∙ f.0, sym (h v i) ∙ f.1),
-    λ f. (c.fixed_is v i ∙ f.0, h v i ∙ f.1),
-  )
-
-  pub over_capacity : (on_arc : Arc → ℕ) (on_link : Link → ℕ) → SameOnArcs c on_arc on_link → (a : Arc) → net.HasArc a
-      → IsOverCapacity net on_arc a ↔ IsOverCapacity far on_link (c.arc a)
-  over_capacity on_arc on_link h a i =
-      let amount = h a i in
-      let cap = c.capacity_is a i in
-      (λ l. omega arith, λ l. omega arith)
-
   pub sink_limit_is : (v : Node) → net.HasNode v → sink_limit net v ≡ sink_limit far (c.node v)
   sink_limit_is v i = ap₂ (λ b n. cond b 0 n) (c.fixed_is v i) (c.sink_is v i)
 
-  pub over_sink : (on_node : Node → ℕ) (at_place : Place → ℕ) → SameAtNodes c on_node at_place → (v : Node) → net.HasNode v
-      → IsOverSink net on_node v ↔ IsOverSink far at_place (c.node v)
-  over_sink on_node at_place h v i =
-      let amount = h v i in
-      let limit = sink_limit_is v i in
-      (λ l. omega arith, λ l. omega arith)
+  -- ---- labels that say the same
+  module _ (inside : Node → Bool) (there : Place → Bool) (h : SameAtNodes c inside there) where
+    -- at the ends of an arc
+    pub ends_say : (a : Arc) → net.HasArc a
+        → (inside (net.from a) ≡ there (far.from (c.arc a))) × (inside (net.to a) ≡ there (far.to (c.arc a)))
+    ends_say a i = (
+      h (net.from a) (c.from_there a i) ∙ ap there (c.from_is a i),
+      h (net.to a) (c.to_there a i) ∙ ap there (c.to_is a i),
+    )
 
-  pub unbalanced : (on_arc : Arc → ℕ) (on_link : Link → ℕ) (on_node : Node → ℕ) (at_place : Place → ℕ)
-      → SameOnArcs c on_arc on_link → SameAtNodes c on_node at_place → (v : Node) → net.HasNode v
-      → IsUnbalanced net on_arc on_node v ↔ IsUnbalanced far on_link at_place (c.node v)
-  unbalanced on_arc on_link on_node at_place h k v i =
-      let entering = amount_in_is on_arc on_link h v i in
-      let leaving = total_out_is on_arc on_link on_node at_place h k v i in (
-        λ f. (sym (c.fixed_is v i) ∙ f.0, λ e. f.1 (entering ∙ e ∙ sym leaving)),
-        λ f. (c.fixed_is v i ∙ f.0, λ e. f.1 (sym entering ∙ e ∙ leaving)),
-      )
+    pub cost_is : cost net inside ≡ cost far there
+    cost_is =
+        ap₂ (λ m n. m + n)
+        (c.arc_sums _ _
+        (λ a i. let ends = ends_say a i in
+        ap₂ (λ x y. cond (not x && y) (net.capacity a) 0) ends.0 ends.1
+        ∙ ap (λ n. cond (not (there (far.from (c.arc a))) && there (far.to (c.arc a))) n 0) (c.capacity_is a i)))
+        (c.node_sums _ _ (λ v i. ap₂ (λ b n. cond b 0 n) (h v i) (c.sink_is v i)))
 
-  pub not_least : (inside : Node → Bool) (there : Place → Bool) → SameAtNodes c inside there → (v : Node) → net.HasNode v
-      → IsNotLeast net inside v ↔ IsNotLeast far there (c.node v)
-  not_least inside there h v i = (
-    λ f other l.
-        let apart = f (near_labels other) (least_inside_from (near_labels other) other (λ w j. refl) l) in
-        (sym (h v i) ∙ apart.0, apart.1),
-    λ f other l.
-        let apart = f (far_labels other) (least_inside_to other (far_labels other) (far_same other) l) in
-        (h v i ∙ apart.0, far_same other v i ∙ apart.1),
-  )
+    pub admissible : IsAdmissible net inside ↔ IsAdmissible far there
+    admissible = (
+      λ k. record {
+        none_fixed = λ p i e.
+            sym (at_back inside there h p i) ∙ k.none_fixed (c.back p) (c.back_there p i) (fixed_back p i ∙ e);
+      },
+      λ k. record { none_fixed = λ v i e. h v i ∙ k.none_fixed (c.node v) (c.node_there v i) (sym (c.fixed_is v i) ∙ e) },
+    )
+
+    pub fixed_inside : (v : Node) → net.HasNode v → IsFixedInside net inside v ↔ IsFixedInside far there (c.node v)
+    fixed_inside v i = (
+      λ f. (sym (c.fixed_is v i) ∙ f.0, sym (h v i) ∙ f.1),
+      λ f. (c.fixed_is v i ∙ f.0, h v i ∙ f.1),
+    )
+
+  module _ (inside : Node → Bool) (there : Place → Bool) (h : SameAtNodes c inside there) where
+    pub least_cost : IsLeastCost net inside ↔ IsLeastCost far there
+    least_cost = (
+      λ k. record {
+        admissible = (admissible inside there h).0 k.admissible;
+        least = λ other a.
+            le_along _ _ _ _ (cost_is inside there h) (cost_is (near_labels other) other (λ v i. refl))
+            (k.least (near_labels other) ((admissible (near_labels other) other (λ v i. refl)).1 a));
+      },
+      λ k. record {
+        admissible = (admissible inside there h).1 k.admissible;
+        least = λ other a.
+            le_along _ _ _ _ (sym (cost_is inside there h)) (sym (cost_is other (far_labels other) (far_same other)))
+            (k.least (far_labels other) ((admissible other (far_labels other) (far_same other)).0 a));
+      },
+    )
+
+  module _ (inside : Node → Bool) (there : Place → Bool) (h : SameAtNodes c inside there) where
+    pub least_inside : IsLeastInside net inside ↔ IsLeastInside far there
+    least_inside = (
+      λ k. record {
+        least_cost = (least_cost inside there h).0 k.least_cost;
+        within = λ other l p i e.
+            ap other (sym (c.back_node p i))
+            ∙ k.within (near_labels other) ((least_cost (near_labels other) other (λ v j. refl)).1 l) (c.back p)
+            (c.back_there p i) (at_back inside there h p i ∙ e);
+      },
+      λ k. record {
+        least_cost = (least_cost inside there h).1 k.least_cost;
+        within = λ other l v i e.
+            far_same other v i
+            ∙ k.within (far_labels other) ((least_cost other (far_labels other) (far_same other)).0 l) (c.node v)
+            (c.node_there v i) (sym (h v i) ∙ e);
+      },
+    )
+
+  module _ (inside : Node → Bool) (there : Place → Bool) (h : SameAtNodes c inside there) where
+    pub not_least : (v : Node) → net.HasNode v → IsNotLeast net inside v ↔ IsNotLeast far there (c.node v)
+    not_least v i = (
+      λ f other l.
+          let apart = f (near_labels other) ((least_inside (near_labels other) other (λ w j. refl)).1 l) in
+          (sym (h v i) ∙ apart.0, apart.1),
+      λ f other l.
+          let apart = f (far_labels other) ((least_inside other (far_labels other) (far_same other)).0 l) in
+          (h v i ∙ apart.0, far_same other v i ∙ apart.1),
+    )
+
+  -- ---- flows of the same amounts
+  module _ (on_arc : Arc → ℕ) (on_link : Link → ℕ) (h : SameOnArcs c on_arc on_link) where
+    pub over_capacity : (a : Arc) → net.HasArc a → IsOverCapacity net on_arc a ↔ IsOverCapacity far on_link (c.arc a)
+    over_capacity a i = let amount = h a i in let cap = c.capacity_is a i in (λ l. omega arith, λ l. omega arith)
+
+    pub amount_in_is : (v : Node) → net.HasNode v → amount_in net on_arc v ≡ amount_in far on_link (c.node v)
+    amount_in_is v i =
+        c.arc_sums _ _
+        (λ a j. ap₂ (λ b n. cond b n 0)
+        (c.same_is (net.to a) v (c.to_there a j) i ∙ ap (λ p. far.is_same p (c.node v)) (c.to_is a j)) (h a j))
+
+    amount_out_is : (v : Node) → net.HasNode v → amount_out net on_arc v ≡ amount_out far on_link (c.node v)
+    amount_out_is v i =
+        c.arc_sums _ _
+        (λ a j. ap₂ (λ b n. cond b n 0)
+        (c.same_is (net.from a) v (c.from_there a j) i ∙ ap (λ p. far.is_same p (c.node v)) (c.from_is a j)) (h a j))
+
+  module _ (on_node : Node → ℕ) (at_place : Place → ℕ) (k : SameAtNodes c on_node at_place) where
+    pub value_is : value net on_node ≡ value far at_place
+    value_is =
+        c.node_sums _ _
+        (λ v i. ap₂ (λ b n. cond b n (on_node v)) (c.fixed_is v i) (c.sink_is v i)
+        ∙ ap (λ n. cond (far.is_fixed (c.node v)) (far.sink (c.node v)) n) (k v i))
+
+    pub over_sink : (v : Node) → net.HasNode v → IsOverSink net on_node v ↔ IsOverSink far at_place (c.node v)
+    over_sink v i = let amount = k v i in let limit = sink_limit_is v i in (λ l. omega arith, λ l. omega arith)
+
+  module _ (on_arc : Arc → ℕ) (on_link : Link → ℕ) (on_node : Node → ℕ) (at_place : Place → ℕ)
+      (h : SameOnArcs c on_arc on_link) (k : SameAtNodes c on_node at_place) where
+    pub total_out_is : (v : Node) → net.HasNode v
+        → total_out net on_arc on_node v ≡ total_out far on_link at_place (c.node v)
+    total_out_is v i = ap₂ (λ m n. m + n) (amount_out_is on_arc on_link h v i) (k v i)
+
+    pub unbalanced : (v : Node) → net.HasNode v
+        → IsUnbalanced net on_arc on_node v ↔ IsUnbalanced far on_link at_place (c.node v)
+    unbalanced v i =
+        let entering = amount_in_is on_arc on_link h v i in
+        let leaving = total_out_is v i in (
+          λ f. (sym (c.fixed_is v i) ∙ f.0, λ e. f.1 (entering ∙ e ∙ sym leaving)),
+          λ f. (c.fixed_is v i ∙ f.0, λ e. f.1 (sym entering ∙ e ∙ leaving)),
+        )
+
+    pub valid : IsValidFlow net on_arc on_node ↔ IsValidFlow far on_link at_place
+    valid = (
+      λ f. record {
+        within_cap = λ l i.
+            let a : (a : Arc) × net.HasArc a × (c.arc a ≡ l) = c.arc_of l i in
+            le_along _ _ _ _ (h a.0 a.1 ∙ ap on_link a.2) (c.capacity_is a.0 a.1 ∙ ap far.capacity a.2) (f.within_cap a.0 a.1);
+        within_sink = λ p i.
+            le_along _ _ _ _ (at_back on_node at_place k p i) (at_back net.sink far.sink c.sink_is p i)
+            (f.within_sink (c.back p) (c.back_there p i));
+        none_fixed = λ p i e.
+            sym (at_back on_node at_place k p i) ∙ f.none_fixed (c.back p) (c.back_there p i) (fixed_back p i ∙ e);
+        balanced = λ p i e.
+            let there = c.back_there p i in
+            subst (λ q. amount_in far on_link q ≡ total_out far on_link at_place q) (c.back_node p i)
+            (sym (amount_in_is on_arc on_link h (c.back p) there) ∙ f.balanced (c.back p) there (fixed_back p i ∙ e)
+            ∙ total_out_is (c.back p) there);
+      },
+      λ f. record {
+        within_cap = λ a i.
+            le_along _ _ _ _ (sym (h a i)) (sym (c.capacity_is a i)) (f.within_cap (c.arc a) (c.arc_there a i));
+        within_sink = λ v i.
+            le_along _ _ _ _ (sym (k v i)) (sym (c.sink_is v i)) (f.within_sink (c.node v) (c.node_there v i));
+        none_fixed = λ v i e. k v i ∙ f.none_fixed (c.node v) (c.node_there v i) (sym (c.fixed_is v i) ∙ e);
+        balanced = λ v i e.
+            amount_in_is on_arc on_link h v i ∙ f.balanced (c.node v) (c.node_there v i) (sym (c.fixed_is v i) ∙ e)
+            ∙ sym (total_out_is v i);
+      },
+    )
 
 -- two networks with the same nodes and arcs, the same ends of each arc, and the same of all else
 pub record AreAlike {Node Arc : Type 0} (net far : Network Node Arc) : Type 0 where

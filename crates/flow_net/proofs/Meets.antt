@@ -220,7 +220,8 @@ same_rank net a b h =
     let n : ℕ = length net.fixed in
     let arcs = sum_below-cong m (arc_cost (network_of net) a) (arc_cost (network_of net) b)
     (λ j l. ap₂ (λ x y. cond (not x && y) (arc_at net.arcs j).cap 0)
-    (h (arc_at net.arcs j).from (net.valid.valid_arcs j l).from_in) (h (arc_at net.arcs j).to (net.valid.valid_arcs j l).to_in)) in
+    (h (arc_at net.arcs j).from (net.valid.valid_arcs j l).from_in)
+    (h (arc_at net.arcs j).to (net.valid.valid_arcs j l).to_in)) in
     let nodes = sum_below-cong n (node_cost (network_of net) a) (node_cost (network_of net) b)
     (λ v l. ap (λ x. cond x 0 (get_or net.sink v 0)) (h v l)) in
     let counts = sum_below-cong n (λ v. one_if (a v)) (λ v. one_if (b v)) (λ v l. ap one_if (h v l)) in

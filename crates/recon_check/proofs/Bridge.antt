@@ -46,147 +46,149 @@ admissible_from s complex claim none = record {
   none_fixed = λ row there fixed. false_from_ne_true (is_inside claim row) (λ inside. none row there (fixed, inside));
 }
 
-module _ (s : Scene) (voted : Voted) (claim : Claim) (n : IsNetworkInAnyOrder s voted) (there : AreThere (complex_of voted) claim)
-  where
-    abbrev net : Net
-    net = voted.net
+module _ (s : Scene) (voted : Voted) (claim : Claim) (n : IsNetworkInAnyOrder s voted)
+    (there : AreThere (complex_of voted) claim) where
+  abbrev net : Net
+  net = voted.net
 
-    abbrev near : Network ℕ ℕ
-    near = network_of net
+  abbrev near : Network ℕ ℕ
+  near = network_of net
 
-    abbrev complex : Complex
-    complex = complex_of voted
+  abbrev complex : Complex
+  complex = complex_of voted
 
-    abbrev far : Network (List ℕ) (List ℕ)
-    far = network_over s complex
+  abbrev far : Network (List ℕ) (List ℕ)
+  far = network_over s complex
 
-    abbrev labels : Labels
-    labels = labels_by voted claim
+  abbrev labels : Labels
+  labels = labels_by voted claim
 
-    abbrev flow : Flow
-    flow = flow_by voted claim
+  abbrev flow : Flow
+  flow = flow_by voted claim
 
-    abbrev nodes : ℕ
-    nodes = length net.fixed
+  abbrev nodes : ℕ
+  nodes = length net.fixed
 
-    abbrev arcs : ℕ
-    arcs = length net.arcs
+  abbrev arcs : ℕ
+  arcs = length net.arcs
 
-    -- ---- each fault by number and over cells and facets
-    fixed_stands : Stands voted.cells nodes (IsFixedInsideNet net labels) (IsFixedInside far (is_inside claim))
-    fixed_stands = record {
-      count = node_count s voted n;
-      same = fixed_inside near far (by_number s voted n) _ (is_inside claim) (same_at s voted n (is_inside claim) false);
-    }
+  -- ---- each fault by number and over cells and facets
+  fixed_stands : Stands voted.cells nodes (IsFixedInsideNet net labels) (IsFixedInside far (is_inside claim))
+  fixed_stands = record {
+    count = node_count s voted n;
+    same = fixed_inside near far (by_number s voted n) _ (is_inside claim) (same_at s voted n (is_inside claim) false);
+  }
 
-    capacity_stands : Stands voted.facets arcs (IsOverCapacityNet net flow) (IsOverCapacity far (flow_on claim))
-    capacity_stands = record {
-      count = arc_count s voted n;
-      same = over_capacity near far (by_number s voted n) _ (flow_on claim) (same_on s voted n (flow_on claim));
-    }
+  capacity_stands : Stands voted.facets arcs (IsOverCapacityNet net flow) (IsOverCapacity far (flow_on claim))
+  capacity_stands = record {
+    count = arc_count s voted n;
+    same = over_capacity near far (by_number s voted n) _ (flow_on claim) (same_on s voted n (flow_on claim));
+  }
 
-    sink_stands : Stands voted.cells nodes (IsOverSinkNet net flow) (IsOverSink far (sink_at claim))
-    sink_stands = record {
-      count = node_count s voted n;
-      same = over_sink near far (by_number s voted n) _ (sink_at claim) (same_at s voted n (sink_at claim) 0);
-    }
+  sink_stands : Stands voted.cells nodes (IsOverSinkNet net flow) (IsOverSink far (sink_at claim))
+  sink_stands = record {
+    count = node_count s voted n;
+    same = over_sink near far (by_number s voted n) _ (sink_at claim) (same_at s voted n (sink_at claim) 0);
+  }
 
-    balance_stands : Stands voted.cells nodes (IsUnbalancedNet net flow) (IsUnbalanced far (flow_on claim) (sink_at claim))
-    balance_stands = record {
-      count = node_count s voted n;
-      same =
-          unbalanced near far (by_number s voted n) _ (flow_on claim) _ (sink_at claim) (same_on s voted n (flow_on claim))
-          (same_at s voted n (sink_at claim) 0);
-    }
+  balance_stands : Stands voted.cells nodes (IsUnbalancedNet net flow) (IsUnbalanced far (flow_on claim) (sink_at claim))
+  balance_stands = record {
+    count = node_count s voted n;
+    same =
+        unbalanced near far (by_number s voted n) _ (flow_on claim) _ (sink_at claim) (same_on s voted n (flow_on claim))
+        (same_at s voted n (sink_at claim) 0);
+  }
 
-    least_stands : Stands voted.cells nodes (IsNotLeastNet net labels) (IsNotLeast far (is_inside claim))
-    least_stands = record {
-      count = node_count s voted n;
-      same = not_least near far (by_number s voted n) _ (is_inside claim) (same_at s voted n (is_inside claim) false);
-    }
+  least_stands : Stands voted.cells nodes (IsNotLeastNet net labels) (IsNotLeast far (is_inside claim))
+  least_stands = record {
+    count = node_count s voted n;
+    same = not_least near far (by_number s voted n) _ (is_inside claim) (same_at s voted n (is_inside claim) false);
+  }
 
-    -- ---- what holds where there is no fault
-    none_fixed : ((k : ℕ) → k < nodes → ¬ IsFixedInsideNet net labels k)
-        → NoneOf voted.cells (IsFixedInside far (is_inside claim))
-    none_fixed =
-        none_over voted.cells nodes (IsFixedInsideNet net labels) (IsFixedInside far (is_inside claim)) fixed_stands
+  -- ---- what holds where there is no fault
+  none_fixed : ((k : ℕ) → k < nodes → ¬ IsFixedInsideNet net labels k)
+      → NoneOf voted.cells (IsFixedInside far (is_inside claim))
+  none_fixed =
+      none_over voted.cells nodes (IsFixedInsideNet net labels) (IsFixedInside far (is_inside claim)) fixed_stands
 
-    within_arcs : AreWithinArcsNet net labels flow → AreWithinArcs far (is_inside claim) (flow_on claim)
-    within_arcs h = record {
-      none_fixed = none_fixed h.none_fixed;
-      within_caps =
-          none_over voted.facets arcs (IsOverCapacityNet net flow) (IsOverCapacity far (flow_on claim)) capacity_stands
-          h.within_caps;
-    }
+  within_arcs : AreWithinArcsNet net labels flow → AreWithinArcs far (is_inside claim) (flow_on claim)
+  within_arcs h = record {
+    none_fixed = none_fixed h.none_fixed;
+    within_caps =
+        none_over voted.facets arcs (IsOverCapacityNet net flow) (IsOverCapacity far (flow_on claim)) capacity_stands
+        h.within_caps;
+  }
 
-    certified : IsCertifiedNet net labels flow → IsCertified s complex claim
-    certified h =
-        let alike : AgreeAsLabels s voted (is_inside claim) = labels_agree s voted (is_inside claim) n in
-        let flows : AgreeAsFlows s voted (flow_on claim) (sink_at claim) = flows_agree s voted (flow_on claim) (sink_at claim) n in
-        record {
-          there = there;
-          admissible = alike.admissible.0 h.admissible;
-          valid = flows.valid.0 h.valid;
-          equal = sym flows.value_is ∙ h.equal ∙ alike.cost_is;
-        }
-
-    -- ---- a verdict by number is a reason over cells and facets, or the labels are the best
-    verdict_reason : (scan : Shown) (mesh : List ℕ) (verdict : Verdict) → IsVerdict net labels flow verdict
-        → MatchOption (reason_at voted verdict) (IsBest s complex claim) (IsReason scan s complex claim mesh)
-    verdict_reason scan mesh verdicts.Yes h =
-        let alike : AgreeAsLabels s voted (is_inside claim) = labels_agree s voted (is_inside claim) n in
-        let least = alike.least_inside.0 h.2 in
-        record {
-          certified = certified (record {
-            admissible = alike.admissible.1 least.least_cost.admissible;
-            valid = h.0;
-            equal = h.1;
-          });
-          least = least;
-        }
-    verdict_reason scan mesh (verdicts.FixedInside v) h = (
-      there,
-      first_over voted.cells nodes v (IsFixedInsideNet net labels) (IsFixedInside far (is_inside claim)) fixed_stands h,
-    )
-    verdict_reason scan mesh (verdicts.OverCapacity j amount cap) h = (
-      there,
-      admissible_from s complex claim (none_fixed h.0),
-      first_over voted.facets arcs j (IsOverCapacityNet net flow) (IsOverCapacity far (flow_on claim)) capacity_stands h.1,
-      h.2 ∙ same_on s voted n (flow_on claim) j h.1.in_range,
-      h.3 ∙ (by_number s voted n).capacity_is j h.1.in_range,
-    )
-    verdict_reason scan mesh (verdicts.OverSink v amount cap) h = (
-      record { there = there; within = within_arcs h.0 },
-      first_over voted.cells nodes v (IsOverSinkNet net flow) (IsOverSink far (sink_at claim)) sink_stands h.1,
-      h.2 ∙ same_at s voted n (sink_at claim) 0 v h.1.in_range,
-      h.3 ∙ sink_limit_is near far (by_number s voted n) v h.1.in_range,
-    )
-    verdict_reason scan mesh (verdicts.Unbalanced v amount_in amount_out) h = (
+  certified : IsCertifiedNet net labels flow → IsCertified s complex claim
+  certified h =
+      let alike : AgreeAsLabels s voted (is_inside claim) = labels_agree s voted (is_inside claim) n in
+      let flows : AgreeAsFlows s voted (flow_on claim) (sink_at claim) =
+      flows_agree s voted (flow_on claim) (sink_at claim) n in
       record {
         there = there;
-        within = record {
-          within_arcs = within_arcs h.0.within_arcs;
-          within_sinks =
-              none_over voted.cells nodes (IsOverSinkNet net flow) (IsOverSink far (sink_at claim)) sink_stands
-              h.0.within_sinks;
-        };
-      },
-      first_over voted.cells nodes v (IsUnbalancedNet net flow) (IsUnbalanced far (flow_on claim) (sink_at claim)) balance_stands
-          h.1,
-      h.2
-          ∙ amount_in_is near far (by_number s voted n) _ (flow_on claim) (same_on s voted n (flow_on claim)) v h.1.in_range,
-      h.3
-          ∙ total_out_is near far (by_number s voted n) _ (flow_on claim) _ (sink_at claim) (same_on s voted n (flow_on claim))
-          (same_at s voted n (sink_at claim) 0) v h.1.in_range,
-    )
-    verdict_reason scan mesh (verdicts.NotEqual a b) h =
-        let alike : AgreeAsLabels s voted (is_inside claim) = labels_agree s voted (is_inside claim) n in
-        let flows : AgreeAsFlows s voted (flow_on claim) (sink_at claim) = flows_agree s voted (flow_on claim) (sink_at claim) n in
-        (there, alike.admissible.0 h.0, flows.valid.0 h.1, h.2 ∙ flows.value_is, h.3 ∙ alike.cost_is, h.4)
-    verdict_reason scan mesh (verdicts.NotLeast v) h = (
-      certified h.0,
-      first_over voted.cells nodes v (IsNotLeastNet net labels) (IsNotLeast far (is_inside claim)) least_stands h.1,
-    )
+        admissible = alike.admissible.0 h.admissible;
+        valid = flows.valid.0 h.valid;
+        equal = sym flows.value_is ∙ h.equal ∙ alike.cost_is;
+      }
+
+  -- ---- a verdict by number is a reason over cells and facets, or the labels are the best
+  verdict_reason : (scan : Shown) (mesh : List ℕ) (verdict : Verdict) → IsVerdict net labels flow verdict
+      → MatchOption (reason_at voted verdict) (IsBest s complex claim) (IsReason scan s complex claim mesh)
+  verdict_reason scan mesh verdicts.Yes h =
+      let alike : AgreeAsLabels s voted (is_inside claim) = labels_agree s voted (is_inside claim) n in
+      let least = alike.least_inside.0 h.2 in
+      record {
+        certified = certified (record {
+          admissible = alike.admissible.1 least.least_cost.admissible;
+          valid = h.0;
+          equal = h.1;
+        });
+        least = least;
+      }
+  verdict_reason scan mesh (verdicts.FixedInside v) h = (
+    there,
+    first_over voted.cells nodes v (IsFixedInsideNet net labels) (IsFixedInside far (is_inside claim)) fixed_stands h,
+  )
+  verdict_reason scan mesh (verdicts.OverCapacity j amount cap) h = (
+    there,
+    admissible_from s complex claim (none_fixed h.0),
+    first_over voted.facets arcs j (IsOverCapacityNet net flow) (IsOverCapacity far (flow_on claim)) capacity_stands h.1,
+    h.2 ∙ same_on s voted n (flow_on claim) j h.1.in_range,
+    h.3 ∙ (by_number s voted n).capacity_is j h.1.in_range,
+  )
+  verdict_reason scan mesh (verdicts.OverSink v amount cap) h = (
+    record { there = there; within = within_arcs h.0 },
+    first_over voted.cells nodes v (IsOverSinkNet net flow) (IsOverSink far (sink_at claim)) sink_stands h.1,
+    h.2 ∙ same_at s voted n (sink_at claim) 0 v h.1.in_range,
+    h.3 ∙ sink_limit_is near far (by_number s voted n) v h.1.in_range,
+  )
+  verdict_reason scan mesh (verdicts.Unbalanced v amount_in amount_out) h = (
+    record {
+      there = there;
+      within = record {
+        within_arcs = within_arcs h.0.within_arcs;
+        within_sinks =
+            none_over voted.cells nodes (IsOverSinkNet net flow) (IsOverSink far (sink_at claim)) sink_stands
+            h.0.within_sinks;
+      };
+    },
+    first_over voted.cells nodes v (IsUnbalancedNet net flow) (IsUnbalanced far (flow_on claim) (sink_at claim)) balance_stands
+        h.1,
+    h.2
+        ∙ amount_in_is near far (by_number s voted n) _ (flow_on claim) (same_on s voted n (flow_on claim)) v h.1.in_range,
+    h.3
+        ∙ total_out_is near far (by_number s voted n) _ (flow_on claim) _ (sink_at claim) (same_on s voted n (flow_on claim))
+        (same_at s voted n (sink_at claim) 0) v h.1.in_range,
+  )
+  verdict_reason scan mesh (verdicts.NotEqual a b) h =
+      let alike : AgreeAsLabels s voted (is_inside claim) = labels_agree s voted (is_inside claim) n in
+      let flows : AgreeAsFlows s voted (flow_on claim) (sink_at claim) =
+      flows_agree s voted (flow_on claim) (sink_at claim) n in
+      (there, alike.admissible.0 h.0, flows.valid.0 h.1, h.2 ∙ flows.value_is, h.3 ∙ alike.cost_is, h.4)
+  verdict_reason scan mesh (verdicts.NotLeast v) h = (
+    certified h.0,
+    first_over voted.cells nodes v (IsNotLeastNet net labels) (IsNotLeast far (is_inside claim)) least_stands h.1,
+  )
 
 -- the same of labels and a flow that are those of the claim
 pub reason_is : (scan : Shown) (s : Scene) (voted : Voted) (claim : Claim) (mesh : List ℕ) (verdict : Verdict) (labels : Labels)

@@ -1,13 +1,11 @@
 -- Lists of rows: what is among them, what a test keeps, and rows that state amounts of rising keys.
 use Rattle.std.proofs.Common.{ℕ, zero, suc, ◌≡◌, ◌≢◌, ◌<◌, ◌≤◌, not, refl, ap, sym, subst, ◌∙◌, arith, Bool, true, false, cond}
 use Rattle.std.proofs.Common.{eqb, List, [], ◌∷◌, length, map, filter, get_or, All, AllPairs, Contains}
-use Rattle.std.specs.List.{sum_by}
 use Rattle.std.proofs.lemmas.Bool.{eq-eqb, ne_eqb, false_from_ne_true}
 use Rattle.std.proofs.lemmas.List.{get_or-map, get_or_default, length-map, same_lists}
 use Rattle.std.proofs.lemmas.List.Elements.{All-contains, All-contains_itself, All-filter, All-map, filter_passes}
 use Rattle.std.proofs.lemmas.List.Folds.{list_any-from_Any, Any-from_list_any}
 use Rattle.std.proofs.lemmas.List.Kept.{AllPairs-filter}
-use Rattle.std.proofs.lemmas.List.Sums.{sum_by-cons}
 use Rattle.geo_sign.specs.Rising.{IsBefore}
 use Rattle.geo_sign.proofs.Rising.{rising_law}
 use Rattle.solution.specs.Solutions.{stated, listed}
@@ -19,7 +17,8 @@ use Rattle.recon_check.proofs.Walks.{stated_says}
 
 -- ---- what is among rows
 pub among_from : (rows : List (List ℕ)) (row : List ℕ) → Contains rows row → is_among rows row ≡ true
-among_from rows row h = list_any-from_Any (λ other. bytes_eq other row) rows (h.0, row, h.1, h.2, (bytes_eq-Decides row row).1 refl)
+among_from rows row h =
+    list_any-from_Any (λ other. bytes_eq other row) rows (h.0, row, h.1, h.2, (bytes_eq-Decides row row).1 refl)
 
 pub among_means : (rows : List (List ℕ)) (row : List ℕ) → is_among rows row ≡ true → Contains rows row
 among_means rows row h =
@@ -60,8 +59,6 @@ among_kept rows keys rise keys_rise there =
       λ h. among_means rows row (kept_passes (is_among rows) keys row h),
     ))
 
--- ---- sums of terms that agree
-
 -- ---- rows that state amounts
 -- what rising rows state of the key of one of them is its amount
 pub stated_row : {Row : Type 0} (about : Row → List ℕ) (amount : Row → ℕ) (rows : List Row) → AllPairs IsBefore (map about rows)
@@ -69,7 +66,8 @@ pub stated_row : {Row : Type 0} (about : Row → List ℕ) (amount : Row → ℕ
     → stated about amount rows (about (get_or rows i d)) ≡ amount (get_or rows i d)
 stated_row about amount [] rising i d l = absurd (omega arith)
 stated_row about amount (row ∷ rows) rising zero d l =
-    ap (λ (b : Bool). cond b (amount row) (stated about amount rows (about row))) ((bytes_eq-Decides (about row) (about row)).1 refl)
+    ap (λ (b : Bool). cond b (amount row) (stated about amount rows (about row)))
+    ((bytes_eq-Decides (about row) (about row)).1 refl)
 stated_row about amount (row ∷ rows) rising (suc i) d l =
     let m : i < length rows = omega arith in
     let before : IsBefore (about row) (about (get_or rows i d)) =

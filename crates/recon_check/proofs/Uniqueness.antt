@@ -71,9 +71,12 @@ Passes scan s complex claim mesh (NoSuchCell k) = All (Contains complex.cells) c
 Passes scan s complex claim mesh (NoSuchFacet k) = All (Contains complex.facets) (facets_of claim)
 Passes scan s complex claim mesh (NoSuchSink k) = All (Contains complex.cells) (cells_of claim)
 Passes scan s complex claim mesh (FixedInside cell) = IsAdmissible s complex (is_inside claim)
-Passes scan s complex claim mesh (OverCapacity facet flow cap) = NoneOf complex.facets (IsOverCapacity (network_over s complex) (flow_on claim))
-Passes scan s complex claim mesh (OverSink cell flow cap) = NoneOf complex.cells (IsOverSink (network_over s complex) (sink_at claim))
-Passes scan s complex claim mesh (Unbalanced cell entering leaving) = NoneOf complex.cells (IsUnbalanced (network_over s complex) (flow_on claim) (sink_at claim))
+Passes scan s complex claim mesh (OverCapacity facet flow cap) =
+    NoneOf complex.facets (IsOverCapacity (network_over s complex) (flow_on claim))
+Passes scan s complex claim mesh (OverSink cell flow cap) =
+    NoneOf complex.cells (IsOverSink (network_over s complex) (sink_at claim))
+Passes scan s complex claim mesh (Unbalanced cell entering leaving) =
+    NoneOf complex.cells (IsUnbalanced (network_over s complex) (flow_on claim) (sink_at claim))
 Passes scan s complex claim mesh (NotEqual a b) = value s complex (sink_at claim) ≡ cost s complex (is_inside claim)
 Passes scan s complex claim mesh (NotLeast cell) = IsLeastInside s complex (is_inside claim)
 Passes scan s complex claim mesh (WrongCost a b) = claim.counts.cost ≡ cost s complex (is_inside claim)
@@ -106,7 +109,8 @@ fails scan s complex claim mesh (FixedInside cell) h p =
     (λ row there fault. let outside = p.none_fixed row there fault.0 in false≢true (sym outside ∙ fault.1)) h.1
 fails scan s complex claim mesh (OverCapacity facet flow cap) h p =
     not_first_of complex.facets facet (IsOverCapacity (network_over s complex) (flow_on claim)) p h.2
-fails scan s complex claim mesh (OverSink cell flow cap) h p = not_first_of complex.cells cell (IsOverSink (network_over s complex) (sink_at claim)) p h.1
+fails scan s complex claim mesh (OverSink cell flow cap) h p =
+    not_first_of complex.cells cell (IsOverSink (network_over s complex) (sink_at claim)) p h.1
 fails scan s complex claim mesh (Unbalanced cell entering leaving) h p =
     not_first_of complex.cells cell (IsUnbalanced (network_over s complex) (flow_on claim) (sink_at claim)) p h.1
 fails scan s complex claim mesh (NotEqual a b) h p = h.5 (h.3 ∙ p ∙ sym h.4)
@@ -291,9 +295,11 @@ same_kind scan s complex claim mesh (OverSink a flow cap) (OverSink b flow' cap'
     let caps : cap ≡ cap' = h.3 ∙ ap (sink_limit (network_over s complex)) same ∙ sym k.3 in
     cc
 same_kind scan s complex claim mesh (Unbalanced a entering leaving) (Unbalanced b entering' leaving') e h k =
-    let same : a ≡ b = one_first_of complex.cells a b (IsUnbalanced (network_over s complex) (flow_on claim) (sink_at claim)) h.1 k.1 in
+    let same : a ≡ b =
+    one_first_of complex.cells a b (IsUnbalanced (network_over s complex) (flow_on claim) (sink_at claim)) h.1 k.1 in
     let ins : entering ≡ entering' = h.2 ∙ ap (entering_of (network_over s complex) (flow_on claim)) same ∙ sym k.2 in
-    let outs : leaving ≡ leaving' = h.3 ∙ ap (total_out (network_over s complex) (flow_on claim) (sink_at claim)) same ∙ sym k.3 in
+    let outs : leaving ≡ leaving' =
+    h.3 ∙ ap (total_out (network_over s complex) (flow_on claim) (sink_at claim)) same ∙ sym k.3 in
     cc
 same_kind scan s complex claim mesh (NotEqual a b) (NotEqual a' b') e h k =
     let values : a ≡ a' = h.3 ∙ sym k.3 in

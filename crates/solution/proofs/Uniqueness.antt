@@ -7,8 +7,7 @@ use Rattle.flow_net.proofs.Correspondences.{itself, ends_say}
 use Rattle.geo_sign.specs.Vertices.{corners}
 use Rattle.mesh_ply.specs.Meshes.{mesh_of}
 use Rattle.visibility.specs.Scenes.{Scene}
-use Rattle.geo_sign.specs.Tetrahedron.{facet_at, turned}
-use Rattle.visibility.specs.Complexes.{Complex, cell_of}
+use Rattle.visibility.specs.Complexes.{Complex}
 use Rattle.visibility.specs.Votes.{IsComplexOf}
 use Rattle.visibility.specs.Cuts.{network_over, cost, is_cut, cut_facets, IsLeastInside}
 use Rattle.visibility.proofs.ListingAgreements.{by_itself}

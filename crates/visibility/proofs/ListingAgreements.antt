@@ -58,5 +58,6 @@ pub with_rising : (s : Scene) (listing : Complex) → (h : IsListingOf s listing
 with_rising s listing h = listings_agree s listing h.complex h (rising_listing s h.complex h.complex_is)
 
 -- the network over a scene's cells and facets stands for itself
-pub by_itself : (s : Scene) (complex : Complex) → IsComplexOf s complex → AreAlike (network_over s complex) (network_over s complex)
+pub by_itself : (s : Scene) (complex : Complex) → IsComplexOf s complex
+    → AreAlike (network_over s complex) (network_over s complex)
 by_itself s complex is = alike s complex complex (rising_listing s complex is) (rising_listing s complex is)

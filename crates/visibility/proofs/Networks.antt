@@ -1,5 +1,5 @@
 -- The network of a scene at a node and at an arc.
-use Rattle.std.proofs.Common.{ℕ, ◌<◌, ◌≡◌, ap, ◌∙◌, Bool, List, [], length, get_or}
+use Rattle.std.proofs.Common.{ℕ, ◌<◌, ◌≡◌, refl, ap, sym, subst, ◌∙◌, Bool, List, [], length, get_or}
 use Rattle.std.proofs.lemmas.List.{get_or-map, length-map}
 use Rattle.flow_net.specs.Nets.{arc_at, flag_at, no_arc}
 use Rattle.flow_net.specs.declared.Arc.{Arc}
@@ -10,8 +10,8 @@ use Rattle.visibility.specs.Complexes.{has_facet, cell_index, cell_of}
 use Rattle.visibility.specs.Votes.{is_fixed, capacity, sink, HasCapacity}
 use Rattle.visibility.specs.Networks.{complex_of, arc_of, IsNetworkInAnyOrder}
 use Rattle.visibility.specs.Listings.{AreOnce}
-use Rattle.visibility.proofs.Listings.{cells_once, facets_once, has_capacity}
-use Rattle.visibility.proofs.Indices.{first_within, index_has}
+use Rattle.visibility.proofs.Listings.{cells_once, facets_once}
+use Rattle.visibility.proofs.Indices.{first_within}
 
 pub nodes_once : (s : Scene) (voted : Voted) → IsNetworkInAnyOrder s voted → AreOnce voted.cells
 nodes_once s voted n = cells_once s (complex_of voted) n.listing
@@ -34,26 +34,20 @@ pub sink_at : (s : Scene) (voted : Voted) (k : ℕ) → IsNetworkInAnyOrder s vo
     → get_or voted.net.sink k 0 ≡ sink s (get_or voted.cells k [])
 sink_at s voted k n l = ap (λ (sinks : List ℕ). get_or sinks k 0) n.sink_is ∙ get_or-map (sink s) voted.cells k [] _ l
 
--- an arc and the facet that it stands for
+-- an arc and the facet that it stands for: the cells at its ends, and its capacity
 pub record IsArcOf (s : Scene) (voted : Voted) (a : Arc) (f : List ℕ) : Type 0 where
   pub from_is : get_or voted.cells a.from [] ≡ cell_of s.vertices voted.cells (facet_at f)
   pub to_is : get_or voted.cells a.to [] ≡ cell_of s.vertices voted.cells (turned (facet_at f))
   pub cap_is : a.cap ≡ capacity s (facet_at f)
 
 pub arc_is : (s : Scene) (voted : Voted) (j : ℕ) → IsNetworkInAnyOrder s voted → j < length voted.facets
-    → arc_at voted.net.arcs j ≡ arc_of s (complex_of voted) (get_or voted.facets j [])
-arc_is s voted j n l =
-    ap (λ (arcs : List Arc). arc_at arcs j) n.arcs_are ∙ get_or-map (arc_of s (complex_of voted)) voted.facets j [] no_arc l
-
--- the cells at an arc's ends, and its capacity
-pub arc_ends : (s : Scene) (voted : Voted) (j : ℕ) → IsNetworkInAnyOrder s voted → j < length voted.facets
     → IsArcOf s voted (arc_at voted.net.arcs j) (get_or voted.facets j [])
 unfolding arc_of
-arc_ends s voted j n l = record {
-  from_is = ap (λ (a : Arc). get_or voted.cells a.from []) (arc_is s voted j n l);
-  to_is = ap (λ (a : Arc). get_or voted.cells a.to []) (arc_is s voted j n l);
-  cap_is = ap (λ (a : Arc). a.cap) (arc_is s voted j n l);
-}
+arc_is s voted j n l =
+    subst (λ (a : Arc). IsArcOf s voted a (get_or voted.facets j []))
+    (sym (ap (λ (arcs : List Arc). arc_at arcs j) n.arcs_are
+    ∙ get_or-map (arc_of s (complex_of voted)) voted.facets j [] no_arc l))
+    (record { from_is = refl; to_is = refl; cap_is = refl })
 
 -- the two cells of a facet that has a capacity are in the list
 pub record IsJoined (s : Scene) (cells : List (List ℕ)) (f : List ℕ) : Type 0 where

@@ -15,7 +15,7 @@ use Rattle.visibility.specs.Cuts.{network_over}
 use Rattle.visibility.specs.Networks.{complex_of, IsNetworkInAnyOrder}
 use Rattle.visibility.specs.Laws.{row_index, LabelsAgree, FlowsAgree}
 use Rattle.visibility.proofs.Indices.{sum_by-below, at_index, index_has, index_test, row_index_at}
-use Rattle.visibility.proofs.Networks.{nodes_once, node_count, arc_count, fixed_at, sink_at, arc_ends}
+use Rattle.visibility.proofs.Networks.{nodes_once, node_count, arc_count, fixed_at, sink_at, arc_is}
 
 module _ (s : Scene) (voted : Voted) (n : IsNetworkInAnyOrder s voted) where
   abbrev pub far : Network (List ℕ) (List ℕ)
@@ -55,10 +55,10 @@ module _ (s : Scene) (voted : Voted) (n : IsNetworkInAnyOrder s voted) where
         ∙ sym (sum_by-below g voted.facets []);
     from_there = λ j l. (voted.net.valid.valid_arcs j l).from_in;
     to_there = λ j l. (voted.net.valid.valid_arcs j l).to_in;
-    from_is = λ j l. (arc_ends s voted j n (arc_in j l)).from_is;
-    to_is = λ j l. (arc_ends s voted j n (arc_in j l)).to_is;
+    from_is = λ j l. (arc_is s voted j n (arc_in j l)).from_is;
+    to_is = λ j l. (arc_is s voted j n (arc_in j l)).to_is;
     same_is = λ k i l m. index_test voted.cells k i (nodes_once s voted n) (node_in k l) (node_in i m);
-    capacity_is = λ j l. (arc_ends s voted j n (arc_in j l)).cap_is;
+    capacity_is = λ j l. (arc_is s voted j n (arc_in j l)).cap_is;
     fixed_is = λ k l. fixed_at s voted k n (node_in k l);
     sink_is = λ k l. sink_at s voted k n (node_in k l);
   }
