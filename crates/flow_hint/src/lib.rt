@@ -6,9 +6,10 @@
 //! bounded time, and then by levels, the node nearest to a sink first (Goldberg and Tarjan 1988). What reaches no sink
 //! goes back to the fixed nodes.
 //!
-//! `survey` adds up capacities, `wiring` says which arcs meet at a node and how much can go along each, `preflow` holds what is where, `forest` and `rounds`
-//! move excess into sinks, `refund` holds what can go back, `sweep` and `walk` give it back, and `hinting` puts them
-//! together. `levels` finds the levels of nodes in the residual network of a flow. The crate stands on `flow_net` alone.
+//! `survey` adds up capacities, `wiring` says which arcs meet at a node and how much can go along each, `preflow` holds what
+//! is where, `forest` and `rounds` move excess into sinks, `refund` holds what can go back, `sweep` and `walk` give it back,
+//! and `hinting` puts them together. `levels` finds the levels of nodes in the residual network of a flow. The crate stands
+//! on `flow_net` alone.
 #![tactic(auto)]
 
 mod forest;

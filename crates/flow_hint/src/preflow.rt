@@ -85,11 +85,13 @@ impl Preflow {
             return Ok(None);
         }
         let Survey {
+            degree,
+            is_by_node,
             source,
             balance,
             ..
         } = survey;
-        let Some(mut wiring) = Wiring::new(alloc, net)? else {
+        let Some(mut wiring) = Wiring::new(alloc, net, degree, is_by_node)? else {
             return Ok(None);
         };
         lay(net, &mut wiring, is_full);

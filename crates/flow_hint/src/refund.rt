@@ -4,7 +4,7 @@ ghost use Rattle.std.specs.Prelude.{◌≡◌, ◌<◌, length, IfOk};
 
 use crate::NoMemory;
 use crate::wiring::Wiring;
-use flow_net::{Flow, Net, Sequence};
+use flow_net::{Arc, Flow, Net, Sequence};
 use std::alloc::Global;
 
 /// Amounts on the arcs of a network, and what has entered each node and not left it.
@@ -61,31 +61,32 @@ impl Refund {
         self.excess[node] = arrived - goes;
     }
 
-    /// The amount on each arc between free nodes.
-    fn on_arcs(&self, alloc: Global, net: &Net) -> Result<Vec<u64>, NoMemory>
+    /// The amount on an arc. From a fixed node goes what came to the free node, by one arc after the other.
+    fn on_arc(&mut self, arc: &Arc, number: usize) -> u64
+        ensures { self.new.wiring ≡ self.old.wiring }
+    {
+        if arc.pair.is_some() {
+            let slot = self.wiring.slot(self.wiring.slot_of(number));
+            return self.wiring.slot(slot.twin as usize).room;
+        }
+        if arc.to >= self.source.len() {
+            return 0;
+        }
+        let amount = arc.cap.min(self.source[arc.to]);
+        self.source[arc.to] -= amount;
+        amount
+    }
+
+    /// The amount on each arc.
+    fn on_arcs(&mut self, alloc: Global, net: &Net) -> Result<Vec<u64>, NoMemory>
         ensures { IfOk result (λ amounts. length amounts.items ≡ length net.now.arcs) }
     {
         let arcs = net.arcs.as_slice();
         let mut amounts = vec![in alloc; 0u64; arcs.len()]?;
         for number in 0..arcs.len() {
-            let slot = self.wiring.slot(self.wiring.slot_of(number));
-            amounts[number] = self.wiring.slot(slot.twin as usize).room;
+            amounts[number] = self.on_arc(&arcs[number], number);
         }
         Ok(amounts)
-    }
-
-    /// Writes the amount on each arc from a fixed node: what came to the free node, by one arc after the other.
-    fn add_fixed(&mut self, net: &Net, amounts: &mut Vec<u64>)
-        requires { length amounts.old.items ≡ length net.now.arcs }
-        ensures { length amounts.new.items ≡ length net.now.arcs }
-    {
-        for (number, arc) in net.arcs.as_slice().iter().enumerate() {
-            if arc.pair.is_none() && arc.to < self.source.len() {
-                let amount = arc.cap.min(self.source[arc.to]);
-                amounts[number] = amount;
-                self.source[arc.to] -= amount;
-            }
-        }
     }
 
     /// The amount at each sink: its capacity less what it still takes, and nothing where the node is fixed.
@@ -116,8 +117,7 @@ impl Refund {
     {
         let mut refund = self;
         let on_sink = refund.on_sinks(alloc, net)?;
-        let mut on_arc = refund.on_arcs(alloc, net)?;
-        refund.add_fixed(net, &mut on_arc);
+        let on_arc = refund.on_arcs(alloc, net)?;
         Ok(Flow {
             on_arc: Sequence::from(on_arc),
             on_sink: Sequence::from(on_sink),

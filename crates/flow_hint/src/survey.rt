@@ -1,6 +1,6 @@
 //! What one pass over the arcs of a network adds up. It stands on the network alone.
 
-ghost use Rattle.std.specs.Prelude.{◌≡◌, length, IfOk};
+ghost use Rattle.std.specs.Prelude.{◌≡◌, ◌+◌, length, IfOk};
 
 use crate::NoMemory;
 use flow_net::Net;
@@ -15,6 +15,10 @@ const SIGN: u64 = 9_223_372_036_854_775_808;
 /// What the arcs of a network come to.
 #[derive(Debug, Drop)]
 pub struct Survey {
+    /// For each node how many arcs leave it, behind one more place.
+    pub degree: Vec<u32>,
+    /// Whether the arcs of each node stand side by side, in the order of their nodes.
+    pub is_by_node: bool,
     /// Whether there is an arc between free nodes.
     pub has_pairs: bool,
     /// What comes to each node from fixed nodes where these send all that they can.
@@ -28,15 +32,22 @@ pub struct Survey {
 impl Survey {
     /// The sums over the arcs of a network.
     pub fn new(alloc: Global, net: &Net) -> Result<Survey, NoMemory>
+        ensures degrees { IfOk result (λ survey. length survey.degree.items ≡ length net.now.fixed + 1) }
         ensures sources { IfOk result (λ survey. length survey.source.items ≡ length net.now.fixed) }
         ensures balances { IfOk result (λ survey. length survey.balance.items ≡ length net.now.fixed) }
     {
         let nodes = net.fixed.as_slice().len();
         let mut source = vec![in alloc; 0u64; nodes]?;
         let mut balance = vec![in alloc; 0u64; nodes]?;
+        let mut degree = vec![in alloc; 0u32; nodes + 1]?;
+        let mut last = 0;
+        let mut is_by_node = true;
         let mut has_pairs = false;
         let mut total: u64 = 0;
         for arc in net.arcs.as_slice() {
+            is_by_node = is_by_node && last <= arc.from;
+            last = arc.from;
+            degree[arc.from + 1] = degree[arc.from + 1].saturating_add(1);
             total = total.saturating_add(arc.cap);
             balance[arc.to] = balance[arc.to].wrapping_add(arc.cap);
             if arc.pair.is_some() {
@@ -47,6 +58,8 @@ impl Survey {
             }
         }
         Ok(Survey {
+            degree,
+            is_by_node,
             has_pairs,
             source,
             balance,
