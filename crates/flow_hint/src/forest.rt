@@ -40,6 +40,8 @@ pub struct Forest {
     pub preflow: Preflow,
     /// The branch of each node.
     branch: Vec<Branch>,
+    /// Whether each node is outside the forest, beside its branch, since a node asks that of each head: a byte a node.
+    is_free: Vec<bool>,
     /// Whether each node waits to grow.
     is_waiting: Vec<bool>,
     /// The nodes that wait, in a ring.
@@ -55,6 +57,7 @@ pub struct Forest {
     /// How many more slots may be looked at.
     fuel: usize,
     ghost branch_count: { length branch.items ≡ preflow.wiring.nodes },
+    ghost free_count: { length is_free.items ≡ preflow.wiring.nodes },
     ghost flag_count: { length is_waiting.items ≡ preflow.wiring.nodes },
     ghost ring_count: { length ring.items ≡ preflow.wiring.nodes },
     ghost ring_in: { EachIndex ring.items (λ k. slice_index ring.items k < preflow.wiring.nodes) },
@@ -80,12 +83,14 @@ impl Forest {
             distance: 0,
         };
         let branch = vec![in alloc; outside; nodes]?;
+        let is_free = vec![in alloc; true; nodes]?;
         let is_waiting = vec![in alloc; false; nodes]?;
         let ring = vec![in alloc; 0u32; nodes]?;
         let orphans = vec![in alloc; 0u32; nodes]?;
         Ok(Forest {
             preflow,
             branch,
+            is_free,
             is_waiting,
             ring,
             first: 0,
@@ -236,6 +241,7 @@ impl Forest {
         ensures { self.new.preflow ≡ self.old.preflow }
     {
         self.branch[node].parent = FREE;
+        self.is_free[node] = true;
         let (start, end) = self.preflow.wiring.around(node);
         for slot in start..end {
             let along = self.preflow.wiring.slot(slot);
@@ -331,6 +337,7 @@ impl Forest {
             parent: along.twin,
             distance: self.branch[node].distance.saturating_add(1),
         };
+        self.is_free[head] = false;
         self.enqueue(head);
     }
 
@@ -363,12 +370,12 @@ impl Forest {
     {
         let (start, end) = self.preflow.wiring.around(node);
         for slot in start..end {
-            if self.branch[node].parent == FREE {
+            if self.is_free[node] {
                 return;
             }
             self.burn(1);
             let along = self.preflow.wiring.slot(slot);
-            if along.room > 0 && self.branch[along.head as usize].parent == FREE {
+            if along.room > 0 && self.is_free[along.head as usize] {
                 self.reach(node, slot);
             }
         }
@@ -381,6 +388,7 @@ impl Forest {
         for node in 0..self.preflow.wiring.nodes {
             if self.preflow.excess[node] > 0 {
                 self.branch[node].parent = ROOT;
+                self.is_free[node] = false;
                 self.enqueue(node);
             }
         }
