@@ -24,8 +24,8 @@ use Rattle.visibility.proofs.Amounts.{capacity_fits, sink_fits}
 use Rattle.flow_net.specs.Weights.{IsSightList}
 
 -- the numbers of two facets that pass the test
-same_means : (f g : DirectedFacet) → is_same_facet f g ≡ true → (f.a ≡ g.a) × (f.b ≡ g.b) × (f.c ≡ g.c)
-same_means f g h =
+same_numbers : (f g : DirectedFacet) → is_same_facet f g ≡ true → (f.a ≡ g.a) × (f.b ≡ g.b) × (f.c ≡ g.c)
+same_numbers f g h =
     let p = and_parts (eqb f.a g.a && eqb f.b g.b) (eqb f.c g.c) h in
     let q = and_parts (eqb f.a g.a) (eqb f.b g.b) p.0 in
     (eqb-true f.a g.a q.0, eqb-true f.b g.b q.1, eqb-true f.c g.c p.1)
@@ -53,9 +53,9 @@ one_of t f h =
     let third : Bool = is_same_facet (facet_of t 2) f in
     let last : Bool = is_same_facet (facet_of t 3) f in
     ⊎_elim (λ p. ⊎_elim
-    (λ q. ⊎_elim (λ r. inl (same_means (facet_of t 0) f r)) (λ r. inr (inl (same_means (facet_of t 1) f r)))
-    (or_cases first second q)) (λ q. inr (inr (inl (same_means (facet_of t 2) f q)))) (or_cases (first || second) third p))
-    (λ p. inr (inr (inr (same_means (facet_of t 3) f p))))
+    (λ q. ⊎_elim (λ r. inl (same_numbers (facet_of t 0) f r)) (λ r. inr (inl (same_numbers (facet_of t 1) f r)))
+    (or_cases first second q)) (λ q. inr (inr (inl (same_numbers (facet_of t 2) f q)))) (or_cases (first || second) third p))
+    (λ p. inr (inr (inr (same_numbers (facet_of t 3) f p))))
     (or_cases (first || second || third) last h)
 
 -- no cell has a facet and the one turned round
