@@ -196,7 +196,7 @@ down v x a b c o p w h =
       z_down = settle n.z p.z (low n.z) (omega (arith, ints, e, f, i, j, k, h));
     }
 
--- a facet of three points that isn't level along all axes
+-- a facet of three points that is not level along all axes
 pub level :
     (a b c d : Point) → (facet_normal a b c).x ≡ pos 0 → (facet_normal a b c).y ≡ pos 0 → (facet_normal a b c).z ≡ pos 0 →
     orientation a b c d ≡ pos 0

@@ -22,7 +22,7 @@ fan_faces a b c d e p ha hb hc hd he hp v w x y z =
     let u = mul_below (orientation a c b e) (power a b c d p ha hb hc hd hp) w y in
     factor_above (power a b c d e ha hb hc hd he) (orientation a b c p) x (omega (arith, ints, s, t, u))
 
--- the cell across a facet that doesn't face p is in conflict too
+-- the cell across a facet that does not face p is in conflict too
 pub conflict_across : (a b c d e p : Point) (ha hb hc hd he hp : ℤ) → pos 0 <ℤ orientation a b c d
     → pos 0 <ℤ orientation a c b e
     → pos 0 <ℤ power a b c d e ha hb hc hd he → power a b c d p ha hb hc hd hp <ℤ pos 0 → orientation a b c p ≤ℤ pos 0

@@ -95,7 +95,7 @@ edge_over q o zero = (o.b_d, o.c_d)
 edge_over q o (suc zero) = (o.c_d, o.a_d)
 edge_over q o (suc (suc i)) = (o.a_d, o.b_d)
 
--- a facet without p isn't one with p
+-- a facet without p is not one with p
 mixed : (x y z a b c u p w : ℕ) → a ≢ p → b ≢ p → c ≢ p → IsTurn x y z a b c → IsTurn x y z u p w → ⊥
 mixed x y z a b c u p w na nb nc (inl e) =
     ⊎_elim (λ f. nb (sym e.1 ∙ f.1)) (⊎_elim (λ f. na (sym e.0 ∙ f.0)) (λ f. nc (sym e.2 ∙ f.2)))

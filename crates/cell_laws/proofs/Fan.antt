@@ -47,7 +47,7 @@ own_power v a b c p =
 pub not_in : (v : Vertices) (p u : ℕ) → v.is_in p ≡ false → Has v u → u ≢ p
 not_in v p u f h e = true≢false (sym h.1 ∙ ap v.is_in e ∙ f)
 
--- the vertex across a facet isn't in the cell
+-- the vertex across a facet is not in the cell
 pub across_above :
     (v : Vertices) → IsGeneric v → (a b c d e : ℕ) → IsCell v a b c d → IsCell v a c b e → pos 0 <ℤ power_of v a b c d e
 across_above v g a b c d e k l =
@@ -184,7 +184,7 @@ fan_once v p g i h a b c d k l =
     one_over (with_vertex v p) g b a p c d (swap_cell (with_vertex v p) (tetrahedron a b c p) (fan_cell v p g i h a b c k))
     (swap_cell (with_vertex v p) (tetrahedron a b d p) (fan_cell v p g i h a b d l))
 
--- the cells without p are those with which it isn't in conflict
+-- the cells without p are those with which it is not in conflict
 pub stays_cell :
     (v : Vertices) (p : ℕ) → (a b c d : ℕ) → IsCell v a b c d → pos 0 ≤ℤ power_of v a b c d p → IsCell (with_vertex v p) a b c d
 stays_cell v p a b c d k n =

@@ -130,7 +130,7 @@ mul_comm_below a b h k =
     let m = mul_not_above b a k h' in
     omega (arith, ints, e, m)
 
--- one that ends above 0 isn't passed before one that ends below
+-- one that ends above 0 is not passed before one that ends below
 pub not_passed :
     (p s : ℕ → ℤ) (i j : ℤ) → pos 0 <ℤ i → IsPast p s i j → (l k : ℕ) → s l <ℤ pos 0 → pos 0 <ℤ s k → lead_of p s l k <ℤ pos 0
 not_passed p s i j hi h l k hl hk =

@@ -185,7 +185,7 @@ found_top {X} v g p q goal live cell list marked closed x i m c =
     (best (test v p cell marked) (λ y. neg_ℤ (lift_of v (cell y) q)) (λ y. orientation_at v (cell y)) live
     (λ y j k. (list.full.cells y j).positive))
 
--- what isn't marked is closed too
+-- what is not marked is closed too
 others_closed :
     {X : Type 0} (v : Vertices) (p : ℕ) (live : List X) (cell : X → Tetrahedron) (marked : X → Bool) →
     IsClosed v p live cell marked → IsClosed v p live cell (λ t. not (marked t))

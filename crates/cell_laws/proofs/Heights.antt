@@ -187,7 +187,7 @@ part_zero s o h k m = by_lt_z (pos 0) o (λ l. let n = mul_positive s o h l in a
 product_in : (s o : ℤ) → pos 0 <ℤ s → pos 0 ≤ℤ o → pos 0 ≤ℤ (s *ℤ o)
 product_in s o h k = mul_not_negative s o (omega (arith, ints)) k
 
--- four sides that aren't negative, of which one is positive, times four squares
+-- four sides that are not negative, of which one is positive, times four squares
 weighted :
     (s t u v i j k l o : ℤ) → pos 0 <ℤ s → pos 0 <ℤ t → pos 0 <ℤ u → pos 0 <ℤ v → pos 0 ≤ℤ i → pos 0 ≤ℤ j → pos 0 ≤ℤ k →
     pos 0 ≤ℤ l → pos 0 <ℤ o → o ≡ i +ℤ j +ℤ k +ℤ l →

@@ -98,7 +98,7 @@ later_trans o e o' e' o'' e'' p p' p'' h k =
     let g : ((o'' *ℤ e) *ℤ o') <ℤ ((o *ℤ e'') *ℤ o') = omega (arith, ints) in
     cancel_lt (o'' *ℤ e) (o *ℤ e'') o' g (let q : pos 0 ≤ℤ o' = omega (arith, ints) in q)
 
--- a step across a facet that has q behind it, to a cell whose new vertex isn't in conflict
+-- a step across a facet that has q behind it, to a cell whose new vertex is not in conflict
 pub walk_step :
     (a b c d e : Point) (q : RationalPoint) (ha hb hc hd he : ℤ) → pos 0 <ℤ power a b c d e ha hb hc hd he →
     side a b c q <ℤ pos 0 →

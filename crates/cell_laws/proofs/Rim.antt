@@ -140,7 +140,7 @@ fan_some v g p a b c d k h =
     (best (λ y. int_lt (power_at v y.0 p) (pos 0)) (λ y. lift_of v y.0 q) (λ y. orientation_at v y.0) (certified v)
     (λ y j i. y.1.positive))
 
--- a vertex is in a fan facet, or in a cell with which p isn't in conflict
+-- a vertex is in a fan facet, or in a cell with which p is not in conflict
 abbrev pub IsKept : Vertices → (p u : ℕ) → Type 0
 IsKept v p u =
     ((a b c : ℕ) × IsFan v p a b c × ((u ≡ a) ⊎ ((u ≡ b) ⊎ (u ≡ c))))

@@ -130,7 +130,7 @@ before_not v a b c u h = (
 pub above_not_zero : (z : ℤ) → pos 0 <ℤ z → z ≢ pos 0
 above_not_zero z h e = absurd (omega (arith, ints))
 
--- the power of a vertex that is none of the cell's isn't zero
+-- the power of a vertex that is none of the cell's is not zero
 pub outside_above :
     (v : Vertices) → IsGeneric v → (a b c d u : ℕ) → IsCell v a b c d → Has v u → orientation_of v a b c u ≢ pos 0 → u ≢ d →
     pos 0 <ℤ power_of v a b c d u
