@@ -1,13 +1,14 @@
 #!/usr/bin/env python3
 """Prints the definitions that a contract or a definition rests on, and how many lines they have.
 
-usage: tools/believed.py [CRATE FILE CALL]      (a call, as recon_cmd src/whole_run.rt run)
-       tools/believed.py [CRATE MODULE NAME]    (a definition, as recon_cmd CheckLaws CheckEnds)
-       tools/believed.py write                  (puts what it prints by default into docs/promises.md)
+usage: tools/believed.py [CRATE FILE CALL]        (a call, as recon_cmd src/whole_run.rt run)
+       tools/believed.py [CRATE MODULE NAME..]    (definitions of a file, as recon_cmd CheckLaws CheckEnds)
+       tools/believed.py write                    (puts what it prints by default into docs/promises.md)
 
-By default: what an answer of `recon check` says of its files, and then all of the contract of the top call. A contract rests on the
-definitions of specs/ that its clauses name, these on those that they name, and so on. Comments, imports and blank lines are not
-counted. Definitions of the toolchain are left out, and so are types that the code declares.
+By default: what a yes of `recon check` on the text of a scan says of the mesh, what it says on any file, what each answer says of
+all three files, and then all of the contract of the top call. A contract rests on the definitions of specs/ that its clauses name,
+these on those that they name, and so on. Comments, imports and blank lines are not counted. Definitions of the toolchain are left
+out, and so are types that the code declares.
 """
 import pathlib
 import re
@@ -15,8 +16,12 @@ import sys
 
 CRATES = pathlib.Path(__file__).resolve().parent.parent / "crates"
 PROMISES = CRATES.parent / "docs" / "promises.md"
-CHECK = ("recon_cmd", "CheckLaws", "CheckEnds")
-ALL = ("recon_cmd", "src/whole_run.rt", "run")
+BY_DEFAULT = [
+    ("recon_cmd", "CheckedMeshes", "IsTextOf", "IsBestMesh"),
+    ("recon_cmd", "CheckedMeshes", "IsBestOf"),
+    ("recon_cmd", "CheckLaws", "CheckEnds"),
+    ("recon_cmd", "src/whole_run.rt", "run"),
+]
 IMPORT = re.compile(r"(?ms)^[ ]*(?:pub |ghost )*use Rattle\.(\w+)\.specs\.(\w+)(?:\.\{(.*?)\}|(?: as (\w+))?)[;\s]")
 HEAD = re.compile(r"(?:(?:abbrev|unfoldable|pub|record|data) )+(\S+)")
 NAME = re.compile(r"[^\s(){}\[\],;.]+")
@@ -86,14 +91,14 @@ def reached_from(places):
     return reached
 
 
-def told(crate, place, name):
-    """Returns how many definitions and lines a contract or a definition rests on, and their files."""
-    reached = reached_from(contract_of(crate, place, name) if place.endswith(".rt") else [(crate, place, name)])
+def told(crate, place, *names):
+    """Returns how many definitions and lines a contract or some definitions rest on, and their files."""
+    reached = reached_from(contract_of(crate, place, *names) if place.endswith(".rt") else [(crate, place, name) for name in names])
     modules = {}
     for (of, module, _), lines in reached.items():
         modules.setdefault(of, {}).setdefault(module, []).append(len(lines))
     count = sum(len(by_module) for by_module in modules.values())
-    head = f"`{name}`: {len(reached)} definitions of {count} files of `specs/`, together {sum(map(len, reached.values()))} lines. "
+    head = f"{', '.join(f'`{name}`' for name in names)}: {len(reached)} definitions of {count} files of `specs/`, together {sum(map(len, reached.values()))} lines. "
     parts = (f"`{of}`: {', '.join(f'{module} {sum(by_module[module])}' for module in sorted(by_module))}" for of, by_module in sorted(modules.items()))
     return head + "; ".join(parts)
 
@@ -107,10 +112,10 @@ def put(line):
 
 def main(words):
     if words == ["write"]:
-        for call in (CHECK, ALL):
+        for call in BY_DEFAULT:
             put(told(*call))
         return 0
-    for call in [tuple(words)] if words else [CHECK, ALL]:
+    for call in [tuple(words)] if words else BY_DEFAULT:
         print(told(*call))
     return 0
 

@@ -6,7 +6,7 @@
 //!
 //! Along the curve alone, an insertion of all points makes many cells that do not last, where the points lie in the plane or in the
 //! space: each new point is at the border of those before it. Rounds mend that, as in the biased randomized insertion order of Amenta,
-//! Choi and Rote (2003): each round has about twice as many points as all rounds before it, from everywhere, along the curve.
+//! Choi and Rote (2003): each round has about fifteen times as many points as all rounds before it, from everywhere, along the curve.
 #![tactic(auto)]
 
 mod curve;

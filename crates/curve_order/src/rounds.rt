@@ -6,17 +6,22 @@ ghost use Rattle.curve_order.specs.Order.{IsOrder};
 
 use crate::NoMemory;
 
-/// The last round: with 32 bits, about one number in 3^16 would be in a round before the first.
-const LAST_ROUND: u32 = 16;
+/// The last round. About one number in 16^5, a million, is in the first, which is round 0.
+const LAST_ROUND: u32 = 5;
+
+/// In how many parts a round leaves one to the rounds before it.
+const PARTS: u32 = 16;
 
 /// The round of a number. A fixed scramble of the number's bits decides it, so that a round has numbers from everywhere, whatever the
-/// numbers mean: two thirds of all are in the last round, two thirds of the others in the round before it, and so on.
+/// numbers mean: 15 of 16 are in the last round, 15 of 16 of the others in the round before it, and so on. So nearly all cells are made
+/// in the last round, along the curve, and those that are near each other mostly have numbers near each other, which is worth more to
+/// whoever goes through the cells than the cells that fewer, larger rounds make in vain.
 fn round_of(number: u32) -> u32 {
     let mixed = number.wrapping_mul(0x9e37_79b9);
     let scrambled = (mixed ^ (mixed >> 15)).wrapping_mul(0x85eb_ca6b);
     let mut bound = u32::MAX;
     for before in 0..LAST_ROUND {
-        bound /= 3;
+        bound /= PARTS;
         if scrambled >= bound {
             return LAST_ROUND - before;
         }

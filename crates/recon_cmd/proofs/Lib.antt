@@ -7,6 +7,7 @@ pub mod ScanReplies
 pub mod BuiltAccepted
 pub mod BuiltSliced
 pub mod CheckEnds
+pub mod CheckedMeshes
 pub mod CheckReplies
 pub mod DemoReplies
 pub mod ExportReplies

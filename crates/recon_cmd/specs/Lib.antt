@@ -1,5 +1,6 @@
 pub mod Answers
 pub mod CheckLaws
+pub mod CheckedMeshes
 pub mod Checking
 pub mod Exports
 pub mod Headline
