@@ -18,8 +18,9 @@ recon:
 	cd crates/recon_main && rt run -- demo 1 7
 	cp $(PROGRAM) recon
 
-# All tests, as the gate runs them, anew each time: every proof and every test of every crate, the edits that must be refused, the
-# program; then what the documents name, the tests of tools/ and those of the built program. From nothing, an hour and a half on four processors.
+# All tests, as the gate runs them: every proof and every test of every crate, the edits that must be refused, the program; then what
+# the documents name, the tests of tools/ and those of the built program. From nothing, an hour and a half on four processors; what
+# passed here before and has not changed is not proved again.
 test:
 	@echo "rt ci (every proof, every edit that must be refused, every test), then the tests of tools/: an hour and a half from nothing, else by what has changed"
 	bash .ci/run
