@@ -19,10 +19,10 @@ recon:
 	cp $(PROGRAM) recon
 
 # All tests, as the gate runs them: every proof and every test of every crate, the edits that must be refused, the program; then what
-# the documents name, the tests of tools/ and those of the built program. From nothing, an hour and a half on four processors; what
+# the documents name, the tests of tools/ and those of the built program. From nothing, about an hour and a half on four processors; what
 # passed here before and has not changed is not proved again.
 test:
-	@echo "rt ci (every proof, every edit that must be refused, every test), then the tests of tools/: an hour and a half from nothing, else by what has changed"
+	@echo "rt ci (every proof, every edit that must be refused, every test), then the tests of tools/: about an hour and a half from nothing, else by what has changed"
 	bash .ci/run
 
 # Times calls of linked cells and walks along sights at 100,000 points, then build and check on scans of 10,000 to 1,000,000 points,
