@@ -38,7 +38,7 @@ no_factor : (a b : ℤ) → pos 0 ≤ℤ a → pos 0 <ℤ b → (a *ℤ b) ≤�
 no_factor a b h k m =
     by_lt_z (pos 0) a (λ l. let n = mul_positive a b l k in absurd (omega (arith, ints, n, m))) (λ l. omega (arith, ints, h, l))
 
-envelope_of : (v : Vertices) (t w : Tetrahedron) (q : RationalPoint) →
+pub envelope_of : (v : Vertices) (t w : Tetrahedron) (q : RationalPoint) →
     orientation_at v t *ℤ lift_of v w q ≡
     orientation_at v w *ℤ lift_of v t q +ℤ
     (power_at v t w.a *ℤ beside v w.b w.d w.c q +ℤ power_at v t w.b *ℤ beside v w.a w.c w.d q

@@ -48,3 +48,4 @@ pub mod CutSides
 pub mod Closedness
 pub mod RisingRows
 pub mod RowSights
+pub mod StrictEnvelope

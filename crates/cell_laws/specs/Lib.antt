@@ -14,3 +14,4 @@ pub mod StoredLaws
 pub mod TieLaws
 pub mod ClosedLaws
 pub mod RowLaws
+pub mod EnvelopeLaws

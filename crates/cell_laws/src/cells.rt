@@ -3,6 +3,7 @@
 //! of the tie rule (`IsBoxed`).
 
 ghost use Rattle.cell_laws.specs.CellLaws.{ThreeTermsLaw, GenericLaw, ConvexLaw, EnvelopeLaw, AcrossLaw, FacetLaw, SomeLaw, PlaceLaw, OneLaw, JoinedLaw, CornerLaw};
+ghost use Rattle.cell_laws.specs.EnvelopeLaws.{StrictEnvelopeLaw, ThreeLiftsLaw};
 ghost use Rattle.cell_laws.specs.TieLaws.{TieLaw};
 
 /// The powers of a fifth vertex at two tetrahedra across a facet, each times the other's orientation, differ by the power of the one
@@ -10,6 +11,12 @@ ghost use Rattle.cell_laws.specs.TieLaws.{TieLaw};
 /// heights, and nearly all that follows is an inequality drawn from it.
 pub fn three_terms_law()
     ensures { ThreeTermsLaw }
+{}
+
+/// The same of the planes of the two lifted tetrahedra over a place: they differ by the power of the one apex at the other
+/// tetrahedron times the side of the facet on which the place is.
+pub fn three_lifts_law()
+    ensures { ThreeLiftsLaw }
 {}
 
 /// The power of a vertex at four others written positively is never zero, and its sign is the same at the heights of every exponent
@@ -34,6 +41,12 @@ pub fn convex_law()
 /// other cell. This is the lifting map, which takes the empty sphere to a supporting plane.
 pub fn envelope_law()
     ensures { EnvelopeLaw }
+{}
+
+/// Over a place, the plane of the cell that has the place is above that of another cell where it has a vertex more, opposite to which
+/// is a facet in whose plane the place is not.
+pub fn strict_envelope_law()
+    ensures { StrictEnvelopeLaw }
 {}
 
 /// Each directed facet of a cell is on a wall of the box and has no cell across, or is on none and has exactly one.

@@ -24,7 +24,7 @@ mod walks;
 
 pub use cells::{
     across_law, convex_law, corner_law, envelope_law, facet_law, generic_law, joined_law, one_law,
-    place_law, some_law, three_terms_law, tie_law,
+    place_law, some_law, strict_envelope_law, three_lifts_law, three_terms_law, tie_law,
 };
 pub use examples::{example_law, inserted_law};
 pub use insertion::{edge_law, fan_law, flood_law, insert_law, side_law, stay_law, vertex_law};

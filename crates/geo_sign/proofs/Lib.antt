@@ -20,3 +20,5 @@ pub mod Among
 pub mod CellRows
 pub mod RowLaws
 pub mod Agreements
+pub mod Determinants
+pub mod PowerBounds

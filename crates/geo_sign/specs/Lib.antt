@@ -24,3 +24,5 @@ pub mod WritingLaws
 pub mod FacetLaws
 pub mod RowLaws
 pub mod AgreementLaws
+pub mod SizeLaws
+pub mod DeterminantLaws

@@ -1,10 +1,14 @@
 //! Laws over the definitions, as the contracts of calls that do nothing.
 
+ghost use Rattle.std.specs.Prelude.{◌≡◌};
 ghost use Rattle.geo_sign.specs.RisingLaws.{RisingLaw, CellListLaw};
 ghost use Rattle.geo_sign.specs.WritingLaws.{RewritingsAreAlike, IsRewrittenLaw};
 ghost use Rattle.geo_sign.specs.FacetLaws.{SidesAreRotated, SidesAreTurned, CrossingsAreRotated, IsRotatedLaw, FacetsAreRotated, AmongMeans};
 ghost use Rattle.geo_sign.specs.RowLaws.{RowsExist, RowsAreWritten, RowsAreKept, RowsTell, CellsAreRows, WrittenFacets, FacetsAreAmong};
 ghost use Rattle.geo_sign.specs.AgreementLaws.{AgreeLaw, SignsAgree, CellsAgree, SightsAgree, AllInAgree};
+ghost use Rattle.geo_sign.specs.DeterminantLaws.{CramerLaw, OrientationIsSum, PointIsSum, PowerIsSum};
+ghost use Rattle.geo_sign.specs.SizeLaws.{NormalsAreSmall, PowersAreSmall};
+ghost use Rattle.geo_sign.specs.declared.point.TheConstants.{BOX_LIMIT, DATA_LIMIT};
 
 /// What a rising list contains determines it. So the cells of given vertices have one list.
 pub fn rising_list_law()
@@ -49,4 +53,23 @@ pub fn agreement_law()
     ensures cells { CellsAgree }
     ensures sights { SightsAgree }
     ensures all_in { AllInAgree }
+{}
+
+/// Four vectors have one linear relation, whose weights are determinants of three of them. So the orientation of four points is the
+/// sum of the four orientations in which a fifth point stands in the place of one, that fifth point is their weighted sum, and the
+/// plain power is the opposite of the sum of these four, each times the squared distance from the fifth point to that vertex.
+pub fn determinant_law()
+    ensures cramer { CramerLaw }
+    ensures orientation { OrientationIsSum }
+    ensures point { PointIsSum }
+    ensures power { PowerIsSum }
+{}
+
+/// Where the walls of the box are, and the outermost data points. A component of a facet's normal in the box is at most 2^49, and the
+/// plain power of five points of the box at most 72 * 2^120, so both fit the integers that they are computed in.
+pub fn size_law()
+    ensures walls { BOX_LIMIT ≡ 8388608 }
+    ensures data { DATA_LIMIT ≡ 2097151 }
+    ensures normals { NormalsAreSmall }
+    ensures powers { PowersAreSmall }
 {}

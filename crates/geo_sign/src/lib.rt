@@ -50,7 +50,10 @@ mod sphere;
 mod tests;
 mod vector;
 
-pub use laws::{agreement_law, rising_list_law, rotated_facet_law, row_law, writing_law};
+pub use laws::{
+    agreement_law, determinant_law, rising_list_law, rotated_facet_law, row_law, size_law,
+    writing_law,
+};
 pub use orientation::{orient, orient_value};
 pub use point::{BOX_LIMIT, DATA_LIMIT, Point, corner};
 pub use polynomial::identity_law;

@@ -76,6 +76,13 @@ impl Point {
         }
     }
 
+    /// Does nothing. Its clause is what each point keeps, for the proofs of callers.
+    pub fn facts(&self)
+        ensures { IsWithin BOX_LIMIT self.now }
+    {
+        let _x = self.x;
+    }
+
     /// The first coordinate.
     pub fn x(&self) -> i32
         ensures { result ≡ self.now.x }
