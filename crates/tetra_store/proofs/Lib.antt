@@ -18,3 +18,4 @@ pub mod Reflect
 pub mod BoxFacts
 pub mod BoxCells
 pub mod BoxStore
+pub mod Moves

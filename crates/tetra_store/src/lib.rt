@@ -22,6 +22,7 @@ mod kept;
 mod link;
 mod linked;
 mod removal;
+mod renumbering;
 mod replace;
 mod store;
 #[cfg(test)]

@@ -1,6 +1,6 @@
 //! Cells, as callers see them and as the store keeps them: 32 bytes each.
 
-ghost use Rattle.std.specs.Prelude.{◌≡◌, ◌+◌, ◌<◌, ◌^◌, Some, None};
+ghost use Rattle.std.specs.Prelude.{◌≡◌, ◌+◌, ◌<◌, ◌^◌, ◌↔◌, IsTrue, Some, None};
 
 use crate::CellId;
 use std::marker::Model;
@@ -53,6 +53,13 @@ impl Link {
         Link {
             number: id.number() as u32,
         }
+    }
+
+    /// Whether the neighbor is this cell.
+    pub(crate) fn is(self, other: CellId) -> bool
+        ensures { IsTrue result ↔ (self ≡ Some other) }
+    {
+        self.number != NO_CELL && self.number as usize == other.number()
     }
 
     /// The neighbor.

@@ -1,6 +1,6 @@
 //! A cell as the store keeps it, in 32 bytes.
 
-ghost use Rattle.std.specs.Prelude.{◌≡◌, ◌+◌, ◌<◌, ◌^◌, ◌↔◌, IsTrue, Some, None, [], ◌∷◌, length, slice_index_or, slice_set};
+ghost use Rattle.std.specs.Prelude.{◌≡◌, ◌+◌, ◌<◌, ◌^◌, ◌↔◌, ℕ, IsTrue, Some, None, [], ◌∷◌, length, slice_index_or, slice_set, if◌then◌else◌};
 ghost use Rattle.slab.specs.Slab.{ContainsKey, slab_len};
 ghost use Rattle.geo_sign.specs.Writings.{IsVertexOf};
 ghost use Rattle.tetra_store.specs.Links.{links_of, tetrahedron_from};
@@ -31,6 +31,15 @@ impl Model for Linked {
     ghost inverse = { λ c. record { v = c.v; next = c.next } };
 }
 
+/// Which of three tests is the first that holds, and 3 where none does, with no branch between.
+fn first_of(a: bool, b: bool, c: bool) -> usize
+    ensures { result ≡ if a then 0 else if b then 1 else if c then 2 else 3 }
+{
+    let after_second = if c { 2 } else { 3 };
+    let after_first = if b { 1 } else { after_second };
+    if a { 0 } else { after_first }
+}
+
 impl Linked {
     /// A cell with these vertices, and no neighbor but one across the facet opposite to the last.
     pub(crate) fn new(v: [u32; 4], outer: Link) -> Linked
@@ -40,6 +49,13 @@ impl Linked {
             v,
             next: [Link::none(), Link::none(), Link::none(), outer],
         }
+    }
+
+    /// A cell with these vertices and neighbors.
+    pub(crate) fn with_links(v: [u32; 4], next: [Link; 4]) -> Linked
+        ensures { result ≡ record { v = v; next = next } }
+    {
+        Linked { v, next }
     }
 
     /// Its vertices.
@@ -63,6 +79,18 @@ impl Linked {
         ensures { result ≡ slice_index_or self.now.next side None }
     {
         self.next[side].get()
+    }
+
+    /// The first side across which a neighbor of it is. It compares numbers, with no branch between.
+    pub(crate) fn side_to(&self, other: CellId) -> usize
+        requires { (k : ℕ) × (k < 4) × (slice_index_or self.now.next k None ≡ Some other) }
+        ensures side { result < 4 }
+        ensures named { slice_index_or self.now.next result None ≡ Some other }
+    {
+        let first = self.next[0].is(other);
+        let second = self.next[1].is(other);
+        let third = self.next[2].is(other);
+        first_of(first, second, third)
     }
 
     /// The cell that it stands for.

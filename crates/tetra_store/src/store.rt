@@ -1,11 +1,11 @@
 //! The store.
 
-ghost use Rattle.std.specs.Prelude.{◌≡◌, ◌<◌, ◌≤◌, ◌↔◌, ℕ, None, OnOk, length, get_or, slice_index, slice_index_or, false, IfSome, IfNone};
+ghost use Rattle.std.specs.Prelude.{◌≡◌, ◌<◌, ◌≤◌, ◌↔◌, ℕ, Some, None, OnOk, length, get_or, slice_index, slice_index_or, false, IfSome, IfNone};
 ghost use Rattle.geo_sign.specs.Point.{origin};
 ghost use Rattle.geo_sign.specs.Tetrahedron.{facet_of};
 ghost use Rattle.geo_sign.specs.Vertices.{Has, IsWall};
 ghost use Rattle.geo_sign.specs.Writings.{IsVertexOf};
-ghost use Rattle.tetra_store.specs.Links.{links_of, slot_at, IsLive, IsOnlyAcross};
+ghost use Rattle.tetra_store.specs.Links.{links_of, slot_at, tetrahedron_from, IsLive, IsOnlyAcross};
 
 use crate::edge::Edge;
 use crate::hints::Hints;
@@ -90,6 +90,24 @@ impl Tetra {
         self.cells[id.number()].cell()
     }
 
+    /// The four vertices of a live cell, as `cell` has them.
+    pub fn vertices(&self, id: CellId) -> [u32; 4]
+        requires { IsLive (links_of self.now.slots) id }
+        ensures { tetrahedron_from result ≡ (links_of self.now.slots).at id }
+    {
+        self.cells[id.number()].vertices()
+    }
+
+    /// The side of a live cell across which one of its neighbors is. Two cells are neighbors across one facet alone.
+    pub fn side_to(&self, id: CellId, other: CellId) -> usize
+        requires live { IsLive (links_of self.now.slots) id }
+        requires neighbor { (k : ℕ) × (k < 4) × ((links_of self.now.slots).next id k ≡ Some other) }
+        ensures side { result < 4 }
+        ensures named { (links_of self.now.slots).next id result ≡ Some other }
+    {
+        self.cells[id.number()].side_to(other)
+    }
+
     /// The neighbor of a cell across a side, which is 0 to 3: the cell across the facet opposite to that vertex. There is none exactly
     /// where the facet is on a wall, and else it is the only cell that has the facet in the other direction.
     pub fn across(&self, id: CellId, side: u8) -> Option<CellId>
@@ -121,8 +139,10 @@ impl Tetra {
     }
 
     /// Makes room for so many cells more than there are, so that the store is not copied while it grows by these. It gives `replace`
-    /// no room: `reserve` does, and takes no more memory for cells then. Points, cells and what is inserted stay in any case.
+    /// no room: `reserve` does, and takes no more memory for cells then. Points, cells and what is inserted stay in any case, and the
+    /// room that `replace` has does not grow less. Want of memory is answered too where numbers of cells would not fit 32 bits.
     pub fn reserve_cells(&mut self, cells: usize) -> Result<(), NoMemory>
+        ensures spare { OnOk result (self.old.spare ≤ self.new.spare) }
         ensures points { self.new.points ≡ self.old.points }
         ensures inserted { self.new.inserted ≡ self.old.inserted }
         ensures slots { self.new.slots ≡ self.old.slots }
@@ -132,6 +152,9 @@ impl Tetra {
             return Err(AllocError);
         }
         self.cells.reserve(cells)?;
+        if self.cells.capacity() > MOST_CELLS {
+            return Err(AllocError);
+        }
         Ok(())
     }
 

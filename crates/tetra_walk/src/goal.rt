@@ -3,6 +3,7 @@
 ghost use Rattle.std.specs.Prelude.{◌≡◌, ◌↔◌, ◌<ℤ◌, pos, IsTrue};
 ghost use Rattle.geo_sign.specs.declared.point.TheConstants.{BOX_LIMIT};
 ghost use Rattle.geo_sign.specs.Point.{IsWithin};
+ghost use Rattle.geo_sign.specs.Orientation.{orientation};
 ghost use Rattle.geo_sign.specs.Rational.{side};
 ghost use Rattle.geo_sign.specs.Signs.{sign_of, opposite_sign};
 ghost use Rattle.tetra_walk.specs.Goals.{place_of, IsGoal};
@@ -33,6 +34,30 @@ fn opposite(sign: Sign) -> Sign
     }
 }
 
+/// Whether two points are the same.
+fn is_at(a: Point, p: Point) -> bool
+    ensures { IsTrue result → a ≡ p }
+{
+    a == p
+}
+
+/// The sign of the orientation of a b c p. Most walks to a vertex are among the cells at it, where p is mostly one of the others: then
+/// it is zero, and no product is computed.
+fn orient_to(a: Point, b: Point, c: Point, p: Point) -> Sign
+    ensures { result ≡ sign_of (orientation a b c p) }
+{
+    if is_at(a, p) {
+        return Sign::Zero;
+    }
+    if is_at(b, p) {
+        return Sign::Zero;
+    }
+    if is_at(c, p) {
+        return Sign::Zero;
+    }
+    orient(a, b, c, p)
+}
+
 impl Goal {
     /// The side of the facet a b c on which the goal is. A place near to p is on the side of p, and where p is in the facet's plane on
     /// that of the scanner, or on the other one.
@@ -46,8 +71,8 @@ impl Goal {
         match self {
             Goal::Point(q) => orient(a, b, c, *q),
             Goal::Scanner(s) => side_of_scanner(a, b, c, *s),
-            Goal::Towards(p, s) => orient(a, b, c, *p).or(side_of_scanner(a, b, c, *s)),
-            Goal::Behind(p, s) => orient(a, b, c, *p).or(opposite(side_of_scanner(a, b, c, *s))),
+            Goal::Towards(p, s) => orient_to(a, b, c, *p).or(side_of_scanner(a, b, c, *s)),
+            Goal::Behind(p, s) => orient_to(a, b, c, *p).or(opposite(side_of_scanner(a, b, c, *s))),
         }
     }
 

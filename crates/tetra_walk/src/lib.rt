@@ -13,4 +13,4 @@ mod tests;
 mod walk;
 
 pub use side::{facet, side_to};
-pub use walk::{behind, locate, locate_scanner, toward};
+pub use walk::{behind, locate, locate_displaced, locate_scanner, toward};

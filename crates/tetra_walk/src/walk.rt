@@ -90,9 +90,25 @@ pub fn locate(t: &Tetra, q: Point, from: CellId) -> CellId
     walk_to(t, &Goal::Point(q), from)
 }
 
+/// The cell in which the displaced place of a data point lies, as a scanner at the point is displaced, found by a walk from any live
+/// cell. There is exactly one, also where the point is a vertex or lies on a facet. The cells have to be Delaunay.
+///
+/// It takes no memory and does not refuse. The nearer the start, the shorter the walk.
+pub fn locate_displaced(t: &Tetra, s: Point, from: CellId) -> CellId
+    requires delaunay { IsDelaunay (vertices_of t.now) (links_of t.now.slots) }
+    requires data_point { IsWithin DATA_LIMIT s }
+    requires live { IsLive (links_of t.now.slots) from }
+    ensures live { IsLive (links_of t.now.slots) result }
+    ensures is { is_cell_of (vertices_of t.now) (displaced s) ((links_of t.now.slots).at result) ≡ true }
+    ensures only { (id : ℕ) → IsLive (links_of t.now.slots) id → is_cell_of (vertices_of t.now) (displaced s) ((links_of t.now.slots).at id) ≡ true → id ≡ result }
+{
+    t.facts();
+    walk_to(t, &Goal::Scanner(s), from)
+}
+
 /// The cell in which the displaced scanner at a data point lies. There is exactly one. The cells have to be Delaunay.
 ///
-/// It takes no memory and does not refuse.
+/// It takes no memory and does not refuse. The walk begins at a corner: from a cell nearby, [`locate_displaced`] is shorter.
 pub fn locate_scanner(t: &Tetra, s: Point) -> CellId
     requires delaunay { IsDelaunay (vertices_of t.now) (links_of t.now.slots) }
     requires data_point { IsWithin DATA_LIMIT s }
@@ -101,7 +117,7 @@ pub fn locate_scanner(t: &Tetra, s: Point) -> CellId
     ensures only { (id : ℕ) → IsLive (links_of t.now.slots) id → is_cell_of (vertices_of t.now) (displaced s) ((links_of t.now.slots).at id) ≡ true → id ≡ result }
 {
     t.facts();
-    walk_to(t, &Goal::Scanner(s), t.cell_at(0))
+    locate_displaced(t, s, t.cell_at(0))
 }
 
 /// The cell at a vertex into which the sight to a scanner leads: the scanner is on the inner side of each of its facets there. There

@@ -25,14 +25,14 @@ returns-in-Towards c =
     let w = subst (λ (g : Goal). IsGoal g) c.in-Towards.is r.goal in
     c.or.ensures
     ∙ towards_side a.a a.b a.c c.in-Towards.p c.in-Towards.s r.a_within r.b_within r.c_within w.0 w.1 _ _
-    c.orient-in-Towards.ensures.value c.side_of_scanner-in-Towards.ensures.value
+    c.orient_to.ensures c.side_of_scanner-in-Towards.ensures.value
     ∙ ap (λ (g : Goal). sign_of (side a.a a.b a.c (place_of g))) (sym c.in-Towards.is)
 
 pub returns-in-Behind : goal.returns-in-Behind
 returns-in-Behind c =
     let a = c.args in let r = c.requires in
     let w = subst (λ (g : Goal). IsGoal g) c.in-Behind.is r.goal in
-    c.or-in-Behind.ensures ∙ ap (λ (x : Sign). first_sign c.orient-in-Behind.result x) c.opposite.ensures
+    c.or-in-Behind.ensures ∙ ap (λ (x : Sign). first_sign c.orient_to-in-Behind.result x) c.opposite.ensures
     ∙ behind_side a.a a.b a.c c.in-Behind.p c.in-Behind.s r.a_within r.b_within r.c_within w.0 w.1 _ _
-    c.orient-in-Behind.ensures.value c.side_of_scanner-in-Behind.ensures.value
+    c.orient_to-in-Behind.ensures c.side_of_scanner-in-Behind.ensures.value
     ∙ ap (λ (g : Goal). sign_of (side a.a a.b a.c (place_of g))) (sym c.in-Behind.is)
