@@ -65,7 +65,7 @@ fn walk_from(t: &Tetra, v: u32, s: Point, end: CellId) -> Answers
 {
     let mut answers = Answers::default();
     let mut along = walk_into(t, v, s, end);
-    while let Some(_crossing) = along.next() {
+    while along.go_on() {
         let number = along.end_cell().number().wrapping_mul(4);
         answers = answers.and(number.wrapping_add(along.entered()));
     }

@@ -1,3 +1,4 @@
 pub mod Whole
 pub mod Inserted
 pub mod Built
+pub mod Numbered

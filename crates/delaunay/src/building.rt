@@ -13,6 +13,7 @@ ghost use Rattle.delaunay.specs.Partition.{IsPartition};
 
 use crate::NoMemory;
 use crate::insertion::insert_with;
+use crate::numbering::{along_ranks, ranks_of};
 use cavity::Cavity;
 use curve_order::{in_rounds, order};
 use geo_sign::Point;
@@ -21,8 +22,8 @@ use tetra_store::Tetra;
 
 /// The Delaunay cells of the box's corners and these distinct data points, of which point i is vertex 8 + i; all are inserted.
 ///
-/// The points are inserted in rounds along a curve, so that each is near the one before it and few cells are made that do not last. The
-/// cells do not depend on that, and the time does. The only error is want of memory.
+/// The points are inserted in rounds along a curve, so that each is near the one before it and few cells are made that do not last, and
+/// in the end the cells get their numbers along it. The cells do not depend on that, and the time does. The only error is want of memory.
 pub fn build(alloc: Global, points: &[Point]) -> Result<Tetra, NoMemory>
     requires within { (k : ℕ) → k < length points.now → IsWithin DATA_LIMIT (get_or points.now k origin) }
     requires distinct { (j k : ℕ) → j < length points.now → k < length points.now → get_or points.now j origin ≡ get_or points.now k origin → j ≡ k }
@@ -34,8 +35,13 @@ pub fn build(alloc: Global, points: &[Point]) -> Result<Tetra, NoMemory>
     ensures partition { IfOk result (λ t. IsPartition t) }
 {
     let along = order(alloc, points)?;
+    let ranks = ranks_of(alloc, &along)?;
     let order = in_rounds(along)?;
-    build_in_order(alloc, points, &order)
+    let mut t = build_in_order(alloc, points, &order)?;
+    let numbers = along_ranks(alloc, &t, &ranks)?;
+    t.renumber(alloc, &numbers)?;
+    t.facts();
+    Ok(t)
 }
 
 /// About how many cells there are for each point, where points lie anywhere in space. There are fewer where they lie on surfaces.

@@ -1,7 +1,8 @@
 //! The insertion of one vertex.
 
-ghost use Rattle.std.specs.Prelude.{◌≡◌, ◌<◌, true, false, OnOk, OnErr, IfOk, length, slice_index_or, slice_set};
+ghost use Rattle.std.specs.Prelude.{◌≡◌, ◌<◌, ◌⊎◌, [], true, false, OnOk, OnErr, IfOk, length, slice_index_or, slice_set};
 ghost use Rattle.geo_sign.specs.Writings.{IsVertexOf};
+ghost use Rattle.cavity.specs.Cavity.{IsCavity};
 ghost use Rattle.tetra_store.specs.Links.{links_of, IsLive};
 ghost use Rattle.tetra_store.specs.Store.{vertices_of};
 ghost use Rattle.tetra_store.specs.Delaunay.{IsDelaunay};
@@ -36,7 +37,7 @@ pub fn insert(alloc: Global, t: &mut Tetra, p: u32, from: CellId) -> Result<Cell
 }
 
 /// The same over a cavity of the caller's, which is filled anew at each call and keeps its memory. So whoever inserts many vertices takes
-/// none for most of them.
+/// none for most of them. Afterwards it holds the cells that went and the facets round them; after want of memory those, or nothing.
 pub fn insert_with(
     t: &mut Tetra,
     p: u32,
@@ -53,6 +54,8 @@ pub fn insert_with(
     ensures partition { OnOk result (IsPartition t.new) }
     ensures cell { IfOk result (λ id. IsLive (links_of t.new.slots) id) }
     ensures has { IfOk result (λ id. IsVertexOf ((links_of t.new.slots).at id) p) }
+    ensures cavity { OnOk result (IsCavity t.old p cavity.new.cells.items cavity.new.fan.items) }
+    ensures cavity_left { OnErr result (((cavity.new.cells.items ≡ []) × (cavity.new.fan.items ≡ [])) ⊎ IsCavity t.old p cavity.new.cells.items cavity.new.fan.items) }
     ensures cells_left { OnErr result (t.new.slots ≡ t.old.slots) }
     ensures inserted_left { OnErr result (t.new.inserted ≡ t.old.inserted) }
 {

@@ -4,6 +4,9 @@
 //! conflict with it, and cells with it over the facets round these, in place of them. `insert` does it for one vertex, and `build` for
 //! all points, in rounds along a space-filling curve, so that the walks are short.
 //!
+//! In the end `build` numbers the cells along the curve, so that whoever goes through them finds those which are near each other in
+//! space mostly near each other in memory.
+//!
 //! What both promise is of the cells alone: they are exactly the Delaunay cells of the vertices that are inserted, and with the links
 //! between them they part the box. The order of insertion is not promised, and no cell depends on it.
 //!
@@ -34,11 +37,14 @@
 
 mod building;
 mod insertion;
+mod laws;
+mod numbering;
 #[cfg(test)]
 mod tests;
 
 pub use building::build;
 pub use insertion::{insert, insert_with};
+pub use laws::partition_law;
 use std::alloc::AllocError;
 
 /// Want of memory: the one answer that any input may get.

@@ -4,12 +4,13 @@ ghost use Rattle.std.specs.Prelude.{◌≡◌, ◌<◌, ℕ, IsTrue, length, get
 ghost use Rattle.geo_sign.specs.Point.{origin, IsWithin};
 ghost use Rattle.geo_sign.specs.declared.point.TheConstants.{DATA_LIMIT};
 
-use crate::{build, insert};
+use crate::{build, insert, insert_with};
+use cavity::Cavity;
 use geo_sign::Point;
 use geo_tie::plain_cells;
 use std::alloc::{AllocError, Global};
 use std::test::Fail;
-use tetra_store::Tetra;
+use tetra_store::{Cell, Tetra};
 
 /// Whether all are data points.
 fn are_data(points: &[Point]) -> bool
@@ -202,17 +203,60 @@ fn points_of_a_sphere_are_built(rt: HostRuntime) -> Result<(), Fail> {
     Ok(())
 }
 
-/// The first point is in conflict with all six cells of the box. The cells after it stand over the twelve halves of the walls.
+/// The cells of one point, in rising order.
+const ONE_POINT: [[u32; 4]; 12] = [
+    [0, 1, 2, 8],
+    [0, 1, 4, 8],
+    [0, 2, 4, 8],
+    [1, 2, 3, 8],
+    [1, 3, 5, 8],
+    [1, 4, 5, 8],
+    [2, 3, 6, 8],
+    [2, 4, 6, 8],
+    [3, 5, 7, 8],
+    [3, 6, 7, 8],
+    [4, 5, 6, 8],
+    [5, 6, 7, 8],
+];
+
+/// Whether a cell has a neighbor exactly across the facets that have vertex 8, which is each but the one opposite to it.
+fn has_neighbors_round_8(cell: &Cell) -> bool {
+    for side in 0..4 {
+        if cell.next[side].is_some() != (cell.v[side] != 8) {
+            return false;
+        }
+    }
+    true
+}
+
+/// Whether each cell of a store does.
+fn have_neighbors_round_8(store: &Tetra) -> bool {
+    let mut cells = store.cells();
+    while let Some((_, cell)) = cells.next() {
+        if !has_neighbors_round_8(&cell) {
+            return false;
+        }
+    }
+    true
+}
+
+/// The first point is in conflict with all six cells of the box, round which there are the twelve halves of the walls. The cells after
+/// it stand over these.
 #[test]
 fn one_point_has_twelve_cells(rt: HostRuntime) -> Result<(), Fail> {
+    let alloc = rt.alloc();
     let points = [Point::data(0, 0, 0).ok_or("a data point")?];
     assert!(rt; are_data(&points) && are_distinct(&points));
-    let store = build(rt.alloc(), &points)?;
-    let found = rows(rt.alloc(), &store)?;
-    assert_eq!(rt; found.len(), 12);
-    for row in &found {
-        assert_eq!(rt; row[3], 8);
-    }
+    let mut store = Tetra::with_box(alloc, &points)?;
+    store.facts();
+    let from = store.cell_at(0);
+    let mut cavity = Cavity::new(alloc);
+    assert!(rt; store.vertex_count() == 9 && !store.is_inserted(8));
+    let last = insert_with(&mut store, 8, from, &mut cavity)?;
+    assert!(rt; cavity.cells.len() == 6 && cavity.fan.len() == 12);
+    assert!(rt; store.cell(last).v.contains(&8));
+    assert_eq!(rt; rows(alloc, &store)?.as_slice(), ONE_POINT.as_slice());
+    assert!(rt; have_neighbors_round_8(&store));
     Ok(())
 }
 

@@ -2,19 +2,20 @@
 --
 -- A sight that came in through facet m and goes out through facet k crosses both, facet k turned round. That facet k is crossed
 -- says on which sides of its edges the scanner is, as seen from the sight's vertex; two of its edges lead to the vertex
--- opposite to m. Each of the three other sides says so of two of the three edges there (`one_of`), in a way that no other does.
--- So whatever two signs exclude is no exit (`first_ahead` to `first_else`). The laws say that there is an exit, or that the
--- scanner is in the cell; so the sign at the side that is left tells which (`goes_out`, `ends_here`).
+-- opposite to m. Each of the three other sides says so of two of the three edges there (`at_own`), in a way that no other does,
+-- and facet m is written from any of its vertices on (`one_rotated`). So whatever two signs exclude is no exit (`left_ahead`).
+-- The laws say that there is an exit, or that the scanner is in the cell; so the sign at the side that is left tells which
+-- (`goes_out`, `ends_here`).
 use Rattle.std.proofs.Common.{ℕ, zero, suc, ◌<◌, ◌≡◌, ◌⊎◌, inl, inr, ⊎_elim, refl, sym, subst, arith, true, false, true≢false}
-use Rattle.std.proofs.Common.{IsTrue, ◌↔◌, pos, ◌<ℤ◌}
+use Rattle.std.proofs.Common.{IsTrue, ◌↔◌, pos, ◌<ℤ◌, Bool}
 use Rattle.std.proofs.lemmas.Int.{ints}
 use Rattle.geo_sign.specs.Rational.{RationalPoint, side}
 use Rattle.geo_sign.specs.Cells.{IsCell}
 use Rattle.geo_sign.specs.Sights.{side_of, is_crossed, is_towards, is_cell_of}
-use Rattle.geo_sign.specs.Tetrahedron.{Tetrahedron, DirectedFacet, facet_of, vertex_of, turned}
+use Rattle.geo_sign.specs.Tetrahedron.{Tetrahedron, DirectedFacet, facet, facet_at, facet_of, vertex_of, turned, IsRotated, IsTurned}
 use Rattle.geo_sign.specs.Vertices.{Vertices}
 use Rattle.geo_sign.proofs.Exchanges.{turned_side}
-use Rattle.geo_sign.proofs.Rotations.{side_turned}
+use Rattle.geo_sign.proofs.Rotations.{side_turned, turned_rotated}
 use Rattle.cell_laws.proofs.Crossings.{IsCrossed}
 use Rattle.geo_sign.specs.Edges.{HasVertex}
 use Rattle.cell_laws.proofs.Sides.{opposite_or_on}
@@ -23,28 +24,83 @@ use Rattle.cell_laws.proofs.SightLaws.{left_of}
 use Rattle.cell_laws.specs.Paths.{IsOnSight}
 use Rattle.cell_laws.specs.WalkLaws.{IsPassed}
 use Rattle.geo_sign.specs.Writings as writings
-use Rattle.sight.specs.Exits.{IsExit, IsEntered, past, first_around, second_around, third_around}
+use Rattle.std.proofs.Common.{List, [], ◌∷◌, length, set, get_or, slice_index, ap, ◌∙◌}
+use Rattle.geo_sign.specs.Point.{Point, origin}
+use Rattle.geo_sign.specs.Rational.{displaced}
+use Rattle.tetra_store.specs.Links.{tetrahedron_from}
+use Rattle.tetra_store.specs.Store.{Store, vertices_of}
+use Rattle.tetra_store.proofs.Keeps.{vertex_index}
+use Rattle.sight.specs.Exits.{IsExit, IsEntered, past, left_behind}
 
--- what the exit through side k says of two such sides
-abbrev pub IsBetween : Vertices → (p : ℕ) → RationalPoint → Tetrahedron → (m before after : ℕ) → Type 0
-IsBetween v p s t m before after = (pos 0 <ℤ past v p s t m before) × (past v p s t m after <ℤ pos 0)
+-- what an exit says of two such sides, at vertices of the facet through which the sight came in
+abbrev pub IsBetween : Vertices → (p : ℕ) → RationalPoint → (d before after : ℕ) → Type 0
+IsBetween v p s d before after = (pos 0 <ℤ past v p s d before) × (past v p s d after <ℤ pos 0)
 
 -- the second of these, seen from the other end of the edge
-between : (v : Vertices) (p : ℕ) (s : RationalPoint) (t : Tetrahedron) (m before after : ℕ) → pos 0 <ℤ past v p s t m before
-    → pos 0 <ℤ side (v.at p) (v.at (vertex_of t m)) (v.at (vertex_of t after)) s → IsBetween v p s t m before after
-between v p s t m before after h k =
-    let e = turned_side (v.at p) (v.at (vertex_of t m)) (v.at (vertex_of t after)) s in
-    (h, omega (arith, ints, k, e))
+between : (v : Vertices) (p : ℕ) (s : RationalPoint) (d before after : ℕ) → pos 0 <ℤ past v p s d before
+    → pos 0 <ℤ side (v.at p) (v.at d) (v.at after) s → IsBetween v p s d before after
+between v p s d before after h k =
+    let e = turned_side (v.at p) (v.at d) (v.at after) s in (h, omega (arith, ints, k, e))
 
--- k is one of the three sides r around side m, with what that says
-abbrev pub IsOneOf : Vertices → (p : ℕ) → RationalPoint → Tetrahedron → (m k : ℕ) → ℕ × ℕ × ℕ → Type 0
-IsOneOf v p s t m k r =
-    ((k ≡ r.0) × IsBetween v p s t m r.2 r.1)
-    ⊎ (((k ≡ r.1) × IsBetween v p s t m r.0 r.2) ⊎ ((k ≡ r.2) × IsBetween v p s t m r.1 r.0))
+-- One of the vertices of f is n, and stays behind: d in its place makes f the facet g in the other direction.
+abbrev pub IsOneOf : Vertices → (p : ℕ) → RationalPoint → (d n : ℕ) → (g f : DirectedFacet) → Type 0
+IsOneOf v p s d n g f =
+    ((n ≡ f.a) × IsTurned g (facet d f.b f.c) × IsBetween v p s d f.c f.b)
+    ⊎ (((n ≡ f.b) × IsTurned g (facet f.a d f.c) × IsBetween v p s d f.a f.c)
+    ⊎ ((n ≡ f.c) × IsTurned g (facet f.a f.b d) × IsBetween v p s d f.b f.a))
 
--- the three others in order
-abbrev pub around : ℕ → ℕ × ℕ × ℕ
-around m = (first_around m, second_around m, third_around m)
+-- the same one vertex on
+one_round : (v : Vertices) (p : ℕ) (s : RationalPoint) (d n : ℕ) (g f : DirectedFacet) → IsOneOf v p s d n g f
+    → IsOneOf v p s d n g (facet f.b f.c f.a)
+one_round v p s d n g f (inl o) =
+    inr (inr (o.0, turned_rotated g (facet d f.b f.c) (facet f.b f.c d) o.1 (inr (inl refl)), o.2))
+one_round v p s d n g f (inr (inl o)) =
+    inl (o.0, turned_rotated g (facet f.a d f.c) (facet d f.c f.a) o.1 (inr (inl refl)), o.2)
+one_round v p s d n g f (inr (inr o)) =
+    inr (inl (o.0, turned_rotated g (facet f.a f.b d) (facet f.b d f.a) o.1 (inr (inl refl)), o.2))
+
+-- and from any vertex on
+one_rotated : (v : Vertices) (p : ℕ) (s : RationalPoint) (d n : ℕ) (g e f : DirectedFacet) → IsRotated e f
+    → IsOneOf v p s d n g e → IsOneOf v p s d n g f
+one_rotated v p s d n g e f (inl r) o = subst (λ (x : DirectedFacet). IsOneOf v p s d n g x) (sym r) o
+one_rotated v p s d n g e f (inr (inl r)) o =
+    subst (λ (x : DirectedFacet). IsOneOf v p s d n g x) (sym r) (one_round v p s d n g e o)
+one_rotated v p s d n g e f (inr (inr r)) o =
+    subst (λ (x : DirectedFacet). IsOneOf v p s d n g x) (sym r)
+    (one_round v p s d n g (facet e.b e.c e.a) (one_round v p s d n g e o))
+
+-- the vertices of a facet of t are those of t, from whichever it is written on
+own_vertices : (t : Tetrahedron) (m : ℕ) → (writings.IsVertexOf t (facet_of t m).a) × (writings.IsVertexOf t (facet_of t m).b)
+    × (writings.IsVertexOf t (facet_of t m).c)
+own_vertices t zero = (inr (inl refl), inr (inr (inr refl)), inr (inr (inl refl)))
+own_vertices t (suc zero) = (inl refl, inr (inr (inl refl)), inr (inr (inr refl)))
+own_vertices t (suc (suc zero)) = (inl refl, inr (inr (inr refl)), inr (inl refl))
+own_vertices t (suc (suc (suc m))) = (inl refl, inr (inl refl), inr (inr (inl refl)))
+
+front_vertices : (t : Tetrahedron) (m : ℕ) (f : DirectedFacet) → IsRotated (facet_of t m) f
+    → writings.IsVertexOf t f.a × writings.IsVertexOf t f.b × writings.IsVertexOf t f.c
+front_vertices t m f r = by r
+  where
+    own : writings.IsVertexOf t (facet_of t m).a × writings.IsVertexOf t (facet_of t m).b × writings.IsVertexOf t (facet_of t m).c
+    own = own_vertices t m
+
+    by : IsRotated (facet_of t m) f
+        → writings.IsVertexOf t f.a × writings.IsVertexOf t f.b × writings.IsVertexOf t f.c
+    by (inl e) =
+        subst (λ (g : DirectedFacet). writings.IsVertexOf t g.a × writings.IsVertexOf t g.b × writings.IsVertexOf t g.c) (sym e) own
+    by (inr (inl e)) =
+        subst (λ (g : DirectedFacet). writings.IsVertexOf t g.a × writings.IsVertexOf t g.b × writings.IsVertexOf t g.c) (sym e)
+        (own.1, own.2, own.0)
+    by (inr (inr e)) =
+        subst (λ (g : DirectedFacet). writings.IsVertexOf t g.a × writings.IsVertexOf t g.b × writings.IsVertexOf t g.c) (sym e)
+        (own.2, own.0, own.1)
+
+pub front_vertex : (t : Tetrahedron) (m i : ℕ) (numbers : List ℕ) → IsRotated (facet_of t m) (facet_at numbers) → i < 3
+    → writings.IsVertexOf t (slice_index numbers i)
+front_vertex t m zero numbers r l = (front_vertices t m (facet_at numbers) r).0
+front_vertex t m (suc zero) numbers r l = (front_vertices t m (facet_at numbers) r).1
+front_vertex t m (suc (suc zero)) numbers r l = (front_vertices t m (facet_at numbers) r).2
+front_vertex t m (suc (suc (suc i))) numbers r l = absurd (omega (arith, l))
 
 -- it does not go out where it came in
 pub not_back : (v : Vertices) (p : ℕ) (s : RationalPoint) (f : DirectedFacet) → IsCrossed v p s f → IsCrossed v p s (turned f)
@@ -53,52 +109,28 @@ not_back v p s f h k =
     let a = h.ahead in let b = k.ahead in let e = side_turned v f (turned f) s (inl refl) in
     absurd (omega (arith, ints, a, b, e))
 
--- a side through which it goes out is one of the three, with what that says
-pub one_of : (v : Vertices) (p : ℕ) (s : RationalPoint) (t : Tetrahedron) (m k : ℕ) → m < 4 → k < 4
-    → IsCrossed v p s (facet_of t m) → IsCrossed v p s (turned (facet_of t k)) → IsOneOf v p s t m k (around m)
-one_of v p s t zero zero i j h c = absurd (not_back v p s (facet_of t 0) h c)
-one_of v p s t zero (suc zero) i j h c = inl (refl, between v p s t 0 2 3 c.ca c.ab)
-one_of v p s t zero (suc (suc zero)) i j h c = inr (inr (refl, between v p s t 0 3 1 c.ca c.ab))
-one_of v p s t zero (suc (suc (suc zero))) i j h c = inr (inl (refl, between v p s t 0 1 2 c.ca c.ab))
-one_of v p s t (suc zero) zero i j h c = inl (refl, between v p s t 1 3 2 c.ca c.ab)
-one_of v p s t (suc zero) (suc zero) i j h c = absurd (not_back v p s (facet_of t 1) h c)
-one_of v p s t (suc zero) (suc (suc zero)) i j h c = inr (inl (refl, between v p s t 1 0 3 c.ab c.bc))
-one_of v p s t (suc zero) (suc (suc (suc zero))) i j h c = inr (inr (refl, between v p s t 1 2 0 c.bc c.ca))
-one_of v p s t (suc (suc zero)) zero i j h c = inl (refl, between v p s t 2 1 3 c.ab c.bc)
-one_of v p s t (suc (suc zero)) (suc zero) i j h c = inr (inr (refl, between v p s t 2 3 0 c.bc c.ca))
-one_of v p s t (suc (suc zero)) (suc (suc zero)) i j h c = absurd (not_back v p s (facet_of t 2) h c)
-one_of v p s t (suc (suc zero)) (suc (suc (suc zero))) i j h c = inr (inl (refl, between v p s t 2 0 1 c.ab c.bc))
-one_of v p s t (suc (suc (suc zero))) zero i j h c = inl (refl, between v p s t 3 2 1 c.bc c.ca)
-one_of v p s t (suc (suc (suc zero))) (suc zero) i j h c = inr (inl (refl, between v p s t 3 0 2 c.ab c.bc))
-one_of v p s t (suc (suc (suc zero))) (suc (suc zero)) i j h c = inr (inr (refl, between v p s t 3 1 0 c.bc c.ca))
-one_of v p s t (suc (suc (suc zero))) (suc (suc (suc zero))) i j h c = absurd (not_back v p s (facet_of t 3) h c)
-one_of v p s t m (suc (suc (suc (suc k)))) i j h c = absurd (omega (arith, j))
-one_of v p s t (suc (suc (suc (suc m)))) k i j h c = absurd (omega (arith, i))
-
--- what two signs leave
-pub first_ahead : (v : Vertices) (p : ℕ) (s : RationalPoint) (t : Tetrahedron) (m k : ℕ) (r : ℕ × ℕ × ℕ) → IsOneOf v p s t m k r
-    → pos 0 <ℤ past v p s t m r.0 → pos 0 <ℤ past v p s t m r.2 → k ≡ r.0
-first_ahead v p s t m k r (inl o) h g = o.0
-first_ahead v p s t m k r (inr (inl o)) h g = let z = o.1.1 in absurd (omega (arith, ints, z, g))
-first_ahead v p s t m k r (inr (inr o)) h g = let z = o.1.1 in absurd (omega (arith, ints, z, h))
-
-pub second_ahead : (v : Vertices) (p : ℕ) (s : RationalPoint) (t : Tetrahedron) (m k : ℕ) (r : ℕ × ℕ × ℕ)
-    → IsOneOf v p s t m k r → pos 0 <ℤ past v p s t m r.0 → ¬ (pos 0 <ℤ past v p s t m r.2) → k ≡ r.1
-second_ahead v p s t m k r (inl o) h g = absurd (g o.1.0)
-second_ahead v p s t m k r (inr (inl o)) h g = o.0
-second_ahead v p s t m k r (inr (inr o)) h g = let z = o.1.1 in absurd (omega (arith, ints, z, h))
-
-pub third_ahead : (v : Vertices) (p : ℕ) (s : RationalPoint) (t : Tetrahedron) (m k : ℕ) (r : ℕ × ℕ × ℕ) → IsOneOf v p s t m k r
-    → ¬ (pos 0 <ℤ past v p s t m r.0) → pos 0 <ℤ past v p s t m r.1 → k ≡ r.2
-third_ahead v p s t m k r (inl o) h g = let z = o.1.1 in absurd (omega (arith, ints, z, g))
-third_ahead v p s t m k r (inr (inl o)) h g = absurd (h o.1.0)
-third_ahead v p s t m k r (inr (inr o)) h g = o.0
-
-pub first_else : (v : Vertices) (p : ℕ) (s : RationalPoint) (t : Tetrahedron) (m k : ℕ) (r : ℕ × ℕ × ℕ) → IsOneOf v p s t m k r
-    → ¬ (pos 0 <ℤ past v p s t m r.0) → ¬ (pos 0 <ℤ past v p s t m r.1) → k ≡ r.0
-first_else v p s t m k r (inl o) h g = o.0
-first_else v p s t m k r (inr (inl o)) h g = absurd (h o.1.0)
-first_else v p s t m k r (inr (inr o)) h g = absurd (g o.1.0)
+-- where it goes out through side k, vertex k of the facet of side m stays behind
+at_own : (v : Vertices) (p : ℕ) (s : RationalPoint) (t : Tetrahedron) (m k : ℕ) → m < 4 → k < 4
+    → IsCrossed v p s (facet_of t m) → IsCrossed v p s (turned (facet_of t k))
+    → IsOneOf v p s (vertex_of t m) (vertex_of t k) (facet_of t k) (facet_of t m)
+at_own v p s t zero zero i j h c = absurd (not_back v p s (facet_of t 0) h c)
+at_own v p s t zero (suc zero) i j h c = inl (refl, inl refl, between v p s t.a t.c t.d c.ca c.ab)
+at_own v p s t zero (suc (suc zero)) i j h c = inr (inr (refl, inr (inl refl), between v p s t.a t.d t.b c.ca c.ab))
+at_own v p s t zero (suc (suc (suc zero))) i j h c = inr (inl (refl, inr (inr refl), between v p s t.a t.b t.c c.ca c.ab))
+at_own v p s t (suc zero) zero i j h c = inl (refl, inl refl, between v p s t.b t.d t.c c.ca c.ab)
+at_own v p s t (suc zero) (suc zero) i j h c = absurd (not_back v p s (facet_of t 1) h c)
+at_own v p s t (suc zero) (suc (suc zero)) i j h c = inr (inl (refl, inl refl, between v p s t.b t.a t.d c.ab c.bc))
+at_own v p s t (suc zero) (suc (suc (suc zero))) i j h c = inr (inr (refl, inl refl, between v p s t.b t.c t.a c.bc c.ca))
+at_own v p s t (suc (suc zero)) zero i j h c = inl (refl, inr (inl refl), between v p s t.c t.b t.d c.ab c.bc)
+at_own v p s t (suc (suc zero)) (suc zero) i j h c = inr (inr (refl, inl refl, between v p s t.c t.d t.a c.bc c.ca))
+at_own v p s t (suc (suc zero)) (suc (suc zero)) i j h c = absurd (not_back v p s (facet_of t 2) h c)
+at_own v p s t (suc (suc zero)) (suc (suc (suc zero))) i j h c = inr (inl (refl, inl refl, between v p s t.c t.a t.b c.ab c.bc))
+at_own v p s t (suc (suc (suc zero))) zero i j h c = inl (refl, inr (inr refl), between v p s t.d t.c t.b c.bc c.ca)
+at_own v p s t (suc (suc (suc zero))) (suc zero) i j h c = inr (inl (refl, inl refl, between v p s t.d t.a t.c c.ab c.bc))
+at_own v p s t (suc (suc (suc zero))) (suc (suc zero)) i j h c = inr (inr (refl, inl refl, between v p s t.d t.b t.a c.bc c.ca))
+at_own v p s t (suc (suc (suc zero))) (suc (suc (suc zero))) i j h c = absurd (not_back v p s (facet_of t 3) h c)
+at_own v p s t m (suc (suc (suc (suc k)))) i j h c = absurd (omega (arith, j))
+at_own v p s t (suc (suc (suc (suc m)))) k i j h c = absurd (omega (arith, i))
 
 -- ---- the cell at the vertex
 pub has_own : (v : Vertices) (p : ℕ) (s : RationalPoint) (t : Tetrahedron) → IsCell v t.a t.b t.c t.d
@@ -154,13 +186,14 @@ pub through_side : (v : Vertices) (p : ℕ) (s : RationalPoint) (t : Tetrahedron
 through_side v p s t k (inl h) e = h
 through_side v p s t k (inr h) e = absurd (e h.0)
 
--- `one_of` at the three sides as the code has them
-pub one_ahead : (v : Vertices) (p : ℕ) (s : RationalPoint) (t : Tetrahedron) (m k : ℕ) (r : ℕ × ℕ × ℕ) → r ≡ around m
-    → IsEntered v p s t m → ¬ (m ≡ 4) → IsExit v p s t k → IsOneOf v p s t m k r
-one_ahead v p s t m k r i h e x =
+-- `at_own` at the facet written from any vertex on
+pub one_of : (v : Vertices) (p : ℕ) (s : RationalPoint) (t : Tetrahedron) (m k : ℕ) (f : DirectedFacet)
+    → IsRotated (facet_of t m) f → IsEntered v p s t m → ¬ (m ≡ 4) → IsExit v p s t k
+    → IsOneOf v p s (vertex_of t m) (vertex_of t k) (facet_of t k) f
+one_of v p s t m k f r h e x =
     let z = through_side v p s t m h e in
-    subst (λ (q : ℕ × ℕ × ℕ). IsOneOf v p s t m k q) (sym i)
-    (one_of v p s t m k z.0 x.side_in (crossed_of v p s (facet_of t m) z.1) (crossed_of v p s (turned (facet_of t k)) x.left))
+    one_rotated v p s (vertex_of t m) (vertex_of t k) (facet_of t k) (facet_of t m) f r
+    (at_own v p s t m k z.0 x.side_in (crossed_of v p s (facet_of t m) z.1) (crossed_of v p s (turned (facet_of t k)) x.left))
 
 -- ---- answers of tests
 pub yes : {A : Type 0} → IsTrue true ↔ A → A
@@ -168,3 +201,50 @@ yes h = h.0 refl
 
 pub no : {A : Type 0} → IsTrue false ↔ A → ¬ A
 no h = λ a. true≢false (sym (h.1 a))
+
+-- ---- three tests
+-- what stays behind, and what the facet becomes
+abbrev pub IsLeftBehind : (d n : ℕ) (g f : DirectedFacet) → ℕ → Type 0
+IsLeftBehind d n g f zero = (n ≡ f.a) × IsTurned g (facet d f.b f.c)
+IsLeftBehind d n g f (suc zero) = (n ≡ f.b) × IsTurned g (facet f.a d f.c)
+IsLeftBehind d n g f (suc (suc i)) = (n ≡ f.c) × IsTurned g (facet f.a f.b d)
+
+pub left_ahead : (v : Vertices) (p : ℕ) (s : RationalPoint) (d n : ℕ) (g f : DirectedFacet) → IsOneOf v p s d n g f
+    → (x y z : Bool) → IsTrue x ↔ (pos 0 <ℤ past v p s d f.a) → IsTrue y ↔ (pos 0 <ℤ past v p s d f.b)
+    → IsTrue z ↔ (pos 0 <ℤ past v p s d f.c) → IsLeftBehind d n g f (left_behind x y z)
+left_ahead v p s d n g f (inl o) true y true a b c = (o.0, o.1)
+left_ahead v p s d n g f (inr (inl o)) true y true a b c = let z = o.2.1 in let k = yes c in absurd (omega (arith, ints, z, k))
+left_ahead v p s d n g f (inr (inr o)) true y true a b c = let z = o.2.1 in let k = yes a in absurd (omega (arith, ints, z, k))
+left_ahead v p s d n g f (inl o) true y false a b c = absurd (no c o.2.0)
+left_ahead v p s d n g f (inr (inl o)) true y false a b c = (o.0, o.1)
+left_ahead v p s d n g f (inr (inr o)) true y false a b c = let z = o.2.1 in let k = yes a in absurd (omega (arith, ints, z, k))
+left_ahead v p s d n g f (inl o) false true z a b c = let z = o.2.1 in let k = yes b in absurd (omega (arith, ints, z, k))
+left_ahead v p s d n g f (inr (inl o)) false true z a b c = absurd (no a o.2.0)
+left_ahead v p s d n g f (inr (inr o)) false true z a b c = (o.0, o.1)
+left_ahead v p s d n g f (inl o) false false z a b c = (o.0, o.1)
+left_ahead v p s d n g f (inr (inl o)) false false z a b c = absurd (no a o.2.0)
+left_ahead v p s d n g f (inr (inr o)) false false z a b c = absurd (no b o.2.0)
+
+-- the same of three numbers in a list
+pub behind_in : (d n : ℕ) (g : DirectedFacet) (numbers : List ℕ) (i : ℕ) → length numbers ≡ 3 → i < 3
+    → IsLeftBehind d n g (facet_at numbers) i → (n ≡ slice_index numbers i) × IsTurned g (facet_at (set numbers i d))
+behind_in d n g [] i l j h = absurd (omega (arith, l))
+behind_in d n g (a ∷ []) i l j h = absurd (omega (arith, l))
+behind_in d n g (a ∷ b ∷ []) i l j h = absurd (omega (arith, l))
+behind_in d n g (a ∷ b ∷ c ∷ x ∷ xs) i l j h = absurd (omega (arith, l))
+behind_in d n g (a ∷ b ∷ c ∷ []) zero l j h = h
+behind_in d n g (a ∷ b ∷ c ∷ []) (suc zero) l j h = h
+behind_in d n g (a ∷ b ∷ c ∷ []) (suc (suc zero)) l j h = h
+behind_in d n g (a ∷ b ∷ c ∷ []) (suc (suc (suc i))) l j h = absurd (omega (arith, j))
+
+-- the side of the points that were read is that of the vertices
+pub past_of : (s : Store) (v : List ℕ) (vertex m x : ℕ) (q p a d : Point) → m < 4 → p ≡ get_or s.points vertex origin
+    → a ≡ get_or s.points x origin → d ≡ get_or s.points (slice_index v m) origin → (yes : Bool)
+    → IsTrue yes ↔ (pos 0 <ℤ side p a d (displaced q))
+    → IsTrue yes ↔ (pos 0 <ℤ past (vertices_of s) vertex (displaced q) (vertex_of (tetrahedron_from v) m) x)
+past_of s v vertex m x q p a d l ep ea ed yes h =
+    let at : ℕ → Point = λ n. get_or s.points n origin in
+    let t = tetrahedron_from v in
+    subst (λ (z : Point). IsTrue yes ↔ (pos 0 <ℤ side z (at x) (at (vertex_of t m)) (displaced q))) ep
+    (subst (λ (z : Point). IsTrue yes ↔ (pos 0 <ℤ side p z (at (vertex_of t m)) (displaced q))) ea
+    (subst (λ (z : Point). IsTrue yes ↔ (pos 0 <ℤ side p a z (displaced q))) (ed ∙ ap at (sym (vertex_index v m l))) h))

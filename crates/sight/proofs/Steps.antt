@@ -1,26 +1,30 @@
 -- A walk along a sight, step by step: the facets to come are those of the path from the cell reached, a step takes the first of
 -- them, and what is kept of a walk is kept.
 use Rattle.std.proofs.Common.{ℕ, ◌<◌, ◌≡◌, inl, ⊎_elim, refl, sym, ap, subst, ◌∙◌, Bool, true, false, Some, None, List, [], ◌∷◌}
-use Rattle.std.proofs.Common.{slice_index, slice_index_or}
-use Rattle.geo_sign.specs.Point.{Point}
+use Rattle.std.proofs.Common.{slice_index, get_or, length}
+use Rattle.geo_sign.specs.Point.{Point, origin}
 use Rattle.geo_sign.specs.Rational.{RationalPoint, displaced}
 use Rattle.geo_sign.specs.Sights.{is_crossed, is_towards, is_cell_of}
-use Rattle.geo_sign.specs.Tetrahedron.{Tetrahedron, facet_at, facet_of, vertex_of, turned}
+use Rattle.geo_sign.specs.Tetrahedron.{Tetrahedron, facet_at, facet_of, vertex_of, turned, IsTurned}
+use Rattle.geo_sign.proofs.Rotations.{turned_turned, turned_back}
 use Rattle.cell_laws.specs.Links.{Side}
 use Rattle.cell_laws.specs.Lists.{IsIn}
 use Rattle.cell_laws.specs.Paths.{IsOnSight}
 use Rattle.cell_laws.specs.WalkLaws.{IsPassed}
 use Rattle.cell_laws.proofs.Scanners.{near_law}
 use Rattle.cell_laws.proofs.SightLaws.{left_of}
-use Rattle.tetra_store.specs.declared.link.Cell.{Cell}
-use Rattle.tetra_store.specs.Links.{links_of, slot_at, tetrahedron_from, IsLive}
+use Rattle.tetra_store.specs.Links.{links_of, tetrahedron_from, IsLive, IsBack}
 use Rattle.tetra_store.specs.Store.{Store, vertices_of, IsStore}
 use Rattle.tetra_store.specs.Stored.{live_of}
 use Rattle.tetra_store.proofs.Keeps.{vertex_index}
 use Rattle.tetra_walk.proofs.Bridge.{listed, live}
-use Rattle.tetra_walk.proofs.Ends.{walks, one_scanner_cell, at_is, live_is, next_is as next_is_at}
+use Rattle.tetra_walk.proofs.Backs.{one_back}
+use Rattle.tetra_walk.proofs.Ends.{walks, one_scanner_cell}
 use Rattle.sight.specs.Exits.{IsExit}
-use Rattle.sight.specs.Walks.{sides_from, IsSight, IsTaken, IsEndCell, IsWalking}
+use Rattle.sight.specs.declared.exit.Front.{Front}
+use Rattle.sight.specs.declared.image.Screen.{Screen}
+use Rattle.sight.specs.Fronts.{AreSeen}
+use Rattle.sight.specs.Walks.{sides_from, IsSight, IsGoneOn, IsEndCell, IsWalking, IsAhead}
 use Rattle.sight.proofs.Exits.{on_sight}
 use Rattle.sight.proofs.Paths.{IsGiven, passed, paths, IsPathOf, IsStepOf, comes_in, step_is, sides_are}
 
@@ -115,45 +119,72 @@ distinct_at s p o x v k h w i j l m e =
     (subst (λ (t : Tetrahedron). vertex_of t i ≡ vertex_of t j) (sym w.loaded)
     (vertex_index v i l ∙ e ∙ sym (vertex_index v j m)))
 
-pub walks_on : (s : Store) (p : ℕ) (o : Point) (x : ℕ) (v : List ℕ) (k j y m : ℕ) (d : Cell) → IsStore s → IsWalking s p o x v k
-    → IsExit (vertices_of s) p (displaced o) (tetrahedron_from v) j → (links_of s.slots).next x j ≡ Some y
-    → slot_at s.slots y ≡ Some d → m < 4
-    → slice_index_or d.next m None ≡ Some x → IsWalking s p o y d.v m
-walks_on s p o x v k j y m d i w h e f b n =
-    let z = comes_in s p o i x j y m w.live (exit_at s p o x v k j w h) e b (next_is_at s.slots y m d f ∙ n) in
+-- the cell reached has vertices that there are; and the cell across the exit, with its vertices and the side of it that names the cell left
+pub known_at : (s : Store) (p : ℕ) (o : Point) (x : ℕ) (v : List ℕ) (k : ℕ) → IsStore s → IsWalking s p o x v k → (i : ℕ)
+    → i < 4 → slice_index v i < length s.points
+known_at s p o x v k h w i l =
+    subst (λ (n : ℕ). n < length s.points) (vertex_index v i l)
+    (subst (λ (t : Tetrahedron). vertex_of t i < length s.points) w.loaded (h.linked.has x i w.live l).0)
+
+pub walks_on : (s : Store) (p : ℕ) (o : Point) (x : ℕ) (v : List ℕ) (k j y m : ℕ) (u : List ℕ) → IsStore s
+    → IsWalking s p o x v k → IsExit (vertices_of s) p (displaced o) (tetrahedron_from v) j
+    → (links_of s.slots).next x j ≡ Some y → tetrahedron_from u ≡ (links_of s.slots).at y → m < 4
+    → (links_of s.slots).next y m ≡ Some x → IsWalking s p o y u m
+walks_on s p o x v k j y m u i w h e f b n =
+    let z = comes_in s p o i x j y m w.live (exit_at s p o x v k j w h) e b n in
     record {
       delaunay = w.delaunay;
       inserted = w.inserted;
       data_point = w.data_point;
       live = z.0;
-      loaded = at_is s.slots y d f;
+      loaded = sym f;
       came =
           inl (
             b,
-            subst (λ (t : Tetrahedron). is_crossed (vertices_of s) p (displaced o) (facet_of t m) ≡ true)
-                (at_is s.slots y d f) z.1,
+            subst (λ (t : Tetrahedron). is_crossed (vertices_of s) p (displaced o) (facet_of t m) ≡ true) (sym f) z.1,
           );
     }
 
+-- the facet of the exit in the other direction is that through which the sight comes in
+pub front_on : (s : Store) (p : ℕ) (o : Point) (x : ℕ) (v : List ℕ) (k j y m : ℕ) (u : List ℕ) (point : Point) (c : Screen) (old g : Front)
+    → IsStore s → IsWalking s p o x v k → IsExit (vertices_of s) p (displaced o) (tetrahedron_from v) j
+    → (links_of s.slots).next x j ≡ Some y → tetrahedron_from u ≡ (links_of s.slots).at y → m < 4
+    → (links_of s.slots).next y m ≡ Some x → IsAhead s p o point c v k old → length g.vertices ≡ 3 → length g.images ≡ 3
+    → IsTurned (facet_of (tetrahedron_from v) j) (facet_at g.vertices) → AreSeen s.points c point g → IsAhead s p o point c u m g
+front_on s p o x v k j y m u point c old g i w h e f b n is three images r seen =
+    let back : IsBack (links_of s.slots) x j y = i.linked.back x j y w.live h.side_in e in
+    let t = one_back (vertices_of s) (links_of s.slots) i.linked x j y m w.live h.side_in e back.live b n in
+    let own : IsTurned (facet_of (tetrahedron_from v) j) (facet_of (tetrahedron_from u) m) =
+    subst (λ (q : Tetrahedron). IsTurned (facet_of q j) (facet_of (tetrahedron_from u) m)) w.loaded
+    (subst (λ (q : Tetrahedron). IsTurned (facet_of ((links_of s.slots).at x) j) (facet_of q m)) (sym f) t) in
+    record {
+      start = is.start;
+      within = is.within;
+      screen = is.screen;
+      came =
+          record {
+            three = three;
+            three_images = images;
+            facet = λ l.
+                (turned_turned (facet_of (tetrahedron_from u) m) (facet_of (tetrahedron_from v) j) (facet_at g.vertices)
+                (turned_back (facet_of (tetrahedron_from v) j) (facet_of (tetrahedron_from u) m) own) r);
+            seen = seen;
+          };
+    }
+
 -- the walk before and after a step
-pub is_taken : (s : Store) (p : ℕ) (o : Point) (x : ℕ) (v : List ℕ) (k j y m : ℕ) (d : Cell) → IsStore s → IsWalking s p o x v k
-    → IsExit (vertices_of s) p (displaced o) (tetrahedron_from v) j → (links_of s.slots).next x j ≡ Some y
-    → slot_at s.slots y ≡ Some d → m < 4
-    → slice_index_or d.next m None ≡ Some x → (f : List ℕ) → facet_at f ≡ facet_of (tetrahedron_from d.v) m
-    → IsTaken (record { store = s; vertex = p; scanner = o; at = x; entered = k; to_come = sides_from s p o x })
+pub gone_on : (s : Store) (p : ℕ) (o : Point) (x : ℕ) (v : List ℕ) (k j y m : ℕ) → IsStore s → IsWalking s p o x v k
+    → IsExit (vertices_of s) p (displaced o) (tetrahedron_from v) j → (links_of s.slots).next x j ≡ Some y → m < 4
+    → (links_of s.slots).next y m ≡ Some x
+    → IsGoneOn (record { store = s; vertex = p; scanner = o; at = x; entered = k; to_come = sides_from s p o x })
     (record { store = s; vertex = p; scanner = o; at = y; entered = m; to_come = sides_from s p o y })
-    (record { facet = f; scanner_side = y; point_side = x })
-is_taken s p o x v k j y m d i w h e g b n f q =
-    let back = next_is_at s.slots y m d g ∙ n in
+gone_on s p o x v k j y m i w h e b n =
     record {
       same = (refl, refl, refl);
-      first = taken s p o x v k j y m i w h e b back;
+      first = taken s p o x v k j y m i w h e b n;
       side_in = b;
-      live = live_is s.slots y d g;
-      scanner_side = refl;
-      point_side = refl;
-      facet = q ∙ ap (λ (t : Tetrahedron). facet_of t m) (sym (at_is s.slots y d g));
-      across = back;
+      live = (comes_in s p o i x j y m w.live (exit_at s p o x v k j w h) e b n).0;
+      across = n;
     }
 
 -- ---- a walk whose end is known

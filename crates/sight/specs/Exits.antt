@@ -2,13 +2,12 @@
 --
 --   IsEntered v p s t k                       the sight came into t through side k; or k is 4, and t is the cell at p towards s
 --   IsExit v p s t k                          it goes out of t through side k
---   first_around k, second_around k, third_around k
---                                             the three other sides, in the order of the vertices of facet k opposite to them
---   past v p s t m x                          the side of the facet of p, vertex x and vertex m on which s is
-use Rattle.std.specs.Prelude.{ℕ, zero, suc, ◌<◌, ◌≡◌, ◌⊎◌, true, ℤ}
+--   left_behind first second third            which vertex of facet k three tests leave behind, 0 to 2
+--   past v p s d x                            the side of the facet of p, x and d on which s is
+use Rattle.std.specs.Prelude.{ℕ, ◌<◌, ◌≡◌, ◌⊎◌, Bool, true, false, ℤ}
 use Rattle.geo_sign.specs.Rational.{RationalPoint, side}
 use Rattle.geo_sign.specs.Sights.{is_crossed, is_towards}
-use Rattle.geo_sign.specs.Tetrahedron.{Tetrahedron, facet_of, vertex_of, turned}
+use Rattle.geo_sign.specs.Tetrahedron.{Tetrahedron, facet_of, turned}
 use Rattle.geo_sign.specs.Vertices.{Vertices}
 
 -- s is before the entered facet and p behind it; 4 is no side
@@ -20,25 +19,13 @@ pub record IsExit (v : Vertices) (p : ℕ) (s : RationalPoint) (t : Tetrahedron)
   pub side_in : k < 4
   pub left : is_crossed v p s (turned (facet_of t k)) ≡ true
 
--- opposite to the first vertex of facet k
-abbrev pub first_around : ℕ → ℕ
-first_around zero = 1
-first_around (suc k) = 0
-
--- opposite to its second
-abbrev pub second_around : ℕ → ℕ
-second_around zero = 3
-second_around (suc zero) = 2
-second_around (suc (suc zero)) = 3
-second_around (suc (suc (suc k))) = 1
-
--- opposite to its third
-abbrev pub third_around : ℕ → ℕ
-third_around zero = 2
-third_around (suc zero) = 3
-third_around (suc (suc zero)) = 1
-third_around (suc (suc (suc k))) = 2
+-- which vertex of the facet through which the sight came in stays behind, by the tests of the planes through the three
+abbrev pub left_behind : (first second third : Bool) → ℕ
+left_behind true second true = 0
+left_behind true second false = 1
+left_behind false true third = 2
+left_behind false false third = 0
 
 -- positive where s is on the inner side
-abbrev pub past : Vertices → (p : ℕ) → RationalPoint → Tetrahedron → (m x : ℕ) → ℤ
-past v p s t m x = side (v.at p) (v.at (vertex_of t x)) (v.at (vertex_of t m)) s
+abbrev pub past : Vertices → (p : ℕ) → RationalPoint → (d x : ℕ) → ℤ
+past v p s d x = side (v.at p) (v.at x) (v.at d) s

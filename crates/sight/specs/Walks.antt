@@ -9,16 +9,18 @@
 --   next_side s p o x           the next facet from the cell x, as a side of the cell that is entered
 --   sides_from s p o x          all facets from there on
 --   IsSight w                   they are exactly the facets that the sight crosses, each once, each nearer than every later one
---   IsTaken w v c               the crossing c is the first of those to come in w, and v has the others
+--   IsGoneOn w v                v is w one facet on: the first of those to come in w, and v has the others
+--   IsTaken w v c               and the crossing c is that facet
 --   IsEndCell s o e             the cell e is the scanner's
 --   IsWalking s p o x v k       what is kept of each walk
+--   IsAhead s p o point w v k f and of its screen and front
 --
 -- The list to come follows from the store, the sight and the cell reached, so it is no field of a walk: `sides_from` is
 -- that list. What a reader has to believe of it is `IsSight` alone, which leaves one list: the crossed facets, each once,
 -- in their order.
-use Rattle.std.specs.Prelude.{ℕ, zero, suc, ◌≡◌, ◌<◌, ◌==◌, Bool, true, false, List, [], ◌∷◌, Option, Some, None, length}
-use Rattle.geo_sign.specs.declared.point.TheConstants.{DATA_LIMIT}
-use Rattle.geo_sign.specs.Point.{Point, IsWithin}
+use Rattle.std.specs.Prelude.{ℕ, zero, suc, ◌≡◌, ◌<◌, ◌==◌, Bool, true, false, List, [], ◌∷◌, Option, Some, None, length, get_or}
+use Rattle.geo_sign.specs.declared.point.TheConstants.{BOX_LIMIT, DATA_LIMIT}
+use Rattle.geo_sign.specs.Point.{Point, origin, step, IsWithin}
 use Rattle.geo_sign.specs.Rational.{RationalPoint, displaced}
 use Rattle.geo_sign.specs.Sights.{is_crossed, is_towards, is_cell_of}
 use Rattle.geo_sign.specs.Tetrahedron.{Tetrahedron, facet_at, facet_of, turned}
@@ -32,7 +34,12 @@ use Rattle.tetra_store.specs.Store.{Store, vertices_of}
 use Rattle.tetra_store.specs.Delaunay.{IsDelaunay}
 use Rattle.tetra_store.specs.Stored.{live_of}
 use Rattle.sight.specs.declared.along.Crossing.{Crossing}
+use Rattle.sight.specs.declared.exit.Front.{Front}
 use Rattle.sight.specs.Exits.{IsEntered}
+use Rattle.sight.specs.declared.image.Screen.{Screen}
+use Rattle.sight.specs.Fronts.{IsFront}
+use Rattle.sight.specs.Images.{IsScreen}
+use Rattle.tetra_walk.specs.Walks.{number_first}
 
 -- the sight from a vertex to the scanner at a point, through the cells of a store
 pub record Walk : Type 0 where
@@ -64,13 +71,6 @@ exit_of v p s t = first_of (leaves v p s t 0) (leaves v p s t 1) (leaves v p s t
 abbrev pub is_some_of : Option ℕ → ℕ → Bool
 is_some_of None x = false
 is_some_of (Some y) x = y == x
-
--- the first of three tests that holds, and else 3
-abbrev pub number_first : (a b c : Bool) → ℕ
-number_first true b c = 0
-number_first false true c = 1
-number_first false false true = 2
-number_first false false false = 3
 
 -- the side of y that names x
 abbrev pub side_naming : Links → (y x : ℕ) → ℕ
@@ -126,17 +126,21 @@ pub record IsSight (w : Walk) : Type 0 where
   -- each is nearer to the vertex than each later one
   pub nearing : AreNearing (vertices_of w.store) (links_of w.store.slots).at w.vertex (displaced w.scanner) w.to_come
 
--- a step from w to v: the cell that is entered is the scanner side, and the facet is its own; the cell left is the point side,
--- and is across that facet
-pub record IsTaken (w v : Walk) (c : Crossing) : Type 0 where
+-- a step from w to v: the cell that v has reached is across the first of the facets to come in w, and v has the others
+pub record IsGoneOn (w v : Walk) : Type 0 where
   pub same : (v.store ≡ w.store) × (v.vertex ≡ w.vertex) × (v.scanner ≡ w.scanner)
   pub first : w.to_come ≡ record { at = v.at; side = v.entered } ∷ v.to_come
   pub side_in : v.entered < 4
   pub live : IsLive (links_of w.store.slots) v.at
+  pub across : (links_of w.store.slots).next v.at v.entered ≡ Some w.at
+
+-- such a step with its facet: the cell that is entered is the scanner side, and the facet is its own; the cell left is the point
+-- side, and is across that facet
+pub record IsTaken (w v : Walk) (c : Crossing) : Type 0 where
+  pub on : IsGoneOn w v
   pub scanner_side : c.scanner_side ≡ v.at
   pub point_side : c.point_side ≡ w.at
   pub facet : facet_at c.facet ≡ facet_of ((links_of w.store.slots).at v.at) v.entered
-  pub across : (links_of w.store.slots).next v.at v.entered ≡ Some w.at
 
 -- ---- what is kept
 -- the cell reached has these four vertices, and the sight came into it through side k
@@ -147,6 +151,13 @@ pub record IsWalking (s : Store) (p : ℕ) (o : Point) (x : ℕ) (v : List ℕ) 
   pub live : IsLive (links_of s.slots) x
   pub loaded : (links_of s.slots).at x ≡ tetrahedron_from v
   pub came : IsEntered (vertices_of s) p (displaced o) (tetrahedron_from v) k
+
+-- the point of the sight's vertex, the screen across the sight, and the front
+pub record IsAhead (s : Store) (p : ℕ) (o point : Point) (w : Screen) (v : List ℕ) (k : ℕ) (front : Front) : Type 0 where
+  pub start : point ≡ get_or s.points p origin
+  pub within : IsWithin BOX_LIMIT point
+  pub screen : IsScreen w (step point o)
+  pub came : IsFront s.points w point (tetrahedron_from v) k front
 
 -- the scanner lies in the live cell e
 pub record IsEndCell (s : Store) (o : Point) (e : ℕ) : Type 0 where

@@ -1,6 +1,6 @@
 //! Walks along sights.
 
-ghost use Rattle.std.specs.Prelude.{◌≡◌, ◌≤◌, [], true, false, IfSome, IfNone};
+ghost use Rattle.std.specs.Prelude.{◌≡◌, ◌≤◌, [], true, false, IsTrue, IsFalse, IfSome, IfNone};
 ghost use Rattle.std.specs.Option.{ForSome};
 ghost use Rattle.geo_sign.specs.declared.point.TheConstants.{DATA_LIMIT};
 ghost use Rattle.geo_sign.specs.Point.{IsWithin};
@@ -10,13 +10,14 @@ ghost use Rattle.geo_sign.specs.Vertices.{Has};
 ghost use Rattle.tetra_store.specs.Delaunay.{IsDelaunay};
 ghost use Rattle.tetra_store.specs.Links.{links_of};
 ghost use Rattle.tetra_store.specs.Store.{vertices_of};
-ghost use Rattle.sight.specs.Walks.{IsSight, IsTaken, IsEndCell};
+ghost use Rattle.sight.specs.Walks.{IsSight, IsGoneOn, IsTaken, IsEndCell};
 
-use crate::exit::{NO_SIDE, exit};
+use crate::exit::{Front, NO_SIDE, exit, front_of, go_through};
+use crate::image::{Screen, screen_of};
 use geo_sign::Point;
 use std::marker::Model;
 use tetra_store::{CellId, Tetra};
-use tetra_walk::{facet, side_to, toward};
+use tetra_walk::{facet, toward};
 
 /// A directed facet that a sight crosses. The sight's point is behind it, the scanner before it.
 #[derive(Clone, Copy, Debug, PartialEq, Eq)]
@@ -37,22 +38,25 @@ pub struct Crossing {
 pub struct SightWalk<'a> {
     tetra: &'a Tetra,
     vertex: u32,
+    point: Point,
     scanner: Point,
+    screen: Screen,
     end: Option<CellId>,
     at: CellId,
     vertices: [u32; 4],
     entered: usize,
+    front: Front,
 }
 
 impl<'a> Model for SightWalk<'a> {
-    ghost use Rattle.sight.specs.Walks.{Walk, IsWalking, IsEndCell, sides_from};
+    ghost use Rattle.sight.specs.Walks.{Walk, IsWalking, IsAhead, IsEndCell, sides_from};
     ghost use Rattle.std.specs.Option.{ForSome};
 
     ghost Value = { Walk };
 
     ghost view = { λ w. record { store = w.tetra.now; vertex = w.vertex; scanner = w.scanner; at = w.at; entered = w.entered; to_come = sides_from w.tetra.now w.vertex w.scanner w.at } };
 
-    ghost invariant = { λ w. IsWalking w.tetra.now w.vertex w.scanner w.at w.vertices w.entered × ForSome w.end (λ e. IsEndCell w.tetra.now w.scanner e) };
+    ghost invariant = { λ w. IsWalking w.tetra.now w.vertex w.scanner w.at w.vertices w.entered × IsAhead w.tetra.now w.vertex w.scanner w.point w.screen w.vertices w.entered w.front × ForSome w.end (λ e. IsEndCell w.tetra.now w.scanner e) };
 }
 
 /// A walk that begins in the cell towards the scanner, whose end may be known.
@@ -67,15 +71,19 @@ fn begin<'a>(t: &'a Tetra, v: u32, s: Point, end: Option<CellId>) -> SightWalk<'
 {
     t.facts();
     let at = toward(t, v, s);
-    let vertices = t.cell(at).v;
+    let point = t.point(v);
+    let screen = screen_of(point, s);
     SightWalk {
         tetra: t,
         vertex: v,
+        point,
         scanner: s,
+        screen,
         end,
         at,
-        vertices,
+        vertices: t.vertices(at),
         entered: NO_SIDE,
+        front: front_of(t, &screen, point, [v, v, v]),
     }
 }
 
@@ -108,6 +116,49 @@ pub fn walk_into<'a>(t: &'a Tetra, v: u32, s: Point, end: CellId) -> SightWalk<'
 }
 
 impl<'a> SightWalk<'a> {
+    /// Goes on to the next facet that the sight crosses, and through it. No exactly where the cell reached is the scanner's, and then
+    /// nothing is to come and the walk stays as it is. It takes no memory.
+    pub fn go_on(&mut self) -> bool
+        ensures on { IsTrue result → IsGoneOn self.old self.new }
+        ensures more { IsTrue result → is_cell_of (vertices_of self.old.store) (displaced self.old.scanner) ((links_of self.old.store.slots).at self.old.at) ≡ false }
+        ensures out { IsFalse result → (self.old.to_come ≡ []) × (self.new ≡ self.old) }
+        ensures end { IsFalse result → is_cell_of (vertices_of self.old.store) (displaced self.old.scanner) ((links_of self.old.store.slots).at self.old.at) ≡ true }
+    {
+        self.tetra.facts();
+        match exit(
+            self.tetra,
+            self.at,
+            self.end,
+            self.vertices,
+            self.entered,
+            &self.front,
+            self.vertex,
+            &self.screen,
+            self.point,
+            self.scanner,
+        ) {
+            None => false,
+            Some(exit) => match self.tetra.across(self.at, exit.side as u8) {
+                None => unreachable!(),
+                Some(next) => {
+                    go_through(
+                        self.tetra,
+                        self.vertices,
+                        self.entered,
+                        exit,
+                        &self.screen,
+                        self.point,
+                        &mut self.front,
+                    );
+                    self.entered = self.tetra.side_to(next, self.at);
+                    self.vertices = self.tetra.vertices(next);
+                    self.at = next;
+                    true
+                }
+            },
+        }
+    }
+
     /// The next facet that the sight crosses, from the point towards the scanner: the first of those to come. Its point side is the
     /// cell reached before, its scanner side the cell reached now. None exactly where the cell reached is the scanner's, and then
     /// nothing is to come and the walk stays as it is. It takes no memory.
@@ -117,33 +168,15 @@ impl<'a> SightWalk<'a> {
         ensures none { IfNone result ((self.old.to_come ≡ []) × (self.new ≡ self.old)) }
         ensures end { IfNone result (is_cell_of (vertices_of self.old.store) (displaced self.old.scanner) ((links_of self.old.store.slots).at self.old.at) ≡ true) }
     {
-        self.tetra.facts();
-        match exit(
-            self.tetra,
-            self.at,
-            self.end,
-            self.vertices,
-            self.entered,
-            self.vertex,
-            self.scanner,
-        ) {
-            None => None,
-            Some(side) => match self.tetra.across(self.at, side as u8) {
-                None => unreachable!(),
-                Some(next) => {
-                    let cell = self.tetra.cell(next);
-                    let entered = side_to(&cell, self.at);
-                    let crossing = Crossing {
-                        facet: facet(cell.v, entered),
-                        scanner_side: next,
-                        point_side: self.at,
-                    };
-                    self.at = next;
-                    self.vertices = cell.v;
-                    self.entered = entered;
-                    Some(crossing)
-                }
-            },
+        let before = self.at;
+        if self.go_on() {
+            Some(Crossing {
+                facet: facet(self.vertices, self.entered),
+                scanner_side: self.at,
+                point_side: before,
+            })
+        } else {
+            None
         }
     }
 

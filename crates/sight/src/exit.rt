@@ -4,62 +4,114 @@
 //! p, d and each of a, b, c cut what lies ahead into three parts, one before each other facet of the cell. So the sides of two of the
 //! planes on which the scanner is leave one facet. In the cell at the vertex that facet is the one opposite to the vertex.
 //!
-//! The functions of a step are inlined, so that its two signs share one product and no point goes through memory between them.
+//! The facet a b c is kept with the images of its vertices from cell to cell. It goes out through the facet opposite to one of them, and
+//! that facet, as the next cell has it, is a b c with d in the place of that one: so a step reads one point and makes one image.
+//!
+//! The functions of a step are inlined, so that its signs share one product and no point goes through memory between them. Which two
+//! of the three planes decide depends on the first, and no sign could be foretold: so all three are computed, and a table of their
+//! signs has the vertex that stays behind.
 
-ghost use Rattle.std.specs.Prelude.{◌≡◌, ◌<◌, ◌<ℤ◌, ◌↔◌, ℕ, pos, true, IsTrue, IfSome, IfNone, length, get_or, slice_index};
+ghost use Rattle.std.specs.Prelude.{◌≡◌, ◌<◌, ◌<ℤ◌, ◌^◌, ◌↔◌, ℕ, pos, true, IsTrue, IfSome, IfNone, length, get_or, slice_index, slice_index_or, if◌then◌else◌};
 ghost use Rattle.geo_sign.specs.declared.point.TheConstants.{BOX_LIMIT, DATA_LIMIT};
-ghost use Rattle.geo_sign.specs.Point.{origin, IsWithin};
+ghost use Rattle.geo_sign.specs.Point.{origin, IsWithin, step};
 ghost use Rattle.geo_sign.specs.Rational.{side, displaced};
 ghost use Rattle.geo_sign.specs.Cells.{IsCell};
-ghost use Rattle.geo_sign.specs.Sights.{side_of, is_crossed, is_cell_of};
-ghost use Rattle.geo_sign.specs.Tetrahedron.{facet_of, turned};
+ghost use Rattle.geo_sign.specs.Sights.{side_of, is_cell_of};
+ghost use Rattle.geo_sign.specs.Tetrahedron.{facet_at, facet_of, IsTurned};
 ghost use Rattle.geo_sign.specs.Vertices.{Has};
 ghost use Rattle.geo_sign.specs.Writings.{IsVertexOf};
 ghost use Rattle.tetra_store.specs.Links.{tetrahedron_from};
 ghost use Rattle.tetra_store.specs.Store.{vertices_of};
 ghost use Rattle.std.specs.Option.{ForSome};
+ghost use Rattle.sight.specs.Exits.{left_behind, IsEntered, IsExit};
+ghost use Rattle.sight.specs.Fronts.{IsSeen, AreSeen, IsFront, IsPassed};
+ghost use Rattle.sight.specs.Images.{along, no_image, IsScreen, IsImage};
 ghost use Rattle.sight.specs.Walks.{IsWalking, IsEndCell};
-ghost use Rattle.sight.specs.Exits.{first_around, second_around, third_around, past, IsEntered, IsExit};
 
-use geo_sign::{Point, Sign, orient, side_of_scanner};
+use crate::image::{Image, Screen, determinant, seen_at};
+use geo_sign::{Point, Sign, side_of_scanner};
 use tetra_store::{CellId, Tetra};
 use tetra_walk::facet;
 
 /// The side through which a sight came, in the cell at its vertex.
 pub(crate) const NO_SIDE: usize = 4;
 
-/// The side of a cell that is opposite to a vertex of it.
+/// Which vertex stays behind where a sight goes out of the cell at its vertex: none of a facet.
+const NO_VERTEX: usize = 3;
+
+/// The facet through which a sight came into a cell: its vertices in the order of its turn as that cell has it, from any of them on,
+/// and their images.
+#[derive(Clone, Copy)]
+pub(crate) struct Front {
+    pub(crate) vertices: [u32; 3],
+    pub(crate) images: [Image; 3],
+}
+
+/// How a sight goes out of a cell: through which side, and which vertex of the facet through which it came in it leaves behind, 0 to 2,
+/// or 3 where it came in through none. That vertex is opposite to the side. The image is that of the vertex which the facet has not.
+#[derive(Clone, Copy)]
+pub(crate) struct WayOut {
+    pub(crate) side: usize,
+    pub(crate) behind: usize,
+    pub(crate) image: Image,
+}
+
+/// The image of a vertex of a front.
+fn image_of(front: &Front, index: usize) -> Image
+    requires { index < 3 }
+    ensures { result ≡ slice_index_or front.now.images index no_image }
+{
+    front.images[index]
+}
+
+/// The side of a cell that is opposite to a vertex of it, with no branch between.
 fn side_opposite(v: [u32; 4], vertex: u32) -> usize
     requires { IsVertexOf (tetrahedron_from v) vertex }
     ensures side { result < 4 }
     ensures opposite { slice_index v result ≡ vertex }
 {
-    if v[0] == vertex {
-        return 0;
-    }
-    if v[1] == vertex {
-        return 1;
-    }
-    if v[2] == vertex {
-        return 2;
-    }
-    3
+    let after_second = if v[2] == vertex { 2 } else { 3 };
+    let after_first = if v[1] == vertex { 1 } else { after_second };
+    if v[0] == vertex { 0 } else { after_first }
 }
 
-/// The other sides, each opposite to a vertex of this side's facet, in the order of these vertices.
-fn around(side: usize) -> (usize, usize, usize)
-    requires { side < 4 }
-    ensures { result ≡ (first_around side, second_around side, third_around side) }
+/// The vertex that is left behind by three tests, of the planes through the first, the second and the third vertex of the facet through
+/// which a sight came in: by the bits of the tests, of which the first is the lowest.
+const BEHIND: [usize; 8] = [0, 1, 2, 1, 0, 0, 2, 0];
+
+/// 1 where it holds, and else 0.
+fn bit(holds: bool) -> usize
+    ensures { result ≡ if holds then 1 else 0 }
 {
-    match side {
-        0 => (1, 3, 2),
-        1 => (0, 2, 3),
-        2 => (0, 3, 1),
-        _ => (0, 1, 2),
-    }
+    if holds { 1 } else { 0 }
 }
 
-/// Whether the scanner is on the inner side of the facet p a b, by the sign of its displaced place.
+/// The vertex that is left behind: of the tests of the three planes, the first and the third or the second leave it. None of them could
+/// be foretold, so there is no branch.
+fn left(first: bool, second: bool, third: bool) -> usize
+    ensures side { result < 3 }
+    ensures left { result ≡ left_behind first second third }
+{
+    BEHIND[bit(first) + 2 * bit(second) + 4 * bit(third)]
+}
+
+/// Whether a number is zero.
+fn is_zero(number: i128) -> bool
+    ensures { IsTrue result ↔ (number ≡ pos 0) }
+{
+    number == 0
+}
+
+/// Whether a number is above zero.
+fn is_positive(number: i128) -> bool
+    ensures { IsTrue result ↔ (pos 0 <ℤ number) }
+{
+    number > 0
+}
+
+/// Whether the scanner is on the inner side of the facet p a b, by the sign of its displaced place. It is asked for where the scanner's
+/// point is in the facet's plane, which is seldom.
+#[inline(never)]
 fn is_before_displaced(p: Point, a: Point, b: Point, s: Point) -> bool
     ensures { IsTrue result ↔ (pos 0 <ℤ side p a b (displaced s)) }
 {
@@ -70,20 +122,63 @@ fn is_before_displaced(p: Point, a: Point, b: Point, s: Point) -> bool
     }
 }
 
-/// Whether the scanner is on the inner side of the facet p a b. It is so where a is before the plane of p, b and the scanner's point:
-/// that plane is the same for each a, so a step that asks for two computes it once. Only where a is in it the displacement decides.
-#[inline(always)]
-fn is_before(p: Point, a: Point, b: Point, s: Point) -> bool
-    requires p_within { IsWithin BOX_LIMIT p }
-    requires a_within { IsWithin BOX_LIMIT a }
-    requires b_within { IsWithin BOX_LIMIT b }
-    ensures { IsTrue result ↔ (pos 0 <ℤ side p a b (displaced s)) }
+/// Whether the scanner is on the inner side of three facets, by the signs of its displaced place.
+#[inline(never)]
+fn are_before_displaced(
+    t: &Tetra,
+    vertices: [u32; 3],
+    p: Point,
+    d: Point,
+    s: Point,
+) -> (bool, bool, bool)
+    requires { (j : ℕ) → j < 3 → slice_index vertices j < length t.now.points }
+    ensures first { IsTrue result.0 ↔ (pos 0 <ℤ side p (get_or t.now.points (slice_index vertices 0) origin) d (displaced s)) }
+    ensures second { IsTrue result.1 ↔ (pos 0 <ℤ side p (get_or t.now.points (slice_index vertices 1) origin) d (displaced s)) }
+    ensures third { IsTrue result.2 ↔ (pos 0 <ℤ side p (get_or t.now.points (slice_index vertices 2) origin) d (displaced s)) }
 {
-    match orient(p, b, s, a) {
-        Sign::Neg => false,
-        Sign::Zero => is_before_displaced(p, a, b, s),
-        Sign::Pos => true,
+    (
+        is_before_displaced(p, t.point(vertices[0]), d, s),
+        is_before_displaced(p, t.point(vertices[1]), d, s),
+        is_before_displaced(p, t.point(vertices[2]), d, s),
+    )
+}
+
+/// Whether the scanner is on the inner side of the facets of p, d and each of a front's vertices. It is so where that vertex is before
+/// the plane of p, d and the scanner's point, as the determinant of its image and d's tells. Only where one of these is zero the
+/// displacement decides: no other branch is taken by a sign.
+#[inline(always)]
+fn are_before(
+    t: &Tetra,
+    screen: &Screen,
+    front: &Front,
+    p: Point,
+    d: Point,
+    image: Image,
+    s: Point,
+) -> (bool, bool, bool)
+    requires p_within { IsWithin BOX_LIMIT p }
+    requires d_within { IsWithin BOX_LIMIT d }
+    requires screen { IsScreen screen.now (step p s) }
+    requires seen { AreSeen t.now.points screen.now p front.now }
+    requires image { IsImage screen.now p d image }
+    ensures first { IsTrue result.0 ↔ (pos 0 <ℤ side p (get_or t.now.points (slice_index front.now.vertices 0) origin) d (displaced s)) }
+    ensures second { IsTrue result.1 ↔ (pos 0 <ℤ side p (get_or t.now.points (slice_index front.now.vertices 1) origin) d (displaced s)) }
+    ensures third { IsTrue result.2 ↔ (pos 0 <ℤ side p (get_or t.now.points (slice_index front.now.vertices 2) origin) d (displaced s)) }
+{
+    let _screen = screen;
+    let first = determinant(image, image_of(front, 0));
+    let second = determinant(image, image_of(front, 1));
+    let third = determinant(image, image_of(front, 2));
+    if is_zero(first) {
+        return are_before_displaced(t, front.vertices, p, d, s);
     }
+    if is_zero(second) {
+        return are_before_displaced(t, front.vertices, p, d, s);
+    }
+    if is_zero(third) {
+        return are_before_displaced(t, front.vertices, p, d, s);
+    }
+    (is_positive(first), is_positive(second), is_positive(third))
 }
 
 /// Whether the scanner is behind the facet a b c.
@@ -97,32 +192,6 @@ fn is_behind(a: Point, b: Point, c: Point, s: Point) -> bool
     }
 }
 
-/// Whether the scanner is on the inner side of the plane through a sight's vertex and two vertices of a cell, each given by the side
-/// opposite to it: first the other one's, then the entered one's. Where the sight's vertex and the entered one's are was read before.
-#[inline(always)]
-fn is_past(
-    t: &Tetra,
-    v: [u32; 4],
-    vertex: u32,
-    s: Point,
-    entered: usize,
-    other: usize,
-    p: Point,
-    d: Point,
-) -> bool
-    requires known { (k : ℕ) → k < 4 → slice_index v k < length t.now.points }
-    requires vertex { vertex < length t.now.points }
-    requires entered { entered < 4 }
-    requires other { other < 4 }
-    requires at_vertex { p ≡ get_or t.now.points vertex origin }
-    requires at_entered { d ≡ get_or t.now.points (slice_index v entered) origin }
-    ensures { IsTrue result ↔ (pos 0 <ℤ past (vertices_of t.now) vertex (displaced s) (tetrahedron_from v) entered other) }
-{
-    t.facts();
-    let _indices = (vertex, entered);
-    is_before(p, t.point(v[other]), d, s)
-}
-
 /// Whether the scanner is beyond a side of a cell.
 fn is_beyond(t: &Tetra, v: [u32; 4], s: Point, side: usize) -> bool
     requires known { (k : ℕ) → k < 4 → slice_index v k < length t.now.points }
@@ -133,78 +202,189 @@ fn is_beyond(t: &Tetra, v: [u32; 4], s: Point, side: usize) -> bool
     is_behind(t.point(a), t.point(b), t.point(c), s)
 }
 
-/// The one side through which a sight can go out of a cell, by two signs, or by none in the cell at its vertex.
+/// How a sight can go out of a cell: by three signs, of which two decide, or by none in the cell at its vertex.
 #[inline(always)]
-fn side_ahead(t: &Tetra, v: [u32; 4], entered: usize, vertex: u32, s: Point) -> usize
+fn ahead(
+    t: &Tetra,
+    v: [u32; 4],
+    entered: usize,
+    front: &Front,
+    vertex: u32,
+    screen: &Screen,
+    p: Point,
+    s: Point,
+) -> WayOut
     requires cell { IsCell (vertices_of t.now) (slice_index v 0) (slice_index v 1) (slice_index v 2) (slice_index v 3) }
     requires distinct { (j k : ℕ) → j < 4 → k < 4 → slice_index v j ≡ slice_index v k → j ≡ k }
     requires known { (k : ℕ) → k < 4 → slice_index v k < length t.now.points }
-    requires vertex { vertex < length t.now.points }
+    requires start { p ≡ get_or t.now.points vertex origin }
+    requires p_within { IsWithin BOX_LIMIT p }
+    requires screen { IsScreen screen.now (step p s) }
     requires entered { IsEntered (vertices_of t.now) vertex (displaced s) (tetrahedron_from v) entered }
-    ensures side { result < 4 }
-    ensures only { (k : ℕ) → IsExit (vertices_of t.now) vertex (displaced s) (tetrahedron_from v) k → k ≡ result }
+    requires front { IsFront t.now.points screen.now p (tetrahedron_from v) entered front.now }
+    ensures side { result.side < 4 }
+    ensures image { result.behind < 3 → IsSeen t.now.points screen.now p (slice_index v entered) result.image }
+    ensures only { (k : ℕ) → IsExit (vertices_of t.now) vertex (displaced s) (tetrahedron_from v) k → (k ≡ result.side) × IsPassed (tetrahedron_from v) entered k result.behind front.now.vertices }
 {
     if entered == NO_SIDE {
-        return side_opposite(v, vertex);
+        return WayOut {
+            side: side_opposite(v, vertex),
+            behind: NO_VERTEX,
+            image: Image { right: 0, up: 0 },
+        };
     }
-    let (first, second, third) = around(entered);
-    let p = t.point(vertex);
     let d = t.point(v[entered]);
-    if is_past(t, v, vertex, s, entered, first, p, d) {
-        if is_past(t, v, vertex, s, entered, third, p, d) {
-            return first;
-        }
-        return second;
+    let image = seen_at(screen, p, d);
+    let past = are_before(t, screen, front, p, d, image, s);
+    let behind = left(past.0, past.1, past.2);
+    WayOut {
+        side: side_opposite(v, front.vertices[behind]),
+        behind,
+        image,
     }
-    if is_past(t, v, vertex, s, entered, second, p, d) {
-        return third;
-    }
-    first
 }
 
-/// The side through which a sight goes out of a cell. None exactly where the scanner is in the cell.
-fn exit_side(t: &Tetra, v: [u32; 4], entered: usize, vertex: u32, s: Point) -> Option<usize>
+/// How a sight goes out of a cell. None exactly where the scanner is in the cell.
+fn exit_side(
+    t: &Tetra,
+    v: [u32; 4],
+    entered: usize,
+    front: &Front,
+    vertex: u32,
+    screen: &Screen,
+    p: Point,
+    s: Point,
+) -> Option<WayOut>
     requires cell { IsCell (vertices_of t.now) (slice_index v 0) (slice_index v 1) (slice_index v 2) (slice_index v 3) }
     requires distinct { (j k : ℕ) → j < 4 → k < 4 → slice_index v j ≡ slice_index v k → j ≡ k }
     requires vertex { Has (vertices_of t.now) vertex }
     requires data_point { IsWithin DATA_LIMIT s }
+    requires start { p ≡ get_or t.now.points vertex origin }
+    requires p_within { IsWithin BOX_LIMIT p }
+    requires screen { IsScreen screen.now (step p s) }
     requires entered { IsEntered (vertices_of t.now) vertex (displaced s) (tetrahedron_from v) entered }
-    ensures some { IfSome result (λ k. IsExit (vertices_of t.now) vertex (displaced s) (tetrahedron_from v) k) }
+    requires front { IsFront t.now.points screen.now p (tetrahedron_from v) entered front.now }
+    ensures some { IfSome result (λ x. IsExit (vertices_of t.now) vertex (displaced s) (tetrahedron_from v) x.side × IsPassed (tetrahedron_from v) entered x.side x.behind front.now.vertices × (x.behind < 3 → IsSeen t.now.points screen.now p (slice_index v entered) x.image)) }
     ensures none { IfNone result (is_cell_of (vertices_of t.now) (displaced s) (tetrahedron_from v) ≡ true) }
 {
     t.facts();
-    let side = side_ahead(t, v, entered, vertex, s);
-    if is_beyond(t, v, s, side) {
-        Some(side)
+    let exit = ahead(t, v, entered, front, vertex, screen, p, s);
+    if is_beyond(t, v, s, exit.side) {
+        Some(exit)
     } else {
         None
     }
 }
 
-/// The side through which a walk goes out of the cell that it has reached. None exactly where that is the scanner's. Where the
-/// scanner's cell is known, it takes one sign less.
+/// How a walk goes out of the cell that it has reached. None exactly where that is the scanner's. Where the scanner's cell is known, it
+/// takes one sign less.
+#[inline(always)]
 pub(crate) fn exit(
     t: &Tetra,
     at: CellId,
     end: Option<CellId>,
     v: [u32; 4],
     entered: usize,
+    front: &Front,
     vertex: u32,
+    screen: &Screen,
+    p: Point,
     s: Point,
-) -> Option<usize>
+) -> Option<WayOut>
     requires walking { IsWalking t.now vertex s at v entered }
+    requires start { p ≡ get_or t.now.points vertex origin }
+    requires p_within { IsWithin BOX_LIMIT p }
+    requires screen { IsScreen screen.now (step p s) }
+    requires front { IsFront t.now.points screen.now p (tetrahedron_from v) entered front.now }
     requires end { ForSome end (λ e. IsEndCell t.now s e) }
-    ensures some { IfSome result (λ k. IsExit (vertices_of t.now) vertex (displaced s) (tetrahedron_from v) k) }
+    ensures some { IfSome result (λ x. IsExit (vertices_of t.now) vertex (displaced s) (tetrahedron_from v) x.side × IsPassed (tetrahedron_from v) entered x.side x.behind front.now.vertices × (x.behind < 3 → IsSeen t.now.points screen.now p (slice_index v entered) x.image)) }
     ensures none { IfNone result (is_cell_of (vertices_of t.now) (displaced s) (tetrahedron_from v) ≡ true) }
 {
     t.facts();
     match end {
-        None => exit_side(t, v, entered, vertex, s),
+        None => exit_side(t, v, entered, front, vertex, screen, p, s),
         Some(end) => {
             if at == end {
                 return None;
             }
-            Some(side_ahead(t, v, entered, vertex, s))
+            Some(ahead(t, v, entered, front, vertex, screen, p, s))
         }
     }
+}
+
+/// The image of a vertex.
+fn vertex_seen(t: &Tetra, screen: &Screen, p: Point, vertex: u32) -> Image
+    requires known { vertex < length t.now.points }
+    requires p_within { IsWithin BOX_LIMIT p }
+    requires right { IsWithin (2 ^ 24) (along screen.now.right) }
+    requires up { IsWithin (2 ^ 24) (along screen.now.up) }
+    ensures { IsSeen t.now.points screen.now p vertex result }
+{
+    seen_at(screen, p, t.point(vertex))
+}
+
+/// The front of three vertices.
+pub(crate) fn front_of(t: &Tetra, screen: &Screen, p: Point, vertices: [u32; 3]) -> Front
+    requires known { (j : ℕ) → j < 3 → slice_index vertices j < length t.now.points }
+    requires p_within { IsWithin BOX_LIMIT p }
+    requires right { IsWithin (2 ^ 24) (along screen.now.right) }
+    requires up { IsWithin (2 ^ 24) (along screen.now.up) }
+    ensures vertices { result.vertices ≡ vertices }
+    ensures images { length result.images ≡ 3 }
+    ensures seen { AreSeen t.now.points screen.now p result }
+{
+    Front {
+        vertices,
+        images: [
+            vertex_seen(t, screen, p, vertices[0]),
+            vertex_seen(t, screen, p, vertices[1]),
+            vertex_seen(t, screen, p, vertices[2]),
+        ],
+    }
+}
+
+/// The facet of a side of a cell in the other direction, as the cell across has it.
+fn turned_facet(v: [u32; 4], side: usize) -> [u32; 3]
+    requires { side < 4 }
+    ensures three { length result ≡ 3 }
+    ensures turned { IsTurned (facet_of (tetrahedron_from v) side) (facet_at result) }
+    ensures own { (j : ℕ) → j < 3 → IsVertexOf (tetrahedron_from v) (slice_index result j) }
+{
+    let [a, b, c] = facet(v, side);
+    [a, c, b]
+}
+
+/// Takes a front to the facet through which a sight goes out, as the cell across has it: the vertex left behind gives its place to the
+/// one that the facet before did not have.
+#[inline(always)]
+pub(crate) fn go_through(
+    t: &Tetra,
+    v: [u32; 4],
+    entered: usize,
+    exit: WayOut,
+    screen: &Screen,
+    p: Point,
+    front: &mut Front,
+)
+    requires known { (k : ℕ) → k < 4 → slice_index v k < length t.now.points }
+    requires side { exit.side < 4 }
+    requires p_within { IsWithin BOX_LIMIT p }
+    requires right { IsWithin (2 ^ 24) (along screen.now.right) }
+    requires up { IsWithin (2 ^ 24) (along screen.now.up) }
+    requires three { length front.old.vertices ≡ 3 }
+    requires images { length front.old.images ≡ 3 }
+    requires seen { AreSeen t.now.points screen.now p front.old }
+    requires passed { IsPassed (tetrahedron_from v) entered exit.side exit.behind front.old.vertices }
+    requires image { exit.behind < 3 → IsSeen t.now.points screen.now p (slice_index v entered) exit.image }
+    ensures three { length front.new.vertices ≡ 3 }
+    ensures images { length front.new.images ≡ 3 }
+    ensures turned { IsTurned (facet_of (tetrahedron_from v) exit.side) (facet_at front.new.vertices) }
+    ensures seen { AreSeen t.now.points screen.now p front.new }
+{
+    if exit.behind == NO_VERTEX {
+        *front = front_of(t, screen, p, turned_facet(v, exit.side));
+        return;
+    }
+    front.vertices[exit.behind] = v[entered];
+    front.images[exit.behind] = exit.image;
 }

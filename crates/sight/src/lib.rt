@@ -10,5 +10,6 @@
 
 mod along;
 mod exit;
+mod image;
 
 pub use along::{Crossing, SightWalk, walk, walk_into};

@@ -1,5 +1,5 @@
 use Rattle.std.proofs.Common.{length}
 use Rattle.cell_bench.proofs.walks.walk_from.Given as goal
 
-abbrev pub decreases-loop-crossing : goal.decreases-loop-crossing
-decreases-loop-crossing l = length l.along.to_come
+abbrev pub decreases-loop-along : goal.decreases-loop-along
+decreases-loop-along l = length l.along.to_come

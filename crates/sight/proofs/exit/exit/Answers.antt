@@ -8,14 +8,17 @@ exit_side-requires-clause-distinct c =
     let a = c.args in
     distinct_at a.t.now a.vertex a.s a.at a.v a.entered c.facts.ensures c.requires.walking
 
-pub side_ahead-requires-clause-distinct : goal.side_ahead-requires-clause-distinct
-side_ahead-requires-clause-distinct c =
+pub ahead-requires-clause-distinct : goal.ahead-requires-clause-distinct
+ahead-requires-clause-distinct c =
     let a = c.args in
     distinct_at a.t.now a.vertex a.s a.at a.v a.entered c.facts.ensures c.requires.walking
 
 pub returns-else-eq-clause-some : goal.returns-else-eq-clause-some
 returns-else-eq-clause-some c =
     let a = c.args in
+    let only = c.ahead.ensures.only in
     let end = c.requires.end c.in-Some.end c.in-Some.is in
-    ahead_there a.t.now a.vertex a.s a.at a.v a.entered c.side_ahead.result c.in-Some.end c.facts.ensures c.requires.walking end
-    (λ i. true≢false (sym (eq-eqb a.at a.at refl) ∙ ap (eqb a.at) i ∙ sym c.if-eq.ensures)) c.side_ahead.ensures.only
+    let out =
+    ahead_there a.t.now a.vertex a.s a.at a.v a.entered c.ahead.result.side c.in-Some.end c.facts.ensures c.requires.walking end
+    (λ i. true≢false (sym (eq-eqb a.at a.at refl) ∙ ap (eqb a.at) i ∙ sym c.if-eq.ensures)) (λ i h. (only i h).0) in
+    (out, (only c.ahead.result.side out).1, c.ahead.ensures.image)

@@ -12,9 +12,12 @@ returns-then-is_beyond-clause-some c =
     let w = vertices_of a.t.now in
     let q = displaced a.s in
     let t = tetrahedron_from a.v in
-    goes_out w a.vertex q t a.entered c.side_ahead-side.result
+    let only = c.ahead-exit.ensures.only in
+    let out =
+    goes_out w a.vertex q t a.entered c.ahead-exit.result.side
     (sight_law w c.facts.ensures.vertices.boxed a.vertex r.vertex a.s r.data_point t r.cell) r.entered
-    c.side_ahead-side.ensures.only (yes c.if-is_beyond.ensures)
+    (λ i h. (only i h).0) (yes c.if-is_beyond.ensures) in
+    (out, (only c.ahead-exit.result.side out).1, c.ahead-exit.ensures.image)
 
 pub returns-else-is_beyond-clause-none : goal.returns-else-is_beyond-clause-none
 returns-else-is_beyond-clause-none c =
@@ -23,6 +26,7 @@ returns-else-is_beyond-clause-none c =
     let w = vertices_of a.t.now in
     let q = displaced a.s in
     let t = tetrahedron_from a.v in
-    ends_here w a.vertex q t a.entered c.side_ahead-side.result
+    let only = c.ahead-exit.ensures.only in
+    ends_here w a.vertex q t a.entered c.ahead-exit.result.side
     (sight_law w c.facts.ensures.vertices.boxed a.vertex r.vertex a.s r.data_point t r.cell) r.entered
-    c.side_ahead-side.ensures.only (no c.if-is_beyond.ensures)
+    (λ i h. (only i h).0) (no c.if-is_beyond.ensures)

@@ -1,0 +1,62 @@
+use Rattle.std.proofs.Common.{ℕ, ◌≡◌, arith, get_or, slice_index, sym, subst, inl, inr, refl, ◌∙◌}
+use Rattle.geo_sign.specs.Point.{origin}
+use Rattle.geo_sign.specs.Rational.{displaced}
+use Rattle.geo_sign.specs.Tetrahedron.{facet_at, facet_of, vertex_of}
+use Rattle.tetra_store.specs.Links.{tetrahedron_from}
+use Rattle.tetra_store.specs.Store.{vertices_of}
+use Rattle.tetra_store.proofs.Keeps.{vertex_index}
+use Rattle.sight.proofs.Exits.{has_own, opposite_ahead, at_vertex, through_side, one_of, left_ahead, IsLeftBehind, behind_in, past_of, front_vertex}
+use Rattle.sight.proofs.exit.ahead.Goals as goal
+
+pub side_opposite-requires : goal.side_opposite-requires
+side_opposite-requires c =
+    let a = c.args in let w = vertices_of a.t.now in let q = displaced a.s in let t = tetrahedron_from a.v in
+    has_own w a.vertex q t c.requires.cell
+    (at_vertex w a.vertex q t a.entered c.requires.entered (omega (arith, c.if-entered-eq-NO_SIDE.true)))
+
+pub returns-then-entered-eq-NO_SIDE-clause-only : goal.returns-then-entered-eq-NO_SIDE-clause-only
+returns-then-entered-eq-NO_SIDE-clause-only c =
+    λ k x.
+    (let a = c.args in let w = vertices_of a.t.now in let q = displaced a.s in let t = tetrahedron_from a.v in
+    let four : a.entered ≡ 4 = omega (arith, c.if-entered-eq-NO_SIDE.true) in
+    let e = opposite_ahead w a.vertex q t k c.requires.cell (at_vertex w a.vertex q t a.entered c.requires.entered four) x in (
+      c.requires.distinct k c.side_opposite.result x.side_in c.side_opposite.ensures.side
+          (sym (vertex_index a.v k x.side_in) ∙ sym e ∙ sym c.side_opposite.ensures.opposite),
+      inl (four, refl),
+    ))
+
+pub side_opposite-requires-2 : goal.side_opposite-requires-2
+side_opposite-requires-2 c =
+    let a = c.args in let r = c.requires in
+    let z = through_side (vertices_of a.t.now) a.vertex (displaced a.s) (tetrahedron_from a.v) a.entered r.entered
+    (λ (j : a.entered ≡ 4). omega (arith, j, c.if-entered-eq-NO_SIDE.false)) in
+    front_vertex (tetrahedron_from a.v) a.entered c.left-behind.result a.front.now.vertices (r.front.facet z.0)
+    c.left-behind.ensures.side
+
+pub returns-clause-only : goal.returns-clause-only
+returns-clause-only c =
+    λ k x.
+    (let a = c.args in let r = c.requires in let w = vertices_of a.t.now in let q = displaced a.s in
+    let t = tetrahedron_from a.v in let f = facet_at a.front.now.vertices in let d = vertex_of t a.entered in
+    let n = vertex_of t k in let g = facet_of t k in
+    let i = c.left-behind.result in let e = c.are_before-past.ensures in
+    let not_four : ¬ (a.entered ≡ 4) = λ j. omega (arith, j, c.if-entered-eq-NO_SIDE.false) in
+    let z = through_side w a.vertex q t a.entered r.entered not_four in
+    let is : IsLeftBehind d n g f i =
+    subst (λ (j : ℕ). IsLeftBehind d n g f j) (sym c.left-behind.ensures.left)
+    (left_ahead w a.vertex q d n g f (one_of w a.vertex q t a.entered k f (r.front.facet z.0) r.entered not_four x)
+    c.are_before-past.result.0 c.are_before-past.result.1 c.are_before-past.result.2
+    (past_of a.t.now a.v a.vertex a.entered (slice_index a.front.now.vertices 0) a.s a.p
+    (get_or a.t.now.points (slice_index a.front.now.vertices 0) origin) c.point-d.result z.0 r.start refl c.point-d.ensures
+    c.are_before-past.result.0 e.first)
+    (past_of a.t.now a.v a.vertex a.entered (slice_index a.front.now.vertices 1) a.s a.p
+    (get_or a.t.now.points (slice_index a.front.now.vertices 1) origin) c.point-d.result z.0 r.start refl c.point-d.ensures
+    c.are_before-past.result.1 e.second)
+    (past_of a.t.now a.v a.vertex a.entered (slice_index a.front.now.vertices 2) a.s a.p
+    (get_or a.t.now.points (slice_index a.front.now.vertices 2) origin) c.point-d.result z.0 r.start refl c.point-d.ensures
+    c.are_before-past.result.2 e.third)) in
+    let b = behind_in d n g a.front.now.vertices i r.front.three c.left-behind.ensures.side is in (
+      r.distinct k c.side_opposite-2.result x.side_in c.side_opposite-2.ensures.side
+          (sym (vertex_index a.v k x.side_in) ∙ b.0 ∙ sym c.side_opposite-2.ensures.opposite),
+      inr (z.0, c.left-behind.ensures.side, b.1),
+    ))

@@ -1,0 +1,38 @@
+-- How points look along a line of sight.
+--
+--   along d            a vector's coordinates
+--   scaled u c         a vector times a number
+--   IsScreen w u       the two vectors of a screen are across u: their vector product is u times a number that is not below zero
+--   IsImage w p x i    i is the image of the point x on the screen of a sight from p
+--   no_image           what stands for an image that is not there
+use Rattle.std.specs.Prelude.{ℤ, pos, ◌≡◌, ◌≤◌, ◌≤ℤ◌, ◌*◌, ◌^◌, ◌*ℤ◌, unsigned_abs}
+use Rattle.geo_sign.specs.Point.{Point, point, IsWithin, step, cross, dot}
+use Rattle.sight.specs.declared.image.Direction.{Direction}
+use Rattle.sight.specs.declared.image.Screen.{Screen}
+use Rattle.sight.specs.declared.image.Image.{Image}
+
+-- its coordinates
+abbrev pub along : Direction → Point
+along d = point d.x d.y d.z
+
+-- each of them times a number
+abbrev pub scaled : Point → ℤ → Point
+scaled u c = point (u.x *ℤ c) (u.y *ℤ c) (u.z *ℤ c)
+
+-- two vectors across u
+pub record IsScreen (w : Screen) (u : Point) : Type 0 where
+  pub right_within : IsWithin (2 ^ 24) (along w.right)
+  pub up_within : IsWithin (2 ^ 24) (along w.up)
+  pub stretch : ℤ
+  pub not_negative : pos 0 ≤ℤ stretch
+  pub product : cross (along w.right) (along w.up) ≡ scaled u stretch
+
+-- the scalar products with the two, from p
+pub record IsImage (w : Screen) (p x : Point) (i : Image) : Type 0 where
+  pub right : i.right ≡ dot (along w.right) (step p x)
+  pub up : i.up ≡ dot (along w.up) (step p x)
+  pub right_within : unsigned_abs i.right ≤ 3 * 2 ^ 48
+  pub up_within : unsigned_abs i.up ≤ 3 * 2 ^ 48
+
+abbrev pub no_image : Image
+no_image = record { right = pos 0; up = pos 0 }
