@@ -69,7 +69,7 @@ pub fn check_flow(
         return Ok(Verdict::OverCapacity {
             arc,
             flow: flow.on_arc.as_slice()[arc],
-            cap: net.arcs.as_slice()[arc].cap,
+            cap: net.arcs.at(arc).cap,
         });
     }
     if let Some(node) = over_sink(net, flow) {

@@ -29,8 +29,8 @@ pub fn over_capacity(net: &Net, flow: &Flow) -> Option<usize>
     ensures none { IfNone result (NoneBelow (length net.now.arcs) (IsOverCapacity net.now flow.now)) }
 {
     let amounts = flow.on_arc.as_slice();
-    for (place, arc) in net.arcs.as_slice().iter().enumerate() {
-        if amounts[place] > arc.cap {
+    for place in 0..net.arcs.len() {
+        if amounts[place] > net.arcs.at(place).cap {
             return Some(place);
         }
     }

@@ -5,11 +5,11 @@
 //! is nearer to a root, and else leaves the forest. The work is bounded by fuel; where it ends, the amounts are as good a
 //! start for another method as any.
 
-ghost use Rattle.std.specs.Prelude.{◌≡◌, ◌<◌, length, slice_index, EachIndex, IfSome};
+ghost use Rattle.std.specs.Prelude.{◌≡◌, ◌<◌, length, slice_index, EachIndex, IfOk, IfSome};
 
 use crate::NoMemory;
 use crate::preflow::Preflow;
-use crate::wiring::Slot;
+use crate::wiring::Ends;
 use std::alloc::Global;
 
 /// The parent of a node outside the forest.
@@ -21,13 +21,13 @@ const ROOT: u32 = u32::MAX - 1;
 /// The parent of a node that looks for one.
 const ORPHAN: u32 = u32::MAX - 2;
 
-/// How many slots may be looked at for each slot that there is.
+/// How many arcs may be looked at for each arc that there is.
 const FUEL: usize = 8;
 
 /// The place of a node in the forest.
 #[derive(Clone, Copy, Debug, PartialEq, Eq)]
 struct Branch {
-    /// The slot of the node towards its parent, or one of the constants.
+    /// The arc of the node towards its parent, or one of the constants.
     parent: u32,
     /// How far the node is from its root, at most.
     distance: u32,
@@ -35,9 +35,9 @@ struct Branch {
 
 /// A preflow, and a forest over its nodes.
 #[derive(Debug, Drop)]
-pub struct Forest {
+pub struct Forest<'a> {
     /// The amounts.
-    pub preflow: Preflow,
+    pub preflow: Preflow<'a>,
     /// The branch of each node.
     branch: Vec<Branch>,
     /// Whether each node is outside the forest, beside its branch, since a node asks that of each head: a byte a node.
@@ -54,7 +54,7 @@ pub struct Forest {
     orphans: Vec<u32>,
     /// How many of them there are.
     orphaned: usize,
-    /// How many more slots may be looked at.
+    /// How many more arcs may be looked at.
     fuel: usize,
     ghost branch_count: { length branch.items ≡ preflow.wiring.nodes },
     ghost free_count: { length is_free.items ≡ preflow.wiring.nodes },
@@ -73,11 +73,13 @@ impl Branch {
     }
 }
 
-impl Forest {
+impl<'a> Forest<'a> {
     /// No node is in the forest.
-    pub fn new(alloc: Global, preflow: Preflow) -> Result<Forest, NoMemory> {
+    pub fn new(alloc: Global, preflow: Preflow<'a>) -> Result<Forest<'a>, NoMemory>
+        ensures { IfOk result (λ forest. forest.preflow ≡ preflow.entry) }
+    {
         let nodes = preflow.wiring.nodes;
-        let fuel = preflow.wiring.slots.len().saturating_mul(FUEL);
+        let fuel = preflow.wiring.arcs.saturating_mul(FUEL);
         let outside = Branch {
             parent: FREE,
             distance: 0,
@@ -102,10 +104,10 @@ impl Forest {
     }
 
     /// Uses up some fuel.
-    fn burn(&mut self, slots: usize)
+    fn burn(&mut self, arcs: usize)
         ensures { self.new.preflow ≡ self.old.preflow }
     {
-        self.fuel = self.fuel.saturating_sub(slots);
+        self.fuel = self.fuel.saturating_sub(arcs);
     }
 
     /// Lets a node wait to grow.
@@ -165,12 +167,12 @@ impl Forest {
         let mut at = node;
         for _ in 0..self.preflow.wiring.nodes {
             let up = self.branch[at].parent as usize;
-            if up >= self.preflow.wiring.slots.len() {
+            if up >= self.preflow.wiring.arcs {
                 return most.min(self.preflow.excess[at]);
             }
-            let slot = self.preflow.wiring.slot(up);
-            most = most.min(self.preflow.wiring.slot(slot.twin as usize).room);
-            at = slot.head as usize;
+            let ends = self.preflow.wiring.ends(up);
+            most = most.min(self.preflow.rooms.get(ends.twin));
+            at = ends.head;
         }
         0
     }
@@ -181,7 +183,8 @@ impl Forest {
         ensures { self.new.preflow.wiring ≡ self.old.preflow.wiring }
     {
         let left = self.preflow.excess[root].saturating_sub(amount);
-        self.preflow.excess[root] = left;
+        let preflow = &mut self.preflow;
+        preflow.excess[root] = left;
         if left == 0 {
             self.orphan(root);
         }
@@ -190,24 +193,22 @@ impl Forest {
     /// Sends an amount to a node along its branch. Nodes that this cuts off look for a parent.
     fn send_along(&mut self, node: usize, amount: u64)
         requires { node < self.old.preflow.wiring.nodes }
-        ensures nodes { self.new.preflow.wiring.nodes ≡ self.old.preflow.wiring.nodes }
-        ensures slots { length self.new.preflow.wiring.slots.items ≡ length self.old.preflow.wiring.slots.items }
+        ensures { self.new.preflow.wiring ≡ self.old.preflow.wiring }
     {
         let mut at = node;
         for _ in 0..self.preflow.wiring.nodes {
             self.burn(1);
             let up = self.branch[at].parent as usize;
-            if up >= self.preflow.wiring.slots.len() {
+            if up >= self.preflow.wiring.arcs {
                 self.take_from(at, amount);
                 return;
             }
-            let slot = self.preflow.wiring.slot(up);
-            let down = slot.twin as usize;
-            self.preflow.wiring.shift(down, amount);
-            if self.preflow.wiring.slot(down).room == 0 {
+            let ends = self.preflow.wiring.ends(up);
+            self.preflow.shift(ends.twin, up, amount);
+            if self.preflow.rooms.get(ends.twin) == 0 {
                 self.orphan(at);
             }
-            at = slot.head as usize;
+            at = ends.head;
         }
     }
 
@@ -218,15 +219,16 @@ impl Forest {
         let mut parent = FREE;
         let mut least = self.branch[node].distance;
         let (start, end) = self.preflow.wiring.around(node);
-        for slot in start..end {
-            let along = self.preflow.wiring.slot(slot);
-            let other = self.branch[along.head as usize];
+        for place in start..end {
+            let arc = self.preflow.wiring.arc(place);
+            let ends = self.preflow.wiring.ends(arc);
+            let other = self.branch[ends.head];
             if other.distance < least
                 && other.is_in_tree()
-                && self.preflow.wiring.slot(along.twin as usize).room > 0
+                && self.preflow.rooms.get(ends.twin) > 0
             {
                 least = other.distance;
-                parent = slot as u32;
+                parent = arc as u32;
             }
         }
         Branch {
@@ -243,15 +245,15 @@ impl Forest {
         self.branch[node].parent = FREE;
         self.is_free[node] = true;
         let (start, end) = self.preflow.wiring.around(node);
-        for slot in start..end {
-            let along = self.preflow.wiring.slot(slot);
-            let head = along.head as usize;
-            let parent = self.branch[head].parent;
-            if parent == along.twin {
-                self.orphan(head);
+        for place in start..end {
+            let arc = self.preflow.wiring.arc(place);
+            let ends = self.preflow.wiring.ends(arc);
+            let parent = self.branch[ends.head].parent;
+            if parent as usize == ends.twin {
+                self.orphan(ends.head);
             }
-            if parent != FREE && self.preflow.wiring.slot(along.twin as usize).room > 0 {
-                self.enqueue(head);
+            if parent != FREE && self.preflow.rooms.get(ends.twin) > 0 {
+                self.enqueue(ends.head);
             }
         }
     }
@@ -262,8 +264,8 @@ impl Forest {
         ensures { self.new.preflow ≡ self.old.preflow }
     {
         let (start, end) = self.preflow.wiring.around(node);
-        let slots = end.saturating_sub(start);
-        self.burn(slots.saturating_mul(2));
+        let arcs = end.saturating_sub(start);
+        self.burn(arcs.saturating_mul(2));
         let best = self.best_branch(node);
         if best.parent == FREE {
             self.release(node);
@@ -306,77 +308,78 @@ impl Forest {
         self.orphaned = 0;
     }
 
-    /// Sends along a slot, from a node of the forest into the sink of its head, as much as goes there. Nodes that this cuts
+    /// Sends along an arc, from a node of the forest into the sink of its head, as much as goes there. Nodes that this cuts
     /// off find a parent or leave the forest.
-    fn feed(&mut self, node: usize, slot: usize)
+    fn feed(&mut self, node: usize, arc: usize, ends: Ends)
         requires node { node < self.old.preflow.wiring.nodes }
-        requires slot { slot < length self.old.preflow.wiring.slots.items }
-        ensures nodes { self.new.preflow.wiring.nodes ≡ self.old.preflow.wiring.nodes }
-        ensures slots { length self.new.preflow.wiring.slots.items ≡ length self.old.preflow.wiring.slots.items }
+        requires head { ends.head < self.old.preflow.wiring.nodes }
+        ensures { self.new.preflow.wiring ≡ self.old.preflow.wiring }
     {
-        let along = self.preflow.wiring.slot(slot);
-        let head = along.head as usize;
-        let sink = self.preflow.sink[head];
-        let amount = self.most_along(node).min(along.room).min(sink);
-        self.preflow.sink[head] = sink - amount;
-        self.preflow.wiring.shift(slot, amount);
+        let sink = self.preflow.sink[ends.head];
+        let room = self.preflow.rooms.get(arc);
+        let amount = self.most_along(node).min(room).min(sink);
+        let preflow = &mut self.preflow;
+        preflow.sink[ends.head] = sink - amount;
+        preflow.shift(arc, ends.twin, amount);
         self.send_along(node, amount);
         let cut = self.orphaned;
         self.adopt_cut(cut);
         self.adopt_rest(cut);
     }
 
-    /// Makes a node the parent of the head of a slot.
-    fn join(&mut self, node: usize, along: Slot)
+    /// Makes a node the parent of the head of an arc.
+    fn join(&mut self, node: usize, ends: Ends)
         requires node { node < self.old.preflow.wiring.nodes }
-        requires head { along.head < self.old.preflow.wiring.nodes }
+        requires head { ends.head < self.old.preflow.wiring.nodes }
+        requires twin { ends.twin < self.old.preflow.wiring.arcs }
         ensures { self.new.preflow ≡ self.old.preflow }
     {
-        let head = along.head as usize;
-        self.branch[head] = Branch {
-            parent: along.twin,
+        self.branch[ends.head] = Branch {
+            parent: ends.twin as u32,
             distance: self.branch[node].distance.saturating_add(1),
         };
-        self.is_free[head] = false;
-        self.enqueue(head);
+        self.is_free[ends.head] = false;
+        self.enqueue(ends.head);
     }
 
-    /// Goes along a slot from a node of the forest, while there is room, to a head outside: into its sink, and once that is full
+    /// Goes along an arc from a node of the forest, while there is room, to a head outside: into its sink, and once that is full
     /// the head joins the forest. A head whose last arc is full would leave the forest at once, so it does not join before.
-    fn reach(&mut self, node: usize, slot: usize)
+    fn reach(&mut self, node: usize, arc: usize, ends: Ends)
         requires node { node < self.old.preflow.wiring.nodes }
-        requires slot { slot < length self.old.preflow.wiring.slots.items }
-        ensures nodes { self.new.preflow.wiring.nodes ≡ self.old.preflow.wiring.nodes }
-        ensures slots { length self.new.preflow.wiring.slots.items ≡ length self.old.preflow.wiring.slots.items }
+        requires head { ends.head < self.old.preflow.wiring.nodes }
+        requires twin { ends.twin < self.old.preflow.wiring.arcs }
+        ensures { self.new.preflow.wiring ≡ self.old.preflow.wiring }
     {
         for _ in 0..self.fuel {
-            let along = self.preflow.wiring.slot(slot);
-            if self.fuel == 0 || along.room == 0 || !self.branch[node].is_in_tree() {
+            let room = self.preflow.rooms.get(arc);
+            if self.fuel == 0 || room == 0 || !self.branch[node].is_in_tree() {
                 return;
             }
-            if self.preflow.sink[along.head as usize] == 0 {
-                self.join(node, along);
+            if self.preflow.sink[ends.head] == 0 {
+                self.join(node, ends);
                 return;
             }
-            self.feed(node, slot);
+            self.feed(node, arc, ends);
         }
     }
 
-    /// Goes from a node along its slots to those outside the forest.
+    /// Goes from a node along its arcs to those outside the forest.
     fn grow(&mut self, node: usize)
         requires { node < self.old.preflow.wiring.nodes }
-        ensures nodes { self.new.preflow.wiring.nodes ≡ self.old.preflow.wiring.nodes }
-        ensures slots { length self.new.preflow.wiring.slots.items ≡ length self.old.preflow.wiring.slots.items }
+        ensures { self.new.preflow.wiring ≡ self.old.preflow.wiring }
     {
         let (start, end) = self.preflow.wiring.around(node);
-        for slot in start..end {
+        for place in start..end {
             if self.is_free[node] {
                 return;
             }
             self.burn(1);
-            let along = self.preflow.wiring.slot(slot);
-            if along.room > 0 && self.is_free[along.head as usize] {
-                self.reach(node, slot);
+            let arc = self.preflow.wiring.arc(place);
+            if self.preflow.rooms.get(arc) > 0 {
+                let ends = self.preflow.wiring.ends(arc);
+                if self.is_free[ends.head] {
+                    self.reach(node, arc, ends);
+                }
             }
         }
     }
@@ -396,8 +399,7 @@ impl Forest {
 
     /// Grows until nothing grows, or the fuel is used.
     pub fn run(&mut self)
-        ensures nodes { self.new.preflow.wiring.nodes ≡ self.old.preflow.wiring.nodes }
-        ensures slots { length self.new.preflow.wiring.slots.items ≡ length self.old.preflow.wiring.slots.items }
+        ensures { self.new.preflow.wiring ≡ self.old.preflow.wiring }
     {
         self.plant();
         for _ in 0..self.fuel {

@@ -4,83 +4,116 @@ ghost use Rattle.std.specs.Prelude.{◌≡◌, length, IfOk, IfSome};
 
 use crate::NoMemory;
 use crate::forest::Forest;
+use crate::levels::Levels;
 use crate::preflow::{Preflow, Start};
-use crate::refund::Refund;
 use crate::rounds::Rounds;
 use crate::sweep::Sweep;
 use crate::walk::Walk;
-use flow_net::{Flow, Labels, Net, Sequence};
+use flow_net::{Flow, Net};
 use std::alloc::Global;
 
-/// Amounts that mostly are a largest flow, and labels that mostly show it: no fixed node is inside, and they cost what the
-/// flow is worth. Whoever asks tests that.
+/// Amounts that mostly are a largest flow, and levels of nodes in its residual network, which mostly show it. Whoever asks tests
+/// both.
 #[derive(Debug, Drop)]
 pub struct Hint {
     /// An amount an arc, and an amount a node.
     pub flow: Flow,
-    /// A label a node.
-    pub labels: Labels,
+    /// The nodes from which a sink with room can be reached. What is given back flows between other nodes alone, so it changes no
+    /// level.
+    pub levels: Levels,
 }
 
-/// The amounts after those that can have come to sinks, and the nodes from which a sink could still be reached.
-fn sent(alloc: Global, preflow: Preflow) -> Result<(Preflow, Vec<bool>), NoMemory> {
+/// The amounts after those that can have come to sinks, and the levels of the nodes from which a sink could still be reached.
+fn sent<'a>(alloc: Global, preflow: Preflow<'a>) -> Result<(Preflow<'a>, Levels), NoMemory>
+    ensures { IfOk result (λ made. made.0.wiring ≡ preflow.entry.wiring) }
+{
     let mut forest = Forest::new(alloc, preflow)?;
     forest.run();
     let Forest { preflow, .. } = forest;
     let mut rounds = Rounds::new(alloc, preflow)?;
     rounds.run(alloc)?;
-    let inside = rounds.inside(alloc)?;
-    let Rounds { preflow, .. } = rounds;
-    Ok((preflow, inside))
+    rounds.into_levels(alloc)
+}
+
+/// The amounts after sinks have taken what is listed, as far as it can come, with the sinks open to their whole size.
+fn filled_first<'a>(
+    alloc: Global,
+    preflow: Preflow<'a>,
+    first: &[u64],
+) -> Result<Preflow<'a>, NoMemory>
+    ensures { IfOk result (λ filled. filled.wiring ≡ preflow.entry.wiring) }
+{
+    if first.is_empty() {
+        return Ok(preflow);
+    }
+    let (mut preflow, _levels) = sent(alloc, preflow)?;
+    preflow.open_sinks(first);
+    Ok(preflow)
 }
 
 /// The amounts after those that have come to no sink have gone back.
-fn given_back(alloc: Global, refund: Refund) -> Result<Refund, NoMemory> {
-    let mut sweep = Sweep::new(alloc, refund)?;
+fn given_back<'a>(alloc: Global, preflow: Preflow<'a>) -> Result<Preflow<'a>, NoMemory>
+    ensures { IfOk result (λ settled. settled.wiring ≡ preflow.entry.wiring) }
+{
+    let mut sweep = Sweep::new(alloc, preflow)?;
     sweep.run();
-    let Sweep { refund, .. } = sweep;
-    if refund.is_settled() {
-        return Ok(refund);
+    let Sweep { preflow, .. } = sweep;
+    if preflow.is_settled() {
+        return Ok(preflow);
     }
-    let mut walk = Walk::new(alloc, refund)?;
+    let mut walk = Walk::new(alloc, preflow)?;
     walk.run();
-    let Walk { refund, .. } = walk;
-    Ok(refund)
+    let Walk { preflow, .. } = walk;
+    Ok(preflow)
 }
 
 /// The hint by one way to start, or None where it is known not to be a flow.
-fn hint_from(alloc: Global, net: &Net, start: Start) -> Result<Option<Hint>, NoMemory>
+///
+/// Where amounts are listed, sinks first take no more than these, so that mostly no less comes to any.
+fn hint_from(
+    alloc: Global,
+    net: &Net,
+    start: Start,
+    first: &[u64],
+) -> Result<Option<Hint>, NoMemory>
     ensures arcs { IfOk result (λ found. IfSome found (λ hint. length hint.flow.on_arc ≡ length net.now.arcs)) }
     ensures sinks { IfOk result (λ found. IfSome found (λ hint. length hint.flow.on_sink ≡ length net.now.fixed)) }
 {
-    let Some(preflow) = Preflow::new(alloc, net, start)? else {
+    let Some(preflow) = Preflow::new(alloc, net, start, first)? else {
         return Ok(None);
     };
-    let (preflow, inside) = sent(alloc, preflow)?;
-    let refund = preflow.into_refund(net);
-    let refund = given_back(alloc, refund)?;
-    if !refund.is_settled() {
+    let preflow = filled_first(alloc, preflow, first)?;
+    let (mut preflow, levels) = sent(alloc, preflow)?;
+    preflow.give_beside();
+    let preflow = given_back(alloc, preflow)?;
+    if !preflow.is_settled() {
         return Ok(None);
     }
-    Ok(Some(Hint {
-        flow: refund.into_flow(alloc, net)?,
-        labels: Labels {
-            inside: Sequence::from(inside),
-        },
-    }))
+    let flow = preflow.into_flow(alloc)?;
+    Ok(Some(Hint { flow, levels }))
 }
 
 /// A hint at a largest flow, or None where there is none: where capacities come to more than 2^62, or there are no arcs
 /// between free nodes, or more arcs than fit in 32 bits, or giving back took too long.
 ///
 /// Nothing is promised of its time, which on the networks of scans is about linear in the network. Beside its answer it
-/// takes 16 bytes an arc, 4 more where the arcs of a node do not stand side by side in the network, and at most 48 a node.
+/// takes 4 bytes an arc, or 8 where capacities are large, 4 more where the arcs of a node do not stand side by side in the
+/// network, and at most 48 a node.
 pub fn find_hint(alloc: Global, net: &Net) -> Result<Option<Hint>, NoMemory>
     ensures arcs { IfOk result (λ found. IfSome found (λ hint. length hint.flow.on_arc ≡ length net.now.arcs)) }
     ensures sinks { IfOk result (λ found. IfSome found (λ hint. length hint.flow.on_sink ≡ length net.now.fixed)) }
 {
+    find_hint_above(alloc, net, &[])
+}
+
+/// A hint by which mostly no less comes to each sink than is listed, where a valid flow brings so much there. Nothing is listed
+/// past the end of the list.
+pub fn find_hint_above(alloc: Global, net: &Net, first: &[u64]) -> Result<Option<Hint>, NoMemory>
+    ensures arcs { IfOk result (λ found. IfSome found (λ hint. length hint.flow.on_arc ≡ length net.now.arcs)) }
+    ensures sinks { IfOk result (λ found. IfSome found (λ hint. length hint.flow.on_sink ≡ length net.now.fixed)) }
+{
     for start in [Start::Full, Start::Plain] {
-        let found = hint_from(alloc, net, start)?;
+        let found = hint_from(alloc, net, start, first)?;
         if found.is_some() {
             return Ok(found);
         }

@@ -1,4 +1,4 @@
-//! A hint at a largest flow through a network, with labels that show it. It mostly is one, and nothing but its lengths is
+//! A hint at a largest flow through a network, with levels that show it. It mostly is one, and nothing but its lengths is
 //! proved of it: whoever asks tests it.
 //!
 //! It starts with every arc full, as far as that goes, and moves the excess that this leaves at nodes into sinks with room:
@@ -6,12 +6,13 @@
 //! bounded time, and then by levels, the node nearest to a sink first (Goldberg and Tarjan 1988). What reaches no sink
 //! goes back to the fixed nodes.
 //!
-//! `survey` adds up capacities, `wiring` says which arcs meet at a node and how much can go along each, `preflow` holds what
-//! is where, `forest` and `rounds` move excess into sinks, `refund` holds what can go back, `sweep` and `walk` give it back,
+//! `survey` adds up capacities, `wiring` says which arcs leave a node, `amounts` holds numbers in few bits, `preflow` holds what
+//! is where, `forest` and `rounds` move excess into sinks, `refund` says what can go back, `sweep` and `walk` give it back,
 //! and `hinting` puts them together. `levels` finds the levels of nodes in the residual network of a flow. The crate stands
 //! on `flow_net` alone.
 #![tactic(auto)]
 
+mod amounts;
 mod forest;
 mod hinting;
 mod levels;
@@ -23,7 +24,7 @@ mod sweep;
 mod walk;
 mod wiring;
 
-pub use hinting::{Hint, find_hint};
+pub use hinting::{Hint, find_hint, find_hint_above};
 pub use levels::{Levels, find_levels};
 
 /// The error of a call for which there was no memory.

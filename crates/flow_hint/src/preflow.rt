@@ -2,13 +2,13 @@
 //!
 //! Sums saturate, so that an amount that is too large for its type gives a wrong hint and nothing worse.
 
-ghost use Rattle.std.specs.Prelude.{◌≡◌, ◌+◌, ◌<◌, ◌≤◌, length, IfOk, IfSome};
+ghost use Rattle.std.specs.Prelude.{◌≡◌, ◌<◌, length, IfOk, IfSome};
 
 use crate::NoMemory;
-use crate::refund::Refund;
+use crate::amounts::Amounts;
 use crate::survey::Survey;
 use crate::wiring::Wiring;
-use flow_net::{Arc, Net};
+use flow_net::Net;
 use std::alloc::Global;
 
 /// How a hint starts.
@@ -22,65 +22,81 @@ pub enum Start {
 
 /// Amounts on the arcs of a network, and what has entered each node and not left it.
 #[derive(Debug, Drop)]
-pub struct Preflow {
-    /// The arcs, and how much more can flow along each between free nodes.
-    pub wiring: Wiring,
+pub struct Preflow<'a> {
+    /// The arcs.
+    pub wiring: Wiring<'a>,
+    /// How much more can flow along each arc between free nodes: what is left of its capacity, and what flows on its reverse.
+    pub rooms: Amounts,
     /// What has entered each node and not left it.
     pub excess: Vec<u64>,
     /// How much more can leave at each node.
     pub sink: Vec<u64>,
     /// How much has come to each node from fixed nodes.
-    source: Vec<u64>,
+    pub source: Vec<u64>,
     pub ghost excess_count: { length excess.items ≡ wiring.nodes },
     pub ghost sink_count: { length sink.items ≡ wiring.nodes },
     pub ghost source_count: { length source.items ≡ wiring.nodes },
 }
 
-/// How much can leave at each node: its sink, or nothing where it is fixed.
-fn free_sinks(alloc: Global, net: &Net) -> Result<Vec<u64>, NoMemory>
+/// How much can leave at each node at first: as much as is listed, its sink where nothing is listed, and nothing where it is fixed.
+fn free_sinks(alloc: Global, net: &Net, first: &[u64]) -> Result<Vec<u64>, NoMemory>
     ensures { IfOk result (λ sinks. length sinks.items ≡ length net.now.fixed) }
 {
     let mut sinks = Vec::from_slice(alloc, net.sink.as_slice())?;
     for node in 0..sinks.len() {
         if net.fixed.as_slice()[node] {
             sinks[node] = 0;
+        } else if node < first.len() {
+            sinks[node] = sinks[node].min(first[node]);
         }
     }
     Ok(sinks)
 }
 
 /// How much more can flow along an arc between free nodes, where every arc is full or all are empty.
-fn room(arcs: &[Arc], arc: &Arc, is_full: bool) -> u64 {
+fn room(net: &Net, number: usize, is_full: bool) -> u64
+    requires { number < length net.now.arcs }
+{
+    let arc = net.arcs.at(number);
     match arc.pair {
         // A pair of full arcs is the pair with its two rooms exchanged.
-        Some(reverse) if is_full && reverse < arcs.len() => arcs[reverse].cap,
+        Some(reverse) if is_full && reverse < net.arcs.len() => net.arcs.at(reverse).cap,
         Some(_) => arc.cap,
         None => 0,
     }
 }
 
-/// Writes the slots of all arcs.
-fn lay(net: &Net, wiring: &mut Wiring, is_full: bool)
-    requires { wiring.old.nodes ≡ length net.now.fixed }
-    ensures { wiring.new.nodes ≡ wiring.old.nodes }
-{
-    let arcs = net.arcs.as_slice();
-    for number in 0..arcs.len() {
-        let arc = arcs[number];
-        wiring.lay(&arc, number, room(arcs, &arc, is_full));
+/// How much more can flow along each arc.
+fn all_rooms(
+    alloc: Global,
+    net: &Net,
+    is_full: bool,
+    is_narrow: bool,
+) -> Result<Amounts, NoMemory> {
+    let mut rooms = Amounts::new(alloc, net.arcs.len(), is_narrow)?;
+    for number in 0..net.arcs.len() {
+        rooms.set(number, room(net, number, is_full));
     }
+    Ok(rooms)
 }
 
-impl Preflow {
+impl<'a> Preflow<'a> {
     /// The amounts at the start: fixed nodes send all that they can, other arcs are full or empty, and sinks have taken
-    /// what they can. None where the sums of capacities are too large or there are no arcs between free nodes.
+    /// what they can, but no more than is listed. None where the sums of capacities are too large or there are no arcs between free
+    /// nodes.
     ///
     /// Where a node would owe an amount if every arc were full, these arcs are empty.
-    pub fn new(alloc: Global, net: &Net, start: Start) -> Result<Option<Preflow>, NoMemory>
-        ensures { IfOk result (λ found. IfSome found (λ preflow. preflow.wiring.nodes ≡ length net.now.fixed)) }
+    pub fn new(
+        alloc: Global,
+        net: &'a Net,
+        start: Start,
+        first: &[u64],
+    ) -> Result<Option<Preflow<'a>>, NoMemory>
+        ensures { IfOk result (λ found. IfSome found (λ preflow. preflow.wiring.net.now ≡ net.now)) }
     {
         let survey = Survey::new(alloc, net)?;
         let is_full = start == Start::Full && !survey.owes();
+        let is_narrow = survey.is_narrow();
         if !survey.is_fit() {
             return Ok(None);
         }
@@ -91,10 +107,9 @@ impl Preflow {
             balance,
             ..
         } = survey;
-        let Some(mut wiring) = Wiring::new(alloc, net, degree, is_by_node)? else {
+        let Some(wiring) = Wiring::new(alloc, net, degree, is_by_node)? else {
             return Ok(None);
         };
-        lay(net, &mut wiring, is_full);
         let excess = if is_full {
             balance
         } else {
@@ -102,12 +117,29 @@ impl Preflow {
         };
         let mut preflow = Preflow {
             wiring,
+            rooms: all_rooms(alloc, net, is_full, is_narrow)?,
             excess,
-            sink: free_sinks(alloc, net)?,
+            sink: free_sinks(alloc, net, first)?,
             source,
         };
         preflow.settle();
         Ok(Some(preflow))
+    }
+
+    /// Opens each sink to its whole size, where no more of it was open than is listed, and lets leave there what can.
+    pub fn open_sinks(&mut self, first: &[u64])
+        ensures { self.new.wiring ≡ self.old.wiring }
+    {
+        let net = self.wiring.net;
+        let fixed = net.fixed.as_slice();
+        let whole = net.sink.as_slice();
+        for node in 0..self.wiring.nodes {
+            if node < first.len() && node < fixed.len() && node < whole.len() && !fixed[node] {
+                let more = whole[node].saturating_sub(first[node]);
+                self.sink[node] = self.sink[node].saturating_add(more);
+            }
+        }
+        self.settle();
     }
 
     /// Lets what is at each node leave there, as far as there is room.
@@ -133,22 +165,14 @@ impl Preflow {
         arrived - leaves
     }
 
-    /// The amounts that can go back to the fixed nodes.
-    pub fn into_refund(self, net: &Net) -> Refund {
-        let Preflow {
-            mut wiring,
-            excess,
-            sink,
-            source,
-        } = self;
-        wiring.turn_back(net);
-        let mut refund = Refund {
-            wiring,
-            excess,
-            sink,
-            source,
-        };
-        refund.settle();
-        refund
+    /// Sends an amount along an arc, so that as much more can go along its reverse.
+    #[inline]
+    pub fn shift(&mut self, arc: usize, twin: usize, amount: u64)
+        ensures { self.new.wiring ≡ self.old.wiring }
+    {
+        let there = self.rooms.get(arc).saturating_sub(amount);
+        let back = self.rooms.get(twin).saturating_add(amount);
+        self.rooms.set(arc, there);
+        self.rooms.set(twin, back);
     }
 }

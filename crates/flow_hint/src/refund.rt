@@ -1,31 +1,15 @@
-//! Amounts that go back to the fixed nodes, as far as they have come to no sink. It stands on the wiring.
+//! Amounts that go back to the fixed nodes, as far as they have come to no sink. It stands on preflows.
 
 ghost use Rattle.std.specs.Prelude.{◌≡◌, ◌<◌, length, IfOk};
 
 use crate::NoMemory;
-use crate::wiring::Wiring;
-use flow_net::{Arc, Flow, Net, Sequence};
+use crate::preflow::Preflow;
+use flow_net::{Arc, Flow, Sequence};
 use std::alloc::Global;
 
-/// Amounts on the arcs of a network, and what has entered each node and not left it.
-#[derive(Debug, Drop)]
-pub struct Refund {
-    /// The arcs, and how much can go back along each: what flows on its reverse.
-    pub wiring: Wiring,
-    /// What has entered each node and not left it.
-    pub excess: Vec<u64>,
-    /// How much more can leave at each node.
-    pub sink: Vec<u64>,
-    /// How much has come to each node from fixed nodes.
-    pub source: Vec<u64>,
-    pub ghost excess_count: { length excess.items ≡ wiring.nodes },
-    pub ghost sink_count: { length sink.items ≡ wiring.nodes },
-    pub ghost source_count: { length source.items ≡ wiring.nodes },
-}
-
-impl Refund {
+impl<'a> Preflow<'a> {
     /// Gives what is at each node back to the fixed nodes beside it, as far as it came from there.
-    pub fn settle(&mut self)
+    pub fn give_beside(&mut self)
         ensures { self.new.wiring ≡ self.old.wiring }
     {
         for node in 0..self.wiring.nodes {
@@ -40,18 +24,20 @@ impl Refund {
         self.excess.iter().all(|amount| *amount == 0)
     }
 
-    /// Sends an amount back along a slot.
-    pub fn give(&mut self, slot: usize, amount: u64)
-        requires { slot < length self.old.wiring.slots.items }
-        ensures nodes { self.new.wiring.nodes ≡ self.old.wiring.nodes }
-        ensures slots { length self.new.wiring.slots.items ≡ length self.old.wiring.slots.items }
+    /// How much can go back along an arc: what flows on its reverse, which is the room that is there beside its capacity.
+    #[inline]
+    pub fn most_back(&self, arc: usize) -> u64
+        requires { arc < self.now.wiring.arcs }
     {
-        let left = self.wiring.slot(slot).room.saturating_sub(amount);
-        self.wiring.set_room(slot, left);
+        let room = self.rooms.get(arc);
+        if room == 0 {
+            return 0;
+        }
+        room.saturating_sub(self.wiring.cap(arc))
     }
 
     /// Lets an amount come to a node, and go to fixed nodes as far as it came from there.
-    pub fn arrive(&mut self, node: usize, amount: u64)
+    pub fn return_to(&mut self, node: usize, amount: u64)
         requires { node < self.old.wiring.nodes }
         ensures { self.new.wiring ≡ self.old.wiring }
     {
@@ -66,8 +52,7 @@ impl Refund {
         ensures { self.new.wiring ≡ self.old.wiring }
     {
         if arc.pair.is_some() {
-            let slot = self.wiring.slot(self.wiring.slot_of(number));
-            return self.wiring.slot(slot.twin as usize).room;
+            return arc.cap.saturating_sub(self.rooms.get(number));
         }
         if arc.to >= self.source.len() {
             return 0;
@@ -78,46 +63,42 @@ impl Refund {
     }
 
     /// The amount on each arc.
-    fn on_arcs(&mut self, alloc: Global, net: &Net) -> Result<Vec<u64>, NoMemory>
-        ensures { IfOk result (λ amounts. length amounts.items ≡ length net.now.arcs) }
+    fn on_arcs(&mut self, alloc: Global) -> Result<Vec<u64>, NoMemory>
+        ensures amounts { IfOk result (λ amounts. length amounts.items ≡ length self.old.wiring.net.now.arcs) }
+        ensures wiring { self.new.wiring ≡ self.old.wiring }
     {
-        let arcs = net.arcs.as_slice();
-        let mut amounts = vec![in alloc; 0u64; arcs.len()]?;
-        for number in 0..arcs.len() {
-            amounts[number] = self.on_arc(&arcs[number], number);
+        let net = self.wiring.net;
+        let mut amounts = vec![in alloc; 0u64; net.arcs.len()]?;
+        for number in 0..net.arcs.len() {
+            amounts[number] = self.on_arc(&net.arcs.at(number), number);
         }
         Ok(amounts)
     }
 
     /// The amount at each sink: its capacity less what it still takes, and nothing where the node is fixed.
-    fn on_sinks(&self, alloc: Global, net: &Net) -> Result<Vec<u64>, NoMemory>
-        ensures { IfOk result (λ amounts. length amounts.items ≡ length net.now.fixed) }
+    fn on_sinks(&self, alloc: Global) -> Result<Vec<u64>, NoMemory>
+        ensures { IfOk result (λ amounts. length amounts.items ≡ length self.now.wiring.net.now.fixed) }
     {
+        let net = self.wiring.net;
         let mut amounts = Vec::from_slice(alloc, net.sink.as_slice())?;
         for node in 0..amounts.len() {
-            let is_fixed = net.fixed.as_slice()[node];
-            let left = if node < self.sink.len() {
-                self.sink[node]
-            } else {
-                0
-            };
-            amounts[node] = if is_fixed {
+            amounts[node] = if net.fixed.as_slice()[node] {
                 0
             } else {
-                amounts[node].saturating_sub(left)
+                amounts[node].saturating_sub(self.sink[node])
             };
         }
         Ok(amounts)
     }
 
     /// The amounts as a flow.
-    pub fn into_flow(self, alloc: Global, net: &Net) -> Result<Flow, NoMemory>
-        ensures arcs { IfOk result (λ flow. length flow.on_arc ≡ length net.now.arcs) }
-        ensures sinks { IfOk result (λ flow. length flow.on_sink ≡ length net.now.fixed) }
+    pub fn into_flow(self, alloc: Global) -> Result<Flow, NoMemory>
+        ensures arcs { IfOk result (λ flow. length flow.on_arc ≡ length self.entry.wiring.net.now.arcs) }
+        ensures sinks { IfOk result (λ flow. length flow.on_sink ≡ length self.entry.wiring.net.now.fixed) }
     {
-        let mut refund = self;
-        let on_sink = refund.on_sinks(alloc, net)?;
-        let on_arc = refund.on_arcs(alloc, net)?;
+        let mut preflow = self;
+        let on_sink = preflow.on_sinks(alloc)?;
+        let on_arc = preflow.on_arcs(alloc)?;
         Ok(Flow {
             on_arc: Sequence::from(on_arc),
             on_sink: Sequence::from(on_sink),

@@ -6,7 +6,9 @@
 ghost use Rattle.std.specs.Prelude.{◌≡◌, ◌<◌, ◌^◌, length, slice_index, EachIndex, IfSome, IfOk};
 
 use crate::NoMemory;
+use crate::levels::Levels;
 use crate::preflow::Preflow;
+use crate::wiring::Ends;
 use std::alloc::Global;
 
 /// The level of a node from which no sink is known to be reached, and the end of a list of nodes.
@@ -15,7 +17,7 @@ const NONE: u32 = u32::MAX;
 /// How many levels above the highest a node may be lifted in a round.
 const SPARE_LEVELS: usize = 8;
 
-/// How many slots may be looked at in a round for each node.
+/// How many arcs may be looked at in a round for each node.
 const FUEL: usize = 3;
 
 /// How many rounds there are at most. Networks of cells took fewer than twenty.
@@ -23,9 +25,9 @@ const MOST_ROUNDS: usize = 100;
 
 /// A preflow, with the levels of its nodes and lists of nodes with excess.
 #[derive(Debug, Drop)]
-pub struct Rounds {
+pub struct Rounds<'a> {
     /// The amounts.
-    pub preflow: Preflow,
+    pub preflow: Preflow<'a>,
     /// The level of each node.
     level: Vec<u32>,
     /// The nodes in the order in which they got their levels.
@@ -40,7 +42,7 @@ pub struct Rounds {
     is_waiting: Vec<bool>,
     /// No node waits at a lower level.
     low: usize,
-    /// How many more slots may be looked at in this round.
+    /// How many more arcs may be looked at in this round.
     fuel: usize,
     ghost level_count: { length level.items ≡ preflow.wiring.nodes },
     ghost queue_count: { length queue.items ≡ preflow.wiring.nodes },
@@ -49,9 +51,11 @@ pub struct Rounds {
     ghost queue_in: { EachIndex queue.items (λ k. slice_index queue.items k < preflow.wiring.nodes) },
 }
 
-impl Rounds {
+impl<'a> Rounds<'a> {
     /// No node has a level yet.
-    pub fn new(alloc: Global, preflow: Preflow) -> Result<Rounds, NoMemory> {
+    pub fn new(alloc: Global, preflow: Preflow<'a>) -> Result<Rounds<'a>, NoMemory>
+        ensures { IfOk result (λ rounds. rounds.preflow ≡ preflow.entry) }
+    {
         let nodes = preflow.wiring.nodes;
         let level = vec![in alloc; NONE; nodes]?;
         let queue = vec![in alloc; 0u32; nodes]?;
@@ -103,13 +107,11 @@ impl Rounds {
     {
         let level = self.level[node].saturating_add(1);
         let (start, end) = self.preflow.wiring.around(node);
-        for slot in start..end {
-            let against = self.preflow.wiring.slot(slot);
-            let tail = against.head as usize;
-            if self.level[tail] == NONE
-                && self.preflow.wiring.slot(against.twin as usize).room > 0
-            {
-                self.mark(tail, level);
+        for place in start..end {
+            let arc = self.preflow.wiring.arc(place);
+            let against = self.preflow.wiring.ends(arc);
+            if self.level[against.head] == NONE && self.preflow.rooms.get(against.twin) > 0 {
+                self.mark(against.head, level);
             }
         }
     }
@@ -193,46 +195,43 @@ impl Rounds {
         None
     }
 
-    /// Sends from a slot to its head, which then waits if it keeps some.
-    fn send(&mut self, slot: usize, head: usize, amount: u64)
-        requires slot { slot < length self.old.preflow.wiring.slots.items }
-        requires head { head < self.old.preflow.wiring.nodes }
-        ensures nodes { self.new.preflow.wiring.nodes ≡ self.old.preflow.wiring.nodes }
-        ensures slots { length self.new.preflow.wiring.slots.items ≡ length self.old.preflow.wiring.slots.items }
+    /// Sends along an arc to its head, which then waits if it keeps some.
+    fn send(&mut self, arc: usize, ends: Ends, amount: u64)
+        requires { ends.head < self.old.preflow.wiring.nodes }
+        ensures { self.new.preflow.wiring ≡ self.old.preflow.wiring }
     {
-        self.preflow.wiring.shift(slot, amount);
-        if self.preflow.arrive(head, amount) > 0 && !self.is_waiting[head] {
-            self.level[head] = self.level[head].max(1);
-            self.put(head);
+        self.preflow.shift(arc, ends.twin, amount);
+        if self.preflow.arrive(ends.head, amount) > 0 && !self.is_waiting[ends.head] {
+            self.level[ends.head] = self.level[ends.head].max(1);
+            self.put(ends.head);
         }
     }
 
-    /// Moves an amount from a node down along its slots as far as it goes, and answers what is left.
+    /// Moves an amount from a node down along its arcs as far as it goes, and answers what is left.
     ///
     /// The level of the node becomes one more than the least to which an arc with room leads.
     fn send_down(&mut self, node: usize, amount: u64) -> u64
         requires { node < self.old.preflow.wiring.nodes }
-        ensures nodes { self.new.preflow.wiring.nodes ≡ self.old.preflow.wiring.nodes }
-        ensures slots { length self.new.preflow.wiring.slots.items ≡ length self.old.preflow.wiring.slots.items }
+        ensures { self.new.preflow.wiring ≡ self.old.preflow.wiring }
     {
         let level = self.level[node];
         let mut left = amount;
         let mut least = NONE;
         let (start, end) = self.preflow.wiring.around(node);
-        for slot in start..end {
+        for place in start..end {
             self.fuel = self.fuel.saturating_sub(1);
-            let along = self.preflow.wiring.slot(slot);
-            let head = along.head as usize;
-            let room = along.room;
-            if room > 0 && self.level[head] < level {
+            let arc = self.preflow.wiring.arc(place);
+            let ends = self.preflow.wiring.ends(arc);
+            let room = self.preflow.rooms.get(arc);
+            if room > 0 && self.level[ends.head] < level {
                 let part = left.min(room);
-                self.send(slot, head, part);
+                self.send(arc, ends, part);
                 left -= part;
                 if left == 0 {
                     return 0;
                 }
             } else if room > 0 {
-                least = least.min(self.level[head]);
+                least = least.min(self.level[ends.head]);
             }
         }
         self.level[node] = level.max(least.saturating_add(1));
@@ -242,12 +241,12 @@ impl Rounds {
     /// Moves the excess of a node down as far as it goes, and lifts the node if it keeps some.
     fn discharge(&mut self, node: usize)
         requires { node < self.old.preflow.wiring.nodes }
-        ensures nodes { self.new.preflow.wiring.nodes ≡ self.old.preflow.wiring.nodes }
-        ensures slots { length self.new.preflow.wiring.slots.items ≡ length self.old.preflow.wiring.slots.items }
+        ensures { self.new.preflow.wiring ≡ self.old.preflow.wiring }
     {
         let amount = self.preflow.excess[node];
         let left = self.send_down(node, amount);
-        self.preflow.excess[node] = left;
+        let preflow = &mut self.preflow;
+        preflow.excess[node] = left;
         if left > 0 {
             self.put(node);
         }
@@ -255,8 +254,7 @@ impl Rounds {
 
     /// Moves the excess of nodes that wait, until the fuel is used.
     fn drain(&mut self)
-        ensures nodes { self.new.preflow.wiring.nodes ≡ self.old.preflow.wiring.nodes }
-        ensures slots { length self.new.preflow.wiring.slots.items ≡ length self.old.preflow.wiring.slots.items }
+        ensures { self.new.preflow.wiring ≡ self.old.preflow.wiring }
     {
         self.fuel = self.preflow.wiring.nodes.saturating_mul(FUEL);
         for _ in 0..self.fuel {
@@ -272,8 +270,7 @@ impl Rounds {
 
     /// Moves excess to sinks until none moves, or the rounds are over.
     pub fn run(&mut self, alloc: Global) -> Result<(), NoMemory>
-        ensures nodes { self.new.preflow.wiring.nodes ≡ self.old.preflow.wiring.nodes }
-        ensures slots { length self.new.preflow.wiring.slots.items ≡ length self.old.preflow.wiring.slots.items }
+        ensures { self.new.preflow.wiring ≡ self.old.preflow.wiring }
     {
         for _ in 0..MOST_ROUNDS {
             if !self.find_levels() {
@@ -285,15 +282,16 @@ impl Rounds {
         Ok(())
     }
 
-    /// Which nodes reached a sink with room when levels were last found. Where no excess was among them, they are the inside
-    /// of labels that cost what the flow is worth.
-    pub fn inside(&self, alloc: Global) -> Result<Vec<bool>, NoMemory>
-        ensures { IfOk result (λ inside. length inside.items ≡ self.now.preflow.wiring.nodes) }
+    /// The amounts, and which nodes reached a sink with room when levels were last found, with their levels. Where no excess was
+    /// among them, they are the inside of labels that cost what the flow is worth.
+    pub fn into_levels(self, alloc: Global) -> Result<(Preflow<'a>, Levels), NoMemory>
+        ensures { IfOk result (λ made. made.0.wiring ≡ self.entry.preflow.wiring) }
     {
-        let mut inside = vec![in alloc; false; self.level.len()]?;
-        for node in 0..self.level.len() {
-            inside[node] = self.level[node] != NONE;
+        let Rounds { preflow, level, .. } = self;
+        let mut is_found = vec![in alloc; false; level.len()]?;
+        for node in 0..level.len() {
+            is_found[node] = level[node] != NONE;
         }
-        Ok(inside)
+        Ok((preflow, Levels { is_found, level }))
     }
 }

@@ -9,6 +9,9 @@ use std::alloc::Global;
 /// The most that all capacities come to where sums of them are right: 2^62.
 const MOST_IN_ALL: u64 = 4_611_686_018_427_387_904;
 
+/// The largest capacity of which two come to no more than 32 bits hold: 2^31 - 1.
+const MOST_OF_FEW: u64 = 2_147_483_647;
+
 /// The sign of a number of 64 bits in two's complement.
 const SIGN: u64 = 9_223_372_036_854_775_808;
 
@@ -27,6 +30,8 @@ pub struct Survey {
     pub balance: Vec<u64>,
     /// The capacities of all arcs.
     pub total: u64,
+    /// The largest capacity.
+    pub most: u64,
 }
 
 impl Survey {
@@ -44,11 +49,14 @@ impl Survey {
         let mut is_by_node = true;
         let mut has_pairs = false;
         let mut total: u64 = 0;
-        for arc in net.arcs.as_slice() {
+        let mut most: u64 = 0;
+        for number in 0..net.arcs.len() {
+            let arc = net.arcs.at(number);
             is_by_node = is_by_node && last <= arc.from;
             last = arc.from;
             degree[arc.from + 1] = degree[arc.from + 1].saturating_add(1);
             total = total.saturating_add(arc.cap);
+            most = most.max(arc.cap);
             balance[arc.to] = balance[arc.to].wrapping_add(arc.cap);
             if arc.pair.is_some() {
                 balance[arc.from] = balance[arc.from].wrapping_sub(arc.cap);
@@ -64,12 +72,18 @@ impl Survey {
             source,
             balance,
             total,
+            most,
         })
     }
 
     /// Whether there are arcs between free nodes, and no sum of capacities is too large for its type.
     pub fn is_fit(&self) -> bool {
         self.has_pairs && self.total <= MOST_IN_ALL
+    }
+
+    /// Whether what can flow along an arc beside what can flow back on its reverse fits in 32 bits.
+    pub fn is_narrow(&self) -> bool {
+        self.most <= MOST_OF_FEW
     }
 
     /// Whether a node would owe an amount where every arc is full.

@@ -1,23 +1,23 @@
-//! One sweep that gives excess back along the arcs on which it came. It stands on refunds.
+//! One sweep that gives excess back along the arcs on which it came. It stands on what can go back.
 //!
 //! A search in depth lists the nodes, each after those to which it can give back, but for cycles. In the other order each
 //! node gives back what it has, so a node comes when all that can come to it is there.
 
-ghost use Rattle.std.specs.Prelude.{◌≡◌, ◌<◌, length, slice_index, EachIndex};
+ghost use Rattle.std.specs.Prelude.{◌≡◌, ◌<◌, length, slice_index, EachIndex, IfOk};
 
 use crate::NoMemory;
-use crate::refund::Refund;
+use crate::preflow::Preflow;
 use std::alloc::Global;
 
 /// The cursor of a node that has given back, and the end of the list of nodes that the search is at.
 const NONE: u32 = u32::MAX;
 
-/// A refund, and a search in depth along slots on which something can go back.
+/// Amounts, and a search in depth along arcs on which something can go back.
 #[derive(Debug, Drop)]
-pub struct Sweep {
+pub struct Sweep<'a> {
     /// The amounts.
-    pub refund: Refund,
-    /// For each node the slot that is tried next.
+    pub preflow: Preflow<'a>,
+    /// For each node the place of the arc that is tried next.
     cursor: Vec<u32>,
     /// Whether the search has come to each node.
     is_seen: Vec<bool>,
@@ -27,23 +27,25 @@ pub struct Sweep {
     order: Vec<u32>,
     /// How many it has left.
     left: usize,
-    ghost cursor_count: { length cursor.items ≡ refund.wiring.nodes },
-    ghost seen_count: { length is_seen.items ≡ refund.wiring.nodes },
-    ghost below_count: { length below.items ≡ refund.wiring.nodes },
-    ghost order_count: { length order.items ≡ refund.wiring.nodes },
-    ghost order_in: { EachIndex order.items (λ k. slice_index order.items k < refund.wiring.nodes) },
+    ghost cursor_count: { length cursor.items ≡ preflow.wiring.nodes },
+    ghost seen_count: { length is_seen.items ≡ preflow.wiring.nodes },
+    ghost below_count: { length below.items ≡ preflow.wiring.nodes },
+    ghost order_count: { length order.items ≡ preflow.wiring.nodes },
+    ghost order_in: { EachIndex order.items (λ k. slice_index order.items k < preflow.wiring.nodes) },
 }
 
-impl Sweep {
+impl<'a> Sweep<'a> {
     /// The search has come to no node.
-    pub fn new(alloc: Global, refund: Refund) -> Result<Sweep, NoMemory> {
-        let nodes = refund.wiring.nodes;
+    pub fn new(alloc: Global, preflow: Preflow<'a>) -> Result<Sweep<'a>, NoMemory>
+        ensures { IfOk result (λ sweep. sweep.preflow ≡ preflow.entry) }
+    {
+        let nodes = preflow.wiring.nodes;
         let cursor = vec![in alloc; 0u32; nodes]?;
         let is_seen = vec![in alloc; false; nodes]?;
         let below = vec![in alloc; NONE; nodes]?;
         let order = vec![in alloc; 0u32; nodes]?;
         Ok(Sweep {
-            refund,
+            preflow,
             cursor,
             is_seen,
             below,
@@ -54,10 +56,10 @@ impl Sweep {
 
     /// The search comes to a node.
     fn enter(&mut self, node: usize, below: u32)
-        requires { node < self.old.refund.wiring.nodes }
-        ensures { self.new.refund ≡ self.old.refund }
+        requires { node < self.old.preflow.wiring.nodes }
+        ensures { self.new.preflow ≡ self.old.preflow }
     {
-        let (start, _) = self.refund.wiring.around(node);
+        let (start, _) = self.preflow.wiring.around(node);
         self.is_seen[node] = true;
         self.below[node] = below;
         self.cursor[node] = start.min(NONE as usize) as u32;
@@ -65,8 +67,8 @@ impl Sweep {
 
     /// The search leaves a node.
     fn leave(&mut self, node: usize)
-        requires { node < self.old.refund.wiring.nodes }
-        ensures { self.new.refund ≡ self.old.refund }
+        requires { node < self.old.preflow.wiring.nodes }
+        ensures { self.new.preflow ≡ self.old.preflow }
     {
         if self.left < self.order.len() {
             self.order[self.left] = node as u32;
@@ -74,21 +76,21 @@ impl Sweep {
         }
     }
 
-    /// The node to which the search goes next from a node, at which it stays while slots are left.
+    /// The node to which the search goes next from a node, at which it stays while arcs are left.
     fn step(&mut self, node: usize) -> usize
-        requires { node < self.old.refund.wiring.nodes }
-        ensures { self.new.refund ≡ self.old.refund }
+        requires { node < self.old.preflow.wiring.nodes }
+        ensures { self.new.preflow ≡ self.old.preflow }
     {
-        let slot = self.cursor[node] as usize;
-        let (_, end) = self.refund.wiring.around(node);
-        if slot >= end {
+        let place = self.cursor[node] as usize;
+        let (_, end) = self.preflow.wiring.around(node);
+        if place >= end {
             self.leave(node);
             return self.below[node] as usize;
         }
         self.cursor[node] = self.cursor[node].saturating_add(1);
-        let along = self.refund.wiring.slot(slot);
-        let head = along.head as usize;
-        if along.room == 0 || self.is_seen[head] {
+        let arc = self.preflow.wiring.arc(place);
+        let head = self.preflow.wiring.ends(arc).head;
+        if self.is_seen[head] || self.preflow.most_back(arc) == 0 {
             return node;
         }
         self.enter(head, node as u32);
@@ -97,14 +99,14 @@ impl Sweep {
 
     /// Searches from a node.
     fn search(&mut self, start: usize)
-        requires { start < self.old.refund.wiring.nodes }
-        ensures { self.new.refund ≡ self.old.refund }
+        requires { start < self.old.preflow.wiring.nodes }
+        ensures { self.new.preflow ≡ self.old.preflow }
     {
         self.enter(start, NONE);
         let mut node = start;
-        let steps = self.refund.wiring.slots.len().saturating_mul(2);
-        for _ in 0..steps.saturating_add(self.refund.wiring.nodes) {
-            if node >= self.refund.wiring.nodes {
+        let steps = self.preflow.wiring.arcs.saturating_mul(2);
+        for _ in 0..steps.saturating_add(self.preflow.wiring.nodes) {
+            if node >= self.preflow.wiring.nodes {
                 return;
             }
             node = self.step(node);
@@ -113,10 +115,10 @@ impl Sweep {
 
     /// Searches from each node with excess.
     fn search_all(&mut self)
-        ensures { self.new.refund ≡ self.old.refund }
+        ensures { self.new.preflow ≡ self.old.preflow }
     {
-        for node in 0..self.refund.wiring.nodes {
-            if self.refund.excess[node] > 0 && !self.is_seen[node] {
+        for node in 0..self.preflow.wiring.nodes {
+            if self.preflow.excess[node] > 0 && !self.is_seen[node] {
                 self.search(node);
             }
         }
@@ -124,22 +126,21 @@ impl Sweep {
 
     /// Gives an amount back from a node to those that have not given back, and answers what is left.
     fn hand_on(&mut self, node: usize, amount: u64) -> u64
-        requires { node < self.old.refund.wiring.nodes }
-        ensures nodes { self.new.refund.wiring.nodes ≡ self.old.refund.wiring.nodes }
-        ensures slots { length self.new.refund.wiring.slots.items ≡ length self.old.refund.wiring.slots.items }
+        requires { node < self.old.preflow.wiring.nodes }
+        ensures { self.new.preflow.wiring ≡ self.old.preflow.wiring }
     {
         let mut left = amount;
-        let (start, end) = self.refund.wiring.around(node);
-        for slot in start..end {
+        let (start, end) = self.preflow.wiring.around(node);
+        for place in start..end {
             if left == 0 {
                 break;
             }
-            let along = self.refund.wiring.slot(slot);
-            let most = along.room.min(left);
-            let head = along.head as usize;
-            if most > 0 && self.cursor[head] != NONE {
-                self.refund.give(slot, most);
-                self.refund.arrive(head, most);
+            let arc = self.preflow.wiring.arc(place);
+            let most = self.preflow.most_back(arc).min(left);
+            let ends = self.preflow.wiring.ends(arc);
+            if most > 0 && self.cursor[ends.head] != NONE {
+                self.preflow.shift(arc, ends.twin, most);
+                self.preflow.return_to(ends.head, most);
                 left -= most;
             }
         }
@@ -148,20 +149,19 @@ impl Sweep {
 
     /// A node gives back what it has.
     fn give(&mut self, node: usize)
-        requires { node < self.old.refund.wiring.nodes }
-        ensures nodes { self.new.refund.wiring.nodes ≡ self.old.refund.wiring.nodes }
-        ensures slots { length self.new.refund.wiring.slots.items ≡ length self.old.refund.wiring.slots.items }
+        requires { node < self.old.preflow.wiring.nodes }
+        ensures { self.new.preflow.wiring ≡ self.old.preflow.wiring }
     {
         self.cursor[node] = NONE;
-        let amount = self.refund.excess[node];
+        let amount = self.preflow.excess[node];
         let left = self.hand_on(node, amount);
-        self.refund.excess[node] = left;
+        let preflow = &mut self.preflow;
+        preflow.excess[node] = left;
     }
 
     /// Gives back what can be given in one sweep.
     pub fn run(&mut self)
-        ensures nodes { self.new.refund.wiring.nodes ≡ self.old.refund.wiring.nodes }
-        ensures slots { length self.new.refund.wiring.slots.items ≡ length self.old.refund.wiring.slots.items }
+        ensures { self.new.preflow.wiring ≡ self.old.preflow.wiring }
     {
         self.search_all();
         let left = self.left.min(self.order.len());

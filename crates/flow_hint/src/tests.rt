@@ -1,6 +1,6 @@
 //! Hints at networks whose largest flows are known.
 
-use crate::{Hint, find_hint};
+use crate::{Hint, find_hint, find_hint_above};
 use flow_net::{Arc, Net, Sequence};
 use std::alloc::Global;
 use std::test::Fail;
@@ -61,12 +61,30 @@ fn small_networks_have_their_largest_flows(rt: HostRuntime) -> Result<(), Fail> 
     ];
     for (name, (given, there, back), on_arc, on_sink, inside) in cases {
         let net = network(rt.alloc(), given, there, back)?;
-        let Some(Hint { flow, labels }) = find_hint(rt.alloc(), &net)? else {
+        let Some(Hint { flow, levels }) = find_hint(rt.alloc(), &net)? else {
             return Err(Fail::from(name));
         };
         assert_eq!(rt; flow.on_arc.as_slice(), on_arc.as_slice(), "{name}");
         assert_eq!(rt; flow.on_sink.as_slice(), on_sink.as_slice(), "{name}");
-        assert_eq!(rt; labels.inside.as_slice(), inside.as_slice(), "{name}");
+        assert_eq!(rt; levels.is_found.as_slice(), inside.as_slice(), "{name}");
+    }
+    Ok(())
+}
+
+#[test]
+fn no_less_comes_to_a_sink_than_is_listed(rt: HostRuntime) -> Result<(), Fail> {
+    let cases = [
+        ("all is listed", [1, 1, 0], [1, 1, 0]),
+        ("all is listed at one node", [0, 2, 0], [0, 2, 0]),
+        ("some is listed", [1, 0, 0], [1, 1, 0]),
+        ("more than comes", [5, 7, 9], [1, 1, 0]),
+    ];
+    let net = network(rt.alloc(), 2, 2, 2)?;
+    for (name, first, on_sink) in cases {
+        let Some(Hint { flow, .. }) = find_hint_above(rt.alloc(), &net, &first)? else {
+            return Err(Fail::from(name));
+        };
+        assert_eq!(rt; flow.on_sink.as_slice(), on_sink.as_slice(), "{name}");
     }
     Ok(())
 }

@@ -1,8 +1,10 @@
 pub mod Builders
+pub mod Compact
 pub mod Faults
 pub mod Flows
 pub mod Laws
 pub mod Nets
 pub mod Networks
+pub mod Smoothing
 pub mod Sums
 pub mod Weights

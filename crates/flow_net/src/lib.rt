@@ -4,15 +4,17 @@
 //! cell is a node, and each directed facet towards a free cell is an arc. The crate stands on the standard library
 //! and `thiserror` alone, and knows nothing of geometry.
 //!
-//! This file holds the types. `lists` holds the lists that stand in their fields, `builder` makes a network node by node
+//! This file holds the types. `lists` and `compact` hold the lists that stand in their fields, `builder` makes a network node by node
 //! and join by join, `votes` holds the settings and sights, `sums` the cost of labels and the value of a flow, `laws` what
 //! holds between the two, and `validity` the test that `Net::is_valid` makes.
 #![tactic(auto)]
 
-ghost use Rattle.std.specs.Prelude.{◌≡◌, ◌↔◌, IsTrue, IsSome, IfSome};
-ghost use Rattle.flow_net.specs.Nets.{IsValidNet};
+ghost use Rattle.std.specs.Prelude.{◌≡◌, ◌↔◌, ◌≤◌, ◌+◌, ◌-◌, ◌^◌, map, EachIndex, IsTrue, IsSome, IfSome};
+ghost use Rattle.flow_net.specs.Nets.{IsValidNet, arc_at};
+ghost use Rattle.flow_net.specs.Smoothing.{at_smoothing};
 
 mod builder;
+mod compact;
 mod laws;
 mod lists;
 mod sums;
@@ -20,6 +22,7 @@ mod validity;
 mod votes;
 
 pub use builder::{NetBuilder, NetRefusal};
+pub use compact::Arcs;
 pub use laws::{equal_value_and_cost_are_best, exactly_one_is_least_inside, value_is_at_most_cost};
 pub use lists::Sequence;
 pub use sums::{cost, value};
@@ -53,7 +56,7 @@ pub struct Net {
     /// The sink of each node: the most that can leave the network there, and what it costs to have the node outside.
     pub sink: Sequence<u64>,
     /// The arcs.
-    pub arcs: Sequence<Arc>,
+    pub arcs: Arcs,
     pub ghost valid: { IsValidNet fixed sink arcs },
 }
 
@@ -103,6 +106,16 @@ impl Net {
         ensures sink { result.sink ≡ sink }
         ensures arcs { result.arcs ≡ arcs }
     {
+        Net::with_arcs(fixed, sink, Arcs::from(arcs.into_vec()))
+    }
+
+    /// The same of arcs that may be in few bits.
+    pub fn with_arcs(fixed: Sequence<bool>, sink: Sequence<u64>, arcs: Arcs) -> Net
+        requires { IsValidNet fixed sink arcs }
+        ensures fixed { result.fixed ≡ fixed }
+        ensures sink { result.sink ≡ sink }
+        ensures arcs { result.arcs ≡ arcs }
+    {
         Net { fixed, sink, arcs }
     }
 
@@ -117,6 +130,18 @@ impl Net {
             return None;
         }
         Some(Net::new(fixed, sink, arcs))
+    }
+
+    /// Gives each arc the capacity that it has at the smoothing `to`, where it has that at the smoothing `from`. It takes no
+    /// memory.
+    pub fn change_smoothing(&mut self, from: u32, to: u32)
+        requires smoothed { EachIndex self.old.arcs (λ j. from ≤ (arc_at self.old.arcs j).cap) }
+        requires fits { EachIndex self.old.arcs (λ j. (arc_at self.old.arcs j).cap - from + to ≤ 2 ^ 60) }
+        ensures fixed { self.new.fixed ≡ self.old.fixed }
+        ensures sink { self.new.sink ≡ self.old.sink }
+        ensures arcs { self.new.arcs ≡ map (at_smoothing from to) self.old.arcs }
+    {
+        self.arcs.change_smoothing(from, to);
     }
 }
 

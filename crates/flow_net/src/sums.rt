@@ -17,9 +17,9 @@ fn cut_capacity(net: &Net, labels: &Labels) -> u128
     ensures fits { result ≤ 2 ^ 124 }
 {
     let inside = labels.inside.as_slice();
-    let arcs = net.arcs.as_slice();
     let mut total: u128 = 0;
-    for arc in arcs {
+    for number in 0..net.arcs.len() {
+        let arc = net.arcs.at(number);
         if !inside[arc.from] && inside[arc.to] {
             total += arc.cap as u128;
         }

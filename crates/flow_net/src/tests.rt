@@ -1,9 +1,14 @@
 //! The sums at a network whose cost and value are known, networks from builders and from parts, and the limits of
 //! settings.
 
+ghost use Rattle.std.specs.Prelude.{◌≡◌, ◌≤◌, ◌+◌, ◌-◌, ◌^◌, true, EachIndex};
+ghost use Rattle.flow_net.specs.Nets.{arc_at};
+
 use crate::{
-    AMOUNT_LIMIT, Arc, Flow, Labels, Net, NetBuilder, NetRefusal, Sequence, Settings, cost, value,
+    AMOUNT_LIMIT, Arc, Arcs, Flow, Labels, Net, NetBuilder, NetRefusal, Sequence, Settings, cost,
+    value,
 };
+use std::alloc::{AllocError, Global};
 use std::test::Fail;
 
 #[test]
@@ -98,7 +103,7 @@ fn a_network_is_built_without_what_is_refused(rt: HostRuntime) -> Result<(), Fai
         arc(near, far, 2, Some(2)),
         arc(far, near, 1, Some(1)),
     ];
-    assert_eq!(rt; net.arcs.as_slice(), arcs.as_slice());
+    assert_eq!(rt; net.arcs.to_vec(rt.alloc())?.as_slice(), arcs.as_slice());
     Ok(())
 }
 
@@ -113,5 +118,58 @@ fn a_network_is_made_of_valid_parts_alone(rt: HostRuntime) -> Result<(), Fail> {
         );
         assert_eq!(rt; made.is_some(), is_valid, "{reverse}");
     }
+    Ok(())
+}
+
+/// Whether each capacity has the smoothing `from` in it, and is within the limit with `to` in its place.
+fn may_change(net: &Net, from: u32, to: u32) -> bool
+    ensures smoothed { result ≡ true → EachIndex net.now.arcs (λ j. from ≤ (arc_at net.now.arcs j).cap) }
+    ensures fits { result ≡ true → EachIndex net.now.arcs (λ j. (arc_at net.now.arcs j).cap - from + to ≤ 2 ^ 60) }
+{
+    for place in 0..net.arcs.len() {
+        let cap = net.arcs.at(place).cap;
+        if cap < u64::from(from) || cap - u64::from(from) + u64::from(to) > AMOUNT_LIMIT {
+            return false;
+        }
+    }
+    true
+}
+
+/// The same network, its arcs in few bits as far as they fit.
+fn in_few_bits(alloc: Global, net: Net) -> Result<Net, AllocError> {
+    let arcs = Arcs::from_slice(alloc, &net.arcs.to_vec(alloc)?)?;
+    let Net { fixed, sink, .. } = net;
+    Ok(Net::with_arcs(fixed, sink, arcs))
+}
+
+#[test]
+fn capacities_rise_past_32_bits_and_fall_again(rt: HostRuntime) -> Result<(), Fail> {
+    let few = u64::from(u32::MAX);
+    let mut builder = NetBuilder::new(rt.alloc());
+    let outer = builder.add_fixed()?;
+    let near = builder.add_free(3)?;
+    let far = builder.add_free(0)?;
+    builder.feed(outer, near, few)?;
+    builder.join(near, far, 5, AMOUNT_LIMIT - 9)?;
+    let mut net = in_few_bits(rt.alloc(), builder.build())?;
+    for (from, to, first, second, third) in [
+        (3, 9, few + 6, 11, AMOUNT_LIMIT - 3),
+        (9, 1, few - 2, 3, AMOUNT_LIMIT - 11),
+        (3, 0, few - 5, 0, AMOUNT_LIMIT - 14),
+    ] {
+        assert!(rt; may_change(&net, from, to), "{from} {to}");
+        net.change_smoothing(from, to);
+        let arcs = [
+            arc(outer, near, first, None),
+            arc(near, far, second, Some(2)),
+            arc(far, near, third, Some(1)),
+        ];
+        assert_eq!(rt;
+            net.arcs.to_vec(rt.alloc())?.as_slice(),
+            arcs.as_slice(),
+            "{from} {to}"
+        );
+    }
+    assert!(rt; !may_change(&net, 1, 0));
     Ok(())
 }

@@ -27,7 +27,8 @@ pub fn add_up(alloc: Global, net: &Net, flow: &Flow) -> Result<Totals, NoMemory>
     let nodes = net.fixed.as_slice().len();
     let mut entering = vec![in alloc; 0u128; nodes]?;
     let mut leaving = vec![in alloc; 0u128; nodes]?;
-    for (place, arc) in net.arcs.as_slice().iter().enumerate() {
+    for place in 0..net.arcs.len() {
+        let arc = net.arcs.at(place);
         let amount = u128::from(amounts[place]);
         entering[arc.to] += amount;
         leaving[arc.from] += amount;

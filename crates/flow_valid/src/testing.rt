@@ -16,8 +16,8 @@ fn are_within_arcs(net: &Net, flow: &Flow) -> bool
     ensures { IsTrue result ↔ AreWithinArcs net.now flow.now }
 {
     let amounts = flow.on_arc.as_slice();
-    for (place, arc) in net.arcs.as_slice().iter().enumerate() {
-        if amounts[place] > arc.cap {
+    for place in 0..net.arcs.len() {
+        if amounts[place] > net.arcs.at(place).cap {
             return false;
         }
     }
@@ -64,7 +64,7 @@ fn are_balanced(net: &Net, flow: &Flow, totals: &Totals) -> bool
 pub fn is_valid_flow(alloc: Global, net: &Net, flow: &Flow) -> Result<bool, NoMemory>
     ensures { IfOk result (λ answer. IsTrue answer ↔ IsValidFlow net.now flow.now) }
 {
-    if flow.on_arc.as_slice().len() != net.arcs.as_slice().len()
+    if flow.on_arc.as_slice().len() != net.arcs.len()
         || flow.on_sink.as_slice().len() != net.fixed.as_slice().len()
     {
         return Ok(false);

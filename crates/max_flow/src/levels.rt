@@ -76,7 +76,7 @@ fn look_at_all(
     ensures closed { IfOk result (λ found. IfSome found (λ _. IsClosedBelow net.now flow.now marked.now (length net.now.arcs))) }
 {
     let mut leads = vec![in alloc; false; net.fixed.as_slice().len()]?;
-    for number in 0..net.arcs.as_slice().len() {
+    for number in 0..net.arcs.len() {
         let arc = number as u32;
         let way = ResidualArc { arc, forward: true };
         let back = ResidualArc {
@@ -127,7 +127,7 @@ pub fn are_levels(
     requires levels { length level.now ≡ length net.now.fixed }
     ensures { IfOk result (λ answer. answer ≡ true → AreLevels net.now flow.now marked.now level.now) }
 {
-    if net.arcs.as_slice().len() > u32::MAX as usize {
+    if net.arcs.len() > u32::MAX as usize {
         return Ok(false);
     }
     let Some(leads) = look_at_all(alloc, net, flow, marked, level)? else {

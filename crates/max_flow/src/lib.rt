@@ -1,7 +1,7 @@
 //! A largest flow through a network, and the least-inside labels that it shows.
 //!
-//! The flow begins with a hint, which is tested: where it is valid, and labels beside it cost what it is worth, it is a
-//! largest one (Ford and Fulkerson 1956). Else rounds go on from it, or from nothing where it is not valid. A round finds
+//! The flow begins with a hint, which is tested: where it is valid, and levels beside it show from which nodes a sink with room
+//! can be reached and that no fixed node is among them, it is a largest one (Ford and Fulkerson 1956). Else rounds go on from it, or from nothing where it is not valid. A round finds
 //! all nodes from which a sink with room can be reached in the residual network, with their levels, and sends more along
 //! paths that lead down by levels until none is left (Dinic 1970). Where no fixed node is found, the flow is a largest one.
 //!
@@ -10,7 +10,7 @@
 //!
 //! `residual` holds the residual arcs, `incidence` finds those that enter a node, `searches` goes backwards from the
 //! sinks with room, `levels` tests levels that a hint gives in its place, `paths` sends more along augmenting paths,
-//! `phases` does so down the levels of a search, and `solving` has the two calls that stand on all these. The crate stands
+//! `phases` does so down the levels of a search, and `solving` has the calls that stand on all these. The crate stands
 //! on `flow_net`, on `flow_hint` for the hint and on `flow_valid` for its test.
 //!
 //! # Example
@@ -42,7 +42,7 @@ mod residual;
 mod searches;
 mod solving;
 
-pub use solving::{least_inside, solve};
+pub use solving::{least_inside, minimum_cut, resume, solve};
 
 /// The error of a call for which there was no memory.
 pub type NoMemory = std::alloc::AllocError;

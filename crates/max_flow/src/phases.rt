@@ -7,7 +7,7 @@
 ghost use Rattle.std.specs.Prelude.{◌≡◌, ◌<◌, ◌≤◌, length, true, IfOk, IfSome};
 ghost use Rattle.flow_net.specs.Nets.{flag_at};
 ghost use Rattle.flow_net.specs.Flows.{IsValidFlow, value_of};
-ghost use Rattle.max_flow.specs.Paths.{IsAugmenting, end_of};
+ghost use Rattle.max_flow.specs.Paths.{IsAugmenting, KeepsSinks, end_of};
 ghost use Rattle.max_flow.specs.Phases.{LeadsDown};
 
 use crate::NoMemory;
@@ -74,7 +74,7 @@ fn leads_down(net: &Net, flow: &Flow, search: &Search, node: usize, residual: Re
     requires node { node < length net.now.fixed }
     ensures { result ≡ true → LeadsDown net.now flow.now search.now.level.items node residual }
 {
-    if residual.arc as usize >= net.arcs.as_slice().len() || residual.tail(net) != node {
+    if residual.arc as usize >= net.arcs.len() || residual.tail(net) != node {
         return false;
     }
     let head = residual.head(net);
@@ -115,7 +115,7 @@ impl Phase {
         ensures path { self.new.path ≡ self.old.path }
         ensures leads { IfSome result (λ residual. LeadsDown net.now flow.now search.now.level.items node residual) }
     {
-        for _ in 0..net.arcs.as_slice().len().saturating_mul(2) {
+        for _ in 0..net.arcs.len().saturating_mul(2) {
             let Some(residual) = self.cursor[node] else {
                 return None;
             };
@@ -172,7 +172,7 @@ impl Phase {
         let Some(residual) = self.path.last().copied() else {
             return false;
         };
-        if (residual.arc as usize) < net.arcs.as_slice().len() {
+        if (residual.arc as usize) < net.arcs.len() {
             let tail = residual.tail(net);
             self.cursor[tail] = next_from(incidence, tail, residual);
         }
@@ -197,8 +197,9 @@ impl Phase {
         ensures cursors { length self.new.cursor.items ≡ length net.now.fixed }
         ensures valid { IsValidFlow net.now flow.new }
         ensures rises { value_of net.now flow.old ≤ value_of net.now flow.new }
+        ensures sinks { KeepsSinks flow.old flow.new }
     {
-        let steps = net.arcs.as_slice().len().saturating_mul(4);
+        let steps = net.arcs.len().saturating_mul(4);
         for _ in 0..steps.saturating_add(net.fixed.as_slice().len()) {
             if let Some(end) = self.walk(net, incidence, search, flow, start) {
                 let amount = bottleneck(net, flow, start, &self.path, end);
@@ -217,6 +218,7 @@ impl Phase {
         requires cursors { length self.old.cursor.items ≡ length net.now.fixed }
         ensures valid { IsValidFlow net.now flow.new }
         ensures rises { value_of net.now flow.old ≤ value_of net.now flow.new }
+        ensures sinks { KeepsSinks flow.old flow.new }
     {
         for node in 0..net.fixed.as_slice().len() {
             if net.fixed.as_slice()[node] && search.marked[node] {

@@ -1,10 +1,10 @@
 use Rattle.std.proofs.Common.{sym}
 use Rattle.max_flow.proofs.Cuts.{levels_admissible, levels_least, levels_cost}
-use Rattle.max_flow.proofs.solving.shown_inside.Goals as goal
+use Rattle.max_flow.proofs.solving.shown_by.Goals as goal
 
 pub returns-clause-least : goal.returns-clause-least
 returns-clause-least c =
-    let levels = c.in-Some.levels in
+    let levels = c.args.levels in
     let are = rw (c.deref.ensures.value, c.deref-2.ensures.value) at (c.in_ok-are_levels.ensures c.if-not-branch.false) in
     let none = rw c.deref-3.ensures.value at c.in-None.ensures.none in
     rw c.from.ensures (levels_least c.args.net.now c.args.flow.now levels.is_found.items levels.level.items c.requires are
@@ -12,7 +12,7 @@ returns-clause-least c =
 
 pub returns-clause-cost : goal.returns-clause-cost
 returns-clause-cost c =
-    let levels = c.in-Some.levels in
+    let levels = c.args.levels in
     let are = rw (c.deref.ensures.value, c.deref-2.ensures.value) at (c.in_ok-are_levels.ensures c.if-not-branch.false) in
     let none = rw c.deref-3.ensures.value at c.in-None.ensures.none in
     rw c.from.ensures (sym (levels_cost c.args.net.now c.args.flow.now levels.is_found.items levels.level.items c.requires are

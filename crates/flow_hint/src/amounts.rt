@@ -1,0 +1,50 @@
+//! Amounts by number, in few bits where these are enough. It stands on nothing else.
+
+use crate::NoMemory;
+use std::alloc::Global;
+
+/// The most that 32 bits hold.
+const MOST_OF_FEW: u64 = 4_294_967_295;
+
+/// Amounts by number, all in 32 bits or all in 64.
+///
+/// One that is too large for its bits becomes the largest, which gives a wrong hint and nothing worse. Past the end there is
+/// nothing.
+#[derive(Debug, Drop)]
+pub struct Amounts {
+    narrow: Vec<u32>,
+    wide: Vec<u64>,
+}
+
+impl Amounts {
+    /// Nothing at each of so many places.
+    pub fn new(alloc: Global, count: usize, is_narrow: bool) -> Result<Amounts, NoMemory> {
+        let (narrow, wide) = if is_narrow { (count, 0) } else { (0, count) };
+        Ok(Amounts {
+            narrow: vec![in alloc; 0u32; narrow]?,
+            wide: vec![in alloc; 0u64; wide]?,
+        })
+    }
+
+    /// The amount at a place.
+    #[inline]
+    pub fn get(&self, place: usize) -> u64 {
+        if place < self.narrow.len() {
+            u64::from(self.narrow[place])
+        } else if place < self.wide.len() {
+            self.wide[place]
+        } else {
+            0
+        }
+    }
+
+    /// Writes the amount at a place.
+    #[inline]
+    pub fn set(&mut self, place: usize, amount: u64) {
+        if place < self.narrow.len() {
+            self.narrow[place] = amount.min(MOST_OF_FEW) as u32;
+        } else if place < self.wide.len() {
+            self.wide[place] = amount;
+        }
+    }
+}
