@@ -87,9 +87,10 @@ pub fn plain_mesh(
     ensures rising { IfOk result (λ mesh. AllPairs IsBefore mesh.faces.items) }
 {
     let indices = indices(alloc, points)?;
+    let arcs = voted.net.arcs.to_vec(alloc)?;
     let cut = cut(
         alloc,
-        voted.net.arcs.as_slice(),
+        &arcs,
         labels.inside.as_slice(),
         voted.facets.as_slice(),
     )?;

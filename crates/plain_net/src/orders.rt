@@ -39,9 +39,9 @@ fn is_same_arc(one: &Voted, arc: &Arc, other: &Voted, like: &Arc) -> bool {
 
 /// Whether an arc of a network says the same as the arc of another with the same facet.
 fn has_arc(one: &Voted, place: usize, arc: &Arc, other: &Voted) -> bool {
-    for (k, like) in other.net.arcs.as_slice().iter().enumerate() {
+    for k in 0..other.net.arcs.len() {
         if facet_of(one, Some(place)) == facet_of(other, Some(k)) {
-            return is_same_arc(one, arc, other, like);
+            return is_same_arc(one, arc, other, &other.net.arcs.at(k));
         }
     }
     false
@@ -54,12 +54,12 @@ pub fn is_same_in_any_order(one: &Voted, other: &Voted) -> bool {
             return false;
         }
     }
-    for (place, arc) in one.net.arcs.as_slice().iter().enumerate() {
-        if !has_arc(one, place, arc, other) {
+    for place in 0..one.net.arcs.len() {
+        if !has_arc(one, place, &one.net.arcs.at(place), other) {
             return false;
         }
     }
     one.cells.as_slice().len() == other.cells.as_slice().len()
         && one.facets.as_slice().len() == other.facets.as_slice().len()
-        && other.facets.as_slice().len() == other.net.arcs.as_slice().len()
+        && other.facets.as_slice().len() == other.net.arcs.len()
 }

@@ -4,8 +4,8 @@
 ghost use Rattle.std.specs.Prelude.{IfOk};
 ghost use Rattle.scan.specs.Views.{shown_of};
 ghost use Rattle.solution.specs.Scans.{scene_of_scan};
-ghost use Rattle.visibility.specs.Networks.{IsNetworkInAnyOrder};
-ghost use Rattle.vote_net.specs.Counts.{AreCellsOf, AreIdsOf};
+ghost use Rattle.vote_net.specs.Counts.{AreCellsOf};
+ghost use Rattle.vote_net.specs.StoredNetworks.{IsStoredNetwork};
 ghost use Rattle.recon_build.specs.Stored.{IsStoreOf};
 
 use crate::NoMemory;
@@ -15,23 +15,24 @@ use scan::Scan;
 use solution::seen_in;
 use std::alloc::Global;
 use tetra_store::Tetra;
-use vote_net::Counted;
-use votes::count_votes;
+use vote_net::StoreNet;
+use votes::count_votes_alone;
 
-/// The linked Delaunay cells of a scan's points, and the network over them, with the cell that each node stands for.
+/// The linked Delaunay cells of a scan's points, the network over them without the lists of its cells and facets, and which cells are
+/// fixed.
 pub(crate) fn network(
     alloc: Global,
     scan: &Scan,
     settings: Settings,
-) -> Result<(Tetra, Counted), NoMemory>
+) -> Result<(Tetra, StoreNet, Vec<bool>), NoMemory>
     ensures store { IfOk result (λ made. IsStoreOf (shown_of scan.now) settings made.0) }
     ensures cells { IfOk result (λ made. AreCellsOf (scene_of_scan (shown_of scan.now) settings) made.0.slots) }
-    ensures network { IfOk result (λ made. IsNetworkInAnyOrder (scene_of_scan (shown_of scan.now) settings) made.1.voted) }
-    ensures ids { IfOk result (λ made. AreIdsOf made.0.slots made.1.voted.cells made.1.ids.items) }
+    ensures network { IfOk result (λ made. IsStoredNetwork (scene_of_scan (shown_of scan.now) settings) made.0.slots made.2.items made.1.net made.1.ids.items) }
 {
     let seen = seen_in(alloc, scan)?;
     let tetra = build(alloc, &seen.points)?;
     tetra.facts();
-    let counted = count_votes(alloc, &tetra, &seen.scene(scan, settings))?;
-    Ok((tetra, counted))
+    let counted = count_votes_alone(alloc, &tetra, &seen.scene(scan, settings))?;
+    let (made, fixed) = counted;
+    Ok((tetra, made, fixed))
 }

@@ -6,6 +6,7 @@ ghost use Rattle.cert_text.specs.Certificates.{claim_of, stamp_view, IsWellForme
 ghost use Rattle.geo_sign.specs.Vertices.{corners};
 ghost use Rattle.mesh_ply.specs.Meshes.{IsMesh};
 ghost use Rattle.scan.specs.Views.{shown_of};
+ghost use Rattle.flow_net.specs.Flows.{IsLeastInside, IsValidFlow, cost_of, value_of};
 ghost use Rattle.visibility.specs.Laws.{test_of};
 ghost use Rattle.visibility.specs.Listings.{IsListingOf};
 ghost use Rattle.visibility.specs.Networks.{complex_of, IsNetworkInAnyOrder};
@@ -14,7 +15,8 @@ ghost use Rattle.solution.specs.Scans.{points_of, scene_of_scan};
 ghost use Rattle.solution.specs.Solutions.{HasCounts, IsCertificate, IsSolution, surface_of};
 ghost use Rattle.surface.specs.Closed.{IsClosed};
 ghost use Rattle.surface.specs.Labelled.{Cutting};
-ghost use Rattle.recon_build.specs.MinimumCuts.{IsMinimumCut};
+ghost use Rattle.flow_net.specs.declared.Voted.{Voted};
+ghost use Rattle.recon_build.specs.MinimumCuts.{IsCutOf};
 ghost use Rattle.recon_build.specs.Stored.{IsStoreOf};
 
 use crate::NoMemory;
@@ -22,14 +24,14 @@ use crate::network::network;
 use crate::rows::{flow_rows, inside_rows, sink_rows};
 use cert_text::{Certificate, Stamp};
 use flow_net::{Flow, Labels, Settings, Voted};
-use max_flow::{least_inside, solve};
+use max_flow::minimum_cut;
 use mesh_ply::Mesh;
 use scan::Scan;
 use solution::least_cost;
 use std::alloc::Global;
 use surface::facets;
 use tetra_store::Tetra;
-use vote_net::Counted;
+use vote_net::{Counted, listed};
 
 /// A surface, and the certificate that shows it best.
 #[derive(Drop)]
@@ -42,12 +44,14 @@ pub struct Solved {
     pub cert: Certificate,
 }
 
-/// A network, its least-inside labels, and a flow that is worth what they cost.
+/// The cells and facets of a network, its least-inside labels, what these cost, and a flow that is worth as much.
 #[derive(Clone, Copy)]
 struct MinimumCut<'a> {
-    voted: &'a Voted,
+    cells: &'a [[u32; 4]],
+    facets: &'a [[u32; 3]],
     labels: &'a Labels,
     flow: &'a Flow,
+    cost: u64,
 }
 
 /// The certificate of a minimum cut of the network of a scan's cells, with this stamp or none.
@@ -60,19 +64,18 @@ fn certificate(
     stamp: Option<Stamp>,
 ) -> Result<Certificate, NoMemory>
     requires points { tetra.now.points ≡ corners ++ points_of (shown_of scan.now) }
-    requires network { IsNetworkInAnyOrder (scene_of_scan (shown_of scan.now) settings) cut.now.voted.now }
-    requires cut { IsMinimumCut cut.now }
     ensures counts { IfOk result (λ cert. HasCounts (claim_of cert) (shown_of scan.now) settings) }
-    ensures states { (listing : IsListingOf (scene_of_scan (shown_of scan.now) settings) (complex_of cut.now.voted.now)) → IfOk result (λ cert. IsCertificate (scene_of_scan (shown_of scan.now) settings) listing.complex (test_of cut.now.voted.now.cells cut.now.labels.now.inside) (claim_of cert)) }
-    ensures well_formed { IfOk result (λ cert. IsWellFormed (claim_of cert)) }
+    ensures states { (voted : Voted) → IsCutOf (scene_of_scan (shown_of scan.now) settings) voted cut.now → (listing : IsListingOf (scene_of_scan (shown_of scan.now) settings) (complex_of voted)) → IfOk result (λ cert. IsCertificate (scene_of_scan (shown_of scan.now) settings) listing.complex (test_of voted.cells cut.now.labels.now.inside) (claim_of cert)) }
+    ensures well_formed { (voted : Voted) → IsCutOf (scene_of_scan (shown_of scan.now) settings) voted cut.now → IfOk result (λ cert. IsWellFormed (claim_of cert)) }
     ensures stamp { IfOk result (λ cert. (claim_of cert).stamp ≡ option_map stamp_view stamp) }
 {
     let MinimumCut {
-        voted,
+        cells,
+        facets,
         labels,
         flow,
+        cost,
     } = *cut;
-    let cells = voted.cells.as_slice();
     Ok(Certificate {
         stamp,
         points: tetra.vertex_count() - 8,
@@ -80,20 +83,22 @@ fn certificate(
         sights: scan.seen.len() as u32,
         vote: settings.vote,
         smooth: settings.smooth,
-        cost: least_cost(scan, settings, voted, labels),
+        cost,
         inside: inside_rows(alloc, cells, labels.inside.as_slice())?,
-        flow: flow_rows(alloc, voted.facets.as_slice(), flow.on_arc.as_slice())?,
+        flow: flow_rows(alloc, facets, flow.on_arc.as_slice())?,
         sink: sink_rows(alloc, cells, flow.on_sink.as_slice())?,
     })
 }
 
-/// The best labels of a scan's cells, their mesh and their certificate, which has this stamp or none.
+/// The mesh of the best labels of a scan's cells and their certificate, which has this stamp or none.
 fn solve_over(
     alloc: Global,
     scan: &Scan,
     settings: Settings,
     tetra: Tetra,
     counted: Counted,
+    flow: Flow,
+    labels: Labels,
     stamp: Option<Stamp>,
 ) -> Result<Solved, NoMemory>
     ghost cutting: { Cutting }
@@ -103,6 +108,9 @@ fn solve_over(
     requires cells { AreCellsOf (scene_of_scan (shown_of scan.now) settings) tetra.slots }
     requires network { IsNetworkInAnyOrder (scene_of_scan (shown_of scan.now) settings) counted.voted }
     requires ids { AreIdsOf tetra.slots counted.voted.cells counted.ids.items }
+    requires flow { IsValidFlow counted.voted.net flow }
+    requires least { IsLeastInside counted.voted.net labels }
+    requires equal { cost_of counted.voted.net labels ≡ value_of counted.voted.net flow }
     ensures solution { IfOk result (λ solved. IsSolution (shown_of scan.now) settings (surface_of solved.mesh) (claim_of solved.cert)) }
     ensures valid { IfOk result (λ solved. IsMesh solved.mesh.points.items solved.mesh.faces.items) }
     ensures well_formed { IfOk result (λ solved. IsWellFormed (claim_of solved.cert)) }
@@ -110,14 +118,21 @@ fn solve_over(
     ensures tetra { IfOk result (λ solved. IsStoreOf (shown_of scan.now) settings solved.tetra) }
     ensures closed { IfOk result (λ solved. IsClosed solved.mesh.faces.items) }
 {
-    let voted = counted.voted;
-    let flow = solve(alloc, &voted.net)?;
-    let labels = least_inside(alloc, &voted.net, &flow)?;
-    let mesh = facets(alloc, &tetra, &counted.ids, &labels)?;
+    let Counted { voted, ids } = counted;
+    let mesh = facets(alloc, &tetra, &ids, &labels)?;
+    let cost = least_cost(scan, settings, &voted, &labels);
+    // The network is let go of before the rows take memory.
+    let Voted {
+        cells,
+        facets: sides,
+        ..
+    } = voted;
     let cut = MinimumCut {
-        voted: &voted,
+        cells: cells.as_slice(),
+        facets: sides.as_slice(),
         labels: &labels,
         flow: &flow,
+        cost,
     };
     let cert = certificate(alloc, scan, settings, &tetra, &cut, stamp)?;
     Ok(Solved { tetra, mesh, cert })
@@ -142,6 +157,8 @@ pub fn solve_scan(
     ensures tetra { IfOk result (λ solved. IsStoreOf (shown_of scan.now) settings solved.tetra) }
     ensures closed { IfOk result (λ solved. IsClosed solved.mesh.faces.items) }
 {
-    let (tetra, counted) = network(alloc, scan, settings)?;
-    solve_over(alloc, scan, settings, tetra, counted, stamp)
+    let (tetra, made, fixed) = network(alloc, scan, settings)?;
+    let (flow, labels) = minimum_cut(alloc, &made.net)?;
+    let counted = listed(alloc, &tetra, &fixed, made)?;
+    solve_over(alloc, scan, settings, tetra, counted, flow, labels, stamp)
 }

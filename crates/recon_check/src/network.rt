@@ -14,7 +14,7 @@ use solution::SeenPoints;
 use std::alloc::Global;
 use tetra_store::Tetra;
 use vote_net::Counted;
-use votes::count_votes_rising;
+use votes::count_votes;
 
 /// The cells of a scan and the network over them.
 #[derive(Drop)]
@@ -38,6 +38,6 @@ pub fn network_of(
 {
     let linked = build(alloc, &seen.points)?;
     linked.facts();
-    let counted = count_votes_rising(alloc, &linked, &seen.scene(scan, settings))?;
+    let counted = count_votes(alloc, &linked, &seen.scene(scan, settings))?;
     Ok(Network { linked, counted })
 }

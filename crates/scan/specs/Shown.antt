@@ -8,7 +8,7 @@
 --   shown_by rows      what the rows of a scan show
 --   IsSeen p s         a sight of one of p points from one of s scanners, of a weight that a sight may have
 --   IsNoEarlier, WeighsAlike   a sight is of no earlier row than one before it, and weighs the same in the same row
---   IsShown            what a scan may show (`IsShown` of `recon_check` is another: what solves a scan)
+--   IsShown            what a scan may show
 use Rattle.std.specs.Prelude.{ℕ, ◌+◌, ◌≡◌, ◌<◌, ◌≤◌, List, [], ◌∷◌, ◌++◌, length, map, All, AllPairs}
 use Rattle.geo_sign.specs.Point.{Point, IsWithin}
 use Rattle.geo_sign.specs.declared.point.TheConstants.{DATA_LIMIT}

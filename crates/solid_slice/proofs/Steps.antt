@@ -1,7 +1,6 @@
 -- The numbers of a step, as the code computes them.
-use Rattle.std.proofs.Common.{ℕ, ◌≡◌, ◌+◌, ◌*◌, ◌<◌, ◌≤◌, refl, ap, ◌∙◌, arith, true, false, List, length, get_or}
+use Rattle.std.proofs.Common.{ℕ, ◌≡◌, ◌+◌, ◌*◌, ◌<◌, ◌≤◌, refl, ap, ◌∙◌, subst, arith, true, false, List, length, get_or}
 use Rattle.std.proofs.Common.{ℤ, pos, ◌+ℤ◌, ◌-ℤ◌, ◌*ℤ◌, unsigned_abs}
-use Rattle.std.specs.List.{All}
 use Rattle.std.specs.Int.Signed.{lt_z}
 use Rattle.std.proofs.lemmas.Int.{ints}
 use Rattle.std.proofs.lemmas.List.{get_or_default}
@@ -38,24 +37,29 @@ pub along_is : {f t d c f' t' d' c' r : ℤ} → r ≡ f *ℤ d +ℤ (t -ℤ f) 
     → r ≡ f' *ℤ d' +ℤ (t' -ℤ f') *ℤ c'
 along_is e p q r s = cc
 
-module _ (points : List Point) (boxed : All (IsWithin 8388608) points) (i : ℕ) (l : i < length points) (p : Point)
-    (is : p ≡ get_or points i p) (r s : ℤ) (stored : r ≡ kept w32 s) where
+-- point i, which was read as p
+module _ (points : List Point) (i : ℕ) (l : i < length points) (p : Point) (is : p ≡ get_or points i p)
+    (within : IsWithin 8388608 p) where
   here : p ≡ point_at points i
   here = is ∙ get_or_default points i p origin l
 
-  pub held_x : s ≡ p.x → Held 8388608 (kept w64 r) (point_at points i).x
-  held_x e = held_coordinate r s (point_at points i).x stored (e ∙ ap (λ (q : Point). q.x) here) (boxed i origin l).x_within
+  pub point_within : IsWithin 8388608 (point_at points i)
+  point_within = subst (λ (q : Point). IsWithin 8388608 q) here within
 
-  pub held_y : s ≡ p.y → Held 8388608 (kept w64 r) (point_at points i).y
-  held_y e = held_coordinate r s (point_at points i).y stored (e ∙ ap (λ (q : Point). q.y) here) (boxed i origin l).y_within
+  pub held_x : (r s : ℤ) → r ≡ kept w32 s → s ≡ p.x → Held 8388608 (kept w64 r) (point_at points i).x
+  held_x r s stored e =
+      held_coordinate r s (point_at points i).x stored (e ∙ ap (λ (q : Point). q.x) here) point_within.x_within
 
-  pub held_z : s ≡ p.z → Held 8388608 (kept w64 r) (point_at points i).z
-  held_z e = held_coordinate r s (point_at points i).z stored (e ∙ ap (λ (q : Point). q.z) here) (boxed i origin l).z_within
+  pub held_y : (r s : ℤ) → r ≡ kept w32 s → s ≡ p.y → Held 8388608 (kept w64 r) (point_at points i).y
+  held_y r s stored e =
+      held_coordinate r s (point_at points i).y stored (e ∙ ap (λ (q : Point). q.y) here) point_within.y_within
 
-pub held_height : (points : List Point) (boxed : All (IsWithin 8388608) points) (i j : ℕ) → i < length points
-    → j < length points → (h r : ℤ) → is_above points h i ≡ false → is_above points h j ≡ true → r ≡ kept w32 h
-    → Held 8388608 (kept w64 r) h
-held_height points boxed i j l m h r low high stored =
+  pub held_z : (r s : ℤ) → r ≡ kept w32 s → s ≡ p.z → Held 8388608 (kept w64 r) (point_at points i).z
+  held_z r s stored e =
+      held_coordinate r s (point_at points i).z stored (e ∙ ap (λ (q : Point). q.z) here) point_within.z_within
+
+pub held_height : (points : List Point) (i j : ℕ) → IsWithin 8388608 (point_at points i) → IsWithin 8388608 (point_at points j)
+    → (h r : ℤ) → is_above points h i ≡ false → is_above points h j ≡ true → r ≡ kept w32 h → Held 8388608 (kept w64 r) h
+held_height points i j first second h r low high stored =
     held_coordinate r h h stored refl
-    (height_within h (point_at points i).z (point_at points j).z low high (boxed i origin l).z_within
-    (boxed j origin m).z_within)
+    (height_within h (point_at points i).z (point_at points j).z low high first.z_within second.z_within)

@@ -1,10 +1,7 @@
 //! Which vertices are above the height, and the edges of a face that go through it.
 
-ghost use Rattle.std.specs.Prelude.{◌≡◌, ◌+◌, ◌<◌, ◌≤◌, ◌^◌, IfSome, IfNone, true, false, length, unsigned_abs, ◌+ℤ◌, ◌-ℤ◌, ◌*ℤ◌, All};
-ghost use Rattle.geo_sign.specs.Point.{IsWithin};
-ghost use Rattle.geo_sign.specs.declared.point.TheConstants.{BOX_LIMIT};
-ghost use Rattle.mesh_ply.specs.Meshes.{IsFace, point_at};
-ghost use Rattle.mesh_ply.specs.Texts.{IsPrinted};
+ghost use Rattle.std.specs.Prelude.{◌≡◌, ◌+◌, ◌<◌, ◌≤◌, ◌^◌, IfSome, IfNone, true, false, length, unsigned_abs, ◌+ℤ◌, ◌-ℤ◌, ◌*ℤ◌};
+ghost use Rattle.mesh_ply.specs.Meshes.{IsFace, IsMesh, point_at};
 ghost use Rattle.solid_slice.specs.Cuts.{is_above, is_cut, is_cut_at, IsUpEdge, IsDownEdge, IsStep, along, rise};
 
 use crate::Mesh;
@@ -88,7 +85,6 @@ fn along_edge(from: i64, to: i64, d: i64, climb: i64) -> i64
 
 /// The step of a face with this up edge: the point where the edge has the height.
 fn step_on(points: &[Point], height: i32, edge: Pair, face: u32) -> Step
-    requires boxed { All (IsWithin BOX_LIMIT) points.now }
     requires lower { edge.first < length points.now }
     requires upper { edge.second < length points.now }
     requires from_below { is_above points.now height edge.first ≡ false }
@@ -100,6 +96,8 @@ fn step_on(points: &[Point], height: i32, edge: Pair, face: u32) -> Step
 {
     let lower = points[edge.first as usize];
     let upper = points[edge.second as usize];
+    lower.facts();
+    upper.facts();
     let low = i64::from(lower.z());
     let d = 2 * (i64::from(upper.z()) - low);
     let climb = 2 * i64::from(height) + 1 - 2 * low;
@@ -110,7 +108,7 @@ fn step_on(points: &[Point], height: i32, edge: Pair, face: u32) -> Step
 
 /// The step of a cut face: the point on its up edge.
 pub(crate) fn step_of(mesh: &Mesh, height: i32, face: u32) -> Step
-    requires valid { IsPrinted mesh.now.points.items mesh.now.faces.items }
+    requires valid { IsMesh mesh.now.points.items mesh.now.faces.items }
     requires cut { is_cut_at mesh.now.points.items mesh.now.faces.items height face ≡ true }
     ensures step { IsStep mesh.now.points.items mesh.now.faces.items height result }
     ensures face { result.face ≡ face }

@@ -1,7 +1,6 @@
 //! Loops, by following next faces.
 
 ghost use Rattle.std.specs.Prelude.{◌≡◌, ◌+◌, ◌<◌, ◌==◌, ℕ, true, false, not, IfOk, All, map, count_by, slice_index};
-ghost use Rattle.mesh_ply.specs.Texts.{IsPrinted};
 ghost use Rattle.mesh_ply.specs.Meshes.{IsMesh};
 ghost use Rattle.solid_slice.specs.Cuts.{is_cut, IsStep};
 ghost use Rattle.solid_slice.specs.Loops.{the_face, ring_faces, IsLoop, AreLoops};
@@ -21,7 +20,7 @@ fn follow(
     visited: &mut [bool],
     start: u32,
 ) -> Result<Vec<Step>, NoMemory>
-    requires valid { IsPrinted mesh.now.points.items mesh.now.faces.items }
+    requires valid { IsMesh mesh.now.points.items mesh.now.faces.items }
     requires next { IsSuccession mesh.now.points.items mesh.now.faces.items height next.now }
     requires between { IsBetweenLoops mesh.now.points.items mesh.now.faces.items height next.now visited.old }
     requires fresh { is_visited visited.old start ≡ false }
@@ -64,7 +63,7 @@ fn loops_of(
     next: &[u32],
     visited: &mut [bool],
 ) -> Result<Vec<Ring>, NoMemory>
-    requires valid { IsPrinted mesh.now.points.items mesh.now.faces.items }
+    requires valid { IsMesh mesh.now.points.items mesh.now.faces.items }
     requires next { IsSuccession mesh.now.points.items mesh.now.faces.items height next.now }
     requires uncut { visited.old ≡ map (λ face. not (is_cut mesh.now.points.items height face)) mesh.now.faces.items }
     ensures loops { IfOk result (λ rings. AreLoops mesh.now.points.items mesh.now.faces.items height (map ring_faces rings.items)) }
@@ -87,7 +86,7 @@ pub(crate) fn rings_of(
     height: i32,
     next: &[u32],
 ) -> Result<Vec<Ring>, NoMemory>
-    requires valid { IsPrinted mesh.now.points.items mesh.now.faces.items }
+    requires valid { IsMesh mesh.now.points.items mesh.now.faces.items }
     requires next { IsSuccession mesh.now.points.items mesh.now.faces.items height next.now }
     ensures loops { IfOk result (λ rings. AreLoops mesh.now.points.items mesh.now.faces.items height (map ring_faces rings.items)) }
     ensures points { IfOk result (λ rings. All (λ ring. All (IsStep mesh.now.points.items mesh.now.faces.items height) ring.steps.items) rings.items) }

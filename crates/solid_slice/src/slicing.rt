@@ -1,7 +1,7 @@
 //! Slices of meshes.
 
 ghost use Rattle.std.specs.Prelude.{◌≤◌, IfOk, IfErr, length, map, sum_by};
-ghost use Rattle.mesh_ply.specs.Texts.{IsPrinted};
+ghost use Rattle.mesh_ply.specs.Meshes.{IsMesh};
 ghost use Rattle.solid_slice.specs.Edges.{IsBalanced};
 ghost use Rattle.solid_slice.specs.Slices.{steps_of, IsSlice};
 ghost use Rattle.solid_slice.specs.Refusals.{IsRefused};
@@ -23,7 +23,7 @@ use std::alloc::Global;
 /// `Unbalanced` exactly where some directed edge occurs another number of times than its reverse: then no loops need close.
 /// `NoMemory` says nothing of the mesh.
 pub fn slice(alloc: Global, mesh: &Mesh, height: i32) -> Result<Vec<Ring>, SliceRefusal>
-    requires { IsPrinted mesh.now.points.items mesh.now.faces.items }
+    requires { IsMesh mesh.now.points.items mesh.now.faces.items }
     ensures balanced { IfOk result (λ _. IsBalanced mesh.now.faces.items) }
     ensures slice { IfOk result (λ rings. IsSlice mesh.now.points.items mesh.now.faces.items height (map steps_of rings.items)) }
     ensures few { IfOk result (λ rings. sum_by (λ ring. length ring) (map steps_of rings.items) ≤ length mesh.now.faces.items) }

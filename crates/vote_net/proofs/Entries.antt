@@ -102,10 +102,12 @@ unfolding key_of
 rows_rise n [] m r = r
 rows_rise n (e ∷ es) m r = (r.0, rows_rise (e.0 + 1) es m r.1)
 
+pub all_rows_rise : (slots : List (Option Cell)) → Rises id_of_row 0 (all_rows slots) (0 + length slots)
+all_rows_rise slots = rows_rise 0 (entries_from 0 slots) (0 + length slots) (entries_rise 0 slots)
+
 pub rows_apart : (slots : List (Option Cell)) → AreApart id_of_row (all_rows slots)
 rows_apart slots =
-    rises_apart id_of_row 0 (all_rows slots) (0 + length slots)
-    (rows_rise 0 (entries_from 0 slots) (0 + length slots) (entries_rise 0 slots))
+    rises_apart id_of_row 0 (all_rows slots) (0 + length slots) (all_rows_rise slots)
 
 one_rises : (fixed : List Bool) (e : ℕ × Cell) (k : ℕ) → Rises number_of_side (4 * e.0 + k) (side_if_open fixed e k)
     (4 * e.0 + (k + 1))
@@ -139,10 +141,13 @@ sides_rise fixed n (e ∷ es) m r =
     (rises_append number_of_side (4 * e.0) (open_at fixed e) (4 * (e.0 + 1)) (flat_map (open_at fixed) es) (4 * m)
     (open_rises fixed e) (sides_rise fixed (e.0 + 1) es m r.1))
 
+pub all_open_rise : (fixed : List Bool) (slots : List (Option Cell))
+    → Rises number_of_side (4 * 0) (all_open fixed slots) (4 * (0 + length slots))
+all_open_rise fixed slots = sides_rise fixed 0 (entries_from 0 slots) (0 + length slots) (entries_rise 0 slots)
+
 pub sides_apart : (fixed : List Bool) (slots : List (Option Cell)) → AreApart number_of_side (all_open fixed slots)
 sides_apart fixed slots =
-    rises_apart number_of_side (4 * 0) (all_open fixed slots) (4 * (0 + length slots))
-    (sides_rise fixed 0 (entries_from 0 slots) (0 + length slots) (entries_rise 0 slots))
+    rises_apart number_of_side (4 * 0) (all_open fixed slots) (4 * (0 + length slots)) (all_open_rise fixed slots)
 
 cut_rises_at : (outside : List Bool) (e : ℕ × Cell) → Rises number_of_side (4 * e.0) (cut_at outside e) (4 * (e.0 + 1))
 unfolding cut_at
@@ -273,7 +278,7 @@ module _ (slots : List (Option Cell)) where
       by e at true f g = (open_is outside e x at g, ap (flag_at outside) (id_of_open outside e x g) ∙ f)
       by e at false f g = absurd (omega (arith, g.1))
 
-  one_there : (fixed : List Bool) (e : ℕ × Cell) (k other : ℕ) → get_or e.1.next k None ≡ Some other
+  pub one_there : (fixed : List Bool) (e : ℕ × Cell) (k other : ℕ) → get_or e.1.next k None ≡ Some other
       → flag_at fixed other ≡ false
       → Contains (side_if_open fixed e k) (side_at e k)
   unfolding side_if_open

@@ -4,3 +4,5 @@ pub mod Counts
 pub mod Tables
 pub mod CountLaws
 pub mod StoredCells
+pub mod StoredNetworks
+pub mod CutSides

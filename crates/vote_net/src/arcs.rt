@@ -12,17 +12,17 @@ use crate::network::StoreCounts;
 use crate::rows::Row;
 use crate::sides::{Side, facet_row, flag};
 use crate::tables::{arc_numbers, entry, node_numbers};
-use flow_net::{Arc, Settings};
+use flow_net::{Arc, Arcs, Settings};
 use std::alloc::Global;
 use tetra_store::{CellId, Tetra};
 
 /// What arcs are made with: by a cell's number its node and whether it is fixed, by a side's number its arc and its crossings.
 #[derive(Clone, Copy)]
-struct Tables<'a> {
-    nodes: &'a [u32],
-    numbers: &'a [u32],
-    crossed: &'a [u32],
-    fixed: &'a [bool],
+pub(crate) struct Tables<'a> {
+    pub(crate) nodes: &'a [u32],
+    pub(crate) numbers: &'a [u32],
+    pub(crate) crossed: &'a [u32],
+    pub(crate) fixed: &'a [bool],
 }
 
 /// The side of a cell that has a directed facet.
@@ -84,7 +84,7 @@ fn reverse(t: &Tetra, tables: Tables<'_>, side: &Side, other: CellId) -> usize
 
 /// The arc of a side with a cell across.
 #[tactic(auto, unfolding(crate::specs::Tables::arc_from))]
-fn arc(t: &Tetra, tables: Tables<'_>, settings: Settings, side: &Side) -> Arc
+pub(crate) fn arc(t: &Tetra, tables: Tables<'_>, settings: Settings, side: &Side) -> Arc
     requires { CanJoin t.now.slots side.now }
     ensures { result ≡ arc_from t.now.slots tables.entry.nodes.now tables.entry.numbers.now tables.entry.crossed.now tables.entry.fixed.now settings side.now }
 {
@@ -108,11 +108,11 @@ fn arcs_with(
     tables: Tables<'_>,
     settings: Settings,
     sides: &[Side],
-) -> Result<Vec<Arc>, NoMemory>
+) -> Result<Arcs, NoMemory>
     requires { (x : Side) → Contains sides.now x → CanJoin t.now.slots x }
-    ensures { IfOk result (λ arcs. arcs.items ≡ map (arc_from t.now.slots tables.entry.nodes.now tables.entry.numbers.now tables.entry.crossed.now tables.entry.fixed.now settings) sides.now) }
+    ensures { IfOk result (λ arcs. arcs ≡ map (arc_from t.now.slots tables.entry.nodes.now tables.entry.numbers.now tables.entry.crossed.now tables.entry.fixed.now settings) sides.now) }
 {
-    let mut arcs = Vec::with_capacity(alloc, sides.len())?;
+    let mut arcs = Arcs::with_capacity(alloc, sides.len())?;
     for side in sides {
         arcs.push(arc(t, tables, settings, side))?;
     }
@@ -127,7 +127,7 @@ pub(crate) fn arcs_of(
     settings: Settings,
     rows: &[Row],
     sides: &[Side],
-) -> Result<Vec<Arc>, NoMemory>
+) -> Result<Arcs, NoMemory>
     requires few_rows { length rows.now < 2 ^ 32 }
     requires few_sides { length sides.now < 2 ^ 32 }
     requires ids { (r : Row) → Contains rows.now r → id_of_row r < length counts.now.fixed.now }
@@ -135,7 +135,7 @@ pub(crate) fn arcs_of(
     requires apart_rows { AreApart id_of_row rows.now }
     requires apart_sides { AreApart number_of_side sides.now }
     requires joins { (x : Side) → Contains sides.now x → CanJoin t.now.slots x }
-    ensures { IfOk result (λ arcs. AreArcs t.now.slots rows.now sides.now counts.now.crossed.now counts.now.fixed.now settings arcs.items) }
+    ensures { IfOk result (λ arcs. AreArcs t.now.slots rows.now sides.now counts.now.crossed.now counts.now.fixed.now settings arcs) }
 {
     let nodes = node_numbers(alloc, rows, counts.fixed.len())?;
     let numbers = arc_numbers(alloc, sides, counts.crossed.len())?;

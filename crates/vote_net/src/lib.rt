@@ -2,7 +2,8 @@
 //!
 //! What sights vote for is counted elsewhere, by the numbers that cells have in the store. Here the nodes and arcs are
 //! listed and numbered, in the store's order or in the rising one: `rows` lists the cells, `sides` the facets, `tables` finds their
-//! indices, `arcs` makes the arcs, and `network` the whole.
+//! indices, `arcs` makes the arcs, `numbering` and `passes` number and make those of the store's order without a list of sides, and
+//! `network` the whole.
 //! `cells` is the list of all cells, and `laws` says what the counts are however a cell is written.
 #![tactic(auto)]
 
@@ -11,6 +12,8 @@ mod cells;
 mod keys;
 mod laws;
 mod network;
+mod numbering;
+mod passes;
 mod rows;
 mod sides;
 mod tables;
@@ -20,7 +23,9 @@ mod tests;
 pub use cells::rising_cells;
 pub use keys::{cell_key, facet_key};
 pub use laws::{cell_count_law, facet_count_law, stored_cells_law};
-pub use network::{Counted, StoreCounts, assemble, assemble_rising};
+pub use network::{
+    Counted, StoreCounts, StoreNet, assemble, assemble_alone, assemble_rising, listed,
+};
 pub use sides::{Side, sorted_cut};
 use std::alloc::AllocError;
 

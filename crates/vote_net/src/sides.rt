@@ -6,7 +6,8 @@ ghost use Rattle.geo_sign.specs.Tetrahedron.{facet_at, numbers_of};
 ghost use Rattle.flow_net.specs.Nets.{flag_at};
 ghost use Rattle.tetra_store.specs.Links.{tetrahedron_from, next_in};
 ghost use Rattle.vote_net.specs.CellRows.{least_first as least_first_in, facet_row as facet_row_in};
-ghost use Rattle.vote_net.specs.Gathered.{side_if_open, open_at, cut_at, key_of_side, all_open, all_cut};
+ghost use Rattle.vote_net.specs.CutSides.{AreCutSides};
+ghost use Rattle.vote_net.specs.Gathered.{side_at, side_if_open, open_at, cut_at, key_of_side, all_open, all_cut};
 
 use crate::NoMemory;
 use crate::keys::facet_key;
@@ -63,6 +64,18 @@ pub(crate) fn facet_row(v: [u32; 4], side: u8) -> [u32; 3]
     }
 }
 
+/// The side of a cell.
+pub(crate) fn side_of(id: CellId, cell: &Cell, side: u8) -> Side
+    requires { side < 4 }
+    ensures { result ≡ side_at (id, cell.now) side }
+{
+    Side {
+        facet: facet_row(cell.v, side),
+        side,
+        id,
+    }
+}
+
 /// Appends a side where the cell across is free.
 #[tactic(auto, unfolding(crate::specs::Gathered::side_if_open))]
 fn push_if_open(
@@ -77,11 +90,7 @@ fn push_if_open(
 {
     if let Some(other) = cell.next[side as usize] {
         if !flag(fixed, other) {
-            sides.push(Side {
-                facet: facet_row(cell.v, side),
-                side,
-                id,
-            })?;
+            sides.push(side_of(id, cell, side))?;
         }
     }
     Ok(())
@@ -165,8 +174,9 @@ fn cut_sides(alloc: Global, t: &Tetra, outside: &[bool]) -> Result<Vec<Side>, No
     Ok(sides)
 }
 
-/// The sides of outside cells with an inside cell across, in the order of their facets.
+/// The sides of outside cells with an inside cell across, each once, in the order of their facets.
 pub fn sorted_cut(alloc: Global, t: &Tetra, outside: &[bool]) -> Result<Vec<Side>, NoMemory>
+    ensures sides { IfOk result (λ sides. AreCutSides t.now.slots outside.now sides.items) }
     ensures moved { IfOk result (λ sides. IsPermutation (all_cut outside.now t.now.slots) sides.items) }
     ensures sorted { IfOk result (λ sides. IsNonDecreasingBy key_of_side sides.items) }
 {

@@ -18,8 +18,7 @@ use Rattle.cell_laws.proofs.SightPaths.{that_is, that_itself, count_none}
 use Rattle.tetra_store.specs.Links.{links_of, IsLive}
 use Rattle.tetra_store.specs.Store.{Store, vertices_of}
 use Rattle.tetra_store.proofs.Observed.{slot_in}
-use Rattle.sight.specs.declared.along.Crossing.{Crossing}
-use Rattle.sight.specs.Walks.{Walk, IsSight, IsTaken}
+use Rattle.sight.specs.Walks.{Walk, IsSight, IsGoneOn}
 use Rattle.votes.specs.declared.tally.Line.{Line}
 use Rattle.votes.specs.Counts.{is_crossed_at, is_behind_at}
 use Rattle.votes.specs.Lines.{added_on, added_behind, HasRoom, IsCountedStep}
@@ -135,9 +134,9 @@ at_most true amount = omega arith
 at_most false amount = omega arith
 
 -- ---- a step of the walk
-pub in_range : (s : Store) (from to : Walk) (xs : List ℕ) (c : Crossing) → from.store ≡ s → 4 * length s.slots ≤ length xs →
-    IsTaken from to c → 4 * to.at + to.entered < length xs
-in_range s from to xs c e h t =
+pub in_range : (s : Store) (from to : Walk) (xs : List ℕ) → from.store ≡ s → 4 * length s.slots ≤ length xs →
+    IsGoneOn from to → 4 * to.at + to.entered < length xs
+in_range s from to xs e h t =
     let l : IsLive (links_of s.slots) to.at = subst (λ (u : Store). IsLive (links_of u.slots) to.at) e t.live in
     let r = slot_in s.slots to.at l in
     let m = t.side_in in
@@ -150,13 +149,13 @@ pub counted_on : (s : Store) (amount : ℕ) (from to : Walk) (beside total : (id
 counted_on s amount from to beside total xs ys h fits step =
     subst (λ (zs : List ℕ). IsCounting s amount to beside total zs) (sym step.raised)
     (record {
-      store = step.taken.same.0 ∙ h.store;
+      store = step.on.same.0 ∙ h.store;
       sums = λ id k m.
           (let one =
-          count_step amount id k (side to.at to.entered) to.to_come xs m step.taken.side_in
-          (in_range s from to xs step.crossing h.store fits step.taken) in
+          count_step amount id k (side to.at to.entered) to.to_come xs m step.on.side_in
+          (in_range s from to xs h.store fits step.on) in
           let all : adds amount (side id k) from.to_come ≡ adds amount (side id k) (side to.at to.entered ∷ to.to_come) =
-          ap (λ (ds : List Side). adds amount (side id k) ds) step.taken.first in
+          ap (λ (ds : List Side). adds amount (side id k) ds) step.on.first in
           let sum = h.sums id k m in
           omega (arith, one, all, sum));
     })
@@ -169,7 +168,7 @@ same_length amount from to xs ys step =
 pub shorter : (amount : ℕ) (from to : Walk) (xs ys : List ℕ) → IsCountedStep amount from to xs ys
     → length to.to_come < length from.to_come
 shorter amount from to xs ys step =
-    let e : length from.to_come ≡ length to.to_come + 1 = ap length step.taken.first ∙ plus in omega (arith, e)
+    let e : length from.to_come ≡ length to.to_come + 1 = ap length step.on.first ∙ plus in omega (arith, e)
   where
     plus : length (side to.at to.entered ∷ to.to_come) ≡ length to.to_come + 1
     plus = omega arith

@@ -14,8 +14,7 @@ use Rattle.geo_sign.specs.Vertices.{Has}
 use Rattle.cell_laws.specs.Links.{Side}
 use Rattle.flow_net.specs.declared.votes.Sight.{Sight}
 use Rattle.tetra_store.specs.Store.{Store, vertices_of}
-use Rattle.sight.specs.declared.along.Crossing.{Crossing}
-use Rattle.sight.specs.Walks.{Walk, IsTaken, IsEndCell}
+use Rattle.sight.specs.Walks.{Walk, IsGoneOn, IsEndCell}
 use Rattle.votes.specs.declared.tally.Line.{Line}
 use Rattle.votes.specs.Counts.{added_by, is_crossed_at, is_behind_at}
 
@@ -49,6 +48,5 @@ HasRoom sides amount counters =
 
 -- the walk went on by one facet, and the amount was added to its counter
 pub record IsCountedStep (amount : ℕ) (from to : Walk) (old new : List ℕ) : Type 0 where
-  pub crossing : Crossing
-  pub taken : IsTaken from to crossing
+  pub on : IsGoneOn from to
   pub raised : new ≡ set old (4 * to.at + to.entered) (slice_index old (4 * to.at + to.entered) + amount)

@@ -10,6 +10,7 @@ ghost use Rattle.tetra_store.specs.Delaunay.{IsDelaunay};
 ghost use Rattle.tetra_store.specs.Links.{links_of};
 ghost use Rattle.tetra_store.specs.Store.{vertices_of};
 ghost use Rattle.vote_net.specs.Counts.{AreCountsOf, AreIdsOf, IsInStoreOrder};
+ghost use Rattle.vote_net.specs.StoredNetworks.{IsStoredNetwork};
 ghost use Rattle.votes.specs.Counts.{HasCellsOf, IsInRange, AreScannerCells, AreCounted};
 
 use crate::NoMemory;
@@ -21,7 +22,7 @@ use geo_sign::Point;
 use std::alloc::Global;
 use tetra_store::{CellId, Tetra};
 use visibility::Scene;
-use vote_net::{Counted, StoreCounts, assemble, assemble_rising};
+use vote_net::{Counted, StoreCounts, StoreNet, assemble, assemble_alone, assemble_rising};
 
 /// What is counted, by the numbers that cells have in the store: what sights add, and which cells are fixed.
 #[derive(Drop)]
@@ -80,21 +81,9 @@ fn votes_of(alloc: Global, t: &Tetra, scene: &Scene<'_>) -> Result<Votes, NoMemo
 /// The network of the cells of a scene's points, by a walk along each sight.
 ///
 /// All points have to be inserted, and the cells Delaunay, as `delaunay::build` leaves them. Equal sights count as often as they were
-/// seen, each by its weight, and a scanner that sees nothing fixes its cell as well. Nodes and arcs are in the order in which the store
-/// has cells and sides. The only error is want of memory, which also stands for 2^32 cells or facets and more.
+/// seen, each by its weight, and a scanner that sees nothing fixes its cell as well. Nodes are in the order of their cells' rising
+/// numbers, arcs in that of their facets. The only error is want of memory, which also stands for 2^32 cells or facets and more.
 pub fn count_votes(alloc: Global, t: &Tetra, scene: &Scene<'_>) -> Result<Counted, NoMemory>
-    requires cells { HasCellsOf t.now scene.now }
-    requires scene { IsSound scene.now }
-    ensures network { IfOk result (λ counted. IsNetworkInAnyOrder (view_of scene.now) counted.voted) }
-    ensures ids { IfOk result (λ counted. AreIdsOf t.now.slots counted.voted.cells counted.ids.items) }
-    ensures order { IfOk result (λ counted. IsInStoreOrder (view_of scene.now) t.now.slots counted.voted.facets counted.ids.items) }
-{
-    let votes = votes_of(alloc, t, scene)?;
-    assemble(alloc, t, scene, &votes.store_counts())
-}
-
-/// The same network with its cells and facets in rising order, which takes longer.
-pub fn count_votes_rising(alloc: Global, t: &Tetra, scene: &Scene<'_>) -> Result<Counted, NoMemory>
     requires cells { HasCellsOf t.now scene.now }
     requires scene { IsSound scene.now }
     ensures network { IfOk result (λ counted. IsNetworkOf (view_of scene.now) counted.voted) }
@@ -102,4 +91,37 @@ pub fn count_votes_rising(alloc: Global, t: &Tetra, scene: &Scene<'_>) -> Result
 {
     let votes = votes_of(alloc, t, scene)?;
     assemble_rising(alloc, t, scene, &votes.store_counts())
+}
+
+/// The same network with nodes and arcs in the order in which the store has cells and sides, which takes less time.
+pub fn count_votes_as_stored(
+    alloc: Global,
+    t: &Tetra,
+    scene: &Scene<'_>,
+) -> Result<Counted, NoMemory>
+    requires cells { HasCellsOf t.now scene.now }
+    requires scene { IsSound scene.now }
+    ensures network { IfOk result (λ counted. IsNetworkInAnyOrder (view_of scene.now) counted.voted) }
+    ensures ids { IfOk result (λ counted. AreIdsOf t.now.slots counted.voted.cells counted.ids.items) }
+    ensures order { IfOk result (λ counted. IsInStoreOrder t.now.slots counted.voted.facets counted.ids.items) }
+{
+    let votes = votes_of(alloc, t, scene)?;
+    assemble(alloc, t, scene, &votes.store_counts())
+}
+
+/// The network of `count_votes_as_stored` without the lists of its cells and facets, and which cells are fixed, by their numbers in the
+/// store. `vote_net::listed` adds the lists.
+pub fn count_votes_alone(
+    alloc: Global,
+    t: &Tetra,
+    scene: &Scene<'_>,
+) -> Result<(StoreNet, Vec<bool>), NoMemory>
+    requires cells { HasCellsOf t.now scene.now }
+    requires scene { IsSound scene.now }
+    ensures { IfOk result (λ made. IsStoredNetwork (view_of scene.now) t.now.slots made.1.items made.0.net made.0.ids.items) }
+{
+    let votes = votes_of(alloc, t, scene)?;
+    let made = assemble_alone(alloc, t, scene, &votes.store_counts())?;
+    let Votes { fixed, .. } = votes;
+    Ok((made, fixed))
 }

@@ -12,7 +12,7 @@ mod tally;
 #[cfg(test)]
 mod tests;
 
-pub use counting::{count_votes, count_votes_rising};
+pub use counting::{count_votes, count_votes_alone, count_votes_as_stored};
 use std::alloc::AllocError;
 
 /// Want of memory: the one answer that any input may get.

@@ -78,12 +78,11 @@ fn count_next(t: &Tetra, along: &mut SightWalk<'_>, added: u32, crossed: &mut [u
     ensures out { IsFalse result → (along.old.to_come ≡ []) × (along.new ≡ along.old) × (crossed.new ≡ crossed.old) }
 {
     let _store = t;
-    match along.next() {
-        None => false,
-        Some(_crossing) => {
-            crossed[counter_of(along)] += added;
-            true
-        }
+    if along.go_on() {
+        crossed[counter_of(along)] += added;
+        true
+    } else {
+        false
     }
 }
 

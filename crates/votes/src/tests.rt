@@ -1,12 +1,12 @@
-//! `count_votes` and `count_votes_rising` over built cells beside the plain network, on scans whose sights go through other cells, stand
-//! twice, or have scanners in one cell; and the first facet that a sight through the cell of four points crosses.
+//! `count_votes` and `count_votes_as_stored` over built cells beside the plain network, on scans whose sights go through other cells,
+//! stand twice, or have scanners in one cell; and the first facet that a sight through the cell of four points crosses.
 
 ghost use Rattle.std.specs.Prelude.{◌≡◌, ◌<◌, ℕ, All, IfOk, IsTrue, length, get_or};
 ghost use Rattle.geo_sign.specs.declared.point.TheConstants.{DATA_LIMIT};
 ghost use Rattle.geo_sign.specs.Point.{origin, IsWithin};
 ghost use Rattle.visibility.specs.SceneViews.{IsSightOf};
 
-use crate::{count_votes, count_votes_rising};
+use crate::{count_votes, count_votes_as_stored};
 use delaunay::build;
 use flow_net::{Arc, Net, Sequence, Settings, Sight, Voted, are_sights};
 use geo_sign::Point;
@@ -71,12 +71,16 @@ fn are_in_range(scene: &Scene<'_>) -> bool
 }
 
 /// Whether two networks are equal, with what their nodes and arcs stand for.
-fn is_same(one: &Voted, other: &Voted) -> bool {
-    one.cells.as_slice() == other.cells.as_slice()
-        && one.facets.as_slice() == other.facets.as_slice()
-        && one.net.fixed.as_slice() == other.net.fixed.as_slice()
-        && one.net.sink.as_slice() == other.net.sink.as_slice()
-        && one.net.arcs.as_slice() == other.net.arcs.as_slice()
+fn is_same(alloc: Global, one: &Voted, other: &Voted) -> Result<bool, AllocError> {
+    let arcs = one.net.arcs.to_vec(alloc)?;
+    let other_arcs = other.net.arcs.to_vec(alloc)?;
+    Ok(
+        one.cells.as_slice() == other.cells.as_slice()
+            && one.facets.as_slice() == other.facets.as_slice()
+            && one.net.fixed.as_slice() == other.net.fixed.as_slice()
+            && one.net.sink.as_slice() == other.net.sink.as_slice()
+            && arcs.as_slice() == other_arcs.as_slice(),
+    )
 }
 
 /// The network by walks along the sights, with its cells and facets in rising order and in the store's. None where points are not
@@ -92,8 +96,8 @@ fn walked(alloc: Global, scene: &Scene<'_>) -> Result<Option<(Voted, Voted)>, Al
         return Ok(None);
     }
     let t = build(alloc, scene.points)?;
-    let rising = count_votes_rising(alloc, &t, scene)?;
-    let stored = count_votes(alloc, &t, scene)?;
+    let rising = count_votes(alloc, &t, scene)?;
+    let stored = count_votes_as_stored(alloc, &t, scene)?;
     Ok(Some((rising.voted, stored.voted)))
 }
 
@@ -124,7 +128,7 @@ fn agrees(
     }
     let (rising, stored) = walked(alloc, &scene)?.ok_or("a scan")?;
     let plain = plain_net(alloc, &scene)?;
-    Ok(is_same(&rising, &plain) && is_same_in_any_order(&plain, &stored))
+    Ok(is_same(alloc, &rising, &plain)? && is_same_in_any_order(&plain, &stored))
 }
 
 /// The point with these coordinates.
@@ -212,7 +216,7 @@ fn a_sight_through_the_cell_raises_the_facet_that_it_enters(rt: HostRuntime) -> 
         let scene = scene_of(&points, &scanners, &sights)?;
         let (voted, _stored) = walked(rt.alloc(), &scene)?.ok_or("a scan")?;
         assert_eq!(rt; voted.facets.as_slice(), facets.as_slice());
-        let arcs = voted.net.arcs.as_slice();
+        let arcs = voted.net.arcs.to_vec(rt.alloc())?;
         for (arc, cap) in arcs.iter().zip([1, 1, 1, entered]) {
             assert_eq!(rt; arc.cap, cap);
             let inner = voted.cells.as_slice().get(arc.to).copied();
@@ -231,14 +235,14 @@ fn with_other_sink(alloc: Global, voted: &Voted) -> Result<Voted, Fail> {
         alloc,
         voted,
         &sink,
-        voted.net.arcs.as_slice(),
+        &voted.net.arcs.to_vec(alloc)?,
         voted.facets.as_slice(),
     )
 }
 
 /// A network with another capacity of its last arc.
 fn with_other_capacity(alloc: Global, voted: &Voted) -> Result<Voted, Fail> {
-    let mut arcs = voted.net.arcs.as_slice().to_vec(alloc)?;
+    let mut arcs = voted.net.arcs.to_vec(alloc)?;
     let last = arcs.last_mut().ok_or("an arc")?;
     last.cap ^= 1;
     made(
@@ -252,7 +256,8 @@ fn with_other_capacity(alloc: Global, voted: &Voted) -> Result<Voted, Fail> {
 
 /// A network without its last facet and its arc, which has no reverse.
 fn without_last_facet(alloc: Global, voted: &Voted) -> Result<Voted, Fail> {
-    let (_, arcs) = voted.net.arcs.as_slice().split_last().ok_or("an arc")?;
+    let all = voted.net.arcs.to_vec(alloc)?;
+    let (_, arcs) = all.split_last().ok_or("an arc")?;
     let (_, facets) = voted.facets.as_slice().split_last().ok_or("a facet")?;
     made(alloc, voted, voted.net.sink.as_slice(), arcs, facets)
 }

@@ -4,7 +4,7 @@ use Rattle.scan.proofs.ShownLemmas.{scan_is_shown}
 use Rattle.scan.specs.Views.{shown_of}
 use Rattle.scan.specs.Shown.{Shown}
 use Rattle.visibility.specs.Scenes.{Scene}
-use Rattle.visibility.specs.Networks.{IsNetworkInAnyOrder}
+use Rattle.vote_net.specs.StoredNetworks.{IsStoredNetwork}
 use Rattle.vote_net.proofs.Stored.{stored_cells_law}
 use Rattle.solution.specs.Scans.{points_of, sights_of}
 use Rattle.solution.proofs.ScanScenes.{points_within, points_apart}
@@ -25,8 +25,8 @@ pub build-requires-clause-few : goal.build-requires-clause-few
 build-requires-clause-few c =
     omega (arith, ap length c.deref.ensures.value, ap length c.in_ok-seen.ensures.points, few_points c.args.scan.now)
 
-pub count_votes-requires-clause-cells : goal.count_votes-requires-clause-cells
-count_votes-requires-clause-cells c =
+pub count_votes_alone-requires-clause-cells : goal.count_votes_alone-requires-clause-cells
+count_votes_alone-requires-clause-cells c =
     record {
       points =
           rw (c.scene.ensures.points, ← c.in_ok-seen.ensures.points, ← c.deref.ensures.value) c.in_ok-tetra.ensures.points;
@@ -49,5 +49,7 @@ returns-clause-store c =
 
 pub returns-clause-network : goal.returns-clause-network
 returns-clause-network c =
-    subst (λ (s : Scene). IsNetworkInAnyOrder s c.in_ok-counted.counted.voted) c.scene.ensures.scene
-    c.in_ok-counted.ensures.network
+    subst
+    (λ (s : Scene). IsStoredNetwork s c.in_ok-tetra.tetra.slots c.in_ok-counted.counted.1.items c.in_ok-counted.counted.0.net
+    c.in_ok-counted.counted.0.ids.items) c.scene.ensures.scene
+    c.in_ok-counted.ensures

@@ -32,31 +32,30 @@ returns-clause-counts c =
     }
 
 pub returns-clause-states : goal.returns-clause-states
-returns-clause-states c listing =
+returns-clause-states c voted cut listing =
     let s : Scene = scene_of_scan (shown_of c.args.scan.now) c.args.settings in
-    let voted : Voted = c.args.cut.now.voted.now in
     let network : IsNetworkInAnyOrder s voted =
     record {
       listing = listing;
-      fixed_is = c.requires.network.fixed_is;
-      sink_is = c.requires.network.sink_is;
-      arcs_are = c.requires.network.arcs_are;
+      fixed_is = cut.network.fixed_is;
+      sink_is = cut.network.sink_is;
+      arcs_are = cut.network.arcs_are;
     } in
     let few : s.vertices.count ≤ 2 ^ 32 = omega (arith, few_vertices c.args.scan.now c.args.settings) in
-    certificate_is s voted c.args.cut.now.labels.now c.args.cut.now.flow.now _ network c.requires.cut.labels
-    c.requires.cut.flow c.requires.cut.equal
-    c.least_cost.ensures
+    certificate_is s voted c.args.cut.now.labels.now c.args.cut.now.flow.now _ network cut.labels
+    cut.flow cut.equal
+    cut.cost
     (inside_are s few (complex_of voted) listing (test_of voted.cells c.args.cut.now.labels.now.inside) _
-    (inside_moved _ _ _ _ _ _ c.as_slice-cells.ensures c.as_slice.ensures
-    (flags_are s voted c.args.cut.now.labels.now network c.requires.cut.labels) c.in_ok-inside_rows.ensures.moved)
+    (inside_moved _ _ _ _ _ _ cut.cells c.as_slice.ensures
+    (flags_are s voted c.args.cut.now.labels.now network cut.labels) c.in_ok-inside_rows.ensures.moved)
     c.in_ok-inside_rows.ensures.sorted)
     (flow_are s few (complex_of voted) listing (amount_of voted.facets c.args.cut.now.flow.now.on_arc) _
-    (flow_moved _ _ _ _ _ _ c.as_slice-2.ensures c.as_slice-3.ensures
-    (on_arcs_are s voted c.args.cut.now.flow.now network c.requires.cut.flow) c.in_ok-flow_rows.ensures.moved)
+    (flow_moved _ _ _ _ _ _ cut.facets c.as_slice-2.ensures
+    (on_arcs_are s voted c.args.cut.now.flow.now network cut.flow) c.in_ok-flow_rows.ensures.moved)
     c.in_ok-flow_rows.ensures.sorted)
     (sinks_are s few (complex_of voted) listing (amount_of voted.cells c.args.cut.now.flow.now.on_sink) _
-    (sinks_moved _ _ _ _ _ _ c.as_slice-cells.ensures c.as_slice-4.ensures
-    (at_nodes_are s voted c.args.cut.now.flow.now network c.requires.cut.flow) c.in_ok-sink_rows.ensures.moved)
+    (sinks_moved _ _ _ _ _ _ cut.cells c.as_slice-3.ensures
+    (at_nodes_are s voted c.args.cut.now.flow.now network cut.flow) c.in_ok-sink_rows.ensures.moved)
     c.in_ok-sink_rows.ensures.sorted)
   where
     inside_moved : (rows cells given : List (List ℕ)) (flags inside : List Bool) (test : List ℕ → Bool) → given ≡ cells
@@ -81,11 +80,11 @@ returns-clause-states c listing =
         subst (λ (list : List (List ℕ)). IsPermutation (sink_rows list at) rows) a (f at (ap (map at) a ∙ (e ∙ sym b)))
 
 pub returns-clause-well_formed : goal.returns-clause-well_formed
-returns-clause-well_formed c =
+returns-clause-well_formed c voted cut =
     let s : Scene = scene_of_scan (shown_of c.args.scan.now) c.args.settings in
-    let cost : c.least_cost.result < 2 ^ 64 = omega (arith, c.least_cost.type_inv) in
-    well_formed s c.requires.network.listing.complex (test_of c.args.cut.now.voted.now.cells c.args.cut.now.labels.now.inside) _
-    c.requires.network.listing.complex_is (few_vertices c.args.scan.now c.args.settings) (few_sights c.args.scan.now)
+    let cost : c.args.cut.now.cost < 2 ^ 64 = search arith in
+    well_formed s cut.network.listing.complex (test_of voted.cells c.args.cut.now.labels.now.inside) _
+    cut.network.listing.complex_is (few_vertices c.args.scan.now c.args.settings) (few_sights c.args.scan.now)
     (version_of c.args.stamp)
     (fit_counts _ c.args.scan.now c.args.settings (returns-clause-counts c) cost)
     (record {
@@ -93,7 +92,7 @@ returns-clause-well_formed c =
       flow = omega (arith, c.in_ok-flow_rows.field-0.ok, c.in_ok-flow_rows.field-0.small);
       sink = omega (arith, c.in_ok-sink_rows.field-0.ok, c.in_ok-sink_rows.field-0.small);
     })
-    (returns-clause-states c c.requires.network.listing)
+    (returns-clause-states c voted cut cut.network.listing)
 
 pub overflow_sub-result : goal.overflow_sub-result
 overflow_sub-result c =

@@ -38,15 +38,15 @@ pub facets-requires : goal.facets-requires
 facets-requires g c =
     let s : Scene = scene_of_scan (shown_of c.args.scan.now) c.args.settings in
     let network = c.requires.1.1.1.1.0 in
-    let least = least_inside_is s c.args.counted.voted c.in_ok-labels.labels network c.in_ok-labels.ensures.least in
-    let cut : IsCut c.args.tetra c.deref.result.now c.in_ok-labels.labels.inside g.cutting.scene g.cutting.complex =
+    let least = least_inside_is s c.args.counted.voted c.args.labels network c.requires.1.1.1.1.1.1.1.0 in
+    let cut : IsCut c.args.tetra c.deref.result.now c.args.labels.inside g.cutting.scene g.cutting.complex =
     named g.cutting s (complex_of c.args.counted.voted) c.requires.0 c.requires.1.0
-    (IsCut c.args.tetra c.deref.result.now c.in_ok-labels.labels.inside) (
+    (IsCut c.args.tetra c.deref.result.now c.args.labels.inside) (
       c.requires.1.1.1.0,
       sym (corner_count c.args.tetra (points_of (shown_of c.args.scan.now)) c.requires.1.1.0.points),
       network.listing,
-      subst (AreIdsOf c.args.tetra.slots c.args.counted.voted.cells) (sym c.deref.ensures.value) c.requires.1.1.1.1.1,
-      c.in_ok-labels.ensures.least.count ∙ node_count s c.args.counted.voted network,
+      subst (AreIdsOf c.args.tetra.slots c.args.counted.voted.cells) (sym c.deref.ensures.value) c.requires.1.1.1.1.1.0,
+      c.requires.1.1.1.1.1.1.1.0.count ∙ node_count s c.args.counted.voted network,
       ((with_rising s (complex_of c.args.counted.voted) network.listing).admissible _).1 least.least_cost.admissible,
     ) in
     (cut.0, (cut.1, (cut.2, (cut.3, (cut.4, cut.5)))))
@@ -78,16 +78,37 @@ returns-clause-solution g c =
     subst (λ (x : Scene). IsComplexOf x network.listing.complex) (sym c.requires.0) network.listing.complex_is in
     record {
       complex = network.listing.complex;
-      inside = test_of c.args.counted.voted.cells c.in_ok-labels.labels.inside;
+      inside = test_of c.args.counted.voted.cells c.args.labels.inside;
       complex_is = network.listing.complex_is;
-      least = least_inside_is s c.args.counted.voted c.in_ok-labels.labels network c.in_ok-labels.ensures.least;
+      least = least_inside_is s c.args.counted.voted c.args.labels network c.requires.1.1.1.1.1.1.1.0;
       mesh_is =
           mesh_is c.in_ok-mesh.mesh c.args.tetra.points (corners ++ points_of (shown_of c.args.scan.now)) _ _
           c.requires.1.1.0.points
-          (cut_same g.cutting s (complex_of c.args.counted.voted) network.listing.complex c.in_ok-labels.labels.inside
+          (cut_same g.cutting s (complex_of c.args.counted.voted) network.listing.complex c.args.labels.inside
           c.requires.0 c.requires.1.0)
           (c.in_ok-mesh.ensures.points network.listing.complex rising)
           (c.in_ok-mesh.ensures.faces network.listing.complex rising);
       counts = c.in_ok-cert.ensures.counts;
-      certificate = c.in_ok-cert.ensures.states network.listing;
+      certificate = c.in_ok-cert.ensures.states c.args.counted.voted (record {
+        network = c.requires.1.1.1.1.0;
+        cells = c.as_slice.ensures;
+        facets = c.as_slice-2.ensures;
+        labels = c.requires.1.1.1.1.1.1.1.0;
+        flow = c.requires.1.1.1.1.1.1.0;
+        equal = c.requires.1.1.1.1.1.1.1.1;
+        cost = c.least_cost-cost.ensures;
+      }) network.listing;
     }
+
+pub returns-clause-well_formed : goal.returns-clause-well_formed
+returns-clause-well_formed g c =
+    c.in_ok-cert.ensures.well_formed c.args.counted.voted
+    (record {
+      network = c.requires.1.1.1.1.0;
+      cells = c.as_slice.ensures;
+      facets = c.as_slice-2.ensures;
+      labels = c.requires.1.1.1.1.1.1.1.0;
+      flow = c.requires.1.1.1.1.1.1.0;
+      equal = c.requires.1.1.1.1.1.1.1.1;
+      cost = c.least_cost-cost.ensures;
+    })

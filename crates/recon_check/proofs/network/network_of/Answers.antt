@@ -24,8 +24,8 @@ build-requires-clause-distinct c =
 pub build-requires-clause-few : goal.build-requires-clause-few
 build-requires-clause-few c = omega (arith, ap length (c.deref.ensures.value ∙ c.requires.points), few_points c.args.scan.now)
 
-pub count_votes_rising-requires-clause-cells : goal.count_votes_rising-requires-clause-cells
-count_votes_rising-requires-clause-cells c =
+pub count_votes-requires-clause-cells : goal.count_votes-requires-clause-cells
+count_votes-requires-clause-cells c =
     record {
       points = rw (c.scene.ensures.points, ← c.requires.points, ← c.deref.ensures.value) c.in_ok-linked.ensures.points;
       inserted = c.in_ok-linked.ensures.inserted;

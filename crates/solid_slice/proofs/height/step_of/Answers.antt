@@ -18,12 +18,11 @@ step_on-requires c =
     up_edge_at points c.deref.result.now faces c.args.height _ c.args.face c.index.result.now c.up_edge.result
     c.unwrap-edge.result c.requires.cut c.deref.ensures.value stored c.index.ensures c.unwrap-edge.ensures
     c.up_edge.ensures.some in
-    let o = c.requires.valid.valid.each c.args.face [] (cut_within points faces c.args.height c.args.face c.requires.cut) in
+    let o = c.requires.valid.each c.args.face [] (cut_within points faces c.args.height c.args.face c.requires.cut) in
     let within =
     edge_within (length points) c.unwrap-edge.result.first c.unwrap-edge.result.second (face_at faces c.args.face) o up.edge in
     let size = ap (λ (t : List Point). length t) c.deref-2.ensures.value in
     record {
-      boxed = subst (λ (t : List Point). All (IsWithin 8388608) t) (sym c.deref-2.ensures.value) c.requires.valid.boxed;
       lower = omega (arith, within.0, size);
       upper = omega (arith, within.1, size);
       from_below =

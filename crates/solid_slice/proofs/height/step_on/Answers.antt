@@ -2,124 +2,139 @@ use Rattle.std.proofs.Common.{◌≡◌, ◌∙◌, arith, to_z, of_z}
 use Rattle.std.proofs.lemmas.Int.{ints}
 use mir.Syntax.{w64}
 use Rattle.geo_sign.proofs.Bounds.{held_kept, fits_held, within_held}
-use Rattle.solid_slice.proofs.Steps.{held_x, held_y, held_z, held_height, held_rise, held_climb, along_is}
+use Rattle.solid_slice.proofs.Steps.{held_x, held_y, held_z, held_height, point_within, held_rise, held_climb, along_is}
 use Rattle.solid_slice.proofs.height.step_on.Goals as goal
 
 pub overflow_sub-climb : goal.overflow_sub-climb
 overflow_sub-climb c =
     fits_held w64
     (held_climb
-    (held_height c.args.points.now c.requires.boxed c.args.edge.first c.args.edge.second c.requires.lower c.requires.upper
-    c.args.height c.from-2.result c.requires.from_below c.requires.to_above c.from-2.ensures)
-    (held_z c.args.points.now c.requires.boxed c.args.edge.first c.requires.lower c.index-points-edge.result
-    c.index-points-edge.is c.from-low.result c.z.result c.from-low.ensures c.z.ensures)) tt
+    (held_height c.args.points.now c.args.edge.first c.args.edge.second
+    (point_within c.args.points.now c.args.edge.first c.requires.lower c.index-points-edge.result c.index-points-edge.is
+    c.facts.ensures)
+    (point_within c.args.points.now c.args.edge.second c.requires.upper c.index-points-edge-2.result c.index-points-edge-2.is
+    c.facts-2.ensures) c.args.height c.from-2.result c.requires.from_below c.requires.to_above c.from-2.ensures)
+    (held_z c.args.points.now c.args.edge.first c.requires.lower c.index-points-edge.result
+    c.index-points-edge.is c.facts.ensures c.from-low.result c.z.result c.from-low.ensures c.z.ensures)) tt
 
 pub along_edge-x-requires-clause-from_within : goal.along_edge-x-requires-clause-from_within
 along_edge-x-requires-clause-from_within c =
     within_held
-    (held_x c.args.points.now c.requires.boxed c.args.edge.first c.requires.lower c.index-points-edge.result
-    c.index-points-edge.is c.from-3.result c.x.result c.from-3.ensures c.x.ensures)
+    (held_x c.args.points.now c.args.edge.first c.requires.lower c.index-points-edge.result
+    c.index-points-edge.is c.facts.ensures c.from-3.result c.x.result c.from-3.ensures c.x.ensures)
 
 pub along_edge-x-requires-clause-to_within : goal.along_edge-x-requires-clause-to_within
 along_edge-x-requires-clause-to_within c =
     within_held
-    (held_x c.args.points.now c.requires.boxed c.args.edge.second c.requires.upper c.index-points-edge-2.result
-    c.index-points-edge-2.is c.from-4.result c.x-2.result c.from-4.ensures c.x-2.ensures)
+    (held_x c.args.points.now c.args.edge.second c.requires.upper c.index-points-edge-2.result
+    c.index-points-edge-2.is c.facts-2.ensures c.from-4.result c.x-2.result c.from-4.ensures c.x-2.ensures)
 
 pub along_edge-x-requires-clause-d_within : goal.along_edge-x-requires-clause-d_within
 along_edge-x-requires-clause-d_within c =
     within_held
     (held_rise
-    (held_z c.args.points.now c.requires.boxed c.args.edge.second c.requires.upper c.index-points-edge-2.result
-    c.index-points-edge-2.is c.from.result c.z-2.result c.from.ensures c.z-2.ensures)
-    (held_z c.args.points.now c.requires.boxed c.args.edge.first c.requires.lower c.index-points-edge.result
-    c.index-points-edge.is c.from-low.result c.z.result c.from-low.ensures c.z.ensures))
+    (held_z c.args.points.now c.args.edge.second c.requires.upper c.index-points-edge-2.result
+    c.index-points-edge-2.is c.facts-2.ensures c.from.result c.z-2.result c.from.ensures c.z-2.ensures)
+    (held_z c.args.points.now c.args.edge.first c.requires.lower c.index-points-edge.result
+    c.index-points-edge.is c.facts.ensures c.from-low.result c.z.result c.from-low.ensures c.z.ensures))
 
 pub along_edge-x-requires-clause-climb_within : goal.along_edge-x-requires-clause-climb_within
 along_edge-x-requires-clause-climb_within c =
     within_held
     (held_kept w64
     (held_climb
-    (held_height c.args.points.now c.requires.boxed c.args.edge.first c.args.edge.second c.requires.lower c.requires.upper
-    c.args.height c.from-2.result c.requires.from_below c.requires.to_above c.from-2.ensures)
-    (held_z c.args.points.now c.requires.boxed c.args.edge.first c.requires.lower c.index-points-edge.result
-    c.index-points-edge.is c.from-low.result c.z.result c.from-low.ensures c.z.ensures)) tt)
+    (held_height c.args.points.now c.args.edge.first c.args.edge.second
+    (point_within c.args.points.now c.args.edge.first c.requires.lower c.index-points-edge.result c.index-points-edge.is
+    c.facts.ensures)
+    (point_within c.args.points.now c.args.edge.second c.requires.upper c.index-points-edge-2.result c.index-points-edge-2.is
+    c.facts-2.ensures) c.args.height c.from-2.result c.requires.from_below c.requires.to_above c.from-2.ensures)
+    (held_z c.args.points.now c.args.edge.first c.requires.lower c.index-points-edge.result
+    c.index-points-edge.is c.facts.ensures c.from-low.result c.z.result c.from-low.ensures c.z.ensures)) tt)
 
 pub along_edge-y-requires-clause-from_within : goal.along_edge-y-requires-clause-from_within
 along_edge-y-requires-clause-from_within c =
     within_held
-    (held_y c.args.points.now c.requires.boxed c.args.edge.first c.requires.lower c.index-points-edge.result
-    c.index-points-edge.is c.from-5.result c.y.result c.from-5.ensures c.y.ensures)
+    (held_y c.args.points.now c.args.edge.first c.requires.lower c.index-points-edge.result
+    c.index-points-edge.is c.facts.ensures c.from-5.result c.y.result c.from-5.ensures c.y.ensures)
 
 pub along_edge-y-requires-clause-to_within : goal.along_edge-y-requires-clause-to_within
 along_edge-y-requires-clause-to_within c =
     within_held
-    (held_y c.args.points.now c.requires.boxed c.args.edge.second c.requires.upper c.index-points-edge-2.result
-    c.index-points-edge-2.is c.from-6.result c.y-2.result c.from-6.ensures c.y-2.ensures)
+    (held_y c.args.points.now c.args.edge.second c.requires.upper c.index-points-edge-2.result
+    c.index-points-edge-2.is c.facts-2.ensures c.from-6.result c.y-2.result c.from-6.ensures c.y-2.ensures)
 
 pub along_edge-y-requires-clause-d_within : goal.along_edge-y-requires-clause-d_within
 along_edge-y-requires-clause-d_within c =
     within_held
     (held_rise
-    (held_z c.args.points.now c.requires.boxed c.args.edge.second c.requires.upper c.index-points-edge-2.result
-    c.index-points-edge-2.is c.from.result c.z-2.result c.from.ensures c.z-2.ensures)
-    (held_z c.args.points.now c.requires.boxed c.args.edge.first c.requires.lower c.index-points-edge.result
-    c.index-points-edge.is c.from-low.result c.z.result c.from-low.ensures c.z.ensures))
+    (held_z c.args.points.now c.args.edge.second c.requires.upper c.index-points-edge-2.result
+    c.index-points-edge-2.is c.facts-2.ensures c.from.result c.z-2.result c.from.ensures c.z-2.ensures)
+    (held_z c.args.points.now c.args.edge.first c.requires.lower c.index-points-edge.result
+    c.index-points-edge.is c.facts.ensures c.from-low.result c.z.result c.from-low.ensures c.z.ensures))
 
 pub along_edge-y-requires-clause-climb_within : goal.along_edge-y-requires-clause-climb_within
 along_edge-y-requires-clause-climb_within c =
     within_held
     (held_kept w64
     (held_climb
-    (held_height c.args.points.now c.requires.boxed c.args.edge.first c.args.edge.second c.requires.lower c.requires.upper
-    c.args.height c.from-2.result c.requires.from_below c.requires.to_above c.from-2.ensures)
-    (held_z c.args.points.now c.requires.boxed c.args.edge.first c.requires.lower c.index-points-edge.result
-    c.index-points-edge.is c.from-low.result c.z.result c.from-low.ensures c.z.ensures)) tt)
+    (held_height c.args.points.now c.args.edge.first c.args.edge.second
+    (point_within c.args.points.now c.args.edge.first c.requires.lower c.index-points-edge.result c.index-points-edge.is
+    c.facts.ensures)
+    (point_within c.args.points.now c.args.edge.second c.requires.upper c.index-points-edge-2.result c.index-points-edge-2.is
+    c.facts-2.ensures) c.args.height c.from-2.result c.requires.from_below c.requires.to_above c.from-2.ensures)
+    (held_z c.args.points.now c.args.edge.first c.requires.lower c.index-points-edge.result
+    c.index-points-edge.is c.facts.ensures c.from-low.result c.z.result c.from-low.ensures c.z.ensures)) tt)
 
 pub returns-clause-x : goal.returns-clause-x
 returns-clause-x c =
     let stored : to_z w64 (of_z w64 c.along_edge-x.result) ≡ c.along_edge-x.result = omega (arith, ints) in
     stored ∙ along_is c.along_edge-x.ensures
-    (held_x c.args.points.now c.requires.boxed c.args.edge.first c.requires.lower c.index-points-edge.result
-    c.index-points-edge.is c.from-3.result c.x.result c.from-3.ensures c.x.ensures).is
-    (held_x c.args.points.now c.requires.boxed c.args.edge.second c.requires.upper c.index-points-edge-2.result
-    c.index-points-edge-2.is c.from-4.result c.x-2.result c.from-4.ensures c.x-2.ensures).is
+    (held_x c.args.points.now c.args.edge.first c.requires.lower c.index-points-edge.result
+    c.index-points-edge.is c.facts.ensures c.from-3.result c.x.result c.from-3.ensures c.x.ensures).is
+    (held_x c.args.points.now c.args.edge.second c.requires.upper c.index-points-edge-2.result
+    c.index-points-edge-2.is c.facts-2.ensures c.from-4.result c.x-2.result c.from-4.ensures c.x-2.ensures).is
     (held_rise
-    (held_z c.args.points.now c.requires.boxed c.args.edge.second c.requires.upper c.index-points-edge-2.result
-    c.index-points-edge-2.is c.from.result c.z-2.result c.from.ensures c.z-2.ensures)
-    (held_z c.args.points.now c.requires.boxed c.args.edge.first c.requires.lower c.index-points-edge.result
-    c.index-points-edge.is c.from-low.result c.z.result c.from-low.ensures c.z.ensures)).is
+    (held_z c.args.points.now c.args.edge.second c.requires.upper c.index-points-edge-2.result
+    c.index-points-edge-2.is c.facts-2.ensures c.from.result c.z-2.result c.from.ensures c.z-2.ensures)
+    (held_z c.args.points.now c.args.edge.first c.requires.lower c.index-points-edge.result
+    c.index-points-edge.is c.facts.ensures c.from-low.result c.z.result c.from-low.ensures c.z.ensures)).is
     (held_kept w64
     (held_climb
-    (held_height c.args.points.now c.requires.boxed c.args.edge.first c.args.edge.second c.requires.lower c.requires.upper
-    c.args.height c.from-2.result c.requires.from_below c.requires.to_above c.from-2.ensures)
-    (held_z c.args.points.now c.requires.boxed c.args.edge.first c.requires.lower c.index-points-edge.result
-    c.index-points-edge.is c.from-low.result c.z.result c.from-low.ensures c.z.ensures)) tt).is
+    (held_height c.args.points.now c.args.edge.first c.args.edge.second
+    (point_within c.args.points.now c.args.edge.first c.requires.lower c.index-points-edge.result c.index-points-edge.is
+    c.facts.ensures)
+    (point_within c.args.points.now c.args.edge.second c.requires.upper c.index-points-edge-2.result c.index-points-edge-2.is
+    c.facts-2.ensures) c.args.height c.from-2.result c.requires.from_below c.requires.to_above c.from-2.ensures)
+    (held_z c.args.points.now c.args.edge.first c.requires.lower c.index-points-edge.result
+    c.index-points-edge.is c.facts.ensures c.from-low.result c.z.result c.from-low.ensures c.z.ensures)) tt).is
 
 pub returns-clause-y : goal.returns-clause-y
 returns-clause-y c =
     let stored : to_z w64 (of_z w64 c.along_edge-y.result) ≡ c.along_edge-y.result = omega (arith, ints) in
     stored ∙ along_is c.along_edge-y.ensures
-    (held_y c.args.points.now c.requires.boxed c.args.edge.first c.requires.lower c.index-points-edge.result
-    c.index-points-edge.is c.from-5.result c.y.result c.from-5.ensures c.y.ensures).is
-    (held_y c.args.points.now c.requires.boxed c.args.edge.second c.requires.upper c.index-points-edge-2.result
-    c.index-points-edge-2.is c.from-6.result c.y-2.result c.from-6.ensures c.y-2.ensures).is
+    (held_y c.args.points.now c.args.edge.first c.requires.lower c.index-points-edge.result
+    c.index-points-edge.is c.facts.ensures c.from-5.result c.y.result c.from-5.ensures c.y.ensures).is
+    (held_y c.args.points.now c.args.edge.second c.requires.upper c.index-points-edge-2.result
+    c.index-points-edge-2.is c.facts-2.ensures c.from-6.result c.y-2.result c.from-6.ensures c.y-2.ensures).is
     (held_rise
-    (held_z c.args.points.now c.requires.boxed c.args.edge.second c.requires.upper c.index-points-edge-2.result
-    c.index-points-edge-2.is c.from.result c.z-2.result c.from.ensures c.z-2.ensures)
-    (held_z c.args.points.now c.requires.boxed c.args.edge.first c.requires.lower c.index-points-edge.result
-    c.index-points-edge.is c.from-low.result c.z.result c.from-low.ensures c.z.ensures)).is
+    (held_z c.args.points.now c.args.edge.second c.requires.upper c.index-points-edge-2.result
+    c.index-points-edge-2.is c.facts-2.ensures c.from.result c.z-2.result c.from.ensures c.z-2.ensures)
+    (held_z c.args.points.now c.args.edge.first c.requires.lower c.index-points-edge.result
+    c.index-points-edge.is c.facts.ensures c.from-low.result c.z.result c.from-low.ensures c.z.ensures)).is
     (held_kept w64
     (held_climb
-    (held_height c.args.points.now c.requires.boxed c.args.edge.first c.args.edge.second c.requires.lower c.requires.upper
-    c.args.height c.from-2.result c.requires.from_below c.requires.to_above c.from-2.ensures)
-    (held_z c.args.points.now c.requires.boxed c.args.edge.first c.requires.lower c.index-points-edge.result
-    c.index-points-edge.is c.from-low.result c.z.result c.from-low.ensures c.z.ensures)) tt).is
+    (held_height c.args.points.now c.args.edge.first c.args.edge.second
+    (point_within c.args.points.now c.args.edge.first c.requires.lower c.index-points-edge.result c.index-points-edge.is
+    c.facts.ensures)
+    (point_within c.args.points.now c.args.edge.second c.requires.upper c.index-points-edge-2.result c.index-points-edge-2.is
+    c.facts-2.ensures) c.args.height c.from-2.result c.requires.from_below c.requires.to_above c.from-2.ensures)
+    (held_z c.args.points.now c.args.edge.first c.requires.lower c.index-points-edge.result
+    c.index-points-edge.is c.facts.ensures c.from-low.result c.z.result c.from-low.ensures c.z.ensures)) tt).is
 
 pub returns-clause-d : goal.returns-clause-d
 returns-clause-d c =
     (held_rise
-    (held_z c.args.points.now c.requires.boxed c.args.edge.second c.requires.upper c.index-points-edge-2.result
-    c.index-points-edge-2.is c.from.result c.z-2.result c.from.ensures c.z-2.ensures)
-    (held_z c.args.points.now c.requires.boxed c.args.edge.first c.requires.lower c.index-points-edge.result
-    c.index-points-edge.is c.from-low.result c.z.result c.from-low.ensures c.z.ensures)).is
+    (held_z c.args.points.now c.args.edge.second c.requires.upper c.index-points-edge-2.result
+    c.index-points-edge-2.is c.facts-2.ensures c.from.result c.z-2.result c.from.ensures c.z-2.ensures)
+    (held_z c.args.points.now c.args.edge.first c.requires.lower c.index-points-edge.result
+    c.index-points-edge.is c.facts.ensures c.from-low.result c.z.result c.from-low.ensures c.z.ensures)).is

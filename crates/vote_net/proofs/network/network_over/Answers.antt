@@ -1,6 +1,5 @@
 use Rattle.std.proofs.Common.{ℕ, refl, ◌∙◌, Contains, subst, sym, arith, List, Bool}
 use Rattle.flow_net.specs.Nets.{IsValidNet}
-use Rattle.flow_net.specs.declared.Arc.{Arc}
 use Rattle.visibility.specs.SceneViews.{view_of}
 use Rattle.vote_net.specs.declared.sides.Side.{Side}
 use Rattle.vote_net.specs.Tables.{number_of_side, AreApart, AreArcs}
@@ -35,46 +34,45 @@ arcs_of-requires-clause-joins c x h =
     (record { moved = c.requires.rows; moved_sides = c.requires.sides }) (search arith) x
     (subst (λ (u : List Side). Contains u x) c.deref.ensures.value h)
 
-pub new-net-requires : goal.new-net-requires
-new-net-requires c =
+pub with_arcs-net-requires : goal.with_arcs-net-requires
+with_arcs-net-requires c =
     let n = c.args.counts.now in
     let flags : List Bool = c.in_ok-fixed_of.field-0.items in
     let sinks : List ℕ = c.in_ok-sinks_of.field-0.items in
-    subst (λ (x : List Bool). IsValidNet x c.from-2.result c.from-3.result) (sym c.from.ensures)
-    (subst (λ (y : List ℕ). IsValidNet flags y c.from-3.result) (sym c.from-2.ensures)
-    (subst (λ (z : List Arc). IsValidNet flags sinks z) (sym c.from-3.ensures)
+    subst (λ (x : List Bool). IsValidNet x c.from-2.result c.in_ok-arcs.arcs) (sym c.from.ensures)
+    (subst (λ (y : List ℕ). IsValidNet flags y c.in_ok-arcs.arcs) (sym c.from-2.ensures)
     (valid (view_of c.args.scene.now) c.args.t.now.slots n.crossed.now n.behind.now n.fixed.now c.args.rows.now
     c.args.sides.items c.requires.counts (record { moved = c.requires.rows; moved_sides = c.requires.sides })
-    c.args.scene.now.settings flags sinks c.in_ok-arcs.arcs.items
+    c.args.scene.now.settings flags sinks c.in_ok-arcs.arcs
     (record {
       settings_are = refl;
       flags_are = c.in_ok-fixed_of.ensures;
       sinks_are = c.in_ok-sinks_of.ensures;
       arcs_are =
           subst (λ (x : List Side). AreArcs c.args.t.now.slots c.args.rows.now x n.crossed.now n.fixed.now
-          c.args.scene.now.settings c.in_ok-arcs.arcs.items) c.deref.ensures.value c.in_ok-arcs.ensures;
-    }))))
+          c.args.scene.now.settings c.in_ok-arcs.arcs) c.deref.ensures.value c.in_ok-arcs.ensures;
+    })))
 
 pub returns-clause-network : goal.returns-clause-network
 returns-clause-network c =
     let n = c.args.counts.now in
     network_is (view_of c.args.scene.now) c.args.t.now.slots n.crossed.now n.behind.now n.fixed.now c.args.rows.now
     c.args.sides.items c.requires.counts (record { moved = c.requires.rows; moved_sides = c.requires.sides })
-    c.args.scene.now.settings c.in_ok-fixed_of.field-0.items c.in_ok-sinks_of.field-0.items c.in_ok-arcs.arcs.items
+    c.args.scene.now.settings c.in_ok-fixed_of.field-0.items c.in_ok-sinks_of.field-0.items c.in_ok-arcs.arcs
     (record {
       settings_are = refl;
       flags_are = c.in_ok-fixed_of.ensures;
       sinks_are = c.in_ok-sinks_of.ensures;
       arcs_are =
           subst (λ (x : List Side). AreArcs c.args.t.now.slots c.args.rows.now x n.crossed.now n.fixed.now
-          c.args.scene.now.settings c.in_ok-arcs.arcs.items) c.deref.ensures.value c.in_ok-arcs.ensures;
-    }) c.new-net.result c.from-4.result c.from-5.result
-    (c.from-4.ensures ∙ c.in_ok-cells_of.ensures) (c.from-5.ensures ∙ c.in_ok-facets.ensures)
-    (c.new-net.ensures.fixed ∙ c.from.ensures) (c.new-net.ensures.sink ∙ c.from-2.ensures)
-    (c.new-net.ensures.arcs ∙ c.from-3.ensures)
+          c.args.scene.now.settings c.in_ok-arcs.arcs) c.deref.ensures.value c.in_ok-arcs.ensures;
+    }) c.with_arcs-net.result c.from-3.result c.from-4.result
+    (c.from-3.ensures ∙ c.in_ok-cells_of.ensures) (c.from-4.ensures ∙ c.in_ok-facets.ensures)
+    (c.with_arcs-net.ensures.fixed ∙ c.from.ensures) (c.with_arcs-net.ensures.sink ∙ c.from-2.ensures)
+    c.with_arcs-net.ensures.arcs
 
 pub returns-clause-ids : goal.returns-clause-ids
 returns-clause-ids c =
     ids_are (view_of c.args.scene.now) c.args.t.now.slots _ _ _ c.args.rows.now c.args.sides.items c.requires.counts
-    (record { moved = c.requires.rows; moved_sides = c.requires.sides }) c.from-4.result c.in_ok-ids.ids.items
-    (c.from-4.ensures ∙ c.in_ok-cells_of.ensures) c.in_ok-ids.ensures
+    (record { moved = c.requires.rows; moved_sides = c.requires.sides }) c.from-3.result c.in_ok-ids.ids.items
+    (c.from-3.ensures ∙ c.in_ok-cells_of.ensures) c.in_ok-ids.ensures

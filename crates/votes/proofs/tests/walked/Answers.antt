@@ -4,8 +4,8 @@ use Rattle.geo_sign.specs.Point.{Point, origin, IsWithin}
 use Rattle.geo_sign.specs.declared.point.TheConstants.{DATA_LIMIT}
 use Rattle.votes.proofs.tests.walked.Goals as goal
 
-pub count_votes_rising-requires-clause-scene : goal.count_votes_rising-requires-clause-scene
-count_votes_rising-requires-clause-scene c =
+pub count_votes-requires-clause-scene : goal.count_votes-requires-clause-scene
+count_votes-requires-clause-scene c =
     record {
       sights = c.are_in_range.ensures c.if-not-are_in_range.false;
       few_sights = c.are_sights.ensures.0 (c.if-not-are_sights.false);
@@ -14,8 +14,8 @@ count_votes_rising-requires-clause-scene c =
           (c.if-not-are_data-2.ensures refl k l);
     }
 
-pub count_votes-requires-clause-scene : goal.count_votes-requires-clause-scene
-count_votes-requires-clause-scene c =
+pub count_votes_as_stored-requires-clause-scene : goal.count_votes_as_stored-requires-clause-scene
+count_votes_as_stored-requires-clause-scene c =
     record {
       sights = c.are_in_range.ensures c.if-not-are_in_range.false;
       few_sights = c.are_sights.ensures.0 (c.if-not-are_sights.false);

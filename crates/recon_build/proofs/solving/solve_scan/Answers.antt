@@ -1,0 +1,41 @@
+use Rattle.std.proofs.Common.{◌≡◌, refl, sym, subst, Bool, List}
+use Rattle.flow_net.specs.declared.Net.{Net}
+use Rattle.flow_net.specs.Flows.{IsLeastInside, IsValidFlow, cost_of, value_of}
+use Rattle.scan.specs.Views.{shown_of}
+use Rattle.solution.specs.Scans.{scene_of_scan}
+use Rattle.visibility.specs.Scenes.{Scene}
+use Rattle.vote_net.specs.StoredNetworks.{IsStoredNetwork}
+use Rattle.recon_build.proofs.solving.solve_scan.Goals as goal
+
+pub solve_over-requires : goal.solve_over-requires
+solve_over-requires c =
+    let s : Scene = scene_of_scan (shown_of c.args.scan.now) c.args.settings in
+    let stored : IsStoredNetwork s c.in_ok-tetra.tetra.slots c.deref.result.now c.in_ok-tetra.made.net
+    c.in_ok-tetra.made.ids.items =
+    subst
+    (λ (flags : List Bool). IsStoredNetwork s c.in_ok-tetra.tetra.slots flags c.in_ok-tetra.made.net
+    c.in_ok-tetra.made.ids.items) (sym c.deref.ensures.value) c.in_ok-tetra.ensures.network in
+    let same : c.in_ok-counted.counted.voted.net ≡ c.in_ok-tetra.made.net = c.in_ok-counted.ensures.net in
+    let flow : IsValidFlow c.in_ok-counted.counted.voted.net c.in_ok-flow.flow =
+    subst (λ (net : Net). IsValidFlow net c.in_ok-flow.flow) (sym same) c.in_ok-flow.ensures.valid in
+    let least : IsLeastInside c.in_ok-counted.counted.voted.net c.in_ok-flow.labels =
+    subst (λ (net : Net). IsLeastInside net c.in_ok-flow.labels) (sym same) c.in_ok-flow.ensures.least in
+    let equal : cost_of c.in_ok-counted.counted.voted.net c.in_ok-flow.labels
+    ≡ value_of c.in_ok-counted.counted.voted.net c.in_ok-flow.flow =
+    subst (λ (net : Net). cost_of net c.in_ok-flow.labels ≡ value_of net c.in_ok-flow.flow) (sym same)
+    c.in_ok-flow.ensures.cost in (
+      refl,
+      (
+        refl,
+        (
+          c.in_ok-tetra.ensures.store,
+          (
+            c.in_ok-tetra.ensures.cells,
+            (
+              c.in_ok-counted.ensures.network s stored,
+              (c.in_ok-counted.ensures.ids s stored, (flow, (least, equal))),
+            ),
+          ),
+        ),
+      ),
+    )
