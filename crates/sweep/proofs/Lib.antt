@@ -1,0 +1,6 @@
+pub mod Smoothing
+pub mod Scenes
+pub mod Raising
+pub mod Surfaces
+pub mod FreshBuilds
+pub mod Handings

@@ -1,0 +1,103 @@
+-- What the best surface of a scene is and costs, and what forms receive of the surfaces of a sweep.
+--
+--   IsBest s complex inside       the least-inside labels of least cost, over all cells of the scene
+--   CostsLeast s n                the number is what they cost
+--   IsSurfaceOf s points mesh     the mesh is that of the facets of outside cells with an inside cell across
+--   Given                         points, scanners and sights
+--   given_by scan                 those of a scan
+--   given_scene g settings        their scene at these weights
+--   AreWeights settings v l       the settings of a vote and a smoothing
+--   IsSurfaceAt, CostsAt          the mesh and the cost of the best surface at a vote and a smoothing
+--   smoothing_of from step k      the smoothing of entry k of a sweep
+--   HasEntry, HasEntryFront       what a form has received of the mesh of an entry
+--   HaveEntries, HaveEntryFronts  what each form has of the mesh of its own entry
+use Rattle.std.specs.Prelude.{ℕ, ◌≡◌, ◌⊎◌, ◌<◌, ◌+◌, ◌*◌, ◌++◌, Bool, List, length, slice_index_or}
+use Rattle.flow_net.specs.declared.votes.Settings.{Settings}
+use Rattle.flow_net.specs.declared.votes.Sight.{Sight}
+use Rattle.geo_sign.specs.Point.{Point}
+use Rattle.geo_sign.specs.Vertices.{corners}
+use Rattle.mesh_form.specs.Received.{Received, IsFresh, HasAll, HasFront}
+use Rattle.mesh_ply.specs.Meshes.{Surface, mesh_of}
+use Rattle.scan.specs.Shown.{Shown}
+use Rattle.solution.specs.Scans.{points_of, sights_of}
+use Rattle.visibility.specs.Complexes.{Complex}
+use Rattle.visibility.specs.Cuts.{cost, cut_facets, IsLeastInside}
+use Rattle.visibility.specs.Scenes.{Scene, scene_of}
+use Rattle.visibility.specs.Votes.{IsComplexOf}
+
+-- all cells of the scene and all facets that have a capacity, and labels of least cost whose inside is contained in that of all
+-- labels of that cost
+pub record IsBest (s : Scene) (complex : Complex) (inside : List ℕ → Bool) : Type 0 where
+  pub complex_is : IsComplexOf s complex
+  pub least : IsLeastInside s complex inside
+
+-- the number is what these labels cost
+pub record CostsLeast (s : Scene) (n : ℕ) : Type 0 where
+  pub complex : Complex
+  pub inside : List ℕ → Bool
+  pub best : IsBest s complex inside
+  pub cost_is : n ≡ cost s complex inside
+
+-- the mesh is that of the facets of outside cells with an inside cell across, by these labels; the vertices are the corners of
+-- the box and these points
+pub record IsSurfaceOf (s : Scene) (points : List Point) (mesh : Surface) : Type 0 where
+  pub complex : Complex
+  pub inside : List ℕ → Bool
+  pub best : IsBest s complex inside
+  pub mesh_is : mesh ≡ mesh_of (corners ++ points) (cut_facets s.vertices complex inside)
+
+-- the distinct points, the scanners and the sights
+pub record Given : Type 0 where
+  pub points : List Point
+  pub scanners : List Point
+  pub sights : List Sight
+
+-- those of a scan
+abbrev pub given_by : Shown → Given
+given_by scan = record { points = points_of scan; scanners = scan.scanners; sights = sights_of scan }
+
+-- their scene at these weights
+abbrev pub given_scene : Given → Settings → Scene
+given_scene g settings = scene_of g.points g.scanners g.sights settings
+
+-- the settings of a vote and a smoothing
+pub record AreWeights (settings : Settings) (vote smooth : ℕ) : Type 0 where
+  pub vote_is : settings.vote ≡ vote
+  pub smooth_is : settings.smooth ≡ smooth
+
+-- the mesh is that of the best surface at these weights
+pub record IsSurfaceAt (g : Given) (vote smooth : ℕ) (mesh : Surface) : Type 0 where
+  pub settings : Settings
+  pub weights : AreWeights settings vote smooth
+  pub surface : IsSurfaceOf (given_scene g settings) g.points mesh
+
+-- the number is what the best surface costs at these weights
+pub record CostsAt (g : Given) (vote smooth n : ℕ) : Type 0 where
+  pub settings : Settings
+  pub weights : AreWeights settings vote smooth
+  pub cost_is : CostsLeast (given_scene g settings) n
+
+-- the smoothing of entry k of a sweep, of which the first is entry 0
+abbrev pub smoothing_of : (from step k : ℕ) → ℕ
+smoothing_of from step k = from + k * step
+
+-- a form has received exactly the mesh at these weights
+pub record HasEntry (g : Given) (vote smooth : ℕ) (r : Received) : Type 0 where
+  pub mesh : Surface
+  pub surface : IsSurfaceAt g vote smooth mesh
+  pub all : HasAll r mesh.points mesh.faces
+
+-- a form is fresh, or has received a front of the mesh at these weights, the whole included
+abbrev pub HasEntryFront : (g : Given) → (vote smooth : ℕ) → Received → Type 0
+HasEntryFront g vote smooth r =
+    IsFresh r ⊎ ((mesh : Surface) × IsSurfaceAt g vote smooth mesh × HasFront r mesh.points mesh.faces)
+
+-- each form has received exactly the mesh of its entry
+abbrev pub HaveEntries : (g : Given) → (vote from step : ℕ) → List Received → Type 0
+HaveEntries g vote from step forms =
+    (k : ℕ) (d : Received) → k < length forms → HasEntry g vote (smoothing_of from step k) (slice_index_or forms k d)
+
+-- each form is fresh, or has received a front of the mesh of its entry
+abbrev pub HaveEntryFronts : (g : Given) → (vote from step : ℕ) → List Received → Type 0
+HaveEntryFronts g vote from step forms =
+    (k : ℕ) (d : Received) → k < length forms → HasEntryFront g vote (smoothing_of from step k) (slice_index_or forms k d)

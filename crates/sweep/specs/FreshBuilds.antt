@@ -1,0 +1,25 @@
+-- A fresh build beside a sweep.
+--
+--   IsAsBuilt s points mesh cost     every surface of the scene is this mesh, and every least cost this number
+--   FreshBuildLaw                    so it is of what a fresh build makes
+use Rattle.std.specs.Prelude.{ℕ, ◌≡◌, List}
+use Rattle.cert_text.specs.Certificates.{Claim}
+use Rattle.flow_net.specs.declared.votes.Settings.{Settings}
+use Rattle.geo_sign.specs.Point.{Point}
+use Rattle.mesh_ply.specs.Meshes.{Surface}
+use Rattle.scan.specs.Shown.{Shown}
+use Rattle.solution.specs.Scans.{points_of, scene_of_scan}
+use Rattle.solution.specs.Solutions.{IsSolution}
+use Rattle.visibility.specs.Scenes.{Scene}
+use Rattle.sweep.specs.Entries.{CostsLeast, IsSurfaceOf}
+
+-- no other surface, and no other cost
+pub record IsAsBuilt (s : Scene) (points : List Point) (mesh : Surface) (cost : ℕ) : Type 0 where
+  pub mesh_is : (other : Surface) → IsSurfaceOf s points other → other ≡ mesh
+  pub cost_is : (n : ℕ) → CostsLeast s n → n ≡ cost
+
+-- of a scan at any weights
+abbrev pub FreshBuildLaw : Type 0
+FreshBuildLaw =
+    (scan : Shown) (settings : Settings) (mesh : Surface) (claim : Claim) → IsSolution scan settings mesh claim
+    → IsAsBuilt (scene_of_scan scan settings) (points_of scan) mesh claim.counts.cost

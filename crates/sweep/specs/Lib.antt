@@ -1,0 +1,3 @@
+pub mod Entries
+pub mod Swept
+pub mod FreshBuilds

@@ -1,0 +1,99 @@
+//! The surfaces of a sweep, handed to forms. It stands on the sweep and on `mesh_form`.
+
+ghost use Rattle.std.specs.Prelude.{◌≡◌, ◌≤◌, ◌+◌, ◌*◌, ◌-◌, IfOk, OnOk, OnErr, All, length, map};
+ghost use Rattle.flow_net.specs.declared.votes.TheConstants.{WEIGHT_LIMIT};
+ghost use Rattle.mesh_form.specs.Received.{IsFresh};
+ghost use Rattle.scan.specs.Views.{shown_of};
+ghost use Rattle.sweep.specs.Entries.{CostsAt, HasEntry, HasEntryFront, HaveEntries, HaveEntryFronts, given_by, smoothing_of};
+ghost use Rattle.sweep.specs.Swept.{given_in};
+
+use crate::NoMemory;
+use crate::sweeping::Sweep;
+use flow_net::Settings;
+use mesh_form::{Form, drive};
+use scan::Scan;
+use std::alloc::Global;
+
+/// What the first and the last surface of a sweep cost.
+#[derive(Clone, Copy, Debug, PartialEq, Eq)]
+pub struct Costs {
+    /// At the least smoothing.
+    pub first: u64,
+    /// At the largest smoothing.
+    pub last: u64,
+}
+
+/// Hands the surface of a sweep to a fresh form.
+fn hand_surface(sweep: &Sweep, form: &mut Box<dyn Form>) -> Result<(), NoMemory>
+    requires { IsFresh (received form.old) }
+    ensures all { OnOk result (HasEntry (given_in sweep.now) sweep.now.settings.vote sweep.now.settings.smooth (received form.new)) }
+    ensures front { OnErr result (HasEntryFront (given_in sweep.now) sweep.now.settings.vote sweep.now.settings.smooth (received form.new)) }
+    ensures kind { form.new.vtable ≡ form.old.vtable }
+{
+    let mesh = sweep.mesh()?;
+    drive(form, &mesh)?;
+    Ok(())
+}
+
+/// Raises the smoothing of a sweep to this one, if it is not there already.
+fn raise_to(sweep: &mut Sweep, smooth: u32) -> Result<(), NoMemory>
+    requires above { sweep.old.settings.smooth ≤ smooth }
+    requires within { smooth ≤ WEIGHT_LIMIT }
+    ensures given { OnOk result (given_in sweep.new ≡ given_in sweep.old) }
+    ensures vote { OnOk result (sweep.new.settings.vote ≡ sweep.old.settings.vote) }
+    ensures smooth { OnOk result (sweep.new.settings.smooth ≡ smooth) }
+{
+    if sweep.smooth() < smooth {
+        sweep.raise(smooth)?;
+    }
+    Ok(())
+}
+
+/// Hands the surface of a sweep to the first of these fresh forms, and to each further one that at a smoothing larger by a step.
+fn hand_rising(sweep: &mut Sweep, step: u32, forms: &mut [Box<dyn Form>]) -> Result<(), NoMemory>
+    requires fresh { All IsFresh (map (λ form. received form) forms.old) }
+    requires rises { 1 ≤ step }
+    requires within { smoothing_of sweep.old.settings.smooth step (length forms.old - 1) ≤ WEIGHT_LIMIT }
+    ensures given { OnOk result (given_in sweep.new ≡ given_in sweep.old) }
+    ensures vote { OnOk result (sweep.new.settings.vote ≡ sweep.old.settings.vote) }
+    ensures smooth { OnOk result (sweep.new.settings.smooth ≡ smoothing_of sweep.old.settings.smooth step (length forms.old - 1)) }
+    ensures all { OnOk result (HaveEntries (given_in sweep.old) sweep.old.settings.vote sweep.old.settings.smooth step (map (λ form. received form) forms.new)) }
+    ensures fronts { OnErr result (HaveEntryFronts (given_in sweep.old) sweep.old.settings.vote sweep.old.settings.smooth step (map (λ form. received form) forms.new)) }
+    ensures kinds { map (λ form. form.vtable) forms.new ≡ map (λ form. form.vtable) forms.old }
+{
+    let from = sweep.smooth();
+    for k in 0..forms.len() {
+        raise_to(sweep, from + k as u32 * step)?;
+        hand_surface(sweep, &mut forms[k])?;
+    }
+    Ok(())
+}
+
+/// Hands the best surface of a scan to the first of these fresh forms, and to each further one that at a smoothing larger by a step.
+/// Answers what the first and the last cost.
+///
+/// After `NoMemory` each form is fresh, or has received a front of its surface, the whole included.
+pub fn hand_surfaces(
+    alloc: Global,
+    scan: &Scan,
+    settings: Settings,
+    step: u32,
+    forms: &mut [Box<dyn Form>],
+) -> Result<Costs, NoMemory>
+    requires fresh { All IsFresh (map (λ form. received form) forms.old) }
+    requires rises { 1 ≤ step }
+    requires within { smoothing_of settings.smooth step (length forms.old - 1) ≤ WEIGHT_LIMIT }
+    ensures all { OnOk result (HaveEntries (given_by (shown_of scan.now)) settings.vote settings.smooth step (map (λ form. received form) forms.new)) }
+    ensures first { IfOk result (λ costs. CostsAt (given_by (shown_of scan.now)) settings.vote settings.smooth costs.first) }
+    ensures last { IfOk result (λ costs. CostsAt (given_by (shown_of scan.now)) settings.vote (smoothing_of settings.smooth step (length forms.old - 1)) costs.last) }
+    ensures fronts { OnErr result (HaveEntryFronts (given_by (shown_of scan.now)) settings.vote settings.smooth step (map (λ form. received form) forms.new)) }
+    ensures kinds { map (λ form. form.vtable) forms.new ≡ map (λ form. form.vtable) forms.old }
+{
+    let mut sweep = Sweep::start(alloc, scan, settings)?;
+    let first = sweep.cost();
+    hand_rising(&mut sweep, step, forms)?;
+    Ok(Costs {
+        first,
+        last: sweep.cost(),
+    })
+}
