@@ -4,9 +4,13 @@ pub mod Readings
 pub mod Completeness
 pub mod PrintedSurfaces
 pub mod ScanReplies
+pub mod ScanBehind
+pub mod AskReplies
+pub mod AskEnds
 pub mod BuiltAccepted
 pub mod BuiltSliced
 pub mod CheckEnds
+pub mod CheckedLabels
 pub mod CheckedMeshes
 pub mod CheckReplies
 pub mod DemoReplies
@@ -21,3 +25,4 @@ pub mod ScanTextLengths
 pub mod SeedLemmas
 pub mod StepCounts
 pub mod WordLemmas
+pub mod RefusedForms

@@ -1,5 +1,6 @@
 pub mod Answers
 pub mod CheckLaws
+pub mod CheckedLabels
 pub mod CheckedMeshes
 pub mod Checking
 pub mod Exports
@@ -8,6 +9,7 @@ pub mod Laws
 pub mod Lines
 pub mod MeshLines
 pub mod OptionViews
+pub mod QueryLines
 pub mod Options
 pub mod Outcome
 pub mod Refusals

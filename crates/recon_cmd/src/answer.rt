@@ -7,6 +7,7 @@ ghost use Rattle.recon_cmd.specs.Steps.{CarriesOut, IsReplied, ReadsFor, StopsFo
 ghost use Rattle.recon_cmd.specs.Words.{asked};
 ghost use Rattle.recon_cmd.specs.declared.answer.Stop.TheVariants as stops;
 
+mod ask;
 mod build;
 mod cells;
 mod check;
@@ -20,6 +21,7 @@ mod stamps;
 
 use crate::status::Status;
 use crate::words::Command;
+use ask::reply_to_ask;
 use build::reply_to_build;
 use cells::reply_to_cells;
 use check::reply_to_check;
@@ -100,7 +102,8 @@ pub fn reply_to<'a, H: Host>(
         Command::Cells(names, options) => reply_to_cells(alloc, host, names, options, limit),
         Command::Build(names, options) => reply_to_build(alloc, host, names, options, limit),
         Command::Check(names, options) => reply_to_check(alloc, host, names, options, limit),
-        Command::Slice(words) => reply_to_slice(alloc, host, words),
+        Command::Slice(words) => reply_to_slice(alloc, host, words, limit),
+        Command::Ask(names, options) => reply_to_ask(alloc, host, names, options, limit),
         Command::Demo(demo) => Ok(reply_to_demo(alloc, *demo)?),
     }
 }

@@ -1,14 +1,16 @@
 //! A whole run of the program with forms that the caller hands in. It stands on `run`, and on what `export` does.
 ghost use Rattle.std.specs.Prelude.{◌≡◌, false, length, map, string_bytes, All, IfSome, None};
 ghost use Rattle.mesh_form.specs.Received.{IsFresh};
+ghost use Rattle.recon_cmd.specs.Answers.{file_limit};
 ghost use Rattle.recon_cmd.specs.Exports.{export_of, ExportOutcome};
 ghost use Rattle.recon_cmd.specs.Outcome.{Outcome};
 ghost use Rattle.recon_cmd.specs.Status.{code_of};
 ghost use Rattle.recon_cmd.specs.Words.{command_of};
 ghost use Rattle.recon_cmd.specs.declared.status.Status.{Status as RunStatus};
+ghost use Rattle.recon_cmd.specs.declared.status.Status.TheVariants.{Refused};
 
-use crate::answer::export_mesh;
-use crate::whole_run::run;
+use crate::answer::{FILE_LIMIT, export_mesh};
+use crate::whole_run::run_within;
 use crate::words::understand_export;
 use host::Host;
 use mesh_form::Form;
@@ -43,6 +45,9 @@ pub fn run_forms<H: Host>(
         × ExportOutcome names status (H.state host.old) (H.state host.new)
         (map (λ form. received form) forms.old) (map (λ form. received form) forms.new) (map (λ form. text_of form) forms.new)) }
 
+    // Where it refuses the mesh, the forms are as they were, and not only what they have received.
+    ensures refused { IfSome (export_of (length forms.old) (map string_bytes words.now)) (λ _. result ≡ code_of Refused → forms.new ≡ forms.old) }
+
     // On all other words it is `run`, and leaves the forms.
     ensures ran { export_of (length forms.old) (map string_bytes words.now) ≡ None → (status : RunStatus) × (result ≡ code_of status)
         × Outcome (command_of (map string_bytes words.now)) status (H.state host.old) (H.state host.new) × (forms.new ≡ forms.old) }
@@ -50,8 +55,30 @@ pub fn run_forms<H: Host>(
     // Each form is of the type of the one that was handed in.
     ensures kinds { map (λ form. form.vtable) forms.new ≡ map (λ form. form.vtable) forms.old }
 {
+    run_forms_within(alloc, words, host, forms, FILE_LIMIT)
+}
+
+/// The same, where a file that is read may have as many bytes as this limit.
+#[tactic(auto, using(crate::proofs::RefusedForms::refused_by_code))]
+pub fn run_forms_within<H: Host>(
+    alloc: Global,
+    words: &[String],
+    host: &mut H,
+    forms: &mut [Box<dyn Form>],
+    limit: u64,
+) -> u8
+    requires closed { (H.state host.old).writing ≡ false }
+    requires fresh { All IsFresh (map (λ form. received form) forms.old) }
+    ensures exported { limit ≡ file_limit → IfSome (export_of (length forms.old) (map string_bytes words.now)) (λ names. (status : RunStatus) × (result ≡ code_of status)
+        × ExportOutcome names status (H.state host.old) (H.state host.new)
+        (map (λ form. received form) forms.old) (map (λ form. received form) forms.new) (map (λ form. text_of form) forms.new)) }
+    ensures refused { IfSome (export_of (length forms.old) (map string_bytes words.now)) (λ _. result ≡ code_of Refused → forms.new ≡ forms.old) }
+    ensures ran { limit ≡ file_limit → export_of (length forms.old) (map string_bytes words.now) ≡ None → (status : RunStatus) × (result ≡ code_of status)
+        × Outcome (command_of (map string_bytes words.now)) status (H.state host.old) (H.state host.new) × (forms.new ≡ forms.old) }
+    ensures kinds { map (λ form. form.vtable) forms.new ≡ map (λ form. form.vtable) forms.old }
+{
     match understand_export(words, forms.len()) {
-        Some(words) => export_mesh(alloc, host, &words, forms).code(),
-        None => run(alloc, words, host),
+        Some(words) => export_mesh(alloc, host, &words, forms, limit).code(),
+        None => run_within(alloc, words, host, limit),
     }
 }

@@ -25,7 +25,8 @@ pub use laws::{
     a_check_says_what_its_files_are, a_command_has_one_answer, a_mesh_that_was_checked_is_best,
     a_refused_scan_is_refused, a_surface_that_was_built_is_accepted,
     a_surface_that_was_built_is_best, a_surface_that_was_built_is_sliced, an_accepted_scan_is_done,
-    an_upgraded_certificate_is_kept,
+    an_upgraded_certificate_is_kept, labels_are_read_off_a_checked_certificate,
+    the_limits_are_these,
 };
 pub use options::Options;
 pub use status::Status;

@@ -6,6 +6,7 @@ ghost use Rattle.cert_text.specs.Certificates.{claim_of};
 ghost use Rattle.recon_cmd.specs.Lines.{bad_words_line, too_long_scan_line, too_long_mesh_line, too_long_cert_line, cells_line, labelled, build_line, upgraded_line, demo_line, cells_text, row_line};
 
 mod meshes;
+mod queries;
 mod refusals;
 mod verdicts;
 
@@ -13,6 +14,7 @@ use crate::NoMemory;
 use cert_text::Certificate;
 pub use meshes::{line_of_export, line_of_mesh_refusal, line_of_slice, line_of_unbalanced_edge};
 use num_text::{push_ended, push_whole};
+pub use queries::{line_of_ask, line_of_query_refusal, line_of_too_long_points, text_of_labels};
 pub use refusals::line_of_refusal;
 use std::alloc::Global;
 pub use verdicts::{line_of_reason, line_of_yes};

@@ -1,7 +1,7 @@
 //! The words of a command line, understood without taking memory. It stands on the options.
 ghost use Rattle.std.specs.Prelude.{◌≡◌, [], ◌∷◌, IfSome, IfNone, None, Some, map, string_bytes};
 ghost use Rattle.std.specs.Option.{option_map};
-ghost use Rattle.recon_cmd.specs.Words.{are_names, asked, build_of, cells_of, check_of, command_of, demo_of, slice_of, upgrade_of};
+ghost use Rattle.recon_cmd.specs.Words.{are_names, ask_of, asked, build_of, cells_of, check_of, command_of, demo_of, slice_of, upgrade_of};
 
 mod demo;
 mod export;
@@ -51,6 +51,17 @@ pub struct CheckNames<'a> {
     pub output: Option<&'a str>,
 }
 
+/// The names of `ask IN POINTS OUT`.
+#[derive(Clone, Copy, Debug)]
+pub struct AskNames<'a> {
+    /// The scan that is read.
+    pub input: &'a str,
+    /// The points that are asked for.
+    pub points: &'a str,
+    /// The file that the labels are written to.
+    pub output: &'a str,
+}
+
 /// A command with its names and options.
 #[derive(Clone, Copy, Debug)]
 pub enum Command<'a> {
@@ -63,6 +74,8 @@ pub enum Command<'a> {
     Check(CheckNames<'a>, Options),
     /// `slice MESH H OUT`: the closed loops in which a level plane cuts a mesh.
     Slice(SliceWords<'a>),
+    /// `ask IN POINTS OUT`: whether points are inside or outside the best surface of a scan.
+    Ask(AskNames<'a>, Options),
     /// `demo N SEED`: what `build` says of a scan that is made from a number.
     Demo(Demo),
 }
@@ -79,6 +92,7 @@ pub enum Command<'a> {
 /// | `build IN MESH CERT` | `unit=`, `vote=`, `smooth=`, `scanner=` |
 /// | `check IN MESH CERT` | `unit=`, `vote=`, `smooth=`, `scanner=` |
 /// | `upgrade IN MESH CERT OUT` | `unit=`, `vote=`, `smooth=`, `scanner=` |
+/// | `ask IN POINTS OUT` | `unit=`, `vote=`, `smooth=`, `scanner=` |
 /// | `slice MESH H OUT` | none; H is 1 to 7 digits behind an optional `-`, at most 8,388,608 from 0 |
 /// | `demo N SEED` | none; N is 1 to 1,048,576 in 1 to 10 digits, SEED at most 2^64 - 1 in 1 to 20 |
 pub fn understand(words: &[String]) -> Option<Command<'_>>
@@ -94,6 +108,7 @@ pub fn understand(words: &[String]) -> Option<Command<'_>>
         "check" => check_command(words),
         "upgrade" => upgrade_command(words),
         "slice" => slice_command(words),
+        "ask" => ask_command(words),
         "demo" => demo_command(words),
         _ => None,
     }
@@ -197,6 +212,25 @@ fn slice_command(words: &[String]) -> Option<Command<'_>>
         height,
         output: output.as_str(),
     }))
+}
+
+/// What the words behind `ask` ask for.
+fn ask_command(words: &[String]) -> Option<Command<'_>>
+    ensures { option_map asked result ≡ ask_of (map string_bytes words.now) }
+{
+    let [input, points, output, words @ ..] = words else {
+        return None;
+    };
+    if !are_three_names(input.as_str(), points.as_str(), output.as_str()) {
+        return None;
+    }
+    let options = understand_options(&BUILD_KEYS, words)?;
+    let names = AskNames {
+        input: input.as_str(),
+        points: points.as_str(),
+        output: output.as_str(),
+    };
+    Some(Command::Ask(names, options))
 }
 
 /// What the words behind `demo` ask for.

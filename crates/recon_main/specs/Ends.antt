@@ -8,7 +8,9 @@
 --     RunsOrIdles words status ..         one of the two
 --     words_behind_name args              the words but the first
 --     EndsOn args status before after     the program ended so on what the system handed in as words
---     fresh, EndsAfterARun status         a host that was not used; the program ended so on something, over that host
+--     fresh                               a host that was not used
+--     EndsOver args status                the program ended so on these words, over that host
+--     EndsAfterARun status                it ended so on some words
 use Rattle.std.specs.Prelude.{◌≡◌, ◌≢◌, ◌⊎◌, ℕ, List, [], ◌∷◌, length, map, drop, Result, Ok, Err, Option, Some, None, false}
 use Rattle.std.specs.Prelude.{string_bytes}
 use Rattle.std.specs.IoError.{error_kind}
@@ -82,6 +84,10 @@ EndsOn (Err error) code before after =
 abbrev pub fresh : State
 fresh = record { told = None; faults = 0; opens = 0; reading = false; writing = false }
 
--- the system handed in something as words, and over a fresh host the program ended on it so
+-- the system handed in this as words, and over a fresh host the program ended on it so
+abbrev pub EndsOver : Result (IntoIter (String Global) Global) Error → ℕ → Type 0
+EndsOver args code = (after : State) × EndsOn args code fresh after
+
+-- the system handed in something as words, and the program ended on it so
 abbrev pub EndsAfterARun : ℕ → Type 0
-EndsAfterARun code = (args : Result (IntoIter (String Global) Global) Error) × (after : State) × EndsOn args code fresh after
+EndsAfterARun code = (args : Result (IntoIter (String Global) Global) Error) × EndsOver args code

@@ -2,7 +2,7 @@
 ghost use Rattle.std.specs.Prelude.{◌≡◌, false, drop, map, string_bytes, IfOk, OnErr};
 ghost use Rattle.std.specs.Process.{exit_status};
 ghost use Rattle.std.specs.Vec.Iter.{into_iter_items};
-ghost use Rattle.recon_main.specs.Ends.{EndsOn, EndsAfterARun, RunsOn, RunsOrIdles};
+ghost use Rattle.recon_main.specs.Ends.{EndsOn, EndsOver, EndsAfterARun, RunsOn, RunsOrIdles};
 
 use crate::real::RealHost;
 use host::Host;
@@ -17,12 +17,19 @@ use std::{env, io};
 
 /// The whole program: it ends with what the system's words come to over the system's files and output.
 ///
-/// Nothing is known of what a system hands in, so the clause names no words: it says that the status is one of `ends`.
+/// Nothing is known of what a system hands in, so the clause names no words: it says that the status is one of [`ends_over`].
 pub fn ends_on<R: Env + Files + Print + AllocGlobal + Drop>(rt: R) -> ExitCode
     ensures { EndsAfterARun (exit_status result) }
 {
-    let alloc = rt.alloc();
     let args = env::args(&rt);
+    ends_over(rt, args)
+}
+
+/// The status that the program ends with on these words, over the system's files and output, of which nothing was used before.
+pub fn ends_over<R: Files + Print + AllocGlobal + Drop>(rt: R, args: io::Result<Args>) -> ExitCode
+    ensures { EndsOver args (exit_status result) }
+{
+    let alloc = rt.alloc();
     let mut host = RealHost::new(rt);
     ends(alloc, args, &mut host)
 }

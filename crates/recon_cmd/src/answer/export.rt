@@ -6,9 +6,10 @@ ghost use Rattle.mesh_form.specs.Received.{IsFresh};
 ghost use Rattle.mesh_form.specs.declared.stage.Stage.TheVariants.{Ended};
 ghost use Rattle.mesh_ply.specs.Texts.{IsPrinted};
 ghost use Rattle.solution.specs.Solutions.{surface_of};
+ghost use Rattle.recon_cmd.specs.Answers.{file_limit};
 ghost use Rattle.recon_cmd.specs.Exports.{export_names, ExportOutcome, FormsHandOut};
 ghost use Rattle.recon_cmd.specs.Steps.{CarriesOut};
-ghost use Rattle.recon_cmd.specs.declared.status.Status.TheVariants.{Done};
+ghost use Rattle.recon_cmd.specs.declared.status.Status.TheVariants.{Done, Refused};
 
 use crate::answer::meshes::{MeshReading, read_mesh_file};
 use crate::answer::{Stop, conclude};
@@ -20,21 +21,24 @@ use mesh_form::{Form, drive_all};
 use mesh_ply::Mesh;
 use std::alloc::Global;
 
-/// Reads the mesh, hands it to each form, and writes their texts, in order. No file is made before all texts stand in memory.
+/// Reads the mesh, whose file may have as many bytes as the limit, hands it to each form, and writes their texts, in order. No
+/// file is made before all texts stand in memory.
 pub fn export_mesh<H: Host>(
     alloc: Global,
     host: &mut H,
     words: &ExportWords,
     forms: &mut [Box<dyn Form>],
+    limit: u64,
 ) -> Status
     requires closed { (H.state host.old).writing ≡ false }
     requires fresh { All IsFresh (map (λ form. received form) forms.old) }
     requires as_many { length words.now.outputs.now ≡ length forms.old }
-    ensures outcome { ExportOutcome (export_names words.now) result (H.state host.old) (H.state host.new)
+    ensures outcome { limit ≡ file_limit → ExportOutcome (export_names words.now) result (H.state host.old) (H.state host.new)
         (map (λ form. received form) forms.old) (map (λ form. received form) forms.new) (map (λ form. text_of form) forms.new) }
+    ensures refused { result ≡ Refused → forms.new ≡ forms.old }
     ensures kinds { map (λ form. form.vtable) forms.new ≡ map (λ form. form.vtable) forms.old }
 {
-    let reading = match read_mesh_file(alloc, host, words.mesh) {
+    let reading = match read_mesh_file(alloc, host, words.mesh, limit) {
         Ok(reading) => reading,
         Err(Stop::Failed) => return Status::Failed,
         Err(Stop::NoMemory) => return Status::NoMemory,

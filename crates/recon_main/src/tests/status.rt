@@ -3,7 +3,7 @@ ghost use Rattle.std.specs.Prelude.{◌≡◌, false, IfOk};
 ghost use Rattle.host.specs.Memory.{state_of};
 
 use super::fake::{Fake, Plan};
-use crate::ends::{ends, ends_on};
+use crate::ends::{ends, ends_on, ends_over};
 use host::MemHost;
 use std::alloc::Global;
 use std::io::{Error, ErrorKind};
@@ -61,6 +61,32 @@ fn status_on(memory: Global, words: &'static [&'static [u8]], failing: u32) -> E
     let plan = Plan::new(1, 3, 0);
     let system = Fake::new(memory, words, plan, plan, Plan::new(1, 3, failing));
     ends_on(system)
+}
+
+/// A system that hands in no words of its own is run on those that it is told.
+#[test]
+fn the_words_that_are_handed_in_are_run(rt: HostRuntime) -> Result<(), Fail> {
+    let alloc = rt.alloc();
+    let cases: [(&[&str], u8); 4] = [
+        (&["recon", "demo", "1", "7"], 0),
+        (&["recon", "demo", "1"], 2),
+        (&["recon", "cells", "in", "out"], 3),
+        (&["recon"], 2),
+    ];
+    for (words, status) in cases {
+        let mut args = Vec::new(alloc);
+        for word in words {
+            args.push(String::from_str(alloc, word)?)?;
+        }
+        let plan = Plan::new(1, 3, 0);
+        let system = Fake::new(alloc, &[], plan, plan, plan);
+        assert_eq!(rt;
+            ends_over(system, Ok(args.into_iter())),
+            ExitCode::from(status),
+            "{words:?}"
+        );
+    }
+    Ok(())
 }
 
 #[test]

@@ -1,0 +1,5 @@
+pub mod Reading
+pub mod Located
+pub mod Flagged
+pub mod Unique
+pub mod Along

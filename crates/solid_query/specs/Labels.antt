@@ -1,0 +1,59 @@
+-- Labels of points.
+--
+--   IsLabelOf v cells inside q label     the label of the one of these cells in which the displaced point lies
+--   AreLabels scan settings points ..    the labels of points in the best surface of a scan
+--   AreAllLive slots ids                 the numbers of all live cells, each once
+--   IsLabelAt s ids inside q label       the label of the one of these linked cells in which the displaced point lies
+use Rattle.std.specs.Prelude.{ℕ, ◌≡◌, ◌<◌, Bool, true, List, Option, length, slice_index, slice_index_or, Contains}
+use Rattle.flow_net.specs.Nets.{flag_at}
+use Rattle.flow_net.specs.declared.votes.Settings.{Settings}
+use Rattle.geo_sign.specs.Cells.{written}
+use Rattle.geo_sign.specs.Point.{Point, origin}
+use Rattle.geo_sign.specs.Rational.{displaced}
+use Rattle.geo_sign.specs.Sights.{is_cell_of}
+use Rattle.geo_sign.specs.Vertices as all
+use Rattle.geo_sign.specs.Vertices.{Vertices}
+use Rattle.scan.specs.Shown.{Shown}
+use Rattle.solution.specs.Scans.{points_of, scene_of_scan}
+use Rattle.tetra_store.specs.declared.link.Cell.{Cell}
+use Rattle.tetra_store.specs.Links.{links_of, IsLive}
+use Rattle.tetra_store.specs.Store.{Store, vertices_of}
+use Rattle.visibility.specs.Complexes.{Complex}
+use Rattle.visibility.specs.Cuts.{IsLeastInside}
+use Rattle.visibility.specs.Votes.{IsComplexOf}
+
+-- The point is displaced as a scanner is. It then lies strictly inside exactly one of the cells, on the inner side of each of its
+-- facets, and has that cell's label.
+pub record IsLabelOf (v : Vertices) (cells : List (List ℕ)) (inside : List ℕ → Bool) (q : Point) (label : Bool) : Type 0 where
+  pub cell : List ℕ
+  pub listed : Contains cells cell
+  pub has : is_cell_of v (displaced q) (written v cell) ≡ true
+  pub only : (other : List ℕ) → Contains cells other → is_cell_of v (displaced q) (written v other) ≡ true → other ≡ cell
+  pub label_is : label ≡ inside cell
+
+-- The labels of these points, one each: those of all Delaunay cells of the scan's distinct points and the box's corners, under the
+-- labels of least cost whose inside is contained in that of all labels of that cost. True stands for inside.
+pub record AreLabels (scan : Shown) (settings : Settings) (points : List Point) (labels : List Bool) : Type 0 where
+  pub complex : Complex
+  pub inside : List ℕ → Bool
+  pub complex_is : IsComplexOf (scene_of_scan scan settings) complex
+  pub least : IsLeastInside (scene_of_scan scan settings) complex inside
+  pub count : length labels ≡ length points
+  pub each : (k : ℕ) → k < length points
+      → IsLabelOf (all.vertices_of (points_of scan)) complex.cells inside (slice_index_or points k origin) (flag_at labels k)
+
+-- the numbers of all live cells, each once
+pub record AreAllLive (slots : List (Option Cell)) (ids : List ℕ) : Type 0 where
+  pub live : (k : ℕ) → k < length ids → IsLive (links_of slots) (slice_index ids k)
+  pub all : (id : ℕ) → IsLive (links_of slots) id → Contains ids id
+  pub once : (j k : ℕ) → j < length ids → k < length ids → slice_index ids j ≡ slice_index ids k → j ≡ k
+
+-- the one of the cells with these numbers in which the displaced point lies has this label
+pub record IsLabelAt (s : Store) (ids : List ℕ) (inside : List Bool) (q : Point) (label : Bool) : Type 0 where
+  pub index : ℕ
+  pub within : index < length ids
+  pub has : is_cell_of (vertices_of s) (displaced q) ((links_of s.slots).at (slice_index ids index)) ≡ true
+  pub only : (k : ℕ) → k < length ids
+      → is_cell_of (vertices_of s) (displaced q) ((links_of s.slots).at (slice_index ids k)) ≡ true
+      → k ≡ index
+  pub label_is : label ≡ flag_at inside index

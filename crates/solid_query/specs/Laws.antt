@@ -1,0 +1,48 @@
+-- What holds of all labels of points.
+--
+--   LabelsAreUnique     points have no two lists of labels
+--   PointsHaveLabels    among labelled cells each data point has a label, and no two
+--   HasPoint scan cells q    the displaced point lies in one of these cells
+--   LabelsAreCertified  a point is inside exactly where an inside cell of the scan's certificate has it
+use Rattle.std.specs.Prelude.{ℕ, ◌≡◌, ◌<◌, ◌↔◌, Bool, true, List, length, slice_index_or}
+use Rattle.std.specs.List.{Any}
+use Rattle.cert_text.specs.Certificates.{Claim}
+use Rattle.flow_net.specs.Nets.{flag_at}
+use Rattle.flow_net.specs.declared.votes.Settings.{Settings}
+use Rattle.geo_sign.specs.Boxes.{IsBoxed}
+use Rattle.geo_sign.specs.Cells.{IsCellList, written}
+use Rattle.geo_sign.specs.Point.{Point, IsWithin, origin}
+use Rattle.geo_sign.specs.Rational.{displaced}
+use Rattle.geo_sign.specs.Sights.{is_cell_of}
+use Rattle.geo_sign.specs.Vertices.{Vertices, vertices_of}
+use Rattle.geo_sign.specs.declared.point.TheConstants.{DATA_LIMIT}
+use Rattle.mesh_ply.specs.Meshes.{Surface}
+use Rattle.scan.specs.Shown.{Shown}
+use Rattle.solution.specs.Scans.{points_of}
+use Rattle.solution.specs.Solutions.{IsSolution}
+use Rattle.solid_query.specs.Labels.{IsLabelOf, AreLabels}
+
+-- the scan, the settings and the points determine them
+abbrev pub LabelsAreUnique : Type 0
+LabelsAreUnique =
+    (scan : Shown) (settings : Settings) (points : List Point) (labels other : List Bool) → AreLabels scan settings points labels
+    → AreLabels scan settings points other → labels ≡ other
+
+-- also where the point is a vertex, or lies on a facet
+abbrev pub PointsHaveLabels : Type 0
+PointsHaveLabels =
+    (v : Vertices) (cells : List (List ℕ)) (inside : List ℕ → Bool) (q : Point) → IsBoxed v → IsCellList v cells
+    → IsWithin DATA_LIMIT q
+    → (label : Bool) × IsLabelOf v cells inside q label × ((other : Bool) → IsLabelOf v cells inside q other → other ≡ label)
+
+-- the displaced point lies in one of these cells of the scan
+abbrev pub HasPoint : Shown → (cells : List (List ℕ)) → Point → Type 0
+HasPoint scan cells q =
+    Any (λ row. is_cell_of (vertices_of (points_of scan)) (displaced q) (written (vertices_of (points_of scan)) row) ≡ true) cells
+
+-- whichever flow the certificate states
+abbrev pub LabelsAreCertified : Type 0
+LabelsAreCertified =
+    (scan : Shown) (settings : Settings) (mesh : Surface) (claim : Claim) (points : List Point) (labels : List Bool)
+    → IsSolution scan settings mesh claim → AreLabels scan settings points labels → (k : ℕ) → k < length points
+    → (flag_at labels k ≡ true) ↔ HasPoint scan claim.inside (slice_index_or points k origin)

@@ -1,0 +1,4 @@
+pub mod Queries
+pub mod Labels
+pub mod Solids
+pub mod Laws

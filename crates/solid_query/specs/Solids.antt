@@ -1,0 +1,56 @@
+-- The linked cells of a scan, with labels by their numbers.
+--
+--   IsNetworkOfScan scan settings s counted   the linked cells, and the network over them
+--   IsSolid scan settings s flags             the linked cells, and which are inside
+--   IsFlaggedAs s flags q flag                the cell in which the displaced point lies has this flag
+--   AreFlagged s flags points found           the same of points, one each
+use Rattle.std.specs.Prelude.{ℕ, ◌≡◌, ◌<◌, ◌++◌, Bool, true, List, length, slice_index_or}
+use Rattle.flow_net.specs.Nets.{flag_at}
+use Rattle.flow_net.specs.declared.votes.Settings.{Settings}
+use Rattle.geo_sign.specs.Point.{Point, origin}
+use Rattle.geo_sign.specs.Rational.{displaced}
+use Rattle.geo_sign.specs.Sights.{is_cell_of}
+use Rattle.geo_sign.specs.Vertices.{corners}
+use Rattle.scan.specs.Shown.{Shown}
+use Rattle.solution.specs.Scans.{points_of, scene_of_scan}
+use Rattle.tetra_store.specs.Delaunay.{IsDelaunay}
+use Rattle.tetra_store.specs.Links.{links_of, IsLive}
+use Rattle.tetra_store.specs.Store.{Store, vertices_of}
+use Rattle.visibility.specs.Complexes.{Complex}
+use Rattle.visibility.specs.Cuts.{IsLeastInside}
+use Rattle.visibility.specs.Networks.{IsNetworkInAnyOrder}
+use Rattle.visibility.specs.Votes.{IsComplexOf}
+use Rattle.vote_net.specs.Counts.{AreCellsOf, AreIdsOf, row_of}
+use Rattle.vote_net.specs.declared.network.Counted.{Counted}
+
+-- the Delaunay cells of the box's corners and the scan's distinct points, and the network over them
+pub record IsNetworkOfScan (scan : Shown) (settings : Settings) (s : Store) (counted : Counted) : Type 0 where
+  pub points : s.points ≡ corners ++ points_of scan
+  pub delaunay : IsDelaunay (vertices_of s) (links_of s.slots)
+  pub cells : AreCellsOf (scene_of_scan scan settings) s.slots
+  pub network : IsNetworkInAnyOrder (scene_of_scan scan settings) counted.voted
+  pub ids : AreIdsOf s.slots counted.voted.cells counted.ids.items
+
+-- the same cells, and of each by its number whether it is in the least inside
+pub record IsSolid (scan : Shown) (settings : Settings) (s : Store) (flags : List Bool) : Type 0 where
+  pub points : s.points ≡ corners ++ points_of scan
+  pub delaunay : IsDelaunay (vertices_of s) (links_of s.slots)
+  pub cells : AreCellsOf (scene_of_scan scan settings) s.slots
+  pub complex : Complex
+  pub inside : List ℕ → Bool
+  pub complex_is : IsComplexOf (scene_of_scan scan settings) complex
+  pub least : IsLeastInside (scene_of_scan scan settings) complex inside
+  pub fits : (id : ℕ) → IsLive (links_of s.slots) id → id < length flags
+  pub flags_are : (id : ℕ) → IsLive (links_of s.slots) id → flag_at flags id ≡ inside (row_of s.slots id)
+
+-- the live cell in which the displaced point lies has this flag
+pub record IsFlaggedAs (s : Store) (flags : List Bool) (q : Point) (flag : Bool) : Type 0 where
+  pub cell : ℕ
+  pub live : IsLive (links_of s.slots) cell
+  pub has : is_cell_of (vertices_of s) (displaced q) ((links_of s.slots).at cell) ≡ true
+  pub flag_is : flag ≡ flag_at flags cell
+
+-- the same of points, one each
+pub record AreFlagged (s : Store) (flags : List Bool) (points : List Point) (found : List Bool) : Type 0 where
+  pub count : length found ≡ length points
+  pub each : (k : ℕ) → k < length points → IsFlaggedAs s flags (slice_index_or points k origin) (flag_at found k)

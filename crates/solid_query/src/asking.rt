@@ -1,0 +1,89 @@
+//! The labels of points in the best surface of a scan.
+
+ghost use Rattle.std.specs.Prelude.{◌≡◌, ◌<◌, ◌^◌, ℕ, IfOk, All, length};
+ghost use Rattle.geo_sign.specs.declared.point.TheConstants.{DATA_LIMIT};
+ghost use Rattle.geo_sign.specs.Point.{IsWithin};
+ghost use Rattle.scan.specs.Views.{shown_of};
+ghost use Rattle.tetra_store.specs.Delaunay.{IsDelaunay};
+ghost use Rattle.tetra_store.specs.Links.{links_of, IsLive};
+ghost use Rattle.tetra_store.specs.Store.{vertices_of};
+ghost use Rattle.solid_query.specs.Labels.{AreLabels};
+ghost use Rattle.solid_query.specs.Solids.{AreFlagged};
+
+use crate::NoMemory;
+use crate::solid::solid_of;
+use curve_order::order;
+use flow_net::Settings;
+use geo_sign::Point;
+use scan::Scan;
+use std::alloc::Global;
+use tetra_store::Tetra;
+use tetra_walk::locate_displaced;
+
+/// The flags of the cells in which points lie, displaced. `flags` has one for each cell by its number in the store. Each walk
+/// begins in the cell that the one before it found.
+fn flags_at(
+    alloc: Global,
+    t: &Tetra,
+    flags: &[bool],
+    points: &[Point],
+) -> Result<Vec<bool>, NoMemory>
+    requires delaunay { IsDelaunay (vertices_of t.now) (links_of t.now.slots) }
+    requires fits { (id : ℕ) → IsLive (links_of t.now.slots) id → id < length flags.now }
+    requires data_points { All (IsWithin DATA_LIMIT) points.now }
+    ensures { IfOk result (λ found. AreFlagged t.now flags.now points.now found.items) }
+{
+    t.facts();
+    let mut found = Vec::with_capacity(alloc, points.len())?;
+    let mut cell = t.cell_at(0);
+    for point in points {
+        cell = locate_displaced(t, *point, cell);
+        found.push(flags[cell.number()])?;
+    }
+    Ok(found)
+}
+
+/// The same, where the points are gone through along a space-filling curve, so that each is near the one before it wherever
+/// they stand in the list.
+fn flags_along(
+    alloc: Global,
+    t: &Tetra,
+    flags: &[bool],
+    points: &[Point],
+) -> Result<Vec<bool>, NoMemory>
+    requires delaunay { IsDelaunay (vertices_of t.now) (links_of t.now.slots) }
+    requires fits { (id : ℕ) → IsLive (links_of t.now.slots) id → id < length flags.now }
+    requires data_points { All (IsWithin DATA_LIMIT) points.now }
+    requires few { length points.now < 2 ^ 32 }
+    ensures { IfOk result (λ found. AreFlagged t.now flags.now points.now found.items) }
+{
+    t.facts();
+    let order = order(alloc, points)?;
+    let mut found = vec![in alloc; false; points.len()]?;
+    let mut cell = t.cell_at(0);
+    for k in 0..order.len() {
+        let at = order[k] as usize;
+        cell = locate_displaced(t, points[at], cell);
+        found[at] = flags[cell.number()];
+    }
+    Ok(found)
+}
+
+/// Whether each of these data points is inside the best surface of a scan at these settings: true exactly where the cell in
+/// which the displaced point lies is in the least-inside labels of least cost. The only error is want of memory.
+pub fn ask(
+    alloc: Global,
+    scan: &Scan,
+    settings: Settings,
+    queries: &[Point],
+) -> Result<Vec<bool>, NoMemory>
+    requires { All (IsWithin DATA_LIMIT) queries.now }
+    ensures { IfOk result (λ answers. AreLabels (shown_of scan.now) settings queries.now answers.items) }
+{
+    let solid = solid_of(alloc, scan, settings)?;
+    solid.tetra.facts();
+    if queries.len() > u32::MAX as usize {
+        return flags_at(alloc, &solid.tetra, &solid.inside, queries);
+    }
+    flags_along(alloc, &solid.tetra, &solid.inside, queries)
+}

@@ -1,0 +1,20 @@
+//! Laws over the definitions, as the contracts of calls that do nothing.
+
+ghost use Rattle.solid_query.specs.Laws.{LabelsAreCertified, LabelsAreUnique, PointsHaveLabels};
+
+/// Points have one list of labels in a scan at given settings.
+pub fn labels_are_unique()
+    ensures { LabelsAreUnique }
+{}
+
+/// Among all Delaunay cells each data point has a label, and only one, also where it is a vertex or lies on a facet: the displaced
+/// point lies strictly inside exactly one cell.
+pub fn points_have_labels()
+    ensures { PointsHaveLabels }
+{}
+
+/// A solution of a scan and the labels of points in it agree: a point is inside exactly where the displaced point lies in one of the
+/// inside cells that the certificate lists.
+pub fn labels_are_certified()
+    ensures { LabelsAreCertified }
+{}

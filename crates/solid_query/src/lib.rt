@@ -1,0 +1,28 @@
+//! Whether points are inside or outside the best surface of a scan.
+//!
+//! A point stands for a place displaced by less than 2^-63 units, as a scanner does, so that it lies strictly inside exactly one
+//! Delaunay cell, also where it is a vertex or lies on a facet. It is inside where that cell is in the least-inside labels of least
+//! cost.
+//!
+//! `label_at` tells the label of one point among labelled cells, without taking memory. `read_queries` reads points from a text of
+//! decimals, and `ask` answers for a list of points and a scan. `labels` and `solid` hold what both stand on.
+#![tactic(auto)]
+
+mod asking;
+mod labels;
+mod laws;
+mod queries;
+mod refusal;
+mod solid;
+#[cfg(test)]
+mod tests;
+
+pub use asking::ask;
+pub use labels::label_at;
+pub use laws::{labels_are_certified, labels_are_unique, points_have_labels};
+pub use queries::{TOKEN_LIMIT, read_queries};
+pub use refusal::QueryRefusal;
+use std::alloc::AllocError;
+
+/// Want of memory: the one answer that any input may get.
+pub type NoMemory = AllocError;

@@ -1,0 +1,128 @@
+//! Points from a text of decimals. It stands on `num_text`, which reads a decimal in units.
+
+ghost use Rattle.std.specs.Prelude.{◌≡◌, ◌≤◌, ◌<◌, ◌+◌, ◌*◌, ◌%◌, ◌^◌, IfOk, All, length, map, slice_index_or, [], unsigned_abs};
+ghost use Rattle.geo_sign.specs.declared.point.TheConstants.{DATA_LIMIT};
+ghost use Rattle.geo_sign.specs.Point.{IsWithin};
+ghost use Rattle.num_text.specs.declared.decimal.TheConstants.{UNIT_LIMIT};
+ghost use Rattle.ply_rows.specs.Tokens.{is_white_space as is_white_space_in};
+ghost use Rattle.solid_query.specs.Queries.{coordinate as coordinate_in, point_of, points_among, points_from, points_in, told as told_in, tokens_of as tokens_in, Gives};
+
+use crate::NoMemory;
+use crate::refusal::QueryRefusal;
+use geo_sign::Point;
+use num_text::{NumRefusal, scaled};
+use std::alloc::Global;
+
+/// How many tokens a text of points may have: three for each of 1,048,576 points.
+pub const TOKEN_LIMIT: u32 = 3_145_728;
+
+/// Whether a byte is space, tab, CR or LF.
+fn is_white_space(byte: u8) -> bool
+    ensures { result ≡ is_white_space_in byte }
+{
+    byte == b' ' || byte == b'\t' || byte == b'\r' || byte == b'\n'
+}
+
+/// How many tokens a text has.
+fn token_count(bytes: &[u8]) -> usize
+    ensures { result ≡ length (tokens_in bytes.now) }
+{
+    bytes
+        .split(|byte| is_white_space(*byte))
+        .filter(|token| !token.is_empty())
+        .count()
+}
+
+/// The tokens of a text.
+fn tokens_of<'a>(alloc: Global, bytes: &'a [u8]) -> Result<Vec<&'a [u8]>, NoMemory>
+    ensures { IfOk result (λ tokens. map (λ token. token.now) tokens.items ≡ tokens_in bytes.now) }
+{
+    bytes
+        .split(|byte| is_white_space(*byte))
+        .filter(|token| !token.is_empty())
+        .collect(alloc)
+}
+
+/// The number of units that a token with this number is, or why it is none.
+fn told(number: u32, units: Result<i64, NumRefusal>) -> Result<i64, QueryRefusal>
+    ensures { result ≡ told_in number units }
+{
+    match units {
+        Ok(units) => Ok(units),
+        Err(NumRefusal::NotANumber) => Err(QueryRefusal::BadToken(number)),
+        Err(NumRefusal::LongNumber) => Err(QueryRefusal::LongNumber(number)),
+        Err(NumRefusal::OutOfRange) => Err(QueryRefusal::OutOfRange(number)),
+    }
+}
+
+/// The coordinate that the token with this number is.
+fn coordinate(unit: u32, number: u32, token: &[u8]) -> Result<i64, QueryRefusal>
+    requires at_least_one { 1 ≤ unit }
+    requires at_most_a_million { unit ≤ UNIT_LIMIT }
+    ensures said { result ≡ coordinate_in unit number token.now }
+    ensures data { IfOk result (λ units. unsigned_abs units ≤ DATA_LIMIT) }
+{
+    told(number, scaled(token, unit))
+}
+
+/// The point of three tokens, the first of which has this number.
+fn point_at(unit: u32, number: u32, x: &[u8], y: &[u8], z: &[u8]) -> Result<Point, QueryRefusal>
+    requires at_least_one { 1 ≤ unit }
+    requires at_most_a_million { unit ≤ UNIT_LIMIT }
+    requires number { number + 2 < 2 ^ 32 }
+    ensures said { result ≡ point_of (coordinate_in unit number x.now) (coordinate_in unit (number + 1) y.now) (coordinate_in unit (number + 2) z.now) }
+    ensures data { IfOk result (IsWithin DATA_LIMIT) }
+{
+    let x = coordinate(unit, number, x)?;
+    let y = coordinate(unit, number + 1, y)?;
+    let z = coordinate(unit, number + 2, z)?;
+    match Point::data(x, y, z) {
+        Some(point) => Ok(point),
+        // Each is within the limit of a scan's coordinates.
+        None => unreachable!(),
+    }
+}
+
+/// The points of tokens, three a point.
+fn points_of(alloc: Global, unit: u32, tokens: &[&[u8]]) -> Result<Vec<Point>, QueryRefusal>
+    requires at_least_one { 1 ≤ unit }
+    requires at_most_a_million { unit ≤ UNIT_LIMIT }
+    requires few { length tokens.now ≤ TOKEN_LIMIT }
+    requires even { length tokens.now % 3 ≡ 0 }
+    ensures said { Gives (λ points. points.items) result (points_from unit 0 (map (λ token. token.now) tokens.now)) }
+    ensures data { IfOk result (λ points. All (IsWithin DATA_LIMIT) points.items) }
+{
+    let mut points = Vec::with_capacity(alloc, tokens.len() / 3)?;
+    for k in 0..tokens.len() / 3 {
+        let at = 3 * k;
+        let point = point_at(unit, at as u32, tokens[at], tokens[at + 1], tokens[at + 2])?;
+        points.push(point)?;
+    }
+    Ok(points)
+}
+
+/// The points that a text of decimals is, in units: tokens between white space (space, tab, CR and LF), three for each point.
+///
+/// Refused are, in this order, more tokens than [`TOKEN_LIMIT`], a number of tokens that is no multiple of three, and the first token
+/// that is no number of units within the limit of a scan's coordinates.
+#[tactic(auto, unfolding(crate::specs::Queries::points_in))]
+pub fn read_queries(alloc: Global, bytes: &[u8], unit: u32) -> Result<Vec<Point>, QueryRefusal>
+    requires at_least_one { 1 ≤ unit }
+    requires at_most_a_million { unit ≤ UNIT_LIMIT }
+    ensures read { Gives (λ points. points.items) result (points_in bytes.now unit) }
+    ensures data { IfOk result (λ points. All (IsWithin DATA_LIMIT) points.items) }
+{
+    let count = token_count(bytes);
+    if count > TOKEN_LIMIT as usize {
+        return Err(QueryRefusal::TooMany {
+            tokens: count as u64,
+        });
+    }
+    if count % 3 != 0 {
+        return Err(QueryRefusal::Uneven {
+            tokens: count as u32,
+        });
+    }
+    let tokens = tokens_of(alloc, bytes)?;
+    points_of(alloc, unit, &tokens)
+}
