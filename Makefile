@@ -2,7 +2,10 @@
 PREFIX ?= /usr/local
 PROGRAM = crates/recon_main/out/recon_main
 
-.PHONY: run recon test bench install clean
+USER_TOOLS = $(notdir $(basename $(wildcard tools/*.py)))
+MACHINE = $(shell uname -s | tr A-Z a-z)-$(shell uname -m)
+
+.PHONY: run recon test attack bench install dist clean
 
 # Proves and builds the program (the first time about twenty minutes on four processors, afterwards seconds), leaves it
 # as ./recon and runs it on an example.
@@ -11,19 +14,23 @@ run: recon
 	./recon build examples/tetrahedron.ply tetrahedron_mesh.ply tetrahedron.cert
 	@echo "recon check: whether mesh and certificate are those of the scan"
 	./recon check examples/tetrahedron.ply tetrahedron_mesh.ply tetrahedron.cert
-	@echo "tetrahedron_mesh.ply opens in viewers of PLY meshes, in MeshLab after tools/mesh_to_floats.py"
+	@echo "tetrahedron_mesh.ply opens in viewers of PLY meshes, in MeshLab after tools/finish.py or tools/mesh_to_floats.py"
 
 recon:
-	@echo "proving and building the program: about twenty minutes the first time, then seconds"
-	cd crates/recon_main && rt run -- demo 1 7
+	@echo "proving and building the program, a line for each crate; all that rt prints goes to run.log"
+	cd crates/recon_main && python3 ../../dev/progress.py ../../run.log rt run -- demo 1 7
 	cp $(PROGRAM) recon
 
 # All tests, as the gate runs them: every proof and every test of every crate, the edits that must be refused, the program; then what
-# the documents name, the tests of tools/ and those of the built program. From nothing, about an hour and a half on four processors; what
-# passed here before and has not changed is not proved again.
+# the documents name, the tests of tools/ and those of the built program. What passed here before and has not changed is not proved again.
 test:
-	@echo "rt ci (every proof, every edit that must be refused, every test), then the tests of tools/: about an hour and a half from nothing, else by what has changed"
-	bash .ci/run
+	@echo "every proof, every edit that must be refused, every test, then the tests of tools/; all that they print goes to test.log"
+	python3 dev/progress.py test.log bash .ci/run
+
+# The wrong bodies of attack/, which the gate leaves out: all (hours), or those of some crates, as make attack CRATES="votes sight".
+attack:
+	@echo "wrong bodies of attack/, about half a minute each: a line for each crate; all that is printed goes to attack.log"
+	python3 dev/attack.py $(CRATES)
 
 # Times calls of linked cells and walks along sights at 100,000 points, then build and check on scans of 10,000 to 1,000,000 points,
 # and prints a table like those of docs/performance.md (some tens of minutes; the scans are made the first time). BESIDE=PROGRAM times another
@@ -32,13 +39,31 @@ bench: recon
 	@echo "times of calls of linked cells and of walks along sights, 100,000 points"
 	cd crates/cell_bench && rt run -- 100000
 	@echo "times of build and check at growing sizes, into bench_scans/"
-	python3 tools/bench.py ./recon bench_scans $(if $(BESIDE),beside=$(BESIDE))
+	python3 dev/bench.py ./recon bench_scans $(if $(BESIDE),beside=$(BESIDE))
 
-# Installs the program and its manual page under PREFIX (a second, where the program is built; else it is built first).
+# Installs the program, its manual page and the programs of tools/ under PREFIX (a second, where the program is built; else it is
+# built first). finish.py becomes recon-finish, stations_to_ply.py recon-stations-to-ply, and so on; they want Python 3.8 or later.
 install: recon
 	install -D -m 755 recon $(DESTDIR)$(PREFIX)/bin/recon
 	install -D -m 644 docs/recon.1 $(DESTDIR)$(PREFIX)/share/man/man1/recon.1
+	install -d $(DESTDIR)$(PREFIX)/share/recon/toolbox
+	install -m 644 tools/*.py $(DESTDIR)$(PREFIX)/share/recon
+	install -m 644 tools/toolbox/*.py $(DESTDIR)$(PREFIX)/share/recon/toolbox
+	for tool in $(USER_TOOLS); do \
+	  name=$(DESTDIR)$(PREFIX)/bin/recon-$$(echo $$tool | tr _ -); \
+	  printf '#!/bin/sh\nexec python3 "$$(dirname "$$(readlink -f "$$0")")/../share/recon/%s.py" "$$@"\n' $$tool > $$name && \
+	  chmod 755 $$name || exit 1; done
+
+# Packs what is installed into one archive, for machines of this kind that have no toolchain: unpacked anywhere, its folder bin/ has
+# the program and the tools (a second, where the program is built).
+dist: recon
+	rm -rf recon-$(MACHINE)
+	$(MAKE) install DESTDIR=$(CURDIR)/ PREFIX=recon-$(MACHINE)
+	cp README.md docs/using.md recon-$(MACHINE)
+	tar -czf recon-$(MACHINE).tar.gz --owner=0 --group=0 --sort=name recon-$(MACHINE)
+	rm -rf recon-$(MACHINE)
+	@echo "recon-$(MACHINE).tar.gz"
 
 # Removes what was built and what the proofs kept (a second; the next run proves from nothing). The scans of bench stay.
 clean:
-	rm -rf crates/*/out recon tetrahedron_mesh.ply tetrahedron.cert
+	rm -rf crates/*/out recon recon-*.tar.gz tetrahedron_mesh.ply tetrahedron.cert run.log test.log attack.log

@@ -1,0 +1,135 @@
+#!/usr/bin/env python3
+"""Times `recon build` and `recon check` on scans of growing size, and prints a table for docs/performance.md.
+
+  bench.py RECON FOLDER [beside=PROGRAM] [sizes=N,N,..] [shapes=NAME,NAME,..] [runs=N]
+
+  RECON              the built program
+  FOLDER             where the scans are kept and the meshes and certificates are written; a scan that is there is not made
+                     again
+  beside=PROGRAM     another program that takes the same words, timed run by run beside RECON; its lines and its meshes have to
+                     be the same, byte for byte
+  sizes=N,N,..       without it 10000,100000,1000000
+  shapes=NAME,..     shapes of make_scan.py; without it cube,torus,room,statue. Where neither sizes nor shapes are given, the
+                     worst shapes follow, each at a size of its own
+  runs=N             runs of each, of which the least times and the largest peak count; without it 2
+
+Seconds are of the processor (user and system) and of the wall; the peak is the largest resident memory, in units of 2^20
+bytes. Needs Python 3.9.
+"""
+import os
+import resource
+import subprocess
+import sys
+import time
+
+from tools_path import TOOLS
+from toolbox.ply_text import Refusal
+from toolbox.tool import run
+
+SEED = '7'
+# Shapes whose sights cross as many cells as may be, and how many rows of each take about as long as the others.
+WORST = (('tube', 20000), ('crowd', 1000000), ('paraboloid', 30000))
+
+
+class Run:
+    """One run: what it said, its seconds and its peak."""
+
+    def __init__(self, words):
+        reading, writing = os.pipe()
+        started = time.monotonic()
+        child = subprocess.Popen(words, stdout=writing, stderr=subprocess.PIPE)
+        os.close(writing)
+        _, status, usage = os.wait4(child.pid, 0)
+        child.returncode = os.waitstatus_to_exitcode(status)
+        self.wall = time.monotonic() - started
+        self.processor = usage.ru_utime + usage.ru_stime
+        self.peak = usage.ru_maxrss // 1024
+        with os.fdopen(reading, 'rb') as said:
+            self.line = said.read().decode('ascii')
+        if child.returncode != 0:
+            raise Refusal(f'{" ".join(words)} ended with {child.returncode}: {self.line.strip()}')
+
+
+def least(runs):
+    """The least processor and wall seconds of some runs and the largest peak."""
+    return min(r.processor for r in runs), min(r.wall for r in runs), max(r.peak for r in runs)
+
+
+def scan_of(folder, shape, size):
+    """The path of a scan, which is made where it is missing."""
+    path = os.path.join(folder, f'{shape}.{size}.ply')
+    if not os.path.exists(path):
+        subprocess.run([sys.executable, os.path.join(TOOLS, 'make_scan.py'), shape, str(size), SEED, path], check=True,
+                       stdout=subprocess.DEVNULL)
+    return path
+
+
+def texts(program, folder, name):
+    """Where a program writes its mesh and its certificate."""
+    label = os.path.basename(program)
+    return [os.path.join(folder, f'{name}.{label}.{kind}') for kind in ('ply', 'cert')]
+
+
+def same_bytes(one, other):
+    with open(one, 'rb') as first, open(other, 'rb') as second:
+        while True:
+            a, b = first.read(1 << 20), second.read(1 << 20)
+            if a != b:
+                return False
+            if not a:
+                return True
+
+
+def compared(lines, meshes):
+    """Refuses a line or a mesh that differs from that of the program beside."""
+    if len(set(lines)) != 1:
+        raise Refusal('the lines differ: ' + ' / '.join(line.strip() for line in lines))
+    if not same_bytes(*meshes):
+        raise Refusal(f'the meshes differ: {meshes[0]} {meshes[1]}')
+
+
+def measured(programs, folder, shape, size, count):
+    """A row of the table: each program's build, and the first one's check of its own files."""
+    scan, name = scan_of(folder, shape, size), f'{shape}.{size}'
+    built = {program: [] for program in programs}
+    for _ in range(count):
+        for program in programs:
+            built[program].append(Run([program, 'build', scan, *texts(program, folder, name)]))
+    if len(programs) == 2:
+        compared([built[program][0].line for program in programs], [texts(program, folder, name)[0] for program in programs])
+    checked = [Run([programs[0], 'check', scan, *texts(programs[0], folder, name)]) for _ in range(count)]
+    cells = [f'{shape} {size}']
+    for program in programs:
+        processor, wall, peak = least(built[program])
+        cells += [f'{processor:.2f}', f'{wall:.2f}', str(peak)]
+    processor, wall, peak = least(checked)
+    ratio = [f'{least(built[programs[0]])[0] / least(built[programs[1]])[0]:.2f}'] if len(programs) == 2 else []
+    return cells + ratio + [f'{processor:.2f}', f'{wall:.2f}', str(peak)]
+
+
+def heading(programs):
+    """The first two rows of the table."""
+    cells = ['scan', 'build s', 'wall s', 'peak MB']
+    if len(programs) == 2:
+        cells += ['beside s', 'wall s', 'peak MB', 'ratio']
+    cells += ['check s', 'wall s', 'peak MB']
+    return '| ' + ' | '.join(cells) + ' |\n|' + '---|' * len(cells)
+
+
+def main(names, options):
+    recon, folder = names
+    sizes = [int(size) for size in (options.sizes or '10000,100000,1000000').split(',')]
+    shapes = (options.shapes or 'cube,torus,room,statue').split(',')
+    programs = [os.path.abspath(recon)] + ([os.path.abspath(options.beside)] if options.beside else [])
+    os.makedirs(folder, exist_ok=True)
+    resource.setrlimit(resource.RLIMIT_CORE, (0, 0))
+    print(heading(programs))
+    scans = [(shape, size) for size in sizes for shape in shapes]
+    if not options.sizes and not options.shapes:
+        scans += WORST
+    for shape, size in scans:
+        print('| ' + ' | '.join(measured(programs, folder, shape, size, int(options.runs or 2))) + ' |', flush=True)
+    return f'{len(scans)} scans'
+
+
+run(main, __doc__, 2, ('beside', 'sizes', 'shapes', 'runs'))

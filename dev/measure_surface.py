@@ -1,0 +1,193 @@
+#!/usr/bin/env python3
+"""Scans of a known object, and how far a surface is from that object. It needs numpy.
+
+  measure_surface.py scan OBJECT OUT [points=N] [noise=F] [stray=F] [seed=WORD]
+  measure_surface.py compare OBJECT MESH .. [samples=N] [own=yes]
+  measure_surface.py room OUT
+
+  OBJECT             a mesh of triangles, OFF or PLY; its box has the diagonal 1000 in all that is written and said, but with
+                     own=yes it stays as it is
+  OUT                a scan of it from 12 places around it, for `recon build` with unit=1000
+  MESH               surfaces to be compared, in the numbers of the scan, as finish.py and mesh_to_floats.py write them
+  points=N           how many points the scan has. Without it 42000
+  noise=F            how far a point errs along its sight, as the deviation of a normal error, in diagonals. Without it 0.0005
+  stray=F            which part of the points is wrong, half of them too short on their sight, half anywhere. Without it 0
+  seed=WORD          another word draws other points. Without it 1
+  samples=N          how many places are drawn for distances, each way. Without it 50000
+
+A place is drawn evenly on the object together with a scanner, and kept where that scanner sees it, and not at a grazing
+angle. `room` writes the room of make_scan.py as an object, OFF in thousandths of its length 1. `compare` says a line for each
+surface: distances from it to the object and from the object to it (mean, 95 of 100, greatest), to exact triangles; how many
+edges are open, how many have more than two faces, where sheets touch; how many pieces hang together by edges; the mean angle
+between neighboring faces; and how many pairs of faces cross.
+"""
+import zlib
+
+import numpy as np
+
+from objects import Camera, Surface, draw_places, joined, read_object, vectors_across
+from make_scan import shape_of
+from toolbox import fast_mesh
+from toolbox.ply_text import IS_NUMBER, Property, Refusal, Writer, whole_file
+from toolbox.tool import run, yes
+
+DIAGONAL = 1000.0
+GRAZING = 0.08
+
+
+def number(text, key, otherwise, most):
+    text = text or otherwise
+    if not IS_NUMBER(text) or not 0 <= float(text) <= most:
+        raise Refusal(f'{key}= is a number from 0 to {most}')
+    return float(text)
+
+
+def placed(path):
+    """The object about the origin, with the diagonal 1000."""
+    places, faces = joined(*read_object(path))
+    low, high = places.min(axis=0), places.max(axis=0)
+    return (places - (low + high) / 2) * (DIAGONAL / np.linalg.norm(high - low)), faces
+
+
+def scanners_around():
+    """Twelve places, the corners of an icosahedron."""
+    far, golden = 1.2 * DIAGONAL, (1 + 5 ** 0.5) / 2
+    corners = [(0, one, two) for one in (-1, 1) for two in (-golden, golden)]
+    corners = np.array([corner[k:] + corner[:k] for corner in corners for k in range(3)], float)
+    return corners * (far / np.linalg.norm(corners[0]))
+
+
+def seen_points(draw, places, faces, count):
+    """Places on the object that one of the scanners sees, and that scanner's number."""
+    scanners = scanners_around()
+    cameras = [Camera(scanner, places, faces) for scanner in scanners]
+    normals = vectors_across(places, faces)
+    normals /= np.maximum(np.linalg.norm(normals, axis=1), 1e-300)[:, None]
+    points, indices = np.zeros((0, 3)), np.zeros(0, int)
+    while len(points) < count:
+        drawn, face = draw_places(draw, places, faces, 4 * count)
+        index = draw.integers(0, len(scanners), len(drawn))
+        sight = scanners[index] - drawn
+        seen = (sight * normals[face]).sum(axis=1) > GRAZING * np.linalg.norm(sight, axis=1)
+        for k, camera in enumerate(cameras):
+            own = index == k
+            seen[own] &= camera.are_seen(drawn[own], DIAGONAL / 500)
+        points, indices = np.concatenate([points, drawn[seen]]), np.r_[indices, index[seen]]
+    return points[:count], indices[:count], scanners
+
+
+def make_scan(names, options):
+    if len(names) != 2:
+        raise Refusal('scan takes an object and the file to be written')
+    count = int(number(options.points, 'points', '42000', 10 ** 7))
+    noise, stray = number(options.noise, 'noise', '0.0005', 1), number(options.stray, 'stray', '0', 1)
+    draw = np.random.default_rng(zlib.crc32((options.seed or '1').encode()))
+    points, indices, scanners = seen_points(draw, *placed(names[0]), count)
+    sight = scanners[indices] - points
+    long = np.linalg.norm(sight, axis=1)[:, None]
+    seen = points + sight / long * draw.normal(0, noise * DIAGONAL, (count, 1))
+    kind = draw.random(count)
+    short = points + sight * draw.random((count, 1)) * 0.5
+    anywhere = draw.uniform(-0.6 * DIAGONAL, 0.6 * DIAGONAL, (count, 3))
+    seen[kind < stray] = short[kind < stray]
+    seen[kind < stray / 2] = anywhere[kind < stray / 2]
+    with whole_file(names[1]) as file:
+        writer = Writer(file, [Property(axis, 'double') for axis in 'xyz'] + [Property('scanner', 'int')], 'measure_surface')
+        writer.begin(True)
+        for point, index in zip(seen.tolist(), indices.tolist()):
+            writer.row([f'{word:.6f}' for word in point] + [str(index)])
+        writer.finish([[f'{word:.6f}' for word in place] for place in scanners.tolist()])
+    return f'wrote {count} points and {len(scanners)} scanners to {names[1]}'
+
+
+def told(values):
+    return f'{values.mean():.3f} / {np.percentile(values, 95):.2f} / {values.max():.1f}'
+
+
+def edges_of(faces):
+    """How many edges are open, how many have more than two faces, and pairs of faces with a common edge of two."""
+    corners = faces.ravel()
+    keys = fast_mesh.edge_keys(corners, corners.max() + 1)
+    order = np.argsort(keys, kind='stable')
+    starts = np.flatnonzero(np.r_[True, np.diff(keys[order]) != 0])
+    counts = np.diff(np.r_[starts, len(keys)])
+    two = starts[counts == 2]
+    return int((counts == 1).sum()), int((counts > 2).sum()), order[two] // 3, order[two + 1] // 3
+
+
+def piece_count(faces, one, other):
+    """How many pieces hang together by edges of two faces."""
+    piece = np.arange(len(faces))
+    while True:
+        least = piece.copy()
+        np.minimum.at(least, one, piece[other])
+        np.minimum.at(least, other, piece[one])
+        least = least[least]
+        if np.array_equal(least, piece):
+            return len(np.unique(piece))
+        piece = least
+
+
+def crossing_pairs(places, faces):
+    """How many pairs of faces cross, of places rounded to a 2^36th of the box: coarser ones make neighbors cross."""
+    scale = (1 << 36) / max(np.ptp(places, axis=0).max(), 1e-300)
+    whole = np.round((places - places.min(axis=0)) * scale).astype(np.int64)
+    low, high = fast_mesh.boxes_of(whole, faces)
+    one, other = fast_mesh.Grid(low, high, np.arange(len(faces))).meet(low, high)
+    keep = one < other
+    one, other = one[keep], other[keep]
+    return int(fast_mesh.crossing(whole, faces[one], faces[other]).sum())
+
+
+def mean_angle(places, faces, one, other):
+    normals = vectors_across(places, faces)
+    normals /= np.maximum(np.linalg.norm(normals, axis=1), 1e-300)[:, None]
+    return np.degrees(np.arccos(np.clip((normals[one] * normals[other]).sum(axis=1), -1, 1))).mean()
+
+
+def compare(names, options):
+    if len(names) < 2:
+        raise Refusal('compare takes an object and a surface or more')
+    count = int(number(options.samples, 'samples', '50000', 10 ** 7))
+    places, faces = joined(*read_object(names[0])) if yes(options.own, 'own') else placed(names[0])
+    surface_of_object = Surface(places, faces)
+    print('surface | to object mean / 95 % / max | object to it | open | touching | pieces | angle | crossing pairs | faces')
+    for name in names[1:]:
+        own, own_faces = joined(*read_object(name))
+        draw = np.random.default_rng(1)
+        there = surface_of_object.distances(draw_places(draw, own, own_faces, count)[0])[0]
+        back = Surface(own, own_faces).distances(draw_places(draw, places, faces, count)[0])[0]
+        open_edges, many, one, other = edges_of(own_faces)
+        print(f'{name} | {told(there)} | {told(back)} | {open_edges} | {many} | {piece_count(own_faces, one, other)} | '
+              f'{mean_angle(own, own_faces, one, other):.1f} | {crossing_pairs(own, own_faces)} | {len(own_faces)}', flush=True)
+    return f'compared {len(names) - 1} with {names[0]}'
+
+
+def make_room(names, options):
+    """The sides of the room and of what stands in it, each of two triangles, seen from where its scanners are."""
+    if len(names) != 1:
+        raise Refusal('room takes the file to be written')
+    places, faces = [], []
+    for low, high, axis, end, sign in shape_of('room').faces:
+        one, other = (axis + 1) % 3, (axis + 2) % 3
+        for u, v in ((0, 0), (1, 0), (1, 1), (0, 1)):
+            place = [0.0] * 3
+            place[axis], place[one], place[other] = (low, high)[end][axis], (low, high)[u][one], (low, high)[v][other]
+            places.append(' '.join(f'{1000 * x:g}' for x in place))
+        corners = [len(places) - 4 + k for k in ((0, 1, 2, 3) if (sign > 0) == bool(end) else (3, 2, 1, 0))]
+        faces += [corners[:3], [corners[0], corners[2], corners[3]]]
+    rows = [' '.join(map(str, [3] + face)) for face in faces]
+    with whole_file(names[0]) as file:
+        file.write('\n'.join(['OFF', f'{len(places)} {len(faces)} 0'] + places + rows) + '\n')
+    return f'wrote {len(faces)} triangles to {names[0]}'
+
+
+def main(names, options):
+    commands = {'scan': make_scan, 'compare': compare, 'room': make_room}
+    if not names or names[0] not in commands:
+        raise Refusal('the first word is scan, compare or room')
+    return commands[names[0]](names[1:], options)
+
+
+if __name__ == '__main__':
+    run(main, __doc__, None, ('points', 'noise', 'stray', 'seed', 'samples', 'own'))

@@ -1,0 +1,163 @@
+"""Meshes of objects to measure by: files read, places drawn on them, and distances to them, by numpy.
+
+Names: read_object (places and faces of an OFF or PLY file) · draw_places (drawn evenly on the surface) · distances (from
+places to the nearest triangle, exact) · depths_from, are_seen (what a scanner sees).
+"""
+import numpy as np
+
+import tools_path  # noqa: F401
+from toolbox.fast_mesh import Grid, boxes_of
+from toolbox.ply_text import Reader, Refusal
+
+FINE = 1 << 20
+VIEW = 1200
+
+
+def read_object(path):
+    """Places and faces of an OFF or a PLY file of triangles."""
+    with open(path, 'rb') as file:
+        start = file.readline().strip()
+    return read_off(path) if start == b'OFF' else read_ply(path)
+
+
+def read_off(path):
+    with open(path, encoding='ascii') as file:
+        words = [word for line in file for word in line.partition('#')[0].split()][1:]
+    count, faces = int(words[0]), int(words[1])
+    places = np.array(words[3:3 + 3 * count], float).reshape(-1, 3)
+    rows = np.array(words[3 + 3 * count:3 + 3 * count + 4 * faces], int).reshape(-1, 4)
+    return places, rows[:, 1:]
+
+
+def read_ply(path):
+    reader = Reader(path)
+    try:
+        places = faces = None
+        for element in reader.elements:
+            rows = list(reader.rows(element))
+            if element.name == 'vertex':
+                columns = element.point_columns()
+                places = np.array([[row[k] for k in columns] for row in rows], float)
+            elif element.name == 'face':
+                if any(row[0] != '3' for row in rows):
+                    raise Refusal(f'{path}: a face is no triangle')
+                faces = np.array([row[1:4] for row in rows], int)
+    finally:
+        reader.close()
+    if places is None or faces is None:
+        raise Refusal(f'{path} has no vertices or no faces')
+    return places, faces.reshape(-1, 3)
+
+
+def joined(places, faces):
+    """The same mesh with equal places as one, without faces that have two corners at one place."""
+    places, number = np.unique(places, axis=0, return_inverse=True)
+    faces = number.reshape(-1)[faces]
+    whole = (faces[:, 0] != faces[:, 1]) & (faces[:, 1] != faces[:, 2]) & (faces[:, 2] != faces[:, 0])
+    return places, faces[whole]
+
+
+def vectors_across(places, faces):
+    a, b, c = (places[faces[:, k]] for k in range(3))
+    return np.cross(b - a, c - a)
+
+
+def draw_places(draw, places, faces, count):
+    """Places drawn evenly on the surface, and their faces."""
+    areas = np.linalg.norm(vectors_across(places, faces), axis=1)
+    chosen = draw.choice(len(faces), count, p=areas / areas.sum())
+    u, v = draw.random(count), draw.random(count)
+    u, v = np.where(u + v > 1, 1 - u, u), np.where(u + v > 1, 1 - v, v)
+    a, b, c = (places[faces[chosen, k]] for k in range(3))
+    return a + u[:, None] * (b - a) + v[:, None] * (c - a), chosen
+
+
+class Surface:
+    """A mesh that distances are taken to."""
+
+    def __init__(self, places, faces):
+        low = places.min(axis=0)
+        self.scale = FINE / max(np.ptp(places, axis=0).max(), 1e-300)
+        self.low, self.corners = low, [places[faces[:, k]] for k in range(3)]
+        whole = np.round((places - low) * self.scale).astype(np.int64)
+        least, most = boxes_of(whole, faces)
+        self.grid = Grid(least - 1, most + 1, np.arange(len(faces)))
+
+    def distances(self, places):
+        """The distance of each place to the nearest triangle, and that triangle's number."""
+        found, nearest = np.full(len(places), np.inf), np.zeros(len(places), int)
+        whole = np.round((places - self.low) * self.scale).astype(np.int64)
+        left, reach = np.arange(len(places)), FINE >> 10
+        while len(left) and reach <= FINE >> 5:
+            row, face = self.grid.meet(whole[left] - reach, whole[left] + reach)
+            far = to_triangles(places[left[row]], *(corner[face] for corner in self.corners))
+            order = np.lexsort((-far, row))
+            last = row[order]
+            best = np.full(len(left), np.inf)
+            best[last], nearest[left[last]] = far[order], face[order]
+            found[left] = best
+            left = left[best * self.scale > reach - 2]
+            reach *= 2
+        for k in left:
+            far = to_triangles(np.broadcast_to(places[k], self.corners[0].shape), *self.corners)
+            nearest[k] = far.argmin()
+            found[k] = far[nearest[k]]
+        return found, nearest
+
+
+def to_triangles(p, a, b, c):
+    """The distance of each place to its triangle."""
+    across = np.cross(b - a, c - a)
+    area = np.maximum((across ** 2).sum(axis=1), 1e-300)
+    height = ((p - a) * across).sum(axis=1)
+    is_over = np.ones(len(p), bool)
+    least = np.full(len(p), np.inf)
+    for start, end in ((a, b), (b, c), (c, a)):
+        edge = end - start
+        is_over &= (np.cross(edge, p - start) * across).sum(axis=1) >= 0
+        part = ((p - start) * edge).sum(axis=1) / np.maximum((edge ** 2).sum(axis=1), 1e-300)
+        foot = start + np.clip(part, 0, 1)[:, None] * edge
+        least = np.minimum(least, ((p - foot) ** 2).sum(axis=1))
+    return np.where(is_over, np.abs(height) / np.sqrt(area), np.sqrt(least))
+
+
+class Camera:
+    """What a scanner sees of a mesh: depths in a square of pixels about the middle of the mesh."""
+
+    def __init__(self, place, places, faces):
+        self.place = place
+        self.toward = places.mean(axis=0) - place
+        self.toward /= np.linalg.norm(self.toward)
+        self.right = np.cross(self.toward, [0.3, 0.2, 1.0])
+        self.right /= np.linalg.norm(self.right)
+        self.up = np.cross(self.right, self.toward)
+        seen = self.pixels(places, 1.0)
+        self.reach = np.abs(np.stack(seen[:2])).max() * 1.01
+        self.depths = np.full(VIEW * VIEW, np.inf)
+        columns = self.pixels(places, self.reach)
+        wide = np.maximum(*(np.ptp(column[faces], axis=1) for column in columns[:2])) * VIEW / 2
+        sizes = np.frexp(wide)[1]
+        for size in np.unique(sizes):
+            self.draw(columns, faces[sizes == size], 2 ** max(int(size), 0) + 1)
+
+    def pixels(self, places, reach):
+        far = places - self.place
+        depth = far @ self.toward
+        return far @ self.right / depth / reach, far @ self.up / depth / reach, depth
+
+    def draw(self, columns, faces, side):
+        """Keeps the least depth of the faces at each pixel, by places spread over them, so many along a side."""
+        x, y, depth = (column[faces] for column in columns)
+        i, j = (part.ravel() for part in np.mgrid[0:side + 1, 0:side + 1])
+        parts = np.stack([i, j, side - i - j], axis=1)[i + j <= side].T / side
+        at = ((y @ parts + 1) / 2 * VIEW).astype(int) * VIEW + ((x @ parts + 1) / 2 * VIEW).astype(int)
+        at, depth = at.ravel(), (depth @ parts).ravel()
+        order = np.argsort(-depth)
+        deepest = np.full(VIEW * VIEW, np.inf)
+        deepest[at[order]] = depth[order]
+        self.depths = np.minimum(self.depths, deepest)
+
+    def are_seen(self, places, slack):
+        x, y, depth = self.pixels(places, self.reach)
+        at = ((y + 1) / 2 * VIEW).astype(int) * VIEW + ((x + 1) / 2 * VIEW).astype(int)
+        return depth <= self.depths[at] + slack

@@ -1,0 +1,349 @@
+#!/usr/bin/env python3
+"""Makes the pictures of docs/pictures. It needs numpy and matplotlib (Debian: python3-numpy, python3-matplotlib).
+
+  pictures.py RECON FOLDER [PICTURE ..]
+
+  RECON              the built program
+  FOLDER             where the pictures are written
+  PICTURE            inside, sight, torus, statue, room, smooth, unit, scanner, slice, finish, kitten; all of them where none
+                     is named
+
+Scans are made by make_scan.py, and drawn by render.py: points on white, surfaces with their outer side warm and their
+inner side blue. `finish` and `kitten` are of objects that Debian's package libcgal-demo has. Some minutes.
+"""
+import os
+import re
+import subprocess
+import sys
+import tarfile
+import tempfile
+
+import matplotlib
+matplotlib.use('Agg')
+import matplotlib.pyplot as plt  # noqa: E402
+import numpy as np  # noqa: E402
+from matplotlib.path import Path  # noqa: E402
+from matplotlib.tri import Triangulation  # noqa: E402
+from PIL import Image  # noqa: E402
+
+import objects  # noqa: E402
+import render  # noqa: E402
+from tools_path import TOOLS  # noqa: E402
+
+DEV = os.path.dirname(os.path.abspath(__file__))
+CGAL = '/usr/share/doc/libcgal-dev/data.tar.gz'
+POINTS = '100000'
+TORUS, STATUE, ROOM = (0.3, 1, -0.7), (0.2, 1, -0.15), (0.4, 1, -0.8)
+WARM, INK, SIGHT = '#f2cfa2', '#333333', '#c0392b'
+
+
+def blob():
+    """Points on a closed curve, all coordinates uneven so that no four are on one circle."""
+    turn = np.linspace(0, 2 * np.pi, 19)[:-1]
+    far = 1 + 0.22 * np.cos(2 * turn + 0.4) + 0.03 * np.sin(7 * turn)
+    return np.stack([1.25 * far * np.cos(turn), far * np.sin(turn)], axis=1)
+
+
+SCANNERS = np.array([[-2.6, 1.5], [2.5, 1.75], [2.3, -1.6], [-2.3, -1.7]])
+
+
+def sketch(points):
+    """The plane cut into triangles between the points and four corners, and which of them are within the curve."""
+    corners = np.array([[-3.4, -2.3], [3.4, -2.3], [3.4, 2.3], [-3.4, 2.3]])
+    places = np.concatenate([points, corners])
+    cut = Triangulation(places[:, 0], places[:, 1])
+    return cut, Path(points).contains_points(places[cut.triangles].mean(axis=1))
+
+
+def empty_axes(width, height):
+    figure, axes = plt.subplots(figsize=(width, height), dpi=100)
+    axes.set_aspect('equal')
+    axes.axis('off')
+    figure.subplots_adjust(0, 0, 1, 1)
+    return figure, axes
+
+
+def nearest_scanner(points):
+    """The scanner that each point is seen from: the one that it faces."""
+    return np.argmin(((points[:, None] - SCANNERS) ** 2).sum(axis=2), axis=1)
+
+
+def draw_cut(axes, cut, inside):
+    axes.tripcolor(cut, facecolors=inside.astype(float), cmap=matplotlib.colors.ListedColormap(['#ffffff', WARM]), vmin=0, vmax=1)
+    axes.triplot(cut, color='#bbbbbb', linewidth=0.6)
+    edges = {}
+    for triangle, is_in in zip(cut.triangles, inside):
+        for k in range(3):
+            edges.setdefault(frozenset((triangle[k], triangle[k - 1])), []).append(is_in)
+    for edge, sides in edges.items():
+        if sum(sides) == 1:
+            ends = list(edge)
+            axes.plot(cut.x[ends], cut.y[ends], color=INK, linewidth=2.2)
+
+
+def inside(folder, recon, work):
+    """What inside means, in the plane."""
+    points = blob()
+    cut, is_in = sketch(points)
+    figure, axes = empty_axes(6.8, 4.6)
+    draw_cut(axes, cut, is_in)
+    for point, index in zip(points, nearest_scanner(points)):
+        axes.plot(*zip(SCANNERS[index], point), color=SIGHT, linewidth=0.7, alpha=0.7)
+    axes.plot(*points.T, 'o', color=INK, markersize=5)
+    axes.plot(*SCANNERS.T, 's', color=SIGHT, markersize=8)
+    axes.text(0, -0.1, 'inside', ha='center', fontsize=13)
+    axes.text(0, 1.95, 'outside', ha='center', fontsize=13)
+    axes.annotate('scanner', SCANNERS[0], (-3.2, 1.95), fontsize=11, color=SIGHT)
+    axes.annotate('surface', (cut.x[4] * 0.55 + cut.x[5] * 0.45, cut.y[4] * 0.55 + cut.y[5] * 0.45), (0.75, 1.55), fontsize=11,
+                  arrowprops={'arrowstyle': '-', 'color': INK})
+    save_figure(figure, folder, 'inside')
+
+
+def sight(folder, recon, work):
+    """A sight on its way: the facets that it crosses, and what is behind its point."""
+    places = np.array([[0.3, 1.3], [1.7, -1.2], [2.7, 1.1], [3.9, -1.0], [5.4, 1.2], [5.2, 0.0], [6.6, -1.0], [7.0, 1.0]])
+    air = [(0, 1, 2), (1, 3, 2), (2, 3, 5), (2, 5, 4)]
+    solid = [(3, 6, 5), (5, 6, 7), (4, 5, 7)]
+    figure, axes = empty_axes(7.2, 2.6)
+    for triangle in air + solid:
+        axes.fill(*places[list(triangle)].T, color=WARM if triangle in solid else '#ffffff', zorder=0)
+        axes.plot(*places[list(triangle + triangle[:1])].T, color='#999999', linewidth=0.9, zorder=1)
+    scanner, point = np.array([-0.9, 0.0]), places[5]
+    axes.annotate('', point, scanner, arrowprops={'arrowstyle': '-|>', 'color': SIGHT, 'linewidth': 1.6})
+    axes.plot([point[0], point[0] + 1.2], [0, 0], color=SIGHT, linewidth=1.2, linestyle=':')
+    for a, b in ((0, 1), (2, 1), (2, 3)):
+        axes.plot(*places[[a, b]].T, color=SIGHT, linewidth=2.6, zorder=2)
+        meet = places[a] + (places[b] - places[a]) * places[a][1] / (places[a][1] - places[b][1])
+        axes.text(meet[0] + 0.13, 0.08, 'vote', color=SIGHT, fontsize=11)
+    for a, b, x, y in ((4, 5, 5.35, 0.62), (3, 5, 4.62, -0.62)):
+        axes.plot(*places[[a, b]].T, color=INK, linewidth=2.6, zorder=2)
+        axes.text(x, y, 'smooth', fontsize=11)
+    axes.plot(*scanner, 's', color=SIGHT, markersize=9)
+    axes.plot(*places.T, 'o', color=INK, markersize=5)
+    axes.text(-1.2, 0.25, 'scanner', color=SIGHT, fontsize=11)
+    axes.text(5.05, 0.12, 'point', fontsize=11, ha='right')
+    axes.text(5.75, 0.08, 'vote', color=SIGHT, fontsize=11)
+    axes.set_xlim(-1.5, 7.4)
+    axes.set_ylim(-1.35, 1.5)
+    save_figure(figure, folder, 'sight')
+
+
+def save_figure(figure, folder, name):
+    figure.canvas.draw()
+    save(np.asarray(figure.canvas.buffer_rgba())[:, :, :3] / 255.0, folder, name)
+    plt.close(figure)
+
+
+def save(image, folder, name):
+    """Writes a small PNG of 64 colours."""
+    picture = Image.fromarray((np.clip(image, 0, 1) * 255 + 0.5).astype(np.uint8))
+    picture.quantize(64, dither=Image.Dither.NONE).save(os.path.join(folder, name + '.png'), optimize=True)
+    print(f'{name}.png {os.path.getsize(os.path.join(folder, name + ".png")) // 1024} KiB', flush=True)
+
+
+def half(image):
+    """The image at half its size, so that edges are soft."""
+    rows, columns, _ = image.shape
+    return image.reshape(rows // 2, 2, columns // 2, 2, 3).mean(axis=(1, 3))
+
+
+def title(image, text):
+    """The image with a line of text over it."""
+    figure = plt.figure(figsize=(image.shape[1] / 100, 0.26), dpi=100)
+    figure.text(0.5, 0.5, text, ha='center', va='center', fontsize=10)
+    figure.canvas.draw()
+    line = np.asarray(figure.canvas.buffer_rgba())[:, :, :3] / 255.0
+    plt.close(figure)
+    return np.concatenate([line[:, :image.shape[1]], image])
+
+
+def trimmed(image):
+    """The image without the white rows above and below."""
+    rows = np.flatnonzero((image < 0.999).any(axis=(1, 2)))
+    return image[max(rows[0] - 8, 0):rows[-1] + 9] if len(rows) else image
+
+
+def side_by_side(images, titles, folder, name):
+    """Images in a row, each under its title."""
+    width = images[0].shape[1]
+    strip = trimmed(np.concatenate(images, axis=1))
+    parts = [title(strip[:, k * width:(k + 1) * width], text) for k, text in enumerate(titles)]
+    save(np.concatenate(parts, axis=1), folder, name)
+
+
+def tool(program, *words):
+    subprocess.run([sys.executable, os.path.join(TOOLS, program + '.py'), *words], check=True, stdout=subprocess.DEVNULL)
+
+
+def scan(work, shape, *options):
+    path = os.path.join(work, 'scan.ply')
+    tool('make_scan', shape, POINTS, '1', path, *options)
+    return path
+
+
+def surface(recon, path, *options):
+    """Places and faces of the surface that `recon` builds."""
+    mesh = path + '.mesh'
+    done = subprocess.run([recon, 'build', path, mesh, path + '.cert', *options], check=True, capture_output=True, text=True)
+    print(' '.join(options), done.stdout, end='', flush=True)
+    return render.read_mesh(mesh)
+
+
+def beside(view, path, mesh, folder, name):
+    """Points and surface, side by side."""
+    images = [half(render.points_image(view, render.read_points(path)[0])), half(render.mesh_image(view, *mesh))]
+    side_by_side(images, ['100,000 points', 'surface'], folder, name)
+
+
+def torus(folder, recon, work):
+    path = scan(work, 'torus', 'stray=0')
+    beside(render.View(TORUS, (0, 0, 0), 520000, 720), path, surface(recon, path), folder, 'torus')
+
+
+def statue(folder, recon, work):
+    path = scan(work, 'statue', 'stray=0')
+    beside(render.View(STATUE, (30000, 0, -75000), 600000, 800), path, surface(recon, path), folder, 'statue')
+
+
+def is_near(middles):
+    """What is left of a room without its ceiling and the wall that one looks from."""
+    return (middles[:, 2] < 235000) & (middles[:, 1] > -385000)
+
+
+def room(folder, recon, work):
+    """A room, its walls without and with the eight points around it."""
+    path = scan(work, 'room', 'stray=0')
+    view, around = render.View(ROOM, (0, 0, -30000), 620000, 760), path + '.around'
+    tool('surround', path, around, 'by=60000')
+    points = render.read_points(path)[0]
+    images = [half(render.points_image(view, points[is_near(points)]))]
+    images += [half(render.mesh_image(view, *surface(recon, file), is_near)) for file in (path, around)]
+    side_by_side(images, ['100,000 points', 'surface', 'surface after surround.py'], folder, 'room')
+
+
+def smooth(folder, recon, work):
+    """One scan with stray points at several options."""
+    path = scan(work, 'statue', 'stray=0.02')
+    view, images, titles = render.View(STATUE, (30000, 0, -75000), 600000, 560), [], []
+    for vote, weight in ((8, 0), (8, 1), (8, 2), (8, 3), (8, 4)):
+        images.append(half(render.mesh_image(view, *surface(recon, path, f'vote={vote}', f'smooth={weight}'))))
+        titles.append(f'vote={vote} smooth={weight}')
+    side_by_side(images, titles, folder, 'smooth')
+
+
+def unit(folder, recon, work):
+    """A scan in metres at several units."""
+    path, images, titles = scan(work, 'torus', 'stray=0'), [], []
+    with open(path, encoding='ascii') as file:
+        lines = file.read().split('end_header\n')
+    rows = [line.split() for line in lines[1].splitlines()]
+    with open(path, 'w', encoding='ascii') as file:
+        file.write(lines[0] + 'end_header\n')
+        file.writelines(' '.join([word + 'e-6' for word in words[:3]] + words[3:]) + '\n' for words in rows)
+    for scale in (10, 100, 1000, 10000):
+        mesh = surface(recon, path, f'unit={scale}')
+        images.append(half(render.mesh_image(render.View(TORUS, (0, 0, 0), 0.52 * scale, 640), *mesh)))
+        titles.append(f'unit={scale}')
+    side_by_side(images, titles, folder, 'unit')
+
+
+def scanner(folder, recon, work):
+    """What wrong scanner positions do."""
+    path = scan(work, 'torus', 'stray=0')
+    view, images = render.View(TORUS, (0, 0, 0), 520000, 640), []
+    with open(path, encoding='ascii') as file:
+        rows = file.read().splitlines()
+    for places in (rows[-8:], rows[-8:-1] + ['0 0 900000'], [rows[-8]] * 8, ['0 0 0'] * 8):
+        with open(path, 'w', encoding='ascii') as file:
+            file.write('\n'.join(rows[:-8] + places) + '\n')
+        images.append(half(render.mesh_image(view, *surface(recon, path))))
+    titles = ['right', 'one of eight is wrong', 'one place for all eight', 'the origin for all eight']
+    side_by_side(images, titles, folder, 'scanner')
+
+
+def sliced(folder, recon, work):
+    """A torus cut by a level plane, drawn with four decimals."""
+    path, mesh, loops = (os.path.join(work, name) for name in ('scan.ply', 'mesh.ply', 'slice.txt'))
+    tool('make_scan', 'torus', '4000', '1', path, 'stray=0')
+    subprocess.run([recon, 'build', path, mesh, path + '.cert'], check=True)
+    subprocess.run([recon, 'slice', mesh, '40000', loops], check=True)
+    picture = os.path.join(folder, 'slice.svg')
+    tool('slice_to_svg', loops, picture, 'unit=500000')
+    with open(picture, encoding='ascii') as file:
+        drawing = re.sub(r'-?[0-9]+\.[0-9]+', lambda number: f'{float(number[0]):.4f}', file.read())
+    with open(picture, 'w', encoding='ascii') as file:
+        file.write(drawing)
+    print(f'slice.svg {len(drawing) // 1024} KiB', flush=True)
+
+
+def debian(work, name):
+    """A file of the data of CGAL, as Debian packs them."""
+    with tarfile.open(CGAL) as archive:
+        path = os.path.join(work, os.path.basename(name))
+        with open(path, 'wb') as file:
+            file.write(archive.extractfile('data/' + name).read())
+    return path
+
+
+def finished(mesh, out, *options):
+    """Places and faces of a mesh that is finished."""
+    tool('finish', mesh, out, *options)
+    return objects.read_object(out)
+
+
+def finish(folder, recon, work):
+    """A surface as it is built, smooth shading over it, after flips, and after smoothing."""
+    scan, mesh, out = (os.path.join(work, name) for name in ('scan.ply', 'mesh.ply', 'out.ply'))
+    bunny = debian(work, 'meshes/bunny00.off')
+    subprocess.run([sys.executable, os.path.join(DEV, 'measure_surface.py'), 'scan', bunny, scan], check=True)
+    subprocess.run([recon, 'build', scan, mesh, mesh + '.cert', 'unit=1000', 'smooth=3'], check=True)
+    view, images = upright(render.View((0.25, -0.25, -1), (0, 0, 0), 400, 760)), []
+    for words, is_flat in ((['flips=no'], False), (['flips=no'], True), ([], True), (['smooth=3', 'within=1'], True)):
+        surface_now = finished(mesh, out, 'unit=1000', 'pieces=1', *words)
+        images.append(half(render.mesh_image(view, *surface_now, is_flat=is_flat)))
+    titles = ['as built, smooth shading', 'as built, flat shading', 'after flips', 'after smooth=3 within=1']
+    side_by_side(images, titles, folder, 'finish')
+
+
+def upright(view):
+    """The view with y up."""
+    view.right = np.cross(view.toward, [0.0, 1.0, 0.0])
+    view.right /= np.linalg.norm(view.right)
+    view.up = np.cross(view.right, view.toward)
+    view.light = -view.toward * 0.7 + view.up * 0.5 - view.right * 0.5
+    view.light /= np.linalg.norm(view.light)
+    return view
+
+
+def kitten(folder, recon, work):
+    """Points with normals, their surface as built, and after flips alone."""
+    points = debian(work, 'points_3/kitten.xyz')
+    scan, mesh, out = (os.path.join(work, name) for name in ('scan.ply', 'mesh.ply', 'out.ply'))
+    tool('normals_to_ply', points, scan)
+    subprocess.run([recon, 'build', scan, mesh, mesh + '.cert', 'unit=1000000'], check=True)
+    before, after = (finished(mesh, out, 'unit=1000000', words) for words in ('flips=no', 'flips=yes'))
+    low, high = before[0].min(axis=0), before[0].max(axis=0)
+    view = upright(render.View((0.5, -0.2, -1), (low + high) / 2, 0.55 * (high - low).max(), 760))
+    images = [half(render.points_image(view, before[0]))]
+    images += [half(render.mesh_image(view, *each, is_flat=True)) for each in (before, after)]
+    side_by_side(images, ['5,210 points with normals', 'as built', 'after flips'], folder, 'kitten')
+
+
+PICTURES = {'inside': inside, 'sight': sight, 'torus': torus, 'statue': statue, 'room': room, 'smooth': smooth, 'unit': unit,
+            'scanner': scanner, 'slice': sliced, 'finish': finish, 'kitten': kitten}
+
+
+def main():
+    words = sys.argv[1:]
+    if '--help' in words or len(words) < 2 or any(word not in PICTURES for word in words[2:]):
+        print(__doc__.strip())
+        sys.exit(0 if '--help' in words else 2)
+    recon, folder = os.path.abspath(words[0]), words[1]
+    os.makedirs(folder, exist_ok=True)
+    for name in words[2:] or PICTURES:
+        with tempfile.TemporaryDirectory() as work:
+            PICTURES[name](folder, recon, work)
+
+
+if __name__ == '__main__':
+    main()

@@ -1,0 +1,164 @@
+#!/usr/bin/env python3
+"""Measures what cutting a scan into tiles costs its surface, and prints a table for docs/large.md.
+
+  seams.py RECON FOLDER [shapes=NAME,..] [count=N] [points=N] [spacings=K,..] [through=N] [whole=no]
+           [jobs=N]
+
+  RECON              the built program
+  FOLDER             where scans are kept and tiles and meshes are written; what is there is not made again
+  shapes=NAME,..     torus, room, statue, or walls (a room with the eight points of surround.py); without it all four
+  count=N            points of a scan; without it 100000
+  points=N           the most points of a tile; without it 45000
+  spacings=K,..      overlaps in mean spacings; without it 5,10,20,50
+  through=N          points from outside that are handed in to a tile; without it as many as tiles.py takes
+  whole=no           the scan is too large for one run, so there is no mesh of the whole to compare with
+  jobs=N             runs side by side; without it 1
+
+A face is near a seam where its middle is within 20 mean spacings of the core of another tile. A face differs where its three
+points, in their order, are no face of the other mesh. Distances are of the middles of faces from the object, in mean spacings;
+a face is off where that is over five times the scanner's error. Needs numpy.
+"""
+import json
+import os
+import subprocess
+import sys
+
+import numpy
+
+import tools_path
+from make_scan import FIGURE, FURNITURE, ROOM
+from toolbox.tile_join import read_mesh, read_tiles
+from toolbox.tool import run
+
+TOOLS = tools_path.TOOLS
+SCALE, NOISE, NEAR = 500000, 0.0015, 20
+
+
+def lengths(rows):
+    return numpy.sqrt((rows * rows).sum(axis=1))
+
+
+def to_torus(places):
+    return numpy.abs(numpy.hypot(numpy.hypot(places[:, 0], places[:, 1]) - 0.7, places[:, 2]) - 0.28)
+
+
+def to_balls(places):
+    return numpy.abs(numpy.min([lengths(places - centre) - radius for centre, radius in FIGURE], axis=0))
+
+
+def to_box(low, high, places):
+    """The distance from the surface of a box."""
+    beyond = numpy.maximum(numpy.array(low) - places, places - numpy.array(high))
+    outside = lengths(numpy.maximum(beyond, 0))
+    return numpy.where(outside > 0, outside, -beyond.max(axis=1))
+
+
+def to_room(places):
+    return numpy.min([to_box(*box, places) for box in [ROOM] + FURNITURE], axis=0)
+
+
+DISTANCES = {'torus': to_torus, 'statue': to_balls, 'room': to_room, 'walls': to_room}
+
+
+class Faces:
+    """The faces of a mesh: a key of its three places each, and three times its middle."""
+
+    def __init__(self, path):
+        mesh = read_mesh(path)
+        places = numpy.stack([numpy.array(axis, dtype=numpy.int64) for axis in (mesh.x, mesh.y, mesh.z)], axis=1)
+        corners = numpy.stack([numpy.array(corner, dtype=numpy.int64) for corner in (mesh.a, mesh.b, mesh.c)], axis=1)
+        keys = (((places[:, 0] * 4194301 + places[:, 1]) * 4194301) + places[:, 2])[corners]
+        first = keys.argmin(axis=1)
+        turned = numpy.take_along_axis(keys, (first[:, None] + numpy.arange(3)) % 3, axis=1).astype(numpy.uint64)
+        mixed = turned * numpy.array([0x9E3779B97F4A7C15, 0xC2B2AE3D27D4EB4F, 0x165667B19E3779F9], dtype=numpy.uint64)
+        self.keys = (mixed ^ (mixed >> numpy.uint64(29))).sum(axis=1, dtype=numpy.uint64)
+        self.middles = places[corners].sum(axis=1)
+
+
+def near_seams(tiles, faces, far):
+    """Which faces have their middle within so many thirds of a core that it is not in."""
+    found = numpy.zeros(len(faces.middles), dtype=numpy.int64)
+    for tile in tiles:
+        low, high = numpy.array(tile.low), numpy.array(tile.high)
+        beyond = numpy.maximum(numpy.maximum(low - faces.middles, faces.middles - high), 0).astype(float)
+        found += lengths(beyond) <= far
+    return found > 1
+
+
+def summary(shape, faces, others, near, spacing):
+    """Of the faces near seams and elsewhere: how many, how many differ, their mean distance, and how many are off."""
+    far, parts = DISTANCES[shape](faces.middles / (3 * SCALE)), []
+    differ = ~numpy.isin(faces.keys, others.keys) if others else numpy.zeros(len(far), dtype=bool)
+    for part in (near, ~near):
+        differing, mean = differ[part].sum() if others else '-', far[part].mean() * SCALE / spacing
+        parts.append(f'{part.sum()} / {differing} / {mean:.3f} / {(far[part] > 5 * NOISE).sum()}')
+    return parts
+
+
+def called(words):
+    """Runs a program and answers what it said."""
+    return subprocess.run(words, stdout=subprocess.PIPE, text=True, check=True).stdout
+
+
+def tool(name, *words):
+    return called([sys.executable, os.path.join(TOOLS, name + '.py'), *words])
+
+
+def scan_of(folder, shape, count):
+    """The path of a scan, which is made where it is missing."""
+    scan = os.path.join(folder, f'{shape}.{count}.ply')
+    if os.path.exists(scan):
+        return scan
+    if shape != 'walls':
+        tool('make_scan', shape, count, '7', scan)
+        return scan
+    tool('surround', scan_of(folder, 'room', count), scan, f'by={SCALE // 5}')
+    return scan
+
+
+def tiled(recon, folder, scan, spacings, options):
+    """The folder of the tiles of a scan, whose surfaces are built and joined, and what the join said."""
+    tiles = f'{scan[:-4]}.{spacings}.{options.through}'
+    if not os.path.exists(tiles):
+        more = ['through=' + options.through] if options.through else []
+        tool('tiles', 'split', scan, tiles, 'points=' + (options.points or '45000'), 'spacings=' + spacings, *more)
+    called(['make', '-s', '-C', tiles, 'RECON=' + recon, '-j' + (options.jobs or '1')])
+    return tiles, tool('tiles', 'join', tiles, tiles + '.ply', f'report={tiles}.txt').splitlines()
+
+
+def row(shape, whole, spacings, tiles, said):
+    """A row of the table."""
+    with open(os.path.join(tiles, 'tiles.json'), encoding='ascii') as file:
+        about = json.load(file)
+    cores, _ = read_tiles(tiles)
+    joined, far = Faces(tiles + '.ply'), 3 * NEAR * about['spacing']
+    cells = [shape, spacings, str(len(cores)), f'{sum(t["own"] for t in about["tiles"]) / about["points"]:.2f}',
+             f'{sum(t["points"] for t in about["tiles"]) / about["points"]:.2f}', said[0].split('; ')[-1], str(len(said) - 1)]
+    cells += summary(shape, joined, whole, near_seams(cores, joined, far), about['spacing'])
+    if whole:
+        cells += summary(shape, whole, joined, near_seams(cores, whole, far), about['spacing'])
+    return '| ' + ' | '.join(cells) + ' |'
+
+
+def measured(recon, folder, shape, options):
+    """Prints the rows of a shape, one for each overlap."""
+    scan = scan_of(folder, shape, options.count or '100000')
+    mesh = scan[:-4] + '.mesh.ply'
+    if options.whole != 'no' and not os.path.exists(mesh):
+        called([recon, 'build', scan, mesh, mesh + '.cert'])
+    whole = Faces(mesh) if options.whole != 'no' else None
+    for spacings in (options.spacings or '5,10,20,50').split(','):
+        print(row(shape, whole, spacings, *tiled(recon, folder, scan, spacings, options)), flush=True)
+
+
+def main(names, options):
+    recon, folder = os.path.abspath(names[0]), names[1]
+    os.makedirs(folder, exist_ok=True)
+    shapes = (options.shapes or 'torus,room,walls,statue').split(',')
+    for shape in shapes:
+        measured(recon, folder, shape, options)
+    return f'{len(shapes)} shapes'
+
+
+if __name__ == '__main__':
+    run(main, __doc__, 2, ('shapes', 'count', 'points', 'spacings', 'through', 'whole', 'jobs'))
