@@ -8,9 +8,9 @@ keeps the points on them.
   to=X,Y,Z           the corner with the greatest
   outside=yes        keep the points outside of the box instead
 """
-from pass_points import HELP, KEYS, pass_points
-from ply_text import Refusal
-from tool import run, three, yes
+from toolbox.pass_points import HELP, KEYS, pass_points
+from toolbox.ply_text import Refusal
+from toolbox.tool import run, three, yes
 
 
 def main(names, options):

@@ -5,8 +5,8 @@ so that they read back as the same. Other properties of the points are kept.
 
   floats_to_text.py IN OUT [index=NAME] [positions=TABLE] [origin=X,Y,Z] [open_end=yes]
 """
-from pass_points import HELP, KEYS, pass_points
-from tool import run
+from toolbox.pass_points import HELP, KEYS, pass_points
+from toolbox.tool import run
 
 
 def main(names, options):

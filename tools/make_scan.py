@@ -4,8 +4,11 @@
   make_scan.py SHAPE COUNT SEED OUT [scale=S] [noise=F] [stray=F]
 
   SHAPE              torus, statue (a figure of balls), cube or sphere, seen from 8 places around it; or room (a room with
-                     furniture and two pillars, seen from 4 places in it)
-  COUNT, SEED        how many points, and a word that they are drawn from
+                     furniture and two pillars, seen from 4 places in it). And three whose sights cross as many cells as may
+                     be, to time the worst: tube (a thin tube, seen from one point beyond each end), crowd (points in a ball,
+                     each seen by 20 of 65,536 scanners in it, a row for each sight) and paraboloid (seen from 4 places over
+                     it). These three have no errors and no wrong points
+  COUNT, SEED        how many rows, and a word that they are drawn from
   scale=S            units for the length 1; the shapes reach from about -1 to 1, their scanners to 2.4. Without it 500000. A
                      coordinate that would pass 2,097,151 stays there
   noise=F            how far a point errs along its sight, as the deviation of a normal error, in the length of which S units
@@ -15,11 +18,12 @@
 A point is drawn evenly on the surface together with a scanner, and kept where that scanner sees it, and not at a grazing
 angle.
 """
+import itertools
 import math
 import random
 
-from ply_text import IS_NUMBER, SCANNER_LIMIT, Property, Refusal, Writer, whole_file
-from tool import number_of, run
+from toolbox.ply_text import IS_NUMBER, SCANNER_LIMIT, Property, Refusal, Writer, whole_file
+from toolbox.tool import number_of, run
 
 LIMIT = 2097151
 COUNT_LIMIT = 10 ** 8
@@ -132,10 +136,48 @@ class Boxes:
         return any(box_is_met(low, high, p, d, 1e-6, 1) for low, high in self.solid)
 
 
+class Tube:
+    """A tube as thin as a five-hundredth of its length. Each sight goes along its inside from a point to one of the ends."""
+    scanners = [(-1.05, 0, 0), (1.05, 0, 0)]
+
+    def rows(self, draw):
+        while True:
+            turn = draw.uniform(0, 2 * math.pi)
+            yield (draw.uniform(-1, 1), 0.002 * math.cos(turn), 0.002 * math.sin(turn)), draw.randrange(2)
+
+
+class Crowd:
+    """Points in a ball, each seen by 20 of the scanners in it."""
+
+    def __init__(self):
+        places = random.Random('crowd')
+        self.scanners = [self.place(places) for _ in range(SCANNER_LIMIT)]
+
+    def place(self, draw):
+        return tuple(c * draw.random() ** (1 / 3) for c in direction(draw))
+
+    def rows(self, draw):
+        while True:
+            p = self.place(draw)
+            for _ in range(20):
+                yield p, draw.randrange(len(self.scanners))
+
+
+class Paraboloid:
+    """A bowl, whose points have many cells between them, seen from over it."""
+    scanners = [(0.2, 0.1, 1.5), (-0.3, 0.2, 1.7), (0.1, -0.4, 1.6), (0.0, 0.0, 2.2)]
+
+    def rows(self, draw):
+        while True:
+            x, y = draw.uniform(-0.8, 0.8), draw.uniform(-0.8, 0.8)
+            yield (x, y, x * x + y * y), draw.randrange(4)
+
+
 FIGURE = [((0, 0, -0.92), 0.34), ((-0.15, 0, -0.62), 0.2), ((0.15, 0, -0.62), 0.2), ((-0.14, 0, -0.35), 0.2),
           ((0.14, 0, -0.35), 0.2), ((0, 0, -0.05), 0.33), ((0, 0, 0.3), 0.28), ((0, 0, 0.68), 0.2), ((0, -0.2, 0.67), 0.05),
           ((-0.3, 0, 0.4), 0.13), ((-0.44, -0.08, 0.25), 0.12), ((-0.5, -0.22, 0.12), 0.11), ((0.3, 0, 0.4), 0.13),
           ((0.45, 0, 0.52), 0.12), ((0.55, -0.05, 0.68), 0.11), ((0.6, -0.1, 0.86), 0.1)]
+WORST = {'tube': Tube, 'crowd': Crowd, 'paraboloid': Paraboloid}
 ROOM = ((-1.0, -0.8, -0.5), (1.0, 0.8, 0.5))
 FURNITURE = [((-0.8, -0.6, -0.5), (-0.2, -0.3, -0.15)), ((0.2, 0.3, -0.5), (0.8, 0.65, -0.2)),
              ((0.65, -0.7, -0.5), (0.95, -0.4, 0.25)),
@@ -153,7 +195,9 @@ def shape_of(name):
         return Boxes([((-0.6, -0.6, -0.6), (0.6, 0.6, 0.6))], [], ring_of_scanners(2.2, (1.3, -1.3)))
     if name == 'room':
         return Boxes(FURNITURE, [ROOM], [(-0.55, -0.1, 0.05), (0.5, -0.2, 0.1), (-0.1, 0.5, 0.0), (0.45, 0.1, 0.15)])
-    raise Refusal(f'there is no shape {name}: torus, room, statue, cube and sphere are known')
+    if name in WORST:
+        return WORST[name]()
+    raise Refusal(f'there is no shape {name}: torus, room, statue, cube, sphere, {", ".join(WORST)} are known')
 
 
 def wrong_point(draw, p, d):
@@ -175,6 +219,14 @@ def seen_point(draw, shape, noise, stray):
     if draw.random() < stray:
         return wrong_point(draw, p, d), index
     return along(p, d, draw.gauss(0, noise) / length), index
+
+
+def rows_of(draw, shape, noise, stray):
+    """Points and the numbers of their scanners, without end."""
+    if hasattr(shape, 'rows'):
+        yield from shape.rows(draw)
+    while True:
+        yield seen_point(draw, shape, noise, stray)
 
 
 def scaled(place, scale):
@@ -199,8 +251,7 @@ def main(names, options):
     with whole_file(out) as file:
         writer = Writer(file, columns, 'make_scan')
         writer.begin(True)
-        for _ in range(count):
-            p, index = seen_point(draw, shape, noise, stray)
+        for p, index in itertools.islice(rows_of(draw, shape, noise, stray), count):
             writer.row(scaled(p, scale) + [str(index)])
         writer.finish([scaled(place, scale) for place in shape.scanners])
     return f'wrote {number_of(count, "point")} and {len(shape.scanners)} scanners of a {names[0]} to {out}'

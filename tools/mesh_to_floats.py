@@ -11,9 +11,9 @@ Coordinates are exact decimals, rounded only where they have over 30 digits. The
 """
 from decimal import Decimal
 
-from exact import quotients
-from ply_text import ARE_THREE, Property, Reader, Refusal, plain_names, whole_file
-from tool import number_of, run, three
+from toolbox.exact import quotients
+from toolbox.ply_text import ARE_THREE, Property, Reader, Refusal, plain_names, whole_file
+from toolbox.tool import number_of, run, three
 
 
 def unit_of(options):
@@ -35,6 +35,8 @@ def pass_mesh(reader, file, unit, origin):
     if reader.elements != [vertex, face] or vertex.has_lists() or len(face.properties) != 1 or not face.has_lists():
         raise Refusal('this is no mesh of recon: vertices and then faces, each with a list')
     x, y, z = vertex.point_columns()
+    if any(vertex.properties[k].kind.startswith(('float', 'double')) for k in (x, y, z)):
+        raise Refusal('its coordinates are floating point already: it is no mesh as recon wrote it')
     file.write(head(vertex, face))
     for row, words in enumerate(reader.rows(vertex)):
         point = [words[x], words[y], words[z]]
@@ -56,7 +58,8 @@ def main(names, options):
     finally:
         reader.close()
     counts = f'{vertex.count} vertices and {number_of(face.count, "face")}'
-    return f'read {counts} of {names[0]}; left out nothing; wrote as many to {names[1]}'
+    line = f'read {counts} of {names[0]}; left out nothing; wrote as many to {names[1]}'
+    return line if options.unit else line + ', at unit=1, since none is named'
 
 
 if __name__ == '__main__':

@@ -14,10 +14,10 @@ only where it has over 30 digits, the most that `recon` reads.
 """
 from decimal import Decimal
 
-from exact import Pose
-from ply_text import IS_NUMBER, SCANNER_LIMIT, Property, Refusal, Writer, decimals, whole_file
-from text_lines import Lines
-from tool import left_out, number_of, run, yes
+from toolbox.exact import Pose
+from toolbox.ply_text import IS_NUMBER, SCANNER_LIMIT, Property, Refusal, Writer, decimals, whole_file
+from toolbox.text_lines import Lines
+from toolbox.tool import left_out, number_of, run, said_of, yes
 
 UNCHANGED = [[Decimal(int(row == column)) for column in range(3)] for row in range(4)]
 
@@ -132,9 +132,9 @@ def main(names, options):
             writer.finish(work.positions)
     finally:
         lines.close()
-    return (f'read {number_of(len(work.positions), "station")} with {number_of(work.read, "row")} of {names[0]}; left out '
-            f'{left_out(work.counts)}; wrote {number_of(writer.count, "point")} and '
-            f'{number_of(len(work.positions), "scanner")} to {names[1]}')
+    read = f'read {number_of(len(work.positions), "station")} with {number_of(work.read, "row")} of {names[0]}'
+    return said_of(writer, f'{read}; left out {left_out(work.counts)}; wrote {number_of(writer.count, "point")} and '
+                   f'{number_of(len(work.positions), "scanner")} to {names[1]}')
 
 
 if __name__ == '__main__':

@@ -9,9 +9,9 @@
 A row has the number of its loop, from 0, the number of the face, and the point's x and y. Each loop is closed: behind its
 last point comes its first. Coordinates are decimals of up to 30 digits, the last one rounded.
 """
-from ply_text import whole_file
-from slice_text import Frame, read_loops
-from tool import number_of, run
+from toolbox.ply_text import whole_file
+from toolbox.slice_text import Frame, read_loops
+from toolbox.tool import number_of, run
 
 
 def main(names, options):

@@ -11,10 +11,10 @@ where the loops go round it an odd number of times.
 """
 from decimal import Decimal
 
-from exact import READ, text
-from ply_text import Refusal, whole_file
-from slice_text import Frame, read_loops
-from tool import number_of, run
+from toolbox.exact import READ, text
+from toolbox.ply_text import Refusal, whole_file
+from toolbox.slice_text import Frame, read_loops
+from toolbox.tool import number_of, run
 
 MARGIN = Decimal('0.05')
 

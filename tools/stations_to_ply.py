@@ -4,26 +4,29 @@
   stations_to_ply.py OUT FILE=X,Y,Z [FILE=X,Y,Z ..] [open_end=yes]
   stations_to_ply.py OUT table=TABLE [open_end=yes]
 
-  FILE=X,Y,Z         a file and where its scanner stood. All files are in one frame
+  FILE=X,Y,Z         a file and where its scanner stood. All files are in one frame. A PCD says it by its VIEWPOINT, and an
+                     E57 of one station by its pose: then FILE alone will do
   table=TABLE        the same as lines `X Y Z FILE` of a text file; FILE is sought from the table's folder on, and `#`
                      begins a comment
   open_end=yes       take text files whose last line has no end (else they count as cut)
 
-A file is a PLY of any kind; a PTS (the number of its rows, and then the rows); or a list of numbers with X, Y and Z first
-in each line, parted by spaces, tabs, commas or semicolons, perhaps with one heading, and with lines of remarks that begin
-with `#` or `//`. Only coordinates are taken, digits as they stand. Points with one that is nan or infinite are left out.
+A file is a PLY of any kind, a PCD, a LAS or an E57; a PTS (the number of its rows, and then the rows); or a list of numbers
+with X, Y and Z first in each line, parted by spaces, tabs, commas or semicolons, perhaps with one heading, and with lines of
+remarks that begin with `#` or `//`. Only coordinates are taken, digits as they stand. Points with one that is nan or
+infinite are left out.
 """
 import os
 
-from ply_text import (IS_NOT_FINITE, IS_NUMBER, SCANNER_LIMIT, Property, Reader, Refusal, Writer, decimals, read_positions,
+from toolbox.ply_text import (IS_NOT_FINITE, IS_NUMBER, SCANNER_LIMIT, Property, Refusal, Writer, decimals, read_positions,
                       whole_file)
-from text_lines import Lines
-from tool import left_out, number_of, run, three, yes
+from toolbox.point_files import has_rows, open_points
+from toolbox.text_lines import DECIMAL_COMMAS, Lines
+from toolbox.tool import left_out, number_of, run, said_of, three, yes
 
 
-def ply_points(path, open_end):
-    """The points of a PLY file, each with a word for its place."""
-    reader = Reader(path, open_end)
+def row_points(path, open_end):
+    """The points of a file of rows, each with a word for its place."""
+    reader = open_points(path, open_end)
     try:
         vertex = reader.element('vertex')
         if vertex is None:
@@ -74,6 +77,8 @@ def list_points(lines, counts):
     while line is not None:
         text = line.strip()
         if text and not text.startswith(('#', '//')):
+            if DECIMAL_COMMAS(text):
+                raise Refusal(f'line {lines.number} has decimal commas: {text[:40]}; write its numbers with points')
             if sign is None:
                 sign = ';' if ';' in text else ',' if ',' in text else ''
             words = [word.strip() for word in text.split(sign)] if sign else text.split()
@@ -95,14 +100,31 @@ def points_of(path, open_end, counts):
         start = file.readline(100)
     if not start:
         raise Refusal('the file is empty')
-    if start.rstrip(b'\r\n') == b'ply':
-        yield from ply_points(path, open_end)
+    if has_rows(path):
+        yield from row_points(path, open_end)
         return
     lines = Lines(path, open_end)
     try:
         yield from pts_points(lines) if start.strip().isdigit() else list_points(lines, counts)
     finally:
         lines.close()
+
+
+def station_of(name):
+    """A file and its position: that of the words, or of the file itself."""
+    path, equals, position = name.rpartition('=')
+    if equals and path:
+        return path, three(position, f'the position of {path}')
+    if not has_rows(name):
+        raise Refusal(f'a station is FILE=X,Y,Z, and {name} is not')
+    reader = open_points(name)
+    try:
+        scanner = reader.element('scanner')
+        if scanner is None or scanner.count != 1 or not hasattr(reader, 'position'):
+            raise Refusal(f'{name} does not say where its scanner stood: {name}=X,Y,Z does')
+        return name, reader.position()
+    finally:
+        reader.close()
 
 
 def stations(names, options):
@@ -116,10 +138,7 @@ def stations(names, options):
             raise Refusal(f'a line of {options.table} names no file')
         found = [(os.path.join(folder, name), position) for position, name in rows]
     else:
-        parted = [name.rpartition('=') for name in names]
-        if any(not path for path, _, _ in parted):
-            raise Refusal('a station is FILE=X,Y,Z')
-        found = [(path, three(position, f'the position of {path}')) for path, _, position in parted]
+        found = [station_of(name) for name in names]
     if not found or len(found) > SCANNER_LIMIT:
         raise Refusal('there is no station' if not found else f'there are over {SCANNER_LIMIT} stations')
     return found
@@ -156,8 +175,8 @@ def main(names, options):
         read = sum(pass_points(path, yes(options.open_end, 'open_end'), str(index), writer, counts)
                    for index, (path, _) in enumerate(found))
         writer.finish([position for _, position in found])
-    return (f'read {number_of(read, "point")} of {number_of(len(found), "file")}; left out {left_out(counts)}; wrote '
-            f'{number_of(writer.count, "point")} and {number_of(len(found), "scanner")} to {names[0]}')
+    return said_of(writer, f'read {number_of(read, "point")} of {number_of(len(found), "file")}; left out {left_out(counts)}; '
+                   f'wrote {number_of(writer.count, "point")} and {number_of(len(found), "scanner")} to {names[0]}')
 
 
 if __name__ == '__main__':

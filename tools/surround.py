@@ -13,21 +13,29 @@ side of the box is no surface of the object: take it off the mesh in a viewer.
 """
 from math import isfinite
 
-from pass_points import HELP, KEYS, pass_points
-from ply_text import IS_NUMBER, SCANNER_LIMIT, Refusal
-from tool import run
+from toolbox.pass_points import HELP, KEYS, pass_points
+from toolbox.ply_text import IS_NUMBER, SCANNER_LIMIT, Refusal
+from toolbox.tool import run
+
+FEW = 20
 
 
 class Box:
     """The least box around the points that were shown to it."""
 
     def __init__(self):
-        self.low, self.high = [float('inf')] * 3, [float('-inf')] * 3
+        self.low, self.high, self.count = [float('inf')] * 3, [float('-inf')] * 3, 0
 
     def show(self, x, y, z):
         self.low = list(map(min, self.low, (x, y, z)))
         self.high = list(map(max, self.high, (x, y, z)))
+        self.count += 1
         return True
+
+    def spacing(self):
+        """About how far points are apart, if they lie on the sides of the box."""
+        a, b, c = (high - low for low, high in zip(self.low, self.high))
+        return (2 * (a * b + b * c + c * a) / max(self.count, 1)) ** 0.5
 
     def corner(self, number, off):
         """A corner of the box that stands so far off."""
@@ -55,7 +63,10 @@ def main(names, options):
             writer.row(words)
             work.positions.append(work.moved(box.corner(number, 2 * off)))
 
-    return pass_points(names, options, 'surround', box.show, 'skipped', add)
+    line = pass_points(names, options, 'surround', box.show, 'skipped', add)
+    if box.count >= FEW and off < box.spacing():
+        line += f'; by={options.by} is less than the points are apart, about {box.spacing():.3g}: the walls become that thin'
+    return line
 
 
 if __name__ == '__main__':

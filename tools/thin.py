@@ -10,9 +10,9 @@ cloud with too many points becomes one with fewer, evenly spread. The cubes lie 
 from array import array
 from math import floor, isfinite
 
-from pass_points import HELP, KEYS, pass_points
-from ply_text import IS_NUMBER, Refusal
-from tool import run
+from toolbox.pass_points import HELP, KEYS, pass_points
+from toolbox.ply_text import IS_NUMBER, Refusal
+from toolbox.tool import run
 
 HALF = 1 << 20
 SPREAD = 0x9E3779B97F4A7C15

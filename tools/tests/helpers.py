@@ -8,10 +8,11 @@ import sys
 HERE = os.path.dirname(os.path.abspath(__file__))
 TOOLS = os.path.dirname(HERE)
 ROOT = os.path.dirname(TOOLS)
+DEV = os.path.join(ROOT, 'dev')
 PLACES = [os.environ.get('RECON', ''), os.path.join(ROOT, 'recon'),
           os.path.join(ROOT, 'crates', 'recon_main', 'out', 'recon_main')]
 RECON = next(filter(os.path.exists, PLACES), None)
-sys.path.insert(0, TOOLS)
+sys.path[:0] = [TOOLS, DEV]
 
 
 def write(name, data):
@@ -25,8 +26,9 @@ def read(name):
 
 
 def call(program, *words):
-    """Status, standard output and standard error of a program of tools/."""
-    done = subprocess.run([sys.executable, os.path.join(TOOLS, program + '.py'), *words], capture_output=True, text=True)
+    """Status, standard output and standard error of a program of tools/ or dev/."""
+    path = next(filter(os.path.exists, (os.path.join(folder, program + '.py') for folder in (TOOLS, DEV))))
+    done = subprocess.run([sys.executable, path, *words], capture_output=True, text=True)
     return done.returncode, done.stdout, done.stderr
 
 

@@ -15,9 +15,15 @@ import traceback
 import test_all
 import test_believed
 import test_examples
+import test_finish
+import test_gate
+import test_measure
+import test_normals
+import test_other_files
 import test_points
 import test_program
 import test_stations
+import test_tiles
 from helpers import RECON, ROOT
 
 
@@ -38,7 +44,9 @@ def passes(name, test):
 
 def main():
     part = sys.argv[1] if len(sys.argv) > 1 else ''
-    modules = [test_points, test_stations, test_all, test_examples, test_believed] + ([test_program] if RECON else [])
+    modules = [test_points, test_stations, test_tiles, test_other_files, test_normals, test_all, test_finish, test_measure,
+               test_examples, test_believed, test_gate]
+    modules += [test_program] if RECON else []
     tests = [(name, test) for module in modules for name, test in vars(module).items()
              if name.startswith('test_') and part in name]
     passed = sum(passes(name, test) for name, test in tests)

@@ -7,7 +7,7 @@ import subprocess
 import sys
 
 from helpers import POINTS, ROOT, SCAN, TOOLS, Nothing, binary, call, equal, head, holds, read, refuses, says, write
-from ply_text import Refusal
+from toolbox.ply_text import Refusal
 from test_stations import FIRST_STATION, PTX
 
 MESH = """ply
@@ -46,6 +46,10 @@ def test_meshes_in_the_numbers_of_the_scan():
     refuses('mesh_to_floats', 'cut: the file ends in row 3 of the 4 of face', 'in.ply', 'out.ply')
     write('in.ply', head(1, SCAN, 1) + '0 0 0 0\n0 0 9\n')
     refuses('mesh_to_floats', 'no mesh', 'in.ply', 'out.ply')
+    write('in.ply', MESH.replace('property int', 'property double'))
+    refuses('mesh_to_floats', 'floating point already', 'in.ply', 'out.ply', 'unit=1000')
+    write('in.ply', MESH)
+    says('mesh_to_floats', line + ', at unit=1, since none is named', 'in.ply', 'out.ply')
 
 
 SLICE = 'loops 1\nloop 4\n0 200 40000 400\n2 40000 200 400\n3 -200 -40000 400\n1 -40000 -200 400\n'
@@ -72,6 +76,31 @@ def test_slices_in_the_numbers_of_the_scan():
         write('in.txt', text)
         refuses('slice_to_csv', why, 'in.txt', 'out.csv', out='out.csv')
         refuses('slice_to_svg', why, 'in.txt', 'out.svg', out='out.svg')
+
+
+def test_grids_and_volumes():
+    box = ('from=0,-1,0.25', 'to=0.3,0,0.35', 'side=0.1')
+    says('grid_points', 'wrote 30 points to out.txt, 3 by 10 by 1', 'out.txt', *box)
+    lines = read('out.txt').splitlines()
+    equal(lines[:4], ['0.05 -0.95 0.3', '0.15 -0.95 0.3', '0.25 -0.95 0.3', '0.05 -0.85 0.3'])
+    equal((len(lines), lines[-1]), (30, '0.25 -0.05 0.3'))
+    says('grid_points', 'wrote 8 points to out.txt, 2 by 2 by 2', 'out.txt', 'from=0,0,0', 'to=1.01,2,1.5', 'side=1')
+    for why, words in (('side= is', ('from=0,0,0', 'to=1,1,1')), ('side= is', ('from=0,0,0', 'to=1,1,1', 'side=-1')),
+                       ('from= and to=', ('to=1,1,1', 'side=1')), ('from is not X,Y,Z', ('from=0,0', 'to=1,1,1', 'side=1')),
+                       ('not below', ('from=0,1,0', 'to=1,1,1', 'side=1')), ('cubes', ('from=0,0,0', 'to=1,1,1', 'side=0.0098')),
+                       ('cubes', ('from=0,0,0', 'to=1,1,1', 'side=1e-300'))):
+        refuses('grid_points', why, 'out.txt', *words, out='out.txt')
+    says('grid_points', 'wrote 1048576 points to out.txt, 1024 by 1024 by 1', 'out.txt', 'from=0,0,0', 'to=1024,1024,1', 'side=1')
+    write('in.txt', 'answers 3\ninside\noutside\ninside\n')
+    equal(call('grid_volume', 'in.txt', 'side=0.1'), (0, 'grid_volume.py: read 3 answers of in.txt; inside 2, volume 0.002\n', ''))
+    write('in.txt', 'answers 0\n')
+    says('grid_volume', 'read 0 answers of in.txt; inside 0, volume 0', 'in.txt', 'side=2')
+    spoiled = (('', 'line 1'), ('answers\n', 'line 1'), ('answers 1\n', 'missing behind line 1'), ('answers 1\ninside', 'cut: line 2'),
+               ('answers 1\nInside\n', 'line 2 is not'), ('answers 1\ninside\noutside\n', 'line 3 stands behind'), (MESH, 'line 1'))
+    for text, why in spoiled:
+        write('in.txt', text)
+        refuses('grid_volume', why, 'in.txt', 'side=1')
+    refuses('grid_volume', 'side= is', 'in.txt')
 
 
 def test_files_that_are_cut_anywhere_are_refused():
@@ -138,8 +167,7 @@ def test_a_last_line_without_end():
 
 
 def test_help_and_words():
-    for program in ('floats_to_text', 'thin', 'clip', 'surround', 'mesh_to_floats', 'slice_to_csv', 'slice_to_svg', 'ptx_to_ply',
-                    'stations_to_ply', 'make_scan'):
+    for program in PROGRAMS:
         status, said, error = call(program, '--help')
         equal((status, error, f'{program}.py' in said), (0, '', True))
         equal(call(program, 'a', 'b', 'c', 'd=e', 'f=g')[0] in (1, 2), True)
@@ -149,6 +177,25 @@ def test_help_and_words():
     refuses('thin', 'yes or no', 'in.ply', 'out.ply', 'side=1', 'open_end=1')
 
 
+def test_runs_that_leave_no_point_have_a_status():
+    write('in.ply', head(1, SCAN, 1) + '1 2 3 0\n0 0 9\n')
+    for program, words in (('clip', ('from=4,4,4', 'to=5,5,5')), ('stations_to_ply', None)):
+        write('a.xyz', 'X Y Z\n')
+        status, said, error = call(program, *(('in.ply', 'out.ply') + words if words else ('out.ply', 'a.xyz=0,0,0')))
+        equal((status, error, said.endswith('to out.ply: no point is left\n')), (3, '', True))
+
+
+def test_the_first_line_of_the_help_alone():
+    for program in PROGRAMS:
+        command = f'{sys.executable} {os.path.join(TOOLS, program + ".py")} --help | head -c 1'
+        done = subprocess.run(command, shell=True, capture_output=True, text=True)
+        equal((len(done.stdout), done.stderr), (1, ''))
+
+
+PROGRAMS = ('floats_to_text', 'thin', 'clip', 'surround', 'mesh_to_floats', 'slice_to_csv', 'slice_to_svg', 'ptx_to_ply',
+            'stations_to_ply', 'make_scan', 'finish', 'normals_to_ply', 'colmap_to_ply', 'grid_points', 'grid_volume')
+
+
 def test_the_lines_of_the_guide_are_understood():
     # no file is there, so each program that reads one has to say so, and not that it does not know the words
     with open(os.path.join(ROOT, 'docs', 'using.md'), encoding='utf-8') as file:
@@ -156,7 +203,7 @@ def test_the_lines_of_the_guide_are_understood():
     equal(len(lines) > 15, True)
     for program, words in lines:
         status, said, error = call(program, *words.split())
-        wanted = (0, False) if program == 'make_scan' else (1, True)
+        wanted = (0, False) if program in ('make_scan', 'grid_points') else (1, True)
         equal((program, words, status, 'No such file' in error), (program, words) + wanted)
 
 
@@ -175,7 +222,8 @@ def test_large_files_take_little_memory():
 
 
 def test_scans_that_are_made():
-    for shape, scanners in (('torus', 8), ('room', 4), ('statue', 8), ('cube', 8), ('sphere', 8)):
+    for shape, scanners in (('torus', 8), ('room', 4), ('statue', 8), ('cube', 8), ('sphere', 8), ('tube', 2), ('crowd', 65536),
+                            ('paraboloid', 4)):
         says('make_scan', f'wrote 50 points and {scanners} scanners of a {shape} to out.ply', shape, '50', '7', 'out.ply')
         first = read('out.ply')
         holds('out.ply', re.sub('comment made by .*\n', '', first))

@@ -207,3 +207,10 @@ def test_a_file_may_be_written_over_itself():
     says('thin', 'read 2 points of in.ply; left out 1 in a cube that has one; wrote 1 point to in.ply', 'in.ply', 'in.ply',
          'side=1')
     holds('in.ply', head(1, 'float x, float y, float z') + '1 2 3\n')
+
+
+def test_surround_says_where_the_walls_become_thin():
+    write('in.ply', head(27, SCAN, 1) + ''.join(f'{x} {y} {z} 0\n' for x in (0, 3, 6) for y in (0, 3, 6) for z in (0, 3, 6)) + '0 0 9\n')
+    for by, part in (('1', '; by=1 is less than the points are apart, about 2.83: the walls become that thin'), ('3', '')):
+        said = call('surround', 'in.ply', 'out.ply', f'by={by}')[1]
+        equal(said.split('to out.ply')[1], part + '\n')

@@ -3,11 +3,12 @@ there. They run where `recon` is built (see run.py)."""
 import hashlib
 import os
 import random
+import re
 import resource
 import struct
 import subprocess
 
-from helpers import RECON, ROOT, equal, read, write
+from helpers import RECON, ROOT, equal, read, says, write
 
 EXAMPLES = os.path.join(ROOT, 'examples')
 LIMIT = 64 * 2 ** 20
@@ -95,6 +96,77 @@ def test_stamps():
     ends(['upgrade', 'scan', 'mesh', 'new'], 2, 'refused words\n')
     equal(os.path.exists('other'), False)
     ends(['upgrade', 'scan', 'mesh', 'new', 'no_folder/other'], 4, '')
+
+
+def test_points_that_are_asked_for():
+    write('scan.ply', example('tetrahedron.ply'))
+    write('points', b'0 0 0 100 100 100\t-34 -33 -33\r\n1000 0 0')
+    ends(['ask', 'scan.ply', 'points', 'answers'], 0, 'points 4 asked 4 inside 2\n', ['scan.ply', 'points'])
+    equal(data('answers'), b'answers 4\ninside\noutside\ninside\noutside\n')
+    write('none', b'')
+    ends(['ask', 'scan.ply', 'none', 'answers'], 0, 'points 4 asked 0 inside 0\n', ['none'])
+    equal(data('answers'), b'answers 0\n')
+    for text, said in ((b'1 2', '26 query_cut tokens 2'), (b'1 2 nan', '23 bad_query token 2'), (b'0 -2097152 0', '25 query_range token 1'),
+                       (b'1' * 31 + b' 0 0', '24 long_query token 0'), (b'0 ' * 3145731, '27 too_many_queries tokens 3145731')):
+        write('points', text)
+        ends(['ask', 'scan.ply', 'points', 'other'], 3, f'refused {said}\n', ['scan.ply'])
+    equal(os.path.exists('other'), False)
+    ends(['ask', 'points', 'scan.ply', 'other'], 3, 'refused 1 not_ply\n')
+    ends(['ask', 'scan.ply', 'missing', 'other'], 4, '')
+    ends(['ask', 'scan.ply', 'answers'], 2, 'refused words\n')
+
+
+def test_as_many_points_as_may_be_asked_for():
+    write('scan.ply', example('tetrahedron.ply'))
+    write('points', b'0\n' * 3145728)
+    ends(['ask', 'scan.ply', 'points', 'answers'], 0, 'points 4 asked 1048576 inside 1048576\n', ['points'])
+    equal(data('answers'), b'answers 1048576\n' + b'inside\n' * 1048576)
+    write('points', b'0\n' * 3145729)
+    ends(['ask', 'scan.ply', 'points', 'answers'], 3, 'refused 27 too_many_queries tokens 3145729\n')
+    write('points', b'\r' * 20000000 + b'x' * 20000000)
+    ends(['ask', 'scan.ply', 'points', 'answers'], 3, 'refused 26 query_cut tokens 1\n')
+
+
+def test_the_volume_of_a_grid():
+    write('scan.ply', example('tetrahedron.ply'))
+    says('grid_points', 'wrote 8000 points to grid, 20 by 20 by 20', 'grid', 'from=-100,-100,-100', 'to=100,100,100', 'side=10')
+    ends(['ask', 'scan.ply', 'grid', 'answers'], 0, 'points 4 asked 8000 inside 2680\n', ['grid'])
+    says('grid_volume', 'read 8000 answers of answers; inside 2680, volume 2680000', 'answers', 'side=10')
+
+
+POINTS = b'0 0 0\n100 100 100\t-3.4e1 -33 -33.4\r\n1000 0 +0.'
+
+
+def told_of_points(text):
+    """The line of `ask` on the tetrahedron for a text of points, in words of its own."""
+    values = text.replace(b'\r', b' ').replace(b'\n', b' ').replace(b'\t', b' ').split(b' ')
+    values = [value for value in values if value]
+    if len(values) % 3:
+        return 3, f'refused 26 query_cut tokens {len(values)}\n'
+    for place, value in enumerate(values):
+        if not re.fullmatch(rb'[+-]?(\d+\.?\d*|\.\d+)([eE][+-]?\d+)?', value):
+            return 3, f'refused 23 bad_query token {place}\n'
+        if abs(float(value)) >= 2097151.5:
+            return 3, f'refused 25 query_range token {place}\n'
+    return 0, f'points 4 asked {len(values) // 3} inside '
+
+
+def test_points_cut_and_spoiled():
+    write('scan', example('tetrahedron.ply'))
+    write('answers', 'before')
+    others = [POINTS[:length] for length in range(len(POINTS))] + [other for _, other in spoiled(random.Random(1), POINTS)]
+    for text in others:
+        write('points', text)
+        status, line = recon('ask', 'scan', 'points', 'answers')
+        wanted = told_of_points(text)
+        equal((text, status, line[:len(wanted[1])]), (text, *wanted))
+        if status == 3:
+            equal(read('answers'), 'before')
+        else:
+            answers = read('answers').split('\n')
+            equal((answers[0], len(answers) - 2), ('answers ' + line.split()[3], int(line.split()[3])))
+            equal(answers.count('inside'), int(line.split()[5]))
+            write('answers', 'before')
 
 
 def test_slices_and_forms():

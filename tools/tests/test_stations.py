@@ -4,7 +4,7 @@ import random
 from decimal import Decimal
 
 from helpers import SCAN, binary, call, equal, head, holds, read, refuses, says, write
-from exact import Pose
+from toolbox.exact import Pose
 
 FIRST_STATION = """2
 2

@@ -1,14 +1,27 @@
 """Lines of a text file, one after another, with their numbers."""
-from ply_text import Refusal
+import re
+
+from toolbox.ply_text import Refusal
 
 LONGEST = 4096
+OTHER_KINDS = {b'LASF': 'LAS, which floats_to_text reads', b'ASTM-E57': 'E57, which floats_to_text reads',
+               b'# .PCD': 'PCD, which floats_to_text reads', b'VERSION': 'PCD, which floats_to_text reads',
+               b'PK\3\4': 'a zip archive: unpack it first',
+               b'\x1f\x8b': 'a file of gzip: unpack it first', b'\x89HDF': 'HDF5, which is not read'}
+DECIMAL_COMMAS = re.compile(r'[+-]?[0-9]+,[0-9]+([ \t;]+[+-]?[0-9]+,[0-9]+)+[ \t;]*').fullmatch
 
 
 class Lines:
     """The lines of a text file as words. `number` is that of the last one, from 1."""
 
-    def __init__(self, path, open_end=False):
+    def __init__(self, path, open_end=False, at=0):
         self.file, self.open_end, self.number = open(path, 'rb'), open_end, 0
+        start = b'' if at else self.file.read(16)
+        self.file.seek(at)
+        for magic, kind in OTHER_KINDS.items():
+            if start.startswith(magic):
+                self.file.close()
+                raise Refusal(f'this is no text of numbers but {kind}')
 
     def next_line(self):
         """The next line without its end, or None at the end of the file."""

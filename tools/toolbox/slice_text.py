@@ -4,10 +4,10 @@ import re
 from decimal import Decimal
 from fractions import Fraction
 
-from exact import READ, text
-from ply_text import Refusal
-from text_lines import Lines
-from tool import three
+from toolbox.exact import READ, text
+from toolbox.ply_text import Refusal
+from toolbox.text_lines import Lines
+from toolbox.tool import three
 
 ARE_FOUR = re.compile(r'([0-9]{1,10}) (-?[0-9]{1,19}) (-?[0-9]{1,19}) ([1-9][0-9]{0,18})').fullmatch
 

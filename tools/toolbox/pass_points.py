@@ -1,11 +1,11 @@
-"""Points of one PLY file passed on to another, with their scanners: what floats_to_text, thin, clip and
-surround share."""
+"""Points of a file passed on to a PLY, with their scanners: what floats_to_text, thin, clip and surround share."""
 from decimal import Decimal
 
-from exact import differences
-from ply_text import (ARE_THREE, SCANNER_LIMIT, Property, Reader, Refusal, Writer, decimals, index_text, read_positions,
+from toolbox.exact import differences
+from toolbox.ply_text import (ARE_THREE, SCANNER_LIMIT, Property, Refusal, Writer, decimals, index_text, read_positions,
                       whole_file)
-from tool import left_out, number_of, three, yes
+from toolbox.point_files import open_points
+from toolbox.tool import left_out, number_of, said_of, three, yes
 
 KEYS = ('index', 'positions', 'origin', 'open_end')
 HELP = """
@@ -147,7 +147,7 @@ def checked_index(word, limit, place):
 def pass_points(names, options, made_by, choose=None, why='skipped', add=None):
     """Passes on the points of the first file that `choose` takes, has `add` write what is more, and answers the line to be
     said."""
-    reader = Reader(names[0], yes(options.open_end, 'open_end'))
+    reader = open_points(names[0], yes(options.open_end, 'open_end'))
     try:
         work = Pass(reader, options)
         with whole_file(names[1]) as file:
@@ -160,4 +160,4 @@ def pass_points(names, options, made_by, choose=None, why='skipped', add=None):
     if work.has_scanners():
         wrote += ' and ' + number_of(len(work.positions), 'scanner')
     read = f'read {number_of(work.vertex.count, "point")} of {names[0]}'
-    return f'{read}; left out {left_out(work.counts)}; wrote {wrote} to {names[1]}'
+    return said_of(writer, f'{read}; left out {left_out(work.counts)}; wrote {wrote} to {names[1]}')

@@ -1,4 +1,4 @@
-"""PLY files read and written row by row, for the programs of this folder.
+"""PLY files read and written row by row, for the programs of tools/.
 
 Rows are lists of words: a text body's own, digit by digit, and the numbers of a binary body by repr, which reads back as
 the same number. Nothing is held but a part of the file, and each output stands only when it is whole.

@@ -1,17 +1,27 @@
-"""What the programs of this folder share on the command line.
+"""What the programs of tools/ share on the command line.
 
 The words are names first and then options `key=value`, as those of `recon`; --help prints the head of the program's file.
-A program says one line and ends with 0, or says on standard error why not and ends with 1 (2 where the words are wrong).
+A program says one line and ends with 0 (3 where it wrote no point), or says on standard error why not and ends with 1 (2 where
+the words are wrong).
 """
 import os
 import sys
 
-from ply_text import IS_NUMBER, Refusal
+from toolbox.ply_text import IS_NUMBER, Refusal
 
 
 def field(key):
     """The name under which an option is kept; `from` is a word of the language."""
     return 'from_' if key == 'from' else key
+
+
+class NoPoint(str):
+    """The line of a run that wrote a scan without a point."""
+
+
+def said_of(writer, line):
+    """The line of a run that wrote points, or that of one that wrote none."""
+    return line if writer.count else NoPoint(line + ': no point is left')
 
 
 class Options:
@@ -46,25 +56,32 @@ def read_words(words, name_count, keys):
 def run(main, doc, name_count, keys):
     """Runs `main(names, options)`, which answers the line to be said."""
     words = sys.argv[1:]
-    if '--help' in words or '-h' in words:
-        print(doc.strip())
-        return
     name = os.path.basename(sys.argv[0])
-    parsed = read_words(words, name_count, keys)
-    if parsed is None:
-        print(f'{name}: the words are not understood; {name} --help says which are', file=sys.stderr)
-        sys.exit(2)
     try:
-        print(f'{name}: {main(*parsed)}')
+        if '--help' in words or '-h' in words:
+            print(doc.strip(), flush=True)
+            return
+        parsed = read_words(words, name_count, keys)
+        if parsed is None:
+            sys.exit(told(2, f'{name}: the words are not understood; {name} --help says which are'))
+        line = main(*parsed)
+        print(f'{name}: {line}', flush=True)
+        sys.exit(3 if isinstance(line, NoPoint) else 0)
     except Refusal as refusal:
-        print(f'{name}: refused: {refusal}', file=sys.stderr)
-        sys.exit(1)
+        sys.exit(told(1, f'{name}: refused: {refusal}'))
     except ArithmeticError:
-        print(f'{name}: refused: a number is far out of range', file=sys.stderr)
-        sys.exit(1)
+        sys.exit(told(1, f'{name}: refused: a number is far out of range'))
+    except BrokenPipeError:
+        os.dup2(os.open(os.devnull, os.O_WRONLY), sys.stdout.fileno())
+        sys.exit(0 if '--help' in words or '-h' in words else 1)
     except OSError as error:
-        print(f'{name}: refused: {error.strerror}: {error.filename or "writing"}', file=sys.stderr)
-        sys.exit(1)
+        sys.exit(told(1, f'{name}: refused: {error.strerror}: {error.filename or "writing"}'))
+
+
+def told(status, line):
+    """Says a line on standard error, and answers the status."""
+    print(line, file=sys.stderr)
+    return status
 
 
 def three(text, what):

@@ -1,0 +1,272 @@
+"""Files of other programs: PCD, LAS, E57, COLMAP's points; and those that are named and not read."""
+import os
+import random
+import struct
+
+import colmap_to_ply
+import floats_to_text
+from helpers import Nothing, binary, call, equal, head, holds, read, refuses, says, write
+from test_all import changed
+from toolbox.e57_file import Column
+from toolbox.ply_text import Refusal
+
+PCD = """# .PCD v0.7 - Point Cloud Data file format
+VERSION 0.7
+FIELDS x y z rgb normal
+SIZE 4 4 8 4 4
+TYPE F F F F F
+COUNT 1 1 1 1 2
+WIDTH 3
+HEIGHT 1
+VIEWPOINT 1 2 3.5 1 0 0 0
+POINTS 3
+DATA ascii
+0.93773 0.33763 0 4.2108e+06 1 2
+0.90805 0.35641 0 4.2108e+06 3 4
+nan 0.32 0 4.2108e+06 5 6
+"""
+PCD_COLUMNS = 'float x, float y, double z, uchar red, uchar green, uchar blue, float normal_0, float normal_1, int scanner'
+
+
+def test_pcd_and_its_viewpoint():
+    write('in.pcd', PCD)
+    says('floats_to_text', 'read 3 points of in.pcd; left out 1 not finite; wrote 2 points and 1 scanner to out.ply', 'in.pcd',
+         'out.ply')
+    rows = '0.93773 0.33763 0 128 128 224 1 2 0\n0.90805 0.35641 0 128 128 224 3 4 0\n'
+    holds('out.ply', head(2, PCD_COLUMNS, 1) + rows + '1 2 3.5\n')
+    values = [(0.5, 0.25, 1e-7, 4.2108e+06, 1, 2), (2, 3, 4, 0, 5, 6)]
+    body = b''.join(struct.pack('<ffdfff', *row) for row in values)
+    write('in.pcd', PCD[:PCD.index('DATA')].replace('POINTS 3', 'POINTS 2').encode('ascii') + b'DATA binary\n' + body)
+    equal(call('floats_to_text', 'in.pcd', 'out.ply')[0], 0)
+    holds('out.ply', head(2, PCD_COLUMNS, 1) + '0.5 0.25 1e-07 128 128 224 1.0 2.0 0\n2.0 3.0 4.0 0 0 0 5.0 6.0 0\n1 2 3.5\n')
+    write('more.xyz', '7 8 9\n')
+    says('stations_to_ply', 'read 3 points of 2 files; left out nothing; wrote 3 points and 2 scanners to out.ply', 'out.ply',
+         'in.pcd', 'more.xyz=4,4,4')
+    equal(read('out.ply').endswith('7 8 9 1\n1 2 3.5\n4 4 4\n'), True)
+    spoiled = ((PCD.replace('ascii', 'zipped'), 'zipped is not read'),
+               (PCD[:-30], 'cut: line 13, the last one, has no end'), (PCD.replace(' 5 6', ' 5'), 'point 2 has 5 values'),
+               (PCD.replace('POINTS 3', 'POINTS 4'), 'cut: the file ends in point 3 of 4'),
+               (PCD[:150], 'cut: the file ends in the header'), (PCD + '1 2 3 4 5 6\n', 'something follows'),
+               (PCD.replace('SIZE 4', 'SIZE 3'), 'the field x of the PCD has a type'),
+               (PCD.replace('POINTS 3\n', ''), 'no line POINTS'))
+    for text, part in spoiled:
+        write('in.pcd', text)
+        refuses('floats_to_text', part, 'in.pcd', 'out.ply')
+
+
+# a body that pcl_convert_pcd_ascii_binary of PCL 1.13 packed, of ten points x y z
+PACKED = bytes.fromhex(
+    '3c00000078000000010000400001803f2005034000004020030080200300a0200300c0200300e02003040041000010200300004023e01b03'
+    '2000c04f4000e00b0b010000')
+
+
+COMPRESSED = '\n'.join(['VERSION 0.7', 'FIELDS x y z', 'SIZE 4 4 4', 'TYPE F F F', 'COUNT 1 1 1', 'WIDTH 10', 'HEIGHT 1',
+                        'POINTS 10', 'DATA binary_compressed', '']).encode('ascii')
+
+
+def test_pcd_that_is_compressed():
+    write('in.pcd', COMPRESSED + PACKED)
+    equal(call('floats_to_text', 'in.pcd', 'out.ply')[0], 0)
+    rows = [list(map(float, row.split())) for row in read('out.ply').split('end_header\n')[1].splitlines()[:10]]
+    equal(rows, [[k, 0.5, k % 3, 0] for k in range(10)])
+    spoiled = ((PACKED[:-1], 'cut: the file ends in the compressed body'), (PACKED[:4], 'has not the bytes of 10 points'),
+               (PACKED[:8] + b'\xff' + PACKED[9:], 'not understood'), (PACKED[:8] + b'\0' + PACKED[9:], 'compressed body'))
+    for data, part in spoiled:
+        write('in.pcd', COMPRESSED + data)
+        refuses('floats_to_text', part, 'in.pcd', 'out.ply')
+
+
+def las(version, kind, rows, count=None, extra=b''):
+    """A LAS file of the format of the American Society for Photogrammetry."""
+    size = 375 if version == 4 else 227
+    body = b''.join(rows)
+    data = bytearray(size)
+    data[:4], data[24], data[25] = b'LASF', 1, version
+    struct.pack_into('<HII', data, 94, size, size + len(extra), 0)
+    struct.pack_into('<BHI', data, 104, kind, len(rows[0]), 0 if version == 4 else len(rows))
+    struct.pack_into('<6d', data, 131, 0.001, 0.001, 0.25, 500000, 4000000.5, -7)
+    if version == 4:
+        struct.pack_into('<Q', data, 247, len(rows))
+    return bytes(data) + extra + body
+
+
+def test_las_and_its_stations():
+    old = [struct.pack('<iiiHBBbBHdHHH', 123456, -1, 3, 9, 0, 2, 0, 0, k, 1.5, 65280, 0, 256) for k in (0, 1)]
+    write('in.las', las(2, 3, old, extra=b'a remark'))
+    write('places.txt', '500000 4000000 0\n500001 4000000 0\n')
+    columns = ('double x, double y, double z, ushort intensity, uchar classification, int scanner, double gpstime, '
+               'ushort red, ushort green, ushort blue')
+    says('floats_to_text', 'read 2 points of in.las; left out nothing; wrote 2 points and 2 scanners to out.ply', 'in.las',
+         'out.ply', 'index=PointSourceId', 'positions=places.txt')
+    rows = ''.join(f'500123.456 4000000.499 -6.25 9 2 {k} 1.5 65280 0 256\n' for k in (0, 1))
+    equal(read('out.ply').split('vertex 2\n')[1],
+          head(2, columns, 2).split('vertex 2\n')[1] + rows + '500000 4000000 0\n500001 4000000 0\n')
+    new = [struct.pack('<iiiHHBBhHd', 1000, 0, 0, 9, 0, 2, 0, 0, 3, 1.5) + b'more']
+    write('in.las', las(4, 6, new))
+    equal(call('floats_to_text', 'in.las', 'out.ply')[0], 0)
+    equal(read('out.ply').splitlines()[-1], '500001 4000000.5 -7 9 2 3 1.5')
+    write('in.las', las(4, 6, new)[:-1])
+    refuses('floats_to_text', 'cut: the file ends in point 0 of 1', 'in.las', 'out.ply')
+    write('in.las', las(2, 131, old))
+    refuses('floats_to_text', 'this is LAZ', 'in.las', 'out.ply')
+    write('in.las', las(2, 11, old))
+    refuses('floats_to_text', 'the point format 11', 'in.las', 'out.ply')
+
+
+def paged(data):
+    """The pages of an E57: 1020 bytes and a checksum each."""
+    return b''.join(data[at:at + 1020].ljust(1020, b'\0') + b'\0\0\0\0' for at in range(0, len(data), 1020))
+
+
+def physical(at):
+    return at // 1020 * 1024 + at % 1020
+
+
+def bits(values, width):
+    """Whole numbers packed by bits."""
+    packed = sum(value << k * width for k, value in enumerate(values))
+    return packed.to_bytes((len(values) * width + 7) // 8, 'little')
+
+
+POSE = ('<pose type="Structure"><rotation type="Structure"><w type="Float">0.7071067811865476</w><x type="Float"/>'
+        '<y type="Float"/><z type="Float">0.7071067811865476</z></rotation><translation type="Structure">'
+        '<x type="Float">100</x><y type="Float">0</y><z type="Float">-1.5</z></translation></pose>')
+COLUMNS = ('<cartesianX type="Float" precision="single"/><cartesianY type="Float"/>'
+           '<cartesianZ type="ScaledInteger" minimum="-5" maximum="1000" scale="0.5" offset="1"/>'
+           '<cartesianInvalidState type="Integer" minimum="0" maximum="2"/>'
+           '<colorRed type="Integer" minimum="0" maximum="255"/>')
+
+
+def station_xml(offset, count, pose=POSE, columns=COLUMNS):
+    return (f'<vectorChild type="Structure">{pose}<points type="CompressedVector" fileOffset="{offset}" recordCount="{count}">'
+            f'<prototype type="Structure">{columns}</prototype><codecs type="Vector"/></points></vectorChild>')
+
+
+def packet(parts):
+    body = struct.pack(f'<{len(parts)}H', *map(len, parts)) + b''.join(parts)
+    body += b'\0' * (-len(body) % 4 + 2)
+    return struct.pack('<BBHH', 1, 0, len(body) + 5, len(parts)) + body
+
+
+def e57(count, spoil=lambda text: text):
+    """An E57 of one station whose points stand in two packets that divide bytes anywhere."""
+    x = struct.pack(f'<{count}f', *range(count))
+    y = struct.pack(f'<{count}d', *[k / 4 for k in range(count)])
+    z, state, red = bits([k % 1006 for k in range(count)], 10), bits([int(k == 1) for k in range(count)], 2), bytes([7] * count)
+    cut = 3 * count // 7
+    parts = [[part[:cut] for part in (x, y, z, state, red)], [part[cut:] for part in (x, y, z, state, red)]]
+    packets = b''.join(map(packet, parts))
+    section = struct.pack('<B7xQQQ', 1, 32 + len(packets), physical(48 + 32), 0) + packets
+    at = 48 + len(section)
+    text = spoil('<e57Root type="Structure" xmlns="http://www.astm.org/COMMIT/E57/2010-e57-v1.0"><data3D type="Vector">'
+                 + station_xml(physical(48), count) + '</data3D></e57Root>').encode('utf-8')
+    length = len(paged(b'\0' * (at + len(text))))
+    return paged(struct.pack('<8sII4Q', b'ASTM-E57', 1, 0, length, physical(at), len(text), 1024) + section + text)
+
+
+def test_e57_and_its_poses():
+    write('in.e57', e57(900))
+    said = 'read 900 points of in.e57; left out 1 not finite; wrote 899 points and 1 scanner to out.ply'
+    says('floats_to_text', said, 'in.e57', 'out.ply')
+    lines = read('out.ply').split('end_header\n')[1].splitlines()
+    for row in (0, 2, 3, 500, 899):
+        x, y, z, red, scanner = map(float, lines[row - (row > 1)].split())
+        wanted = 100 - row / 4, row, (row % 1006 - 5) * 0.5 + 1 - 1.5
+        equal((max(abs(a - b) for a, b in zip((x, y, z), wanted)) < 1e-9, red, scanner), (True, 7, 0))
+    equal(lines[-1], '100.0 0.0 -1.5')
+    equal(call('stations_to_ply', 'out.ply', 'in.e57')[0], 0)
+    write('in.e57', e57(900, lambda text: text.replace('>0.7071067811865476</w>', '/>')))
+    equal(call('floats_to_text', 'in.e57', 'out.ply')[0], 0)
+    x, y = map(float, read('out.ply').split('end_header\n')[1].splitlines()[-2].split()[:2])
+    equal((x, y), (100 - 899, -899 / 4))
+    write('in.e57', e57(900)[:-1024])
+    refuses('floats_to_text', 'cut: the header of the E57 says', 'in.e57', 'out.ply')
+    write('in.e57', e57(900, lambda text: text.replace('cartesianX', 'sphericalRange')))
+    refuses('floats_to_text', 'spherical ones are not read', 'in.e57', 'out.ply')
+    write('in.e57', e57(900, lambda text: text.replace('recordCount="900"', 'recordCount="901"')))
+    refuses('floats_to_text', 'station 0 has 900 of its 901 points', 'in.e57', 'out.ply')
+    write('in.e57', e57(900, lambda text: text.replace('<data3D', '<data3D<')))
+    refuses('floats_to_text', 'is not understood', 'in.e57', 'out.ply')
+
+
+def test_numbers_packed_by_bits():
+    for width in range(0, 41):
+        node = {'type': 'Integer', 'minimum': '-3', 'maximum': str(-3 + 2 ** width - 1)}
+        column, values = Column(node), [(k * 0x9E3779B97F4A7C15) % 2 ** width for k in range(50)]
+        data, got = bits(values, width), []
+        for at in range(0, len(data), 7):
+            column.bytes += data[at:at + 7]
+            got += column.take(min(column.count(50), 50 - len(got)))
+        got += column.take(50 - len(got)) if not width else []
+        equal(got, [value - 3 for value in values])
+
+
+# images.bin as COLMAP 3.8 wrote it of two pictures, the one with two points
+IMAGES_BIN = bytes.fromhex(
+    '020000000000000004000000000000000000f03f000000000000000000000000000000000000000000000000000000000000000000000000'
+    '0000000000000000000024c001000000622e6a706700000000000000000001000000000000000000e03f000000000000e03f000000000000'
+    'e03f000000000000e03f000000000000f03f00000000000000400000000000000840010000006f6e65000200000000000000000000000000'
+    '59400000000000006940ffffffffffffffff00000000000016400000000000001a400700000000000000')
+IMAGES_TEXT = ('# pictures\n4 1 0 0 0 0 0 -10 1 b.jpg\n\n1 0.5 0.5 0.5 0.5 1 2 3 1 one\n100 200 -1 5.5 6.5 7\n')
+
+
+def test_points_of_colmap():
+    write('in.ply', binary('<', '\n', [(0.5, 1, 2, 9), (3, 4, 5, 8), (float('nan'), 0, 0, 1)]))
+    write('in.ply.vis', struct.pack('<QIIIIII', 3, 2, 1, 0, 0, 1, 1))
+    line = ('read 3 points of in.ply and 2 pictures; left out 1 not finite; wrote 2 points with 2 sights and 2 scanners to '
+            'out.ply')
+    for name, data in (('images.bin', IMAGES_BIN), ('images.txt', IMAGES_TEXT)):
+        write(name, data)
+        says('colmap_to_ply', line, 'in.ply', name, 'out.ply')
+        text, body = read('out.ply').split('end_header\n')
+        equal('property list ushort ushort scanner\n' in text, True)
+        rows = body.splitlines()
+        equal(rows[:2], ['0.5 1.0 2.0 9 2 1 0', '3.0 4.0 5.0 8 0'])
+        equal([list(map(float, row.split())) for row in rows[2:]], [[0, 0, 10], [-2, -3, -1]])
+    write('short.bin', IMAGES_BIN[:-1])
+    refuses('colmap_to_ply', 'cut: the images end in the points of picture 1', 'in.ply', 'short.bin', 'out.ply')
+    write('short.bin', IMAGES_BIN[:100])
+    refuses('colmap_to_ply', 'cut: the images end in picture 1', 'in.ply', 'short.bin', 'out.ply')
+    write('in.ply.vis', struct.pack('<QIIIIII', 3, 2, 1, 2, 0, 1, 1))
+    refuses('colmap_to_ply', 'point 0 is seen by picture 2, and there are 2', 'in.ply', 'images.txt', 'out.ply')
+    write('in.ply.vis', struct.pack('<QIII', 3, 2, 1, 0))
+    refuses('colmap_to_ply', 'cut: fused.ply.vis ends in point 1 of 3', 'in.ply', 'images.txt', 'out.ply')
+    write('in.ply.vis', struct.pack('<Q', 2))
+    refuses('colmap_to_ply', 'not of the 3 points', 'in.ply', 'images.txt', 'out.ply')
+
+
+def test_files_that_are_named_and_not_read():
+    cases = ((b'LASF' + bytes(300), 'LAS, which floats_to_text reads'),
+             (b'ASTM-E57' + bytes(99), 'E57, which floats_to_text reads'),
+             (PCD.encode('ascii'), 'PCD, which floats_to_text reads'), (b'PK\3\4' + bytes(9), 'zip'), (b'\x89HDF\r\n', 'HDF5'))
+    for data, part in cases:
+        write('in.ptx', data)
+        refuses('ptx_to_ply', part, 'in.ptx', 'out.ply')
+    write('in.xyz', '1,5 2,5 3,5\n')
+    refuses('stations_to_ply', 'line 1 has decimal commas', 'out.ply', 'in.xyz=0,0,0')
+    write('in.xyz', '1,5;2,5;3,5\n')
+    refuses('stations_to_ply', 'line 1 has decimal commas', 'out.ply', 'in.xyz=0,0,0')
+    write('in.xyz', '1 2 3\n')
+    refuses('stations_to_ply', 'a station is FILE=X,Y,Z', 'out.ply', 'in.xyz')
+    write('in.ply', binary('<', '\n', [(1, 2, 3, 4)]))
+    refuses('stations_to_ply', 'does not say where its scanner stood', 'out.ply', 'in.ply')
+
+
+def test_changed_files_of_other_programs_are_taken_or_refused():
+    draw, taken = random.Random(3), 0
+    rows = [struct.pack('<iiiHBBbBHdHHH', 123456, -1, 3, 9, 0, 2, 0, 0, 0, 1.5, 65280, 0, 256)]
+    write('in.ply', binary('<', '\n', [(0.5, 1, 2, 9), (3, 4, 5, 8)]))
+    write('in.ply.vis', struct.pack('<QIIII', 2, 2, 1, 0, 0))
+    files = ((floats_to_text, ('in', 'out'), PCD.encode('ascii')), (floats_to_text, ('in', 'out'), COMPRESSED + PACKED),
+             (floats_to_text, ('in', 'out'), las(2, 3, rows)), (floats_to_text, ('in', 'out'), e57(200)),
+             (colmap_to_ply, ('in.ply', 'in.bin', 'out'), IMAGES_BIN))
+    for _ in range(600):
+        program, words, data = draw.choice(files)
+        data = changed(draw, data)
+        write(words[-2], data[:draw.randrange(len(data))] if draw.random() < 0.2 else data)
+        try:
+            program.main(words, Nothing())
+            taken += 1
+        except (Refusal, ArithmeticError):
+            equal(os.path.exists('out.part'), False)
+    equal(50 < taken < 550, True)
