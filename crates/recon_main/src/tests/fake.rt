@@ -220,6 +220,17 @@ impl Print for Fake {
     }
 }
 
+/// Standard error is closed.
+impl Eprint for Fake {
+    fn eprint<D: fmt::Display + Drop>(&self, _value: D) -> io::Result<()> {
+        Err(ErrorKind::Unsupported.into())
+    }
+
+    fn eprintln<D: fmt::Display + Drop>(&self, _value: D) -> io::Result<()> {
+        Err(ErrorKind::Unsupported.into())
+    }
+}
+
 impl Alloc for Fake {
     type A = Global;
 

@@ -20,12 +20,20 @@ fn empty_host(alloc: Global) -> Result<MemHost, Fail>
 #[test]
 fn the_words_behind_the_name_are_run(rt: HostRuntime) -> Result<(), Fail> {
     let alloc = rt.alloc();
-    let cases: [(&[&str], u8); 7] = [
+    let cases: [(&[&str], u8); 12] = [
         (&["recon", "demo", "1", "7"], 0),
         (&["demo", "demo", "1", "7"], 0),
         (&["demo", "1", "7"], 2),
         (&["recon", "demo", "1", "7", "8"], 2),
         (&["recon", "cells", "in", "out"], 4),
+        (
+            &["recon", "sweep", "in", "0", "1", "2", "a", "b", "vote=1"],
+            4,
+        ),
+        (&["recon", "sweep", "in", "0", "1", "two", "a", "b"], 2),
+        (&["recon", "sweep", "in", "0", "1", "65", "a", "b"], 2),
+        (&["recon", "sweep", "in", "0", "1", "2", "a"], 2),
+        (&["recon", "sweep"], 2),
         (&["recon"], 2),
         (&[], 2),
     ];
@@ -95,6 +103,8 @@ fn a_system_hands_in_its_words(rt: HostRuntime) {
     let words: &'static [&'static [u8]] = &[b"recon", b"demo", b"1", b"7"];
     assert_eq!(rt; status_on(memory, words, 0), ExitCode::from(0));
     assert_eq!(rt; status_on(memory, words, 1), ExitCode::from(4));
+    let name_is_no_text: &'static [&'static [u8]] = &[b"\xff", b"demo", b"1", b"7"];
+    assert_eq!(rt; status_on(memory, name_is_no_text, 0), ExitCode::from(0));
     let cut: &'static [&'static [u8]] = &[b"recon", b"demo", b"1"];
     assert_eq!(rt; status_on(memory, cut, 0), ExitCode::from(2));
     let no_text: &'static [&'static [u8]] = &[b"recon", b"demo", b"1", b"\xff"];

@@ -8,4 +8,4 @@ pub labels_of-requires-clause-ids : goal.labels_of-requires-clause-ids
 labels_of-requires-clause-ids c =
     let s = c.in_ok-tetra.tetra in
     subst (AreAllLive s.slots) (sym c.deref.ensures.value)
-    (ids_are (shown_of c.args.scan.now) c.in_ok-settings.settings s c.in_ok-tetra.counted c.facts.ensures c.in_ok-tetra.ensures)
+    (ids_are (shown_of c.args.scan.now) c.in_ok-settings.settings s c.in_ok-tetra.counted c.in_ok-tetra.ensures)

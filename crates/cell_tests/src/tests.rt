@@ -1,0 +1,12 @@
+//! From signs up to networks over linked cells; `points` is what they share.
+
+mod insertions;
+mod networks;
+mod orders;
+mod plain_networks;
+mod points;
+mod sides;
+mod signs;
+mod stores;
+mod ties;
+mod walks;

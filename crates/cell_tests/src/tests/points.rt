@@ -1,0 +1,182 @@
+//! Points, scanners and scenes that the tests share, and the cells of a store.
+ghost use Rattle.std.specs.Prelude.{◌≡◌, ◌<◌, ℕ, IfOk, IsTrue, length, get_or};
+ghost use Rattle.geo_sign.specs.declared.point.TheConstants.{DATA_LIMIT};
+ghost use Rattle.geo_sign.specs.Point.{origin, IsWithin};
+
+use flow_net::{Settings, Sight};
+use geo_sign::Point;
+use std::alloc::{AllocError, Global};
+use std::test::Fail;
+use tetra_store::Tetra;
+use visibility::Scene;
+
+/// Whether all are data points.
+pub fn are_data(points: &[Point]) -> bool
+    ensures { IsTrue result → (k : ℕ) → k < length points.now → IsWithin DATA_LIMIT (get_or points.now k origin) }
+{
+    for i in 0..points.len() {
+        let p = points[i];
+        if Point::data(i64::from(p.x()), i64::from(p.y()), i64::from(p.z())).is_none() {
+            return false;
+        }
+    }
+    true
+}
+
+/// Whether no point before the one at an index is equal to it.
+fn is_first(points: &[Point], k: usize) -> bool
+    requires { k < length points.now }
+    ensures { IsTrue result → (j : ℕ) → j < k → get_or points.now j origin ≡ get_or points.now k origin → ⊥ }
+{
+    for j in 0..k {
+        if points[j] == points[k] {
+            return false;
+        }
+    }
+    true
+}
+
+/// Whether no two are equal.
+pub fn are_distinct(points: &[Point]) -> bool
+    ensures { IsTrue result → (j k : ℕ) → j < length points.now → k < length points.now → get_or points.now j origin ≡ get_or points.now k origin → j ≡ k }
+{
+    for k in 0..points.len() {
+        if !is_first(points, k) {
+            return false;
+        }
+    }
+    true
+}
+
+/// The point with these coordinates.
+pub fn point(x: i64, y: i64, z: i64) -> Result<Point, Fail>
+    ensures { IfOk result (IsWithin DATA_LIMIT) }
+{
+    Ok(Point::data(x, y, z).ok_or("a point")?)
+}
+
+/// Four points round the origin.
+pub fn four_points() -> Result<[Point; 4], Fail> {
+    Ok([
+        point(100, 100, 100)?,
+        point(100, -100, -100)?,
+        point(-100, 100, -100)?,
+        point(-100, -100, 100)?,
+    ])
+}
+
+/// A scanner beyond each of the four points, and a fifth one.
+pub fn five_scanners(fifth: Point) -> Result<[Point; 5], Fail> {
+    Ok([
+        point(1000, 1000, 1000)?,
+        point(1000, -1000, -1000)?,
+        point(-1000, 1000, -1000)?,
+        point(-1000, -1000, 1000)?,
+        fifth,
+    ])
+}
+
+/// The sights of the four points from the scanners beyond them, of weight 1, and one of the first point from a scanner.
+pub fn five_sights(scanner: u32, weight: u32) -> [Sight; 5] {
+    let sight = |vertex, scanner, weight| Sight {
+        vertex,
+        scanner,
+        weight,
+    };
+    [
+        sight(8, 0, 1),
+        sight(9, 1, 1),
+        sight(10, 2, 1),
+        sight(11, 3, 1),
+        sight(8, scanner, weight),
+    ]
+}
+
+/// The scene of these where a vote is 8 and smoothing 1.
+pub fn scene_of<'a>(
+    points: &'a [Point],
+    scanners: &'a [Point],
+    sights: &'a [Sight],
+) -> Result<Scene<'a>, Fail>
+    ensures { IfOk result (λ scene. (scene.points.now ≡ points.now) × (scene.sights.now ≡ sights.now)) }
+{
+    Ok(Scene {
+        points,
+        scanners,
+        sights,
+        settings: Settings::new(8, 1).ok_or("settings")?,
+    })
+}
+
+/// A number from -1000 to 1000 by its index, the same at each run.
+fn number(index: u64) -> i64 {
+    let mixed = index
+        .wrapping_mul(6_364_136_223_846_793_005)
+        .wrapping_add(1_442_695_040_888_963_407);
+    (((mixed ^ (mixed >> 29)).wrapping_mul(2_862_933_555_777_941_757) >> 33) as i64
+        % 2001).wrapping_sub(1000)
+}
+
+/// Points with numbers of no pattern as coordinates, from an index on, in the plane z = 0 if they are to be flat.
+pub fn scattered(alloc: Global, first: u64, count: u64, flat: bool) -> Result<Vec<Point>, Fail> {
+    let mut points = Vec::new(alloc);
+    for i in 0..count {
+        let at = first.wrapping_add(i).wrapping_mul(3);
+        let z = if flat { 0 } else { number(at.wrapping_add(2)) };
+        points.push(point(number(at), number(at.wrapping_add(1)), z)?)?;
+    }
+    Ok(points)
+}
+
+/// The corners of a cube round the origin.
+pub fn cube(alloc: Global, size: i64) -> Result<Vec<Point>, Fail> {
+    let sides = [size.wrapping_neg(), size];
+    let mut points = Vec::new(alloc);
+    for z in sides {
+        for y in sides {
+            for x in sides {
+                points.push(point(x, y, z)?)?;
+            }
+        }
+    }
+    Ok(points)
+}
+
+/// The vertices of each cell in rising order, the rows in rising order.
+pub fn rows(alloc: Global, store: &Tetra) -> Result<Vec<[u32; 4]>, AllocError> {
+    let mut rows = Vec::new(alloc);
+    let mut cells = store.cells();
+    while let Some((_, cell)) = cells.next() {
+        let mut v = cell.v;
+        v.sort_unstable();
+        rows.push(v)?;
+    }
+    rows.sort_unstable();
+    Ok(rows)
+}
+
+/// The six cells of the box by their vertices in rising order.
+pub const SIX: [[u32; 4]; 6] = [
+    [0, 1, 2, 4],
+    [1, 2, 3, 4],
+    [1, 3, 4, 5],
+    [2, 3, 4, 6],
+    [3, 4, 5, 6],
+    [3, 5, 6, 7],
+];
+
+/// The cells of one point, in rising order.
+pub const ONE_POINT: [[u32; 4]; 12] = [
+    [0, 1, 2, 8],
+    [0, 1, 4, 8],
+    [0, 2, 4, 8],
+    [1, 2, 3, 8],
+    [1, 3, 5, 8],
+    [1, 4, 5, 8],
+    [2, 3, 6, 8],
+    [2, 4, 6, 8],
+    [3, 5, 7, 8],
+    [3, 6, 7, 8],
+    [4, 5, 6, 8],
+    [5, 6, 7, 8],
+];
