@@ -14,7 +14,6 @@ ghost use Rattle.vote_net.specs.Counts.{AreCellsOf, AreIdsOf};
 ghost use Rattle.solution.specs.Scans.{points_of, scene_of_scan};
 ghost use Rattle.solution.specs.Solutions.{HasCounts, IsCertificate, IsSolution, surface_of};
 ghost use Rattle.surface.specs.Closed.{IsClosed};
-ghost use Rattle.surface.specs.Labelled.{Cutting};
 ghost use Rattle.flow_net.specs.declared.Voted.{Voted};
 ghost use Rattle.recon_build.specs.MinimumCuts.{IsCutOf};
 ghost use Rattle.recon_build.specs.Stored.{IsStoreOf};
@@ -101,9 +100,6 @@ fn solve_over(
     labels: Labels,
     stamp: Option<Stamp>,
 ) -> Result<Solved, NoMemory>
-    ghost cutting: { Cutting }
-    requires scene { cutting.scene ≡ scene_of_scan (shown_of scan.now) settings }
-    requires complex { cutting.complex ≡ complex_of counted.voted }
     requires store { IsStoreOf (shown_of scan.now) settings tetra }
     requires cells { AreCellsOf (scene_of_scan (shown_of scan.now) settings) tetra.slots }
     requires network { IsNetworkInAnyOrder (scene_of_scan (shown_of scan.now) settings) counted.voted }

@@ -1,7 +1,6 @@
 -- A stamp has one first part that differs, and none where it is that of this run.
-use Rattle.std.proofs.Common.{ℕ, ◌≡◌, ap, sym, subst, ◌∙◌, Option, Some, List}
+use Rattle.std.proofs.Common.{◌≡◌, ap, sym, subst, ◌∙◌}
 use Rattle.std.proofs.lemmas.Option.{same_Some}
-use Rattle.geo_sign.specs.Point.{Point}
 use Rattle.cert_text.specs.Stamps.{StampView}
 use Rattle.cert_text.specs.Certificates.{Claim}
 use Rattle.recon_check.specs.Stamps.{IsStampedFor, IsOtherPart, IsOtherStamp}

@@ -15,21 +15,20 @@ use Rattle.mesh_ply.specs.declared.mesh.Mesh.{Mesh}
 use Rattle.solution.specs.Scans.{points_of, scene_of_scan}
 use Rattle.solution.specs.Solutions.{surface_of}
 use Rattle.scan.specs.Shown.{Shown}
-use Rattle.surface.specs.Labelled.{Cutting}
+use Rattle.surface.specs.Labelled.{AreLabelsOver}
 use Rattle.visibility.specs.Scenes.{Scene}
 use Rattle.visibility.specs.Complexes.{Complex}
 use Rattle.visibility.specs.Cuts.{cost, cut_facets, IsAdmissible}
 use Rattle.visibility.specs.Laws.{test_of, row_index, AgreeAsLabels}
 use Rattle.visibility.specs.Networks.{complex_of, IsNetworkOf}
-use Rattle.visibility.specs.Listings.{IsListingOf}
 use Rattle.visibility.proofs.Numbers.{labels_agree}
 use Rattle.visibility.proofs.Listings.{rising_listing, in_any_order}
 use Rattle.visibility.proofs.Indices.{at_index, once_rising, row_index_at}
-use Rattle.vote_net.specs.Counts.{AreCellsOf, AreIdsOf}
+use Rattle.vote_net.specs.Counts.{AreIdsOf}
 use Rattle.recon_check.specs.Answers.{best_surface}
 use Rattle.recon_check.specs.Claims.{is_inside}
 use Rattle.recon_check.specs.Faults.{IsBest}
-use Rattle.recon_check.specs.Networks.{cutting_of, IsNetworkOfScan}
+use Rattle.recon_check.specs.Networks.{IsNetworkOfScan}
 use Rattle.recon_check.specs.declared.network.Network.{Network}
 use Rattle.recon_check.proofs.Bridge.{labels_by}
 use Rattle.recon_check.proofs.Solutions.{Agree}
@@ -45,25 +44,21 @@ test_agrees complex inside rising row there =
     ∙ get_or-map inside complex.cells there.0 [] false there.1 ∙ ap inside here
 
 -- the mesh of the labels is the surface of the claim
-pub surface_is : (scan : Shown) (settings : Settings) (network : Network) (claim : Claim) (cutting : Cutting) (labels : Labels)
-    (mesh : Mesh)
-    → IsNetworkOfScan scan settings network → cutting ≡ cutting_of scan settings network
-    → labels ≡ labels_by network.counted.voted claim
+pub surface_is : (scan : Shown) (settings : Settings) (network : Network) (claim : Claim) (labels : Labels) (mesh : Mesh)
+    → IsNetworkOfScan scan settings network → labels ≡ labels_by network.counted.voted claim
     → mesh.points.items ≡ (mesh_of network.linked.points
-    (cut_facets cutting.scene.vertices cutting.complex (test_of cutting.complex.cells labels.inside))).points
+    (cut_facets (vertices_of (points_of scan)) (complex_of network.counted.voted)
+    (test_of network.counted.voted.cells labels.inside))).points
     → mesh.faces.items ≡ (mesh_of network.linked.points
-    (cut_facets cutting.scene.vertices cutting.complex (test_of cutting.complex.cells labels.inside))).faces
+    (cut_facets (vertices_of (points_of scan)) (complex_of network.counted.voted)
+    (test_of network.counted.voted.cells labels.inside))).faces
     → surface_of mesh ≡ best_surface scan (complex_of network.counted.voted) (is_inside claim)
-surface_is scan settings network claim cutting labels mesh is same labels_are points_are faces_are =
+surface_is scan settings network claim labels mesh is labels_are points_are faces_are =
     ap (λ (list : List Point). record { points = list; faces = mesh.faces.items }) points_are
     ∙ ap (λ (faces : List (List ℕ)). record {
-      points =
-          (mesh_of network.linked.points
-          (cut_facets cutting.scene.vertices cutting.complex (test_of cutting.complex.cells labels.inside))).points;
+      points = (mesh_of network.linked.points (cut_facets v complex (test_of complex.cells labels.inside))).points;
       faces = faces;
     }) faces_are
-    ∙ ap (λ (k : Cutting).
-    mesh_of network.linked.points (cut_facets k.scene.vertices k.complex (test_of k.complex.cells labels.inside))) same
     ∙ ap (λ (list : List Point). mesh_of list (cut_facets v complex (test_of complex.cells labels.inside))) is.points
     ∙ ap
     (λ (l : Labels). mesh_of (corners ++ points_of scan) (cut_facets v complex (test_of complex.cells l.inside))) labels_are
@@ -90,39 +85,23 @@ flags_admissible s voted claim labels network same admissible =
           ∙ admissible.none_fixed row there fixed;
     })
 
--- what is asked of labels whose surface is wanted
-abbrev pub CanBeCut : Network → List ℕ → Labels → Cutting → Type 0
-CanBeCut network ids labels cutting =
-    AreCellsOf cutting.scene network.linked.slots
-    × ((cutting.scene.vertices.count ≡ length network.linked.points)
-    × (IsListingOf cutting.scene cutting.complex
-    × (AreIdsOf network.linked.slots cutting.complex.cells ids
-    × ((length labels.inside ≡ length cutting.complex.cells)
-    × IsAdmissible cutting.scene cutting.complex (test_of cutting.complex.cells labels.inside)))))
-
-pub can_be_cut : (scan : Shown) (settings : Settings) (network : Network) (claim : Claim) (cutting : Cutting) (ids : List ℕ)
-    (labels : Labels)
-    → IsNetworkOfScan scan settings network → cutting ≡ cutting_of scan settings network → ids ≡ network.counted.ids.items
+-- they are labels of the scan's cells
+pub labels_over : (scan : Shown) (settings : Settings) (network : Network) (claim : Claim) (ids : List ℕ) (labels : Labels)
+    → IsNetworkOfScan scan settings network → ids ≡ network.counted.ids.items
     → labels ≡ labels_by network.counted.voted claim
     → IsAdmissible (scene_of_scan scan settings) (complex_of network.counted.voted) (is_inside claim)
-    → CanBeCut network ids labels cutting
-can_be_cut scan settings network claim cutting ids labels is same ids_are labels_are admissible =
-    subst (CanBeCut network ids labels) (sym same) (
-      is.cells,
-      (
-        omega (arith, ap length is.points, length-append corners (points_of scan)),
-        (
-          rising_listing (scene_of_scan scan settings) (complex_of network.counted.voted) is.voted.complex_is,
-          (
-            subst (AreIdsOf network.linked.slots network.counted.voted.cells) (sym ids_are) is.ids,
-            (
-              ap (λ (l : Labels). length l.inside) labels_are ∙ length-map network.counted.voted.cells (is_inside claim),
-              flags_admissible (scene_of_scan scan settings) network.counted.voted claim labels is.voted labels_are admissible,
-            ),
-          ),
-        ),
-      ),
-    )
+    → AreLabelsOver (scene_of_scan scan settings) (complex_of network.counted.voted) network.linked.points network.linked.slots
+    ids labels.inside
+labels_over scan settings network claim ids labels is ids_are labels_are admissible =
+    let s : Scene = scene_of_scan scan settings in
+    record {
+      cells = is.cells;
+      count = omega (arith, ap length is.points, length-append corners (points_of scan));
+      lists = rising_listing s (complex_of network.counted.voted) is.voted.complex_is;
+      ids_are = subst (AreIdsOf network.linked.slots network.counted.voted.cells) (sym ids_are) is.ids;
+      labels = ap (λ (l : Labels). length l.inside) labels_are ∙ length-map network.counted.voted.cells (is_inside claim);
+      admissible = flags_admissible s network.counted.voted claim labels is.voted labels_are admissible;
+    }
 
 -- the labels cost what the claim's labels cost
 pub cost_is : (s : Scene) (voted : Voted) (claim : Claim) (labels : Labels) → IsNetworkOf s voted

@@ -1,7 +1,6 @@
 -- The linked cells of a scan, the network over them, and the surface of the labels that a certificate shows best.
 --
 --   IsNetworkOfScan scan settings network     the cells are those of the scan's points, and the network is that of its scene
---   cutting_of scan settings network          the scene of the scan and the complex of its network
 --   IsBestSurface scan settings claim surface
 --                                             a certificate shows its labels best and states their cost, and this is their
 --                                             surface
@@ -13,10 +12,9 @@ use Rattle.mesh_ply.specs.Meshes.{Surface}
 use Rattle.solution.specs.Scans.{points_of, scene_of_scan}
 use Rattle.solution.specs.Solutions.{HasCounts}
 use Rattle.scan.specs.Shown.{Shown}
-use Rattle.surface.specs.Labelled.{Cutting}
 use Rattle.visibility.specs.Complexes.{Complex}
 use Rattle.visibility.specs.Cuts.{cost}
-use Rattle.visibility.specs.Networks.{complex_of, IsNetworkOf}
+use Rattle.visibility.specs.Networks.{IsNetworkOf}
 use Rattle.visibility.specs.Votes.{IsComplexOf}
 use Rattle.vote_net.specs.Counts.{AreCellsOf, AreIdsOf}
 use Rattle.recon_check.specs.Answers.{best_surface}
@@ -30,10 +28,6 @@ pub record IsNetworkOfScan (scan : Shown) (settings : Settings) (network : Netwo
   pub cells : AreCellsOf (scene_of_scan scan settings) network.linked.slots
   pub voted : IsNetworkOf (scene_of_scan scan settings) network.counted.voted
   pub ids : AreIdsOf network.linked.slots network.counted.voted.cells network.counted.ids.items
-
--- the scene of the scan, and the cells and facets of its network
-abbrev pub cutting_of : Shown → Settings → Network → Cutting
-cutting_of scan settings network = record { scene = scene_of_scan scan settings; complex = complex_of network.counted.voted }
 
 -- a certificate with the scan's numbers shows its labels best and states their cost, and this is their surface
 pub record IsBestSurface (scan : Shown) (settings : Settings) (claim : Claim) (surface : Surface) : Type 0 where

@@ -9,14 +9,13 @@ ghost use Rattle.solution.specs.Scans.{scene_of_scan};
 ghost use Rattle.solution.specs.Solutions.{surface_of, HasCounts, IsSolution};
 ghost use Rattle.scan.specs.Shown.{Shown};
 ghost use Rattle.scan.specs.Views.{shown_of};
-ghost use Rattle.surface.specs.Labelled.{Cutting};
 ghost use Rattle.visibility.specs.Cuts.{cost as cost_over};
 ghost use Rattle.visibility.specs.Laws.{labels_of};
 ghost use Rattle.visibility.specs.Networks.{complex_of, IsNetworkOf};
 ghost use Rattle.recon_check.specs.Answers.{surface_text, IsFault, IsSolvedWith, IsAccepted, IsYes, IsAnswer};
 ghost use Rattle.recon_check.specs.Claims.{is_inside};
 ghost use Rattle.recon_check.specs.Faults.{IsBest};
-ghost use Rattle.recon_check.specs.Networks.{cutting_of, IsBestSurface, IsNetworkOfScan};
+ghost use Rattle.recon_check.specs.Networks.{IsBestSurface, IsNetworkOfScan};
 ghost use Rattle.recon_check.specs.Stamps.{IsStampedFor};
 ghost use Rattle.recon_check.specs.Stops.{StopsFor};
 
@@ -97,8 +96,6 @@ fn best_surface(
     network: Network,
     cert: &Certificate,
 ) -> Result<Mesh, Stop>
-    ghost cutting: { Cutting }
-    requires cutting { cutting ≡ cutting_of (shown_of scan.now) settings network }
     requires network { IsNetworkOfScan (shown_of scan.now) settings network }
     requires formed { IsWellFormed (claim_of cert.now) }
     requires counts { HasCounts (claim_of cert.now) (shown_of scan.now) settings }

@@ -22,8 +22,6 @@ mod network;
 mod rows;
 mod stamps;
 mod stop;
-#[cfg(test)]
-mod tests;
 mod texts;
 mod verdicts;
 

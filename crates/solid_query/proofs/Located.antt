@@ -1,13 +1,12 @@
 -- From linked cells to rows. A store that has all cells of a scan's scene has a live cell for each row of the list of all cells, and
 -- tests say the same of the cell as it is linked and as its row is written. So the flag of the live cell in which a displaced point
 -- lies is the label of the one row in which it lies.
-use Rattle.std.proofs.Common.{ℕ, ◌+◌, ◌^◌, ◌<◌, ◌≤◌, ◌≡◌, ◌++◌, ap, sym, ◌∙◌, arith, Bool, true, false, List, length, get_or}
+use Rattle.std.proofs.Common.{ℕ, ◌+◌, ◌<◌, ◌≡◌, ◌++◌, ap, sym, ◌∙◌, arith, Bool, true, false, List, length, get_or}
 use Rattle.std.proofs.Common.{Contains, [], ◌∷◌, subst, below_more}
 use Rattle.std.proofs.lemmas.List.{get_or_append_left, get_or_push, length_push}
 use Rattle.cell_laws.proofs.RisingRows.{list_law, is_listed}
 use Rattle.cell_laws.proofs.SightLaws.{scanner_law}
 use Rattle.flow_net.specs.declared.votes.Settings.{Settings}
-use Rattle.geo_sign.proofs.Corners.{vertex_count}
 use Rattle.geo_sign.proofs.Rewritings.{same_cell_of}
 use Rattle.geo_sign.specs.Boxes.{IsBoxed}
 use Rattle.geo_sign.specs.Cells.{IsCellList, written}
@@ -22,9 +21,9 @@ use Rattle.geo_sign.specs.Writings.{IsRewritten}
 use Rattle.geo_sign.specs.declared.point.TheConstants.{DATA_LIMIT}
 use Rattle.scan.specs.Shown.{Shown}
 use Rattle.solution.specs.Scans.{points_of, scene_of_scan}
-use Rattle.surface.proofs.CutList.{row_in}
+use Rattle.surface.proofs.Listed.{row_in}
 use Rattle.tetra_store.specs.Links.{links_of}
-use Rattle.tetra_store.specs.Store.{Store, IsStore, vertices_at, vertices_of}
+use Rattle.tetra_store.specs.Store.{Store, vertices_at, vertices_of}
 use Rattle.vote_net.proofs.CellRows.{risen_written}
 use Rattle.vote_net.proofs.Stored.{listed}
 use Rattle.vote_net.specs.Counts.{row_of}
@@ -49,15 +48,10 @@ same_test : (s : Store) (points : List Point) → s.points ≡ corners ++ points
 unfolding is_cell_of
 same_test s points e q t = ap (λ (places : List Point). is_cell_of (vertices_at places s.inserted) q t) e
 
-module _ (scan : Shown) (settings : Settings) (s : Store) (flags : List Bool) (store : IsStore s)
+module _ (scan : Shown) (settings : Settings) (s : Store) (flags : List Bool)
     (solid : IsSolid scan settings s flags) where
   abbrev v : Vertices
   v = all.vertices_of (points_of scan)
-
-  few : 8 + length (points_of scan) ≤ 2 ^ 32
-  few =
-      let n = store.vertices.few in let m = ap length solid.points in let k = vertex_count (points_of scan) in
-      omega (arith, n, m, k)
 
   -- the label of the row is the flag of the live cell
   label_of : (q : Point) (flag : Bool) → IsWithin DATA_LIMIT q → IsFlaggedAs s flags q flag
@@ -71,7 +65,7 @@ module _ (scan : Shown) (settings : Settings) (s : Store) (flags : List Bool) (s
       same_cell_of v (displaced q) t (written v row) anew ∙ sym (same_test s (points_of scan) solid.points (displaced q) t)
       ∙ f.has in
       let there : Contains solid.complex.cells row =
-      row_in (scene_of_scan scan settings) s.slots solid.cells few solid.complex solid.complex_is f.cell f.live in
+      row_in (scene_of_scan scan settings) s.slots solid.cells solid.complex solid.complex_is f.cell f.live in
       record {
         cell = row;
         listed = there;

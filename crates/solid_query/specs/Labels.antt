@@ -2,9 +2,8 @@
 --
 --   IsLabelOf v cells inside q label     the label of the one of these cells in which the displaced point lies
 --   AreLabels scan settings points ..    the labels of points in the best surface of a scan
---   AreAllLive slots ids                 the numbers of all live cells, each once
 --   IsLabelAt s ids inside q label       the label of the one of these linked cells in which the displaced point lies
-use Rattle.std.specs.Prelude.{ℕ, ◌≡◌, ◌<◌, Bool, true, List, Option, length, slice_index, slice_index_or, Contains}
+use Rattle.std.specs.Prelude.{ℕ, ◌≡◌, ◌<◌, Bool, true, List, length, slice_index, slice_index_or, Contains}
 use Rattle.flow_net.specs.Nets.{flag_at}
 use Rattle.flow_net.specs.declared.votes.Settings.{Settings}
 use Rattle.geo_sign.specs.Cells.{written}
@@ -15,8 +14,8 @@ use Rattle.geo_sign.specs.Vertices as all
 use Rattle.geo_sign.specs.Vertices.{Vertices}
 use Rattle.scan.specs.Shown.{Shown}
 use Rattle.solution.specs.Scans.{points_of, scene_of_scan}
-use Rattle.tetra_store.specs.declared.link.Cell.{Cell}
-use Rattle.tetra_store.specs.Links.{links_of, IsLive}
+pub use Rattle.surface.specs.Labelled.{AreAllLive}
+use Rattle.tetra_store.specs.Links.{links_of}
 use Rattle.tetra_store.specs.Store.{Store, vertices_of}
 use Rattle.visibility.specs.Complexes.{Complex}
 use Rattle.visibility.specs.Cuts.{IsLeastInside}
@@ -41,12 +40,6 @@ pub record AreLabels (scan : Shown) (settings : Settings) (points : List Point) 
   pub count : length labels ≡ length points
   pub each : (k : ℕ) → k < length points
       → IsLabelOf (all.vertices_of (points_of scan)) complex.cells inside (slice_index_or points k origin) (flag_at labels k)
-
--- the numbers of all live cells, each once
-pub record AreAllLive (slots : List (Option Cell)) (ids : List ℕ) : Type 0 where
-  pub live : (k : ℕ) → k < length ids → IsLive (links_of slots) (slice_index ids k)
-  pub all : (id : ℕ) → IsLive (links_of slots) id → Contains ids id
-  pub once : (j k : ℕ) → j < length ids → k < length ids → slice_index ids j ≡ slice_index ids k → j ≡ k
 
 -- the one of the cells with these numbers in which the displaced point lies has this label
 pub record IsLabelAt (s : Store) (ids : List ℕ) (inside : List Bool) (q : Point) (label : Bool) : Type 0 where

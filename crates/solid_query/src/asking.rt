@@ -81,7 +81,6 @@ pub fn ask(
     ensures { IfOk result (λ answers. AreLabels (shown_of scan.now) settings queries.now answers.items) }
 {
     let solid = solid_of(alloc, scan, settings)?;
-    solid.tetra.facts();
     if queries.len() > u32::MAX as usize {
         return flags_at(alloc, &solid.tetra, &solid.inside, queries);
     }

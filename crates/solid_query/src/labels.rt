@@ -6,7 +6,8 @@ ghost use Rattle.geo_sign.specs.Point.{IsWithin};
 ghost use Rattle.tetra_store.specs.Delaunay.{IsDelaunay};
 ghost use Rattle.tetra_store.specs.Links.{links_of};
 ghost use Rattle.tetra_store.specs.Store.{vertices_of};
-ghost use Rattle.solid_query.specs.Labels.{AreAllLive, IsLabelAt};
+ghost use Rattle.surface.specs.Labelled.{AreAllLive};
+ghost use Rattle.solid_query.specs.Labels.{IsLabelAt};
 
 use flow_net::Labels;
 use geo_sign::Point;

@@ -66,7 +66,6 @@ pub(crate) fn solid_of(alloc: Global, scan: &Scan, settings: Settings) -> Result
     ensures { IfOk result (λ solid. IsSolid (shown_of scan.now) settings solid.tetra solid.inside.items) }
 {
     let (tetra, counted) = network(alloc, scan, settings)?;
-    tetra.facts();
     let flow = solve(alloc, &counted.voted.net)?;
     let labels = least_inside(alloc, &counted.voted.net, &flow)?;
     let limit = tetra.number_limit();

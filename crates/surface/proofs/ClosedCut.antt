@@ -1,45 +1,38 @@
--- The mesh is closed. The sides between outside and inside cells are a list as the law of closed cuts takes it: each once, and
--- none of an inside cell with a corner, since no fixed cell is inside. A facet has the same edges from its least number on.
--- Renumbering keeps it.
+-- The mesh is closed. The sides between cells outside and inside, each once, are even (`EvenSides`), since no cell inside has a
+-- corner. A facet has the same edges from its least number on. Renumbering keeps it.
 use Rattle.std.proofs.Common.{ℕ, ◌+◌, ◌<◌, ◌≤◌, ◌≡◌, ◌≢◌, refl, sym, ap, ap₂, subst, ◌∙◌, inl, inr, arith, Bool, true, false}
-use Rattle.std.proofs.Common.{◌||◌, nat_lt, not, zero, suc, Option, Some, List, [], ◌∷◌, ◌^◌, length, get_or, map, AllPairs}
-use Rattle.std.proofs.Common.{Contains}
-use Rattle.std.specs.List.Sorted.{IsPermutation}
-use Rattle.std.proofs.lemmas.Bool.{ltb-false, or_parts}
+use Rattle.std.proofs.Common.{true≢false, ◌||◌, nat_lt, not, zero, suc, Option, Some, None, List, [], ◌∷◌, length, get_or, map}
+use Rattle.std.proofs.Common.{AllPairs, Contains}
+use Rattle.std.proofs.lemmas.Bool.{ltb-false, or_parts, and_parts, and_from, not-true, not-false, not_from_false}
 use Rattle.std.proofs.lemmas.List.{get_or-map, length-map}
-use Rattle.std.proofs.lemmas.List.Sorted.{Contains-permutation}
 use Rattle.std.proofs.lemmas.List.Sums.{sum_by-cons}
 use Rattle.flow_net.specs.Nets.{flag_at}
 use Rattle.geo_sign.specs.Tetrahedron.{Tetrahedron, DirectedFacet, facet_of, facet_at, vertex_of, IsRotated}
-use Rattle.cell_laws.specs.ClosedLaws.{edges_of, edge_count, facets_at, HasNoCorner, IsCutList, one_edge}
+use Rattle.geo_sign.specs.Point.{Point}
+use Rattle.geo_sign.specs.Vertices.{Vertices}
+use Rattle.geo_sign.proofs.Members.{here, there}
+use Rattle.cell_laws.specs.ClosedLaws.{edges_of, edge_count, one_edge}
 use Rattle.cell_laws.specs.Links as laws
 use Rattle.cell_laws.specs.Lists.{IsIn}
-use Rattle.cell_laws.proofs.Closedness.{closed_law}
+use Rattle.cell_laws.proofs.CutSides.{is_inside, is_same_side, same_side_means, same_side_is}
 use Rattle.cell_laws.proofs.RisingRows as rows
+use Rattle.cell_laws.proofs.Sums.{once_pairs, paired, pick, total}
 use Rattle.mesh_ply.specs.Meshes.{IsFace, IsFaceList, mesh_of, new_number}
-use Rattle.visibility.specs.Scenes.{Scene}
-use Rattle.visibility.specs.Complexes.{Complex}
-use Rattle.visibility.specs.Votes.{has_corner, has_scanner, IsComplexOf}
-use Rattle.visibility.specs.Cuts.{IsAdmissible}
-use Rattle.geo_sign.specs.Point.{Point}
-use Rattle.geo_sign.proofs.Members.{here, there}
+use Rattle.visibility.specs.Votes.{has_corner}
 use Rattle.tetra_store.specs.declared.link.Cell.{Cell}
-use Rattle.tetra_store.specs.Links.{links_of}
-use Rattle.tetra_store.specs.Stored.{live_of}
+use Rattle.tetra_store.specs.Links.{links_of, IsLinked, IsLive}
 use Rattle.vote_net.specs.declared.sides.Side.{Side}
-use Rattle.vote_net.specs.CellRows.{least_first, facet_row}
-use Rattle.vote_net.specs.Counts.{AreCellsOf, row_of}
-use Rattle.vote_net.specs.Gathered.{all_cut}
+use Rattle.vote_net.specs.CellRows.{least_first}
+use Rattle.vote_net.specs.CutSides.{AreCutSides, IsCutSide}
 use Rattle.vote_net.specs.Tables.{facet_of_side}
-use Rattle.vote_net.proofs.CellCounts.{cell_count_law}
 use Rattle.vote_net.proofs.CellRows.{least_rotated}
-use Rattle.vote_net.proofs.Entries.{IsSideAt, cut_there, map_has, map_gets}
+use Rattle.vote_net.proofs.Entries.{map_has, map_gets}
 use Rattle.vote_net.proofs.Nodes.{no_side}
-use Rattle.vote_net.proofs.Stored.{listed, live}
 use Rattle.surface.specs.Closed.{IsClosed}
-use Rattle.surface.specs.Labelled.{AreOutside}
-use Rattle.surface.proofs.CutList as cuts
+use Rattle.surface.specs.Labelled.{AreAllLive, NoneHasCorner}
+use Rattle.surface.proofs.EvenSides as sides_of
 use Rattle.surface.proofs.Renumbered.{IsBelow, renamed, renumbered}
+use Rattle.surface.proofs.StoreCut as cuts
 
 -- a side in the words of the laws
 abbrev named : Side → laws.Side
@@ -73,67 +66,40 @@ none_low t k h l =
     by (suc (suc zero)) l a b c d = c
     by (suc (suc (suc k))) l a b c d = d
 
-module _ (s : Scene) (slots : List (Option Cell)) (cells : AreCellsOf s slots) (few : s.vertices.count ≤ 2 ^ 32)
-    (complex : Complex) (all : IsComplexOf s complex) (inside : List ℕ → Bool) (none : IsAdmissible s complex inside)
-    (outside : List Bool) (flags : AreOutside slots inside outside) (sides : List Side)
-    (moved : IsPermutation (all_cut outside slots) sides) where
+-- cells with no flag have no corner, where these are the cells inside
+pub none_flagged : (slots : List (Option Cell)) (ids : List ℕ) (inside outside : List Bool) → AreAllLive slots ids
+    → NoneHasCorner slots ids inside
+    → ((k : ℕ) → k < length ids → flag_at outside (get_or ids k 0) ≡ not (flag_at inside k)) → (x k : ℕ)
+    → IsLive (links_of slots) x → not (flag_at outside x) ≡ true → k < 4 → 8 ≤ vertex_of ((links_of slots).at x) k
+none_flagged slots ids inside outside all none flags x k h free l =
+    let i = cuts.index_at slots ids all x h in
+    let label : flag_at inside i.0 ≡ true =
+    not-false (flag_at inside i.0)
+    (sym (flags i.0 i.1) ∙ ap (flag_at outside) i.2 ∙ not-true (flag_at outside x) free) in
+    none_low ((links_of slots).at x) k
+    (subst (λ (y : ℕ). has_corner ((links_of slots).at y) ≡ false) i.2 (none i.0 i.1 label)) l
+
+module _ (v : Vertices) (slots : List (Option Cell)) (linked : IsLinked v (links_of slots)) (outside : List Bool)
+    (free : (x k : ℕ) → IsLive (links_of slots) x → not (flag_at outside x) ≡ true → k < 4
+    → 8 ≤ vertex_of ((links_of slots).at x) k)
+    (sides : List Side) (are : AreCutSides slots outside sides) where
   abbrev cell : ℕ → Tetrahedron
   cell = (links_of slots).at
 
   abbrev next : ℕ → ℕ → Option ℕ
   next = (links_of slots).next
 
-  abbrev inside_at : ℕ → Bool
-  inside_at x = inside (row_of slots x)
+  abbrev inside : ℕ → Bool
+  inside x = not (flag_at outside x)
 
-  no_corner : HasNoCorner (live_of slots) cell inside_at
-  no_corner x k i h l =
-      let lx = live slots x i in
-      let c = cuts.row_in s slots cells few complex all x lx in
-      let free = cuts.free s slots cells few complex all inside none (row_of slots x) c h in
-      none_low (cell x) k
-      (or_parts (has_corner (cell x)) (has_scanner s.vertices s.scanners (cell x))
-      (sym (cell_count_law s slots cells x lx).fixed ∙ free)).0 l
+  abbrev every : List laws.Side
+  every = sides_of.every v slots linked inside free
 
-  side_at : (x : Side) → Contains sides x → IsSideAt slots outside x × (flag_at outside x.id ≡ true)
-  side_at = cuts.side_at s slots cells few complex all inside none outside flags sides moved
+  abbrev edges : (u w : ℕ) → laws.Side → ℕ
+  edges = sides_of.edges v slots linked inside free
 
-  -- what is known of a side of the list
-  record IsCutSide (r : laws.Side) : Type 0 where
-    listed : IsIn (live_of slots) r.at
-    in_range : r.side < 4
-    out : inside_at r.at ≡ false
-    across : (y : ℕ) × (next r.at r.side ≡ Some y) × (inside_at y ≡ true)
-
-  cut_side : (r : laws.Side) → IsIn (map named sides) r → IsCutSide r
-  cut_side r i =
-      let p = map_has named sides r (rows.listed (map named sides) r i) in
-      let x = p.from in
-      let a = side_at x p.listed in
-      let q : IsSideAt slots outside x = a.0 in
-      let b = cells.linked.back x.id x.side q.other (listed slots x.id q.live) q.in_range q.next in
-      subst IsCutSide p.is
-      (record {
-        listed = listed slots x.id q.live;
-        in_range = q.in_range;
-        out = cuts.outside_at s slots cells few complex all inside none outside flags sides moved x.id q.live a.1;
-        across = (
-          q.other,
-          q.next,
-          cuts.inside_is s slots cells few complex all inside none outside flags sides moved q.other
-              (live slots q.other b.listed) q.free,
-        );
-      })
-
-  all_there : (r : laws.Side) (y : ℕ) → IsIn (live_of slots) r.at → r.side < 4 → inside_at r.at ≡ false
-      → next r.at r.side ≡ Some y → inside_at y ≡ true → IsIn (map named sides) r
-  all_there r y i l out n within =
-      let lx = live slots r.at i in
-      let ly = live slots y (cells.linked.back r.at r.side y i l n).listed in
-      let z = cut_there slots outside r.at r.side y l n (flags y ly ∙ ap not within) (flags r.at lx ∙ ap not out) in
-      let c = Contains-permutation (all_cut outside slots) sides z.0 moved z.1 in
-      let is : named z.0 ≡ r = ap₂ (λ (x k : ℕ). let side : laws.Side = record { at = x; side = k } in side) z.2 z.3 in
-      rows.is_listed (map named sides) r (subst (Contains (map named sides)) is (map_gets named sides z.0 c))
+  abbrev cut : laws.Side → Bool
+  cut = sides_of.cut v slots linked inside free
 
   once : AllPairs (λ (r t : laws.Side). r ≢ t) (map named sides)
   once i j d l m e =
@@ -145,42 +111,65 @@ module _ (s : Scene) (slots : List (Option Cell)) (cells : AreCellsOf s slots) (
       let same : named x ≡ named y = sym (get_or-map named sides i no_side d li) ∙ e ∙ get_or-map named sides j no_side d lj in
       let id : x.id ≡ y.id = ap (λ (r : laws.Side). r.at) same in
       let side : x.side ≡ y.side = ap (λ (r : laws.Side). r.side) same in
-      let k =
-      cuts.apart s slots cells few complex all inside none outside flags sides moved i j no_side li lj
-      (omega (arith, id, side)) in
+      let k = are.once i j no_side li lj (omega (arith, id, side)) in
       absurd (omega (arith, l, k))
 
-  cut_list : IsCutList (live_of slots) next inside_at (map named sides)
-  cut_list =
-      record {
-        listed = λ r i. (cut_side r i).listed;
-        in_range = λ r i. (cut_side r i).in_range;
-        outside = λ r i. (cut_side r i).out;
-        across = λ r i. (cut_side r i).across;
-        all = all_there;
-        once = once;
-      }
+  -- the sides of the list are those that the sum takes
+  is_cut : (r : laws.Side) → IsIn (map named sides) r → IsIn every r × (cut r ≡ true)
+  is_cut r i =
+      let p = map_has named sides r (rows.listed (map named sides) r i) in
+      let x = p.from in
+      let q : IsCutSide slots outside x = are.each x p.listed in
+      subst (λ (t : laws.Side). IsIn every t × (cut t ≡ true)) p.is (
+        sides_of.every_has v slots linked inside free x.id x.side q.live q.in_range,
+        and_from (not (inside x.id)) (is_inside inside (next x.id x.side)) (not_from_false (inside x.id) (ap not q.own))
+            (ap (is_inside inside) q.next ∙ not_from_false (flag_at outside q.other) q.inside),
+      )
+
+  in_list : (r : laws.Side) → IsIn every r → cut r ≡ true → IsIn (map named sides) r
+  in_list r i e =
+      let x = and_parts (not (inside r.at)) (is_inside inside (next r.at r.side)) e in by (next r.at r.side) refl x.0 x.1
+    where
+      by : (o : Option ℕ) → next r.at r.side ≡ o → not (inside r.at) ≡ true → is_inside inside o ≡ true
+          → IsIn (map named sides) r
+      by None n h k = absurd (true≢false (sym k))
+      by (Some y) n h k =
+          let l = sides_of.listed v slots linked inside free r i in
+          let z =
+          are.all r.at r.side y l.1 n (not-false (flag_at outside r.at) (not-true (inside r.at) h))
+          (not-true (flag_at outside y) k) in
+          let is : named z.0 ≡ r = ap₂ (λ (x k : ℕ). let side : laws.Side = record { at = x; side = k } in side) z.2 z.3 in
+          rows.is_listed (map named sides) r (subst (Contains (map named sides)) is (map_gets named sides z.0 z.1))
+
+  listed_total : (u w : ℕ)
+      → total (λ r. pick (edges u w r) true) (map named sides) ≡ total (λ r. pick (edges u w r) (cut r)) every
+  listed_total u w =
+      paired is_same_side (map named sides) every (λ r. true) cut (edges u w) (edges u w) (once_pairs (map named sides) once)
+      (sides_of.every_once v slots linked inside free)
+      (record {
+        partner = λ r i e. (let c = is_cut r i in (r, c.0, c.1, same_side_is r));
+        partner_of = λ r i e. (r, in_list r i e, refl, same_side_is r);
+        one = λ r t o i j k x y. sym (same_side_means r t x) ∙ same_side_means r o y;
+        one_of = λ r o t i k j x y. same_side_means r t x ∙ sym (same_side_means o t y);
+        same = λ r t e. ap (edges u w) (same_side_means r t e);
+      })
 
   -- the facets of the sides have the edges that the cells' facets have
-  same_edges : (u w : ℕ) (xs : List Side) → ((x : Side) → Contains xs x → x.facet ≡ facet_row (cell x.id) x.side)
-      → edge_count u w (map facet_at (map facet_of_side xs)) ≡ edge_count u w (facets_at cell (map named xs))
-  same_edges u w [] h = refl
-  same_edges u w (x ∷ xs) h =
+  counted : (u w : ℕ) (xs : List Side) → ((x : Side) → Contains xs x → Contains sides x)
+      → edge_count u w (map facet_at (map facet_of_side xs)) ≡ total (λ r. pick (edges u w r) true) (map named xs)
+  counted u w [] h = refl
+  counted u w (x ∷ xs) h =
       let f : DirectedFacet = facet_of (cell x.id) x.side in
       let e : edges_of u w (facet_at x.facet) ≡ edges_of u w f =
-      ap (λ (r : List ℕ). edges_of u w (facet_at r)) (h x (here x xs))
+      ap (λ (r : List ℕ). edges_of u w (facet_at r)) (are.each x (h x (here x xs))).facet_is
       ∙ edges_rotated u w f (least_first f) (least_rotated f) in
       sum_by-cons (edges_of u w) (facet_at x.facet) (map facet_at (map facet_of_side xs))
-      ∙ ap₂ (λ (m n : ℕ). m + n) e (same_edges u w xs (λ y c. h y (there x y xs c)))
-      ∙ sym (sum_by-cons (edges_of u w) f (facets_at cell (map named xs)))
+      ∙ ap₂ (λ (m n : ℕ). m + n) e (counted u w xs (λ y c. h y (there x y xs c)))
 
   pub closed_sides : IsClosed (map facet_of_side sides)
   closed_sides u w =
-      let is = λ (x : Side) (c : Contains sides x). (side_at x c).0.is in
-      same_edges u w sides is
-      ∙ closed_law s.vertices cells.boxed (live_of slots) cell next cells.linked cells.cells inside_at no_corner
-      (map named sides) cut_list u w
-      ∙ sym (same_edges w u sides is)
+      counted u w sides (λ x h. h) ∙ listed_total u w ∙ sides_of.cut_even v slots linked inside free u w
+      ∙ sym (counted w u sides (λ x h. h) ∙ listed_total w u)
 
 -- ---- faces
 face_below : (n : ℕ) (f : List ℕ) → IsFace n f → IsBelow n (facet_at f)

@@ -1,52 +1,43 @@
--- The sorted facets of the sides between outside and inside cells are the facets that labels cut. Both lists rise, so it is
--- enough that they have the same members. A side's facet has a capacity, since an inside cell is not fixed; and the two cells
--- of a facet that is cut are live cells, of which the one is across the side of the other that has the facet.
-use Rattle.std.proofs.Common.{ℕ, zero, suc, ◌<◌, ◌≤◌, ◌^◌, ◌≡◌, refl, sym, ap, subst, ◌∙◌, inl, arith, Bool, true}
-use Rattle.std.proofs.Common.{false, true≢false, not, cond, Option, Some, List, [], ◌∷◌, length, get_or, map, filter, AllPairs}
-use Rattle.std.proofs.Common.{Contains}
-use Rattle.std.specs.List.Sorted.{IsPermutation, IsNonDecreasingBy}
-use Rattle.std.proofs.lemmas.Bool.{and_parts, and_from, not-true, not-false}
-use Rattle.std.proofs.lemmas.List.{get_or-map, get_or_default, length-map}
+-- What labels cut of a store's cells are, where these are all cells of a scene and no fixed cell is inside, the facets of the scene
+-- that the labels cut. Both lists rise, so it is enough that they have the same members. A facet of the one has a capacity, since an
+-- inside cell is not fixed; and the two cells of a facet of the other are live cells, of which the one is across the side of the
+-- other that has the facet.
+use Rattle.std.proofs.Common.{ℕ, zero, suc, ◌<◌, ◌≡◌, refl, sym, ap, subst, ◌∙◌, inl, arith, Bool, true, false, true≢false}
+use Rattle.std.proofs.Common.{not, cond, Option, Some, List, [], ◌∷◌, length, get_or, filter, Contains}
+use Rattle.std.specs.List.Sorted.{IsPermutation}
+use Rattle.std.proofs.lemmas.Bool.{and_parts, and_from, not-true, not_from_false}
 use Rattle.std.proofs.lemmas.List.Elements.{Contains-get_or}
 use Rattle.std.proofs.lemmas.List.Kept.{AllPairs-filter}
-use Rattle.std.proofs.lemmas.List.Sorted.{IsPermutation-sym, Contains-permutation}
 use Rattle.std.proofs.lemmas.List.Sums.{passes_at_first}
 use Rattle.flow_net.specs.Nets.{flag_at}
+use Rattle.geo_sign.specs.Point.{Point}
 use Rattle.geo_sign.specs.Tetrahedron.{Tetrahedron, DirectedFacet, facet_of, facet_at, numbers_of, turned}
 use Rattle.geo_sign.specs.Cells.{written}
 use Rattle.geo_sign.specs.Rising.{IsBefore}
-use Rattle.geo_sign.specs.RowLaws.{IsPositive}
 use Rattle.geo_sign.specs.Writings.{IsRewritten}
 use Rattle.geo_sign.proofs.Among.{found}
 use Rattle.geo_sign.proofs.Rising.{rising_law}
-use Rattle.geo_sign.proofs.RowLaws.{one_row}
 use Rattle.geo_sign.proofs.Members.{here, there}
 use Rattle.cell_laws.proofs.RimLists.{facet_law}
-use Rattle.cell_laws.proofs.RisingRows.{row_law, list_law, is_listed}
-use Rattle.mesh_ply.specs.Meshes.{IsFace, IsFaceList}
+use Rattle.cell_laws.proofs.RisingRows.{list_law, is_listed}
 use Rattle.visibility.specs.Scenes.{Scene}
 use Rattle.visibility.specs.Complexes.{Complex, has_facet, HasFacet, cell_index, cell_of}
 use Rattle.visibility.specs.Votes.{is_fixed, HasCapacity, IsComplexOf}
 use Rattle.visibility.specs.Cuts.{is_cut, cut_facets, IsAdmissible}
-use Rattle.visibility.specs.Laws.{test_of, row_index, IsOrdered}
-use Rattle.visibility.proofs.Indices.{first_within, once_rising, once_permuted, same_index, row_index_at}
-use Rattle.visibility.proofs.Ordered.{facets_are_ordered}
+use Rattle.visibility.specs.Laws.{test_of}
+use Rattle.visibility.proofs.Indices.{first_within}
+use Rattle.visibility.proofs.ListingAgreements.{with_rising}
+use Rattle.visibility.proofs.Ordered.{one_complex}
 use Rattle.tetra_store.specs.declared.link.Cell.{Cell}
-use Rattle.tetra_store.specs.Links.{links_of, IsLive}
+use Rattle.tetra_store.specs.Links.{links_of}
 use Rattle.tetra_store.specs.Stored.{live_of}
-use Rattle.vote_net.specs.declared.sides.Side.{Side}
 use Rattle.vote_net.specs.CellRows.{least_first, facet_row}
 use Rattle.vote_net.specs.Counts.{AreCellsOf, AreIdsOf, row_of}
-use Rattle.vote_net.specs.Gathered.{key_of_side, all_cut}
-use Rattle.vote_net.specs.Tables.{number_of_side, facet_of_side}
-use Rattle.vote_net.proofs.CellRows.{IsSideOf, risen_row, row_has_side}
+use Rattle.vote_net.proofs.CellRows.{IsSideOf, row_has_side}
 use Rattle.vote_net.proofs.CellSides.{across_has, has_across, has_is}
-use Rattle.vote_net.proofs.Entries.{IsSideAt, cut_is, cut_there, cut_apart}
-use Rattle.vote_net.proofs.Lists.{apart_permuted}
-use Rattle.vote_net.proofs.Nodes as nodes
-use Rattle.vote_net.proofs.Nodes.{no_side}
-use Rattle.vote_net.proofs.Stored.{listed, live}
-use Rattle.surface.specs.Labelled.{AreOnce, AreOutside, IsSortedCut}
+use Rattle.vote_net.proofs.Stored.{listed}
+use Rattle.surface.specs.Labelled.{AreAllLive, AreCutFacets, AreLabelsOver, IsCutFacet, NoneHasCorner}
+use Rattle.surface.proofs.Listed as rows
 
 -- ---- what a filter keeps
 pub filter_in : {X : Type 0} (p : X → Bool) (xs : List X) (x : X) → Contains (filter p xs) x → Contains xs x × (p x ≡ true)
@@ -70,26 +61,13 @@ in_filter {X = X} p (y ∷ xs) x h t = by (p y) refl h (λ c. in_filter p xs x c
     by false e (zero, l, i) r = absurd (true≢false (sym t ∙ sym (ap p i) ∙ e))
     by false e (suc k, l, i) r = r (k, omega (arith, l), i)
 
-module _ (s : Scene) (slots : List (Option Cell)) (cells : AreCellsOf s slots) (few : s.vertices.count ≤ 2 ^ 32)
-    (complex : Complex) (all : IsComplexOf s complex) where
+module _ (s : Scene) (slots : List (Option Cell)) (cells : AreCellsOf s slots) (complex : Complex)
+    (all : IsComplexOf s complex) where
   abbrev cell : ℕ → Tetrahedron
   cell = (links_of slots).at
 
   abbrev next : ℕ → ℕ → Option ℕ
   next = (links_of slots).next
-
-  positive : (x : ℕ) → IsLive (links_of slots) x → IsPositive s.vertices (cell x)
-  positive x h = (cells.cells x (listed slots x h)).positive
-
-  -- ---- rows of the list and live cells
-  pub row_in : (x : ℕ) → IsLive (links_of slots) x → Contains complex.cells (row_of slots x)
-  row_in x h = all.cells_are.all (row_of slots x) (nodes.rising_row s slots [] cells few x h)
-
-  cell_with : (row : List ℕ) → Contains complex.cells row → (x : ℕ) × IsLive (links_of slots) x × (row_of slots x ≡ row)
-  cell_with row c =
-      let z = (row_law s.vertices (live_of slots) cell cells.listing).name row (all.cells_are.cells row c) in
-      let h = live slots z.0 z.1 in
-      (z.0, h, one_row (cell z.0) row (row_of slots z.0) z.2 (risen_row s.vertices (cell z.0) (positive z.0 h)))
 
   -- one cell of the list has a facet
   one_cell : (row other : List ℕ) (f : DirectedFacet) → Contains complex.cells row → Contains complex.cells other
@@ -125,158 +103,116 @@ module _ (s : Scene) (slots : List (Option Cell)) (cells : AreCellsOf s slots) (
       → cell_of s.vertices complex.cells f ≡ row
   cell_is row f c h = let p = first_in f (has row f c h) in one_cell (cell_of s.vertices complex.cells f) row f p.0 c p.1 h
 
-  -- ---- flags by number, and labels of rows
-  module _ (order : List (List ℕ)) (listing : IsPermutation complex.cells order) where
-    pub ids_once : (ids : List ℕ) → AreIdsOf slots order ids → AreOnce ids
-    ids_once ids a i j li lj e =
-        let n = a.count in
-        same_index order i j (once_permuted complex.cells order listing (once_rising complex.cells all.cells_are.rising))
-        (omega (arith, li, n)) (omega (arith, lj, n)) (a.row i li ∙ ap (row_of slots) e ∙ sym (a.row j lj))
+  module _ (order : List (List ℕ)) (listing : IsPermutation complex.cells order) (ids : List ℕ)
+      (are : AreIdsOf slots order ids) (inside : List Bool) (none : IsAdmissible s complex (test_of order inside)) where
+    abbrev test : List ℕ → Bool
+    test = test_of order inside
 
-    pub outside_is : (ids : List ℕ) (inside outside : List Bool) → AreIdsOf slots order ids
-        → ((k : ℕ) → k < length ids → flag_at outside (get_or ids k 0) ≡ not (flag_at inside k))
-        → AreOutside slots (test_of order inside) outside
-    outside_is ids inside outside a flags id h =
-        let c = Contains-permutation complex.cells order (row_of slots id) listing (row_in id h) in
-        let k : ℕ = c.0 in
-        let l : k < length order = c.1 in
-        let n = a.count in
-        let m : k < length ids = omega (arith, l, n) in
-        let at : get_or order k [] ≡ row_of slots id = get_or_default order k [] (row_of slots id) l ∙ c.2 in
-        let same : get_or ids k 0 ≡ id =
-        nodes.one_id s slots [] cells few (get_or ids k 0) id (a.live k m) h (sym (a.row k m) ∙ at) in
-        let index : row_index order (row_of slots id) ≡ k =
-        ap (row_index order) (sym at)
-        ∙ row_index_at order k (once_permuted complex.cells order listing (once_rising complex.cells all.cells_are.rising)) l in
-        ap (flag_at outside) (sym same) ∙ flags k m ∙ ap (λ (i : ℕ). not (flag_at inside i)) (sym index)
+    label_is : (k : ℕ) → k < length ids → test (row_of slots (get_or ids k 0)) ≡ flag_at inside k
+    label_is = rows.label_is s slots cells complex all order listing ids are inside
 
-  module _ (inside : List ℕ → Bool) (none : IsAdmissible s complex inside) where
-    pub free : (row : List ℕ) → Contains complex.cells row → inside row ≡ true → is_fixed s.vertices s.scanners row ≡ false
-    free row c h = by (is_fixed s.vertices s.scanners row) refl
-      where
-        by : (b : Bool) → is_fixed s.vertices s.scanners row ≡ b → is_fixed s.vertices s.scanners row ≡ false
-        by true e = absurd (true≢false (sym h ∙ none.none_fixed row c e))
-        by false e = e
+    to_cut : (f : List ℕ) → IsCutFacet slots ids inside f → Contains (cut_facets s.vertices complex test) f
+    to_cut f c =
+        let x = get_or ids c.own 0 in
+        let y = get_or ids c.other 0 in
+        let lx = are.live c.own c.listed in
+        let ly = are.live c.other c.other_listed in
+        let g : DirectedFacet = least_first (facet_of (cell x) c.side) in
+        let b = across_has s.vertices (live_of slots) cell next cells x c.side y (listed slots x lx) c.in_range c.across in
+        let own : has_facet s.vertices (row_of slots x) g ≡ true =
+        row_has_side s.vertices (cell x) c.side (rows.positive s slots cells complex all x lx) in
+        let back : has_facet s.vertices (row_of slots y) (turned g) ≡ true =
+        subst (λ (h : DirectedFacet). has_facet s.vertices (row_of slots y) h ≡ true) b.1.2
+        (row_has_side s.vertices (cell y) b.1.0 (rows.positive s slots cells complex all y ly)) in
+        let cx = rows.row_in s slots cells complex all x lx in
+        let cy = rows.row_in s slots cells complex all y ly in
+        let first : cell_of s.vertices complex.cells g ≡ row_of slots x = cell_is (row_of slots x) g cx own in
+        let second : cell_of s.vertices complex.cells (turned g) ≡ row_of slots y =
+        cell_is (row_of slots y) (turned g) cy back in
+        let cap : HasCapacity s complex.cells (numbers_of g) =
+        record {
+          three = refl;
+          own = has (row_of slots x) g cx own;
+          across = has (row_of slots y) (turned g) cy back;
+          free =
+              ap (is_fixed s.vertices s.scanners) second
+              ∙ rows.free s slots cells complex all order listing ids are inside none c.other c.other_listed c.is_inside;
+        } in
+        subst (Contains (cut_facets s.vertices complex test)) (sym c.facet_is)
+        (in_filter (is_cut s.vertices complex.cells test) complex.facets (numbers_of g)
+        (all.facets_are.all (numbers_of g) cap)
+        (and_from (not (test (cell_of s.vertices complex.cells g))) (test (cell_of s.vertices complex.cells (turned g)))
+        (ap (λ (row : List ℕ). not (test row)) first
+        ∙ not_from_false (test (row_of slots x)) (label_is c.own c.listed ∙ c.is_outside))
+        (ap test second ∙ label_is c.other c.other_listed ∙ c.is_inside)))
 
-    module _ (outside : List Bool) (flags : AreOutside slots inside outside) (sides : List Side)
-        (moved : IsPermutation (all_cut outside slots) sides) where
-      pub side_at : (x : Side) → Contains sides x → IsSideAt slots outside x × (flag_at outside x.id ≡ true)
-      side_at x h =
-          cut_is slots outside x
-          (Contains-permutation sides (all_cut outside slots) x (IsPermutation-sym (all_cut outside slots) sides moved) h)
+    from_cut : (f : List ℕ) → Contains (cut_facets s.vertices complex test) f → IsCutFacet slots ids inside f
+    from_cut f h =
+        let p = filter_in (is_cut s.vertices complex.cells test) complex.facets f h in
+        let c = all.facets_are.only f p.0 in
+        let g : DirectedFacet = facet_at f in
+        let q =
+        and_parts (not (test (cell_of s.vertices complex.cells g))) (test (cell_of s.vertices complex.cells (turned g))) p.1 in
+        let a = first_in g c.own in
+        let b = first_in (turned g) c.across in
+        let x = rows.cell_with s slots cells complex all (cell_of s.vertices complex.cells g) a.0 in
+        let y = rows.cell_with s slots cells complex all (cell_of s.vertices complex.cells (turned g)) b.0 in
+        let k : IsSideOf (cell x.0) g =
+        has_is s.vertices (live_of slots) cell next cells x.0 g (listed slots x.0 x.1)
+        (subst (λ (row : List ℕ). has_facet s.vertices row g ≡ true) (sym x.2) a.1) in
+        let m : IsSideOf (cell y.0) (turned g) =
+        has_is s.vertices (live_of slots) cell next cells y.0 (turned g) (listed slots y.0 y.1)
+        (subst (λ (row : List ℕ). has_facet s.vertices row (turned g) ≡ true) (sym y.2) b.1) in
+        let n : next x.0 k.0 ≡ Some y.0 =
+        has_across s.vertices (live_of slots) cell next cells x.0 k.0 y.0 m.0 (listed slots x.0 x.1)
+        (listed slots y.0 y.1) k.1 m.1 (m.2 ∙ ap (λ (z : DirectedFacet). turned z) (sym k.2)) in
+        let i = rows.index_of s slots cells complex all order listing ids are x.0 x.1 in
+        let j = rows.index_of s slots cells complex all order listing ids are y.0 y.1 in
+        record {
+          own = i.0;
+          side = k.0;
+          other = j.0;
+          listed = i.1;
+          in_range = k.1;
+          other_listed = j.1;
+          across = ap (λ (z : ℕ). next z k.0) i.3 ∙ n ∙ ap Some (sym j.3);
+          is_outside =
+              sym (label_is i.0 i.1) ∙ ap (λ (z : ℕ). test (row_of slots z)) i.3 ∙ ap test x.2
+              ∙ not-true (test (cell_of s.vertices complex.cells g)) q.0;
+          is_inside = sym (label_is j.0 j.1) ∙ ap (λ (z : ℕ). test (row_of slots z)) j.3 ∙ ap test y.2 ∙ q.1;
+          facet_is =
+              c.three ∙ ap (λ (z : DirectedFacet). numbers_of z) (sym k.2)
+              ∙ ap (λ (z : ℕ). facet_row (cell z) k.0) (sym i.3);
+        }
 
-      -- a live cell is inside where it has no flag
-      pub inside_is : (x : ℕ) → IsLive (links_of slots) x → flag_at outside x ≡ false → inside (row_of slots x) ≡ true
-      inside_is x h f = not-false (inside (row_of slots x)) (sym (flags x h) ∙ f)
+    cut_is : (facets : List (List ℕ)) → AreCutFacets slots ids inside facets → facets ≡ cut_facets s.vertices complex test
+    cut_is facets are_cut =
+        rising_law facets (cut_facets s.vertices complex test) are_cut.rising
+        (AllPairs-filter IsBefore (is_cut s.vertices complex.cells test) complex.facets all.facets_are.rising)
+        (λ f. ((λ h. to_cut f (are_cut.only f h)), λ h. are_cut.all f (from_cut f h)))
 
-      pub outside_at : (x : ℕ) → IsLive (links_of slots) x → flag_at outside x ≡ true → inside (row_of slots x) ≡ false
-      outside_at x h f = not-true (inside (row_of slots x)) (sym (flags x h) ∙ f)
+-- ---- in the words of the clauses
+module _ (s : Scene) (listing : Complex) (points : List Point) (slots : List (Option Cell)) (ids : List ℕ) (inside : List Bool)
+    (over : AreLabelsOver s listing points slots ids inside) where
+  none_fixed : IsAdmissible s over.lists.complex (test_of listing.cells inside)
+  none_fixed = ((with_rising s listing over.lists).admissible (test_of listing.cells inside)).0 over.admissible
 
-      pub apart : (i j : ℕ) (d : Side) → i < length sides → j < length sides
-          → number_of_side (get_or sides i d) ≡ number_of_side (get_or sides j d) → i ≡ j
-      apart = apart_permuted number_of_side (all_cut outside slots) sides moved (cut_apart outside slots)
+  -- the facets, by the one complex of the scene
+  pub cut_in_scene : (rising : Complex) → IsComplexOf s rising → (facets : List (List ℕ)) → AreCutFacets slots ids inside facets
+      → facets ≡ cut_facets s.vertices rising (test_of listing.cells inside)
+  cut_in_scene rising is facets are_cut =
+      let lists = over.lists in
+      cut_is s slots over.cells lists.complex lists.complex_is listing.cells lists.cells_are ids over.ids_are inside none_fixed
+      facets are_cut
+      ∙ ap (λ (x : Complex). cut_facets s.vertices x (test_of listing.cells inside))
+      (one_complex s lists.complex rising lists.complex_is is)
 
-      cut_of : (x : Side) → Contains sides x → Contains (cut_facets s.vertices complex inside) x.facet
-      cut_of x c =
-          let p : IsSideAt slots outside x = (side_at x c).0 in
-          let f : DirectedFacet = least_first (facet_of (cell x.id) x.side) in
-          let b =
-          across_has s.vertices (live_of slots) cell next cells x.id x.side p.other
-          (listed slots x.id p.live) p.in_range p.next in
-          let ly = live slots p.other b.0 in
-          let own : has_facet s.vertices (row_of slots x.id) f ≡ true =
-          row_has_side s.vertices (cell x.id) x.side (positive x.id p.live) in
-          let back : has_facet s.vertices (row_of slots p.other) (turned f) ≡ true =
-          subst (λ (g : DirectedFacet). has_facet s.vertices (row_of slots p.other) g ≡ true) b.1.2
-          (row_has_side s.vertices (cell p.other) b.1.0 (positive p.other ly)) in
-          let cx = row_in x.id p.live in
-          let cy = row_in p.other ly in
-          let first : cell_of s.vertices complex.cells f ≡ row_of slots x.id = cell_is (row_of slots x.id) f cx own in
-          let second : cell_of s.vertices complex.cells (turned f) ≡ row_of slots p.other =
-          cell_is (row_of slots p.other) (turned f) cy back in
-          let out : not (inside (row_of slots x.id)) ≡ true = sym (flags x.id p.live) ∙ (side_at x c).1 in
-          let within : inside (row_of slots p.other) ≡ true = inside_is p.other ly p.free in
-          let cap : HasCapacity s complex.cells (numbers_of f) =
-          record {
-            three = refl;
-            own = has (row_of slots x.id) f cx own;
-            across = has (row_of slots p.other) (turned f) cy back;
-            free = ap (is_fixed s.vertices s.scanners) second ∙ free (row_of slots p.other) cy within;
-          } in
-          subst (Contains (cut_facets s.vertices complex inside)) (sym p.is)
-          (in_filter (is_cut s.vertices complex.cells inside) complex.facets (numbers_of f)
-          (all.facets_are.all (numbers_of f) cap)
-          (and_from (not (inside (cell_of s.vertices complex.cells f))) (inside (cell_of s.vertices complex.cells (turned f)))
-          (ap (λ (row : List ℕ). not (inside row)) first ∙ out) (ap inside second ∙ within)))
-
-      to_cut : (f : List ℕ) → Contains (map facet_of_side sides) f → Contains (cut_facets s.vertices complex inside) f
-      to_cut f h =
-          let n = length-map sides facet_of_side in let l = h.1 in
-          let k : h.0 < length sides = omega (arith, l, n) in
-          subst (Contains (cut_facets s.vertices complex inside)) (sym (get_or-map facet_of_side sides h.0 no_side f k) ∙ h.2)
-          (cut_of (get_or sides h.0 no_side) (Contains-get_or sides h.0 no_side k))
-
-      from_cut : (f : List ℕ) → Contains (cut_facets s.vertices complex inside) f → Contains (map facet_of_side sides) f
-      from_cut f h =
-          let p = filter_in (is_cut s.vertices complex.cells inside) complex.facets f h in
-          let c = all.facets_are.only f p.0 in
-          let g : DirectedFacet = facet_at f in
-          let q =
-          and_parts (not (inside (cell_of s.vertices complex.cells g)))
-          (inside (cell_of s.vertices complex.cells (turned g))) p.1 in
-          let a = first_in g c.own in
-          let b = first_in (turned g) c.across in
-          let x = cell_with (cell_of s.vertices complex.cells g) a.0 in
-          let y = cell_with (cell_of s.vertices complex.cells (turned g)) b.0 in
-          let k : IsSideOf (cell x.0) g =
-          has_is s.vertices (live_of slots) cell next cells x.0 g (listed slots x.0 x.1)
-          (subst (λ (row : List ℕ). has_facet s.vertices row g ≡ true) (sym x.2) a.1) in
-          let m : IsSideOf (cell y.0) (turned g) =
-          has_is s.vertices (live_of slots) cell next cells y.0 (turned g) (listed slots y.0 y.1)
-          (subst (λ (row : List ℕ). has_facet s.vertices row (turned g) ≡ true) (sym y.2) b.1) in
-          let n : next x.0 k.0 ≡ Some y.0 =
-          has_across s.vertices (live_of slots) cell next cells x.0 k.0 y.0 m.0 (listed slots x.0 x.1)
-          (listed slots y.0 y.1) k.1 m.1 (m.2 ∙ ap (λ (z : DirectedFacet). turned z) (sym k.2)) in
-          let own : flag_at outside x.0 ≡ true = flags x.0 x.1 ∙ ap (λ (row : List ℕ). not (inside row)) x.2 ∙ q.0 in
-          let other : flag_at outside y.0 ≡ false = flags y.0 y.1 ∙ ap (λ (row : List ℕ). not (inside row)) y.2 ∙ ap not q.1 in
-          let z = cut_there slots outside x.0 k.0 y.0 k.1 n other own in
-          let at : facet_row (cell z.0.id) z.0.side ≡ facet_row (cell x.0) k.0 =
-          ap (λ (i : ℕ). facet_row (cell i) z.0.side) z.2 ∙ ap (λ (i : ℕ). facet_row (cell x.0) i) z.3 in
-          let is : z.0.facet ≡ f =
-          (cut_is slots outside z.0 z.1).0.is ∙ at ∙ ap (λ (i : DirectedFacet). numbers_of i) k.2 ∙ sym c.three in
-          let d = Contains-permutation (all_cut outside slots) sides z.0 moved z.1 in
-          let l = d.1 in let e = length-map sides facet_of_side in
-          (d.0, omega (arith, l, e), get_or-map facet_of_side sides d.0 z.0 f l ∙ ap facet_of_side d.2 ∙ is)
-
-      module _ (sorted : IsNonDecreasingBy key_of_side sides) where
-        rises : AllPairs IsBefore (map facet_of_side sides)
-        rises =
-            nodes.facets_rise s slots outside cells few sides
-            (λ i d l. (side_at (get_or sides i d) (Contains-get_or sides i d l)).0) apart sorted
-
-        pub list_is : map facet_of_side sides ≡ cut_facets s.vertices complex inside
-        list_is =
-            rising_law (map facet_of_side sides) (cut_facets s.vertices complex inside) rises
-            (AllPairs-filter IsBefore (is_cut s.vertices complex.cells inside) complex.facets all.facets_are.rising)
-            (λ f. (to_cut f, from_cut f))
-
-    pub cut_is_facets : (outside : List Bool) (facets : List (List ℕ)) → AreOutside slots inside outside
-        → IsSortedCut slots outside facets → facets ≡ cut_facets s.vertices complex inside
-    cut_is_facets outside facets flags h = h.facets_are ∙ list_is outside flags h.sides h.moved h.sorted
-
--- ---- a list of faces
-is_face : (n : ℕ) (f : List ℕ) → IsOrdered n f → IsFace n f
-is_face n f o = subst (IsFace n) (sym o.three) (o.first_second, o.first_third, o.apart, o.second_below, o.third_below)
-
-pub cut_is_list : (s : Scene) (complex : Complex) → IsComplexOf s complex → (inside : List ℕ → Bool)
-    → IsFaceList s.vertices.count (cut_facets s.vertices complex inside)
-cut_is_list s complex all inside =
-    let cut : List (List ℕ) = cut_facets s.vertices complex inside in
-    let test = is_cut s.vertices complex.cells inside in
-    record {
-      each =
-          λ k d l. is_face s.vertices.count (get_or cut k d)
-          (facets_are_ordered s complex all (get_or cut k d)
-          (filter_in test complex.facets (get_or cut k d) (Contains-get_or cut k d l)).0);
-      rising = AllPairs-filter IsBefore test complex.facets all.facets_are.rising;
-    }
+  -- such labels can be cut
+  pub can_be_cut : AreAllLive slots ids × (length inside ≡ length ids) × NoneHasCorner slots ids inside
+  can_be_cut =
+      let lists = over.lists in (
+        rows.all_live s slots over.cells lists.complex lists.complex_is listing.cells lists.cells_are ids over.ids_are,
+        over.labels ∙ sym over.ids_are.count,
+        rows.none_has_corner s slots over.cells lists.complex lists.complex_is listing.cells lists.cells_are ids over.ids_are
+            inside none_fixed,
+      )

@@ -1,3 +1,6 @@
 pub mod Renumbered
+pub mod Listed
 pub mod CutList
+pub mod StoreCut
+pub mod EvenSides
 pub mod ClosedCut

@@ -1,37 +1,92 @@
--- Labels of a store's cells.
+-- Labels of a store's cells, which may be listed in any order, and the mesh that they cut.
 --
---   Cutting                             the scene and the complex whose cells have labels
---   AreOnce ids                         no number stands twice
---   AreOutside slots inside outside     a live cell has a flag exactly where it is not inside
---   IsSortedCut slots outside facets    the facets, sorted, of the sides of cells with a flag whose neighbor has none
-use Rattle.std.specs.Prelude.{ℕ, ◌≡◌, ◌<◌, Bool, not, List, Option, map, length, slice_index}
-use Rattle.std.specs.List.Sorted.{IsPermutation, IsNonDecreasingBy}
+--   AreOnce ids                               no number stands twice
+--   AreAllLive slots ids                      all live cells, each once
+--   NoneHasCorner slots ids inside            no cell inside has a corner of the box
+--   IsCutFacet slots ids inside facet         a facet of an outside cell with an inside cell across
+--   AreCutFacets slots ids inside facets      all of these, rising
+--   IsCutMesh points slots ids inside mesh    the mesh of these facets
+--   AreLabelsOver scene listing points ..     the cells are those of the scene, and no fixed cell is inside
+--   IsSortedCut slots outside facets          the facets, sorted, of the sides of cells with a flag whose neighbor has none
+use Rattle.std.specs.Prelude.{ℕ, ◌≡◌, ◌<◌, Bool, true, false, List, Option, Some, map, length, slice_index, AllPairs, Contains}
+use Rattle.std.specs.List.Sorted.{IsNonDecreasingBy}
 use Rattle.flow_net.specs.Nets.{flag_at}
+use Rattle.geo_sign.specs.Point.{Point}
+use Rattle.geo_sign.specs.Rising.{IsBefore}
+use Rattle.mesh_ply.specs.Meshes.{mesh_of}
+use Rattle.mesh_ply.specs.declared.mesh.Mesh.{Mesh}
 use Rattle.visibility.specs.Scenes.{Scene}
 use Rattle.visibility.specs.Complexes.{Complex}
+use Rattle.visibility.specs.Cuts.{IsAdmissible}
+use Rattle.visibility.specs.Laws.{test_of}
+use Rattle.visibility.specs.Listings.{IsListingOf}
+use Rattle.visibility.specs.Votes.{has_corner}
 use Rattle.tetra_store.specs.declared.link.Cell.{Cell}
 use Rattle.tetra_store.specs.Links.{links_of, IsLive}
 use Rattle.vote_net.specs.declared.sides.Side.{Side}
-use Rattle.vote_net.specs.Counts.{row_of}
-use Rattle.vote_net.specs.Gathered.{key_of_side, all_cut}
+use Rattle.vote_net.specs.CellRows.{facet_row}
+use Rattle.vote_net.specs.Counts.{AreCellsOf, AreIdsOf}
+use Rattle.vote_net.specs.CutSides.{AreCutSides}
+use Rattle.vote_net.specs.Gathered.{key_of_side}
 use Rattle.vote_net.specs.Tables.{facet_of_side}
-
--- what is cut: all cells of a scene and the facets that have a capacity, in the order of the labels
-pub record Cutting : Type 0 where
-  pub scene : Scene
-  pub complex : Complex
 
 -- equal numbers stand at one index
 abbrev pub AreOnce : List ℕ → Type 0
 AreOnce ids = (i j : ℕ) → i < length ids → j < length ids → slice_index ids i ≡ slice_index ids j → i ≡ j
 
--- labels of rows, and flags by the numbers of cells
-abbrev pub AreOutside : List (Option Cell) → (List ℕ → Bool) → List Bool → Type 0
-AreOutside slots inside outside = (id : ℕ) → IsLive (links_of slots) id → flag_at outside id ≡ not (inside (row_of slots id))
+-- the numbers of all live cells, each once
+pub record AreAllLive (slots : List (Option Cell)) (ids : List ℕ) : Type 0 where
+  pub live : (k : ℕ) → k < length ids → IsLive (links_of slots) (slice_index ids k)
+  pub all : (id : ℕ) → IsLive (links_of slots) id → Contains ids id
+  pub once : AreOnce ids
+
+-- those with a corner are outside
+abbrev pub NoneHasCorner : List (Option Cell) → List ℕ → List Bool → Type 0
+NoneHasCorner slots ids inside =
+    (k : ℕ) → k < length ids → flag_at inside k ≡ true → has_corner ((links_of slots).at (slice_index ids k)) ≡ false
+
+-- The cell across the side of one that is outside is inside. The facet is that of the outside cell, the least vertex first. Both cells
+-- are told by the index of their labels.
+pub record IsCutFacet (slots : List (Option Cell)) (ids : List ℕ) (inside : List Bool) (facet : List ℕ) : Type 0 where
+  pub own : ℕ
+  pub side : ℕ
+  pub other : ℕ
+  pub listed : own < length ids
+  pub in_range : side < 4
+  pub other_listed : other < length ids
+  pub across : (links_of slots).next (slice_index ids own) side ≡ Some (slice_index ids other)
+  pub is_outside : flag_at inside own ≡ false
+  pub is_inside : flag_at inside other ≡ true
+  pub facet_is : facet ≡ facet_row ((links_of slots).at (slice_index ids own)) side
+
+-- there are no others, and they rise, so each stands once
+pub record AreCutFacets (slots : List (Option Cell)) (ids : List ℕ) (inside : List Bool) (facets : List (List ℕ)) : Type 0 where
+  pub only : (f : List ℕ) → Contains facets f → IsCutFacet slots ids inside f
+  pub all : (f : List ℕ) → IsCutFacet slots ids inside f → Contains facets f
+  pub rising : AllPairs IsBefore facets
+
+-- among these points
+pub record IsCutMesh (points : List Point) (slots : List (Option Cell)) (ids : List ℕ) (inside : List Bool) (mesh : Mesh)
+    : Type 0 where
+  pub facets : List (List ℕ)
+  pub are_cut : AreCutFacets slots ids inside facets
+  pub points_are : mesh.points.items ≡ (mesh_of points facets).points
+  pub faces_are : mesh.faces.items ≡ (mesh_of points facets).faces
+
+-- the store has all cells of the scene over these points, the numbers and the labels are in the order of the listing, and no cell
+-- inside has a corner or a scanner
+pub record AreLabelsOver (s : Scene) (listing : Complex) (points : List Point) (slots : List (Option Cell)) (ids : List ℕ)
+    (inside : List Bool) : Type 0 where
+  pub cells : AreCellsOf s slots
+  pub count : s.vertices.count ≡ length points
+  pub lists : IsListingOf s listing
+  pub ids_are : AreIdsOf slots listing.cells ids
+  pub labels : length inside ≡ length listing.cells
+  pub admissible : IsAdmissible s listing (test_of listing.cells inside)
 
 -- in the order of their numbers
 pub record IsSortedCut (slots : List (Option Cell)) (outside : List Bool) (facets : List (List ℕ)) : Type 0 where
   pub sides : List Side
-  pub moved : IsPermutation (all_cut outside slots) sides
+  pub are_cut : AreCutSides slots outside sides
   pub sorted : IsNonDecreasingBy key_of_side sides
   pub facets_are : facets ≡ map facet_of_side sides

@@ -4,13 +4,12 @@ ghost use Rattle.std.specs.Prelude.{◌≡◌, IfOk, AllPairs, length};
 ghost use Rattle.geo_sign.specs.Rising.{IsBefore};
 ghost use Rattle.mesh_ply.specs.Meshes.{mesh_of, IsMesh};
 ghost use Rattle.visibility.specs.Complexes.{Complex};
-ghost use Rattle.visibility.specs.Listings.{IsListingOf};
-ghost use Rattle.visibility.specs.Cuts.{cut_facets as cut_facets_in, IsAdmissible};
+ghost use Rattle.visibility.specs.Cuts.{cut_facets as cut_facets_in};
 ghost use Rattle.visibility.specs.Laws.{test_of};
+ghost use Rattle.visibility.specs.Scenes.{Scene};
 ghost use Rattle.visibility.specs.Votes.{IsComplexOf};
-ghost use Rattle.vote_net.specs.Counts.{AreCellsOf, AreIdsOf};
 ghost use Rattle.surface.specs.Closed.{IsClosed};
-ghost use Rattle.surface.specs.Labelled.{Cutting};
+ghost use Rattle.surface.specs.Labelled.{AreAllLive, AreLabelsOver, IsCutMesh, NoneHasCorner};
 
 use crate::NoMemory;
 use crate::cut::{cut_facets, outside_flags};
@@ -31,22 +30,21 @@ fn points_of(alloc: Global, t: &Tetra) -> Result<Vec<Point>, NoMemory>
     Ok(points)
 }
 
-/// The mesh of labels of a scene's cells: the facets of outside cells with an inside cell across, as outside cells have them, so that a
-/// face's three points turn counterclockwise as seen from outside.
+/// The mesh of labels of linked cells: the facets of outside cells with an inside cell across, as outside cells have them, so that a
+/// face's three points turn counterclockwise as seen from outside. Nothing is asked of the cells but what each store keeps.
 ///
-/// `ids` are the cells' numbers in the store in the order of the labels, which may be any. Points that no face has are left out, and the others are
-/// numbered in the order of their vertex numbers. The faces have their smallest number first and rise. They are closed: each directed
-/// edge is met by its reverse equally often. The only error is want of memory, which also stands for 2^32 faces and more.
+/// `ids` are the numbers of all cells in the store, each once, in the order of the labels, which may be any. No cell inside has a corner
+/// of the box. Points that no face has are left out, and the others are numbered in the order of their vertex numbers. The faces have
+/// their smallest number first and rise. They are closed: each directed edge is met by its reverse equally often. Where the cells are
+/// all cells of a scene and none inside is fixed, the facets are those of the scene that the labels cut. The only error is want of
+/// memory, which also stands for 2^32 faces and more.
 pub fn facets(alloc: Global, t: &Tetra, ids: &[CellId], labels: &Labels) -> Result<Mesh, NoMemory>
-    ghost cutting: { Cutting }
-    requires cells { AreCellsOf cutting.scene t.now.slots }
-    requires count { cutting.scene.vertices.count ≡ length t.now.points }
-    requires complex { IsListingOf cutting.scene cutting.complex }
-    requires ids { AreIdsOf t.now.slots cutting.complex.cells ids.now }
-    requires labels { length labels.now.inside ≡ length cutting.complex.cells }
-    requires admissible { IsAdmissible cutting.scene cutting.complex (test_of cutting.complex.cells labels.now.inside) }
-    ensures points { (rising : Complex) → IsComplexOf cutting.scene rising → IfOk result (λ mesh. mesh.points.items ≡ (mesh_of t.now.points (cut_facets_in cutting.scene.vertices rising (test_of cutting.complex.cells labels.now.inside))).points) }
-    ensures faces { (rising : Complex) → IsComplexOf cutting.scene rising → IfOk result (λ mesh. mesh.faces.items ≡ (mesh_of t.now.points (cut_facets_in cutting.scene.vertices rising (test_of cutting.complex.cells labels.now.inside))).faces) }
+    requires ids { AreAllLive t.now.slots ids.now }
+    requires labels { length labels.now.inside ≡ length ids.now }
+    requires corners { NoneHasCorner t.now.slots ids.now labels.now.inside }
+    ensures cut { IfOk result (IsCutMesh t.now.points t.now.slots ids.now labels.now.inside) }
+    ensures points { (scene : Scene) (listing : Complex) → AreLabelsOver scene listing t.now.points t.now.slots ids.now labels.now.inside → (rising : Complex) → IsComplexOf scene rising → IfOk result (λ mesh. mesh.points.items ≡ (mesh_of t.now.points (cut_facets_in scene.vertices rising (test_of listing.cells labels.now.inside))).points) }
+    ensures faces { (scene : Scene) (listing : Complex) → AreLabelsOver scene listing t.now.points t.now.slots ids.now labels.now.inside → (rising : Complex) → IsComplexOf scene rising → IfOk result (λ mesh. mesh.faces.items ≡ (mesh_of t.now.points (cut_facets_in scene.vertices rising (test_of listing.cells labels.now.inside))).faces) }
     ensures valid { IfOk result (λ mesh. IsMesh mesh.points.items mesh.faces.items) }
     ensures rising { IfOk result (λ mesh. AllPairs IsBefore mesh.faces.items) }
     ensures closed { IfOk result (λ mesh. IsClosed mesh.faces.items) }

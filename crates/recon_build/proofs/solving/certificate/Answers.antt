@@ -10,7 +10,6 @@ use Rattle.solution.specs.Scans.{points_of, scene_of_scan}
 use Rattle.solution.specs.Solutions.{flow_rows, sink_rows}
 use Rattle.solution.proofs.Certificates.{flags_are, on_arcs_are, at_nodes_are, certificate_is}
 use Rattle.solution.proofs.SightLists.{few_vertices, few_sights}
-use Rattle.flow_net.specs.declared.Voted.{Voted}
 use Rattle.recon_build.proofs.SortedRows.{inside_are, flow_are, sinks_are}
 use Rattle.recon_build.proofs.Stored.{corner_count}
 use Rattle.recon_build.proofs.WellFormed.{well_formed, fit_counts, version_of}

@@ -1,114 +1,107 @@
-use Rattle.std.proofs.Common.{ℕ, ◌≡◌, ◌++◌, ap, sym, subst, ◌∙◌, Bool, List, length}
+use Rattle.std.proofs.Common.{ℕ, ◌≡◌, ◌++◌, ap, sym, subst, ◌∙◌, List}
+use Rattle.flow_net.specs.Flows.{IsLeastInside}
+use Rattle.flow_net.specs.declared.Labels.{Labels}
+use Rattle.flow_net.specs.declared.votes.Settings.{Settings}
 use Rattle.geo_sign.specs.Point.{Point}
 use Rattle.geo_sign.specs.Vertices.{corners}
 use Rattle.mesh_ply.specs.Meshes.{mesh_of}
 use Rattle.mesh_ply.specs.declared.mesh.Mesh.{Mesh}
+use Rattle.scan.specs.Shown.{Shown}
 use Rattle.scan.specs.Views.{shown_of}
 use Rattle.solution.specs.Scans.{points_of, scene_of_scan}
 use Rattle.solution.specs.Solutions.{surface_of}
 use Rattle.solution.proofs.Certificates.{least_inside_is}
-use Rattle.surface.specs.Labelled.{Cutting}
+use Rattle.surface.specs.Labelled.{AreLabelsOver}
+use Rattle.surface.proofs.CutList.{can_be_cut}
 use Rattle.tetra_store.specs.Store.{Store}
 use Rattle.visibility.specs.Complexes.{Complex}
-use Rattle.visibility.specs.Cuts.{cut_facets, IsAdmissible}
 use Rattle.visibility.specs.Laws.{test_of}
-use Rattle.visibility.specs.Networks.{complex_of}
+use Rattle.visibility.specs.Networks.{complex_of, IsNetworkInAnyOrder}
 use Rattle.visibility.specs.Scenes.{Scene}
-use Rattle.visibility.specs.Listings.{IsListingOf}
-use Rattle.visibility.specs.Votes.{IsComplexOf}
 use Rattle.visibility.proofs.ListingAgreements.{with_rising}
 use Rattle.visibility.proofs.Networks.{node_count}
 use Rattle.vote_net.specs.Counts.{AreCellsOf, AreIdsOf}
+use Rattle.vote_net.specs.declared.network.Counted.{Counted}
+use Rattle.recon_build.specs.Stored.{IsStoreOf}
 use Rattle.recon_build.proofs.Stored.{corner_count}
 use Rattle.recon_build.proofs.solving.solve_over.Goals as goal
 
--- what the mesh is made of
-abbrev IsCut : Store → (ids : List ℕ) (inside : List Bool) → Scene → Complex → Type 0
-IsCut t ids inside s complex =
-    AreCellsOf s t.slots × (s.vertices.count ≡ length t.points) × IsListingOf s complex × AreIdsOf t.slots complex.cells ids
-    × (length inside ≡ length complex.cells) ×
-    IsAdmissible s complex (test_of complex.cells inside)
-
--- of a scene and a complex that have names of their own
-named : (cutting : Cutting) (s : Scene) (complex : Complex) → cutting.scene ≡ s → cutting.complex ≡ complex
-    → (P : Scene → Complex → Type 0) → P s complex → P cutting.scene cutting.complex
-named cutting s complex e f P h = subst (λ (t : Scene). P t cutting.complex) (sym e) (subst (P s) (sym f) h)
+-- the labels are those of the scene's cells, whatever the list of numbers is called
+over : (scan : Shown) (settings : Settings) (tetra : Store) (counted : Counted) (labels : Labels) (ids : List ℕ)
+    → IsStoreOf scan settings tetra → AreCellsOf (scene_of_scan scan settings) tetra.slots
+    → IsNetworkInAnyOrder (scene_of_scan scan settings) counted.voted
+    → AreIdsOf tetra.slots counted.voted.cells counted.ids.items → ids ≡ counted.ids.items
+    → IsLeastInside counted.voted.net labels → AreLabelsOver (scene_of_scan scan settings) (complex_of counted.voted) tetra.points
+    tetra.slots ids labels.inside
+over scan settings tetra counted labels ids store cells network are same least =
+    let s : Scene = scene_of_scan scan settings in
+    let inside = least_inside_is s counted.voted labels network least in
+    record {
+      cells = cells;
+      count = sym (corner_count tetra (points_of scan) store.points);
+      lists = network.listing;
+      ids_are = subst (AreIdsOf tetra.slots counted.voted.cells) (sym same) are;
+      labels = least.count ∙ node_count s counted.voted network;
+      admissible = ((with_rising s (complex_of counted.voted) network.listing).admissible _).1 inside.least_cost.admissible;
+    }
 
 pub facets-requires : goal.facets-requires
-facets-requires g c =
-    let s : Scene = scene_of_scan (shown_of c.args.scan.now) c.args.settings in
-    let network = c.requires.1.1.1.1.0 in
-    let least = least_inside_is s c.args.counted.voted c.args.labels network c.requires.1.1.1.1.1.1.1.0 in
-    let cut : IsCut c.args.tetra c.deref.result.now c.args.labels.inside g.cutting.scene g.cutting.complex =
-    named g.cutting s (complex_of c.args.counted.voted) c.requires.0 c.requires.1.0
-    (IsCut c.args.tetra c.deref.result.now c.args.labels.inside) (
-      c.requires.1.1.1.0,
-      sym (corner_count c.args.tetra (points_of (shown_of c.args.scan.now)) c.requires.1.1.0.points),
-      network.listing,
-      subst (AreIdsOf c.args.tetra.slots c.args.counted.voted.cells) (sym c.deref.ensures.value) c.requires.1.1.1.1.1.0,
-      c.requires.1.1.1.1.1.1.1.0.count ∙ node_count s c.args.counted.voted network,
-      ((with_rising s (complex_of c.args.counted.voted) network.listing).admissible _).1 least.least_cost.admissible,
-    ) in
-    (cut.0, (cut.1, (cut.2, (cut.3, (cut.4, cut.5)))))
+facets-requires c =
+    let cut =
+    can_be_cut _ _ _ _ _ _
+    (over (shown_of c.args.scan.now) c.args.settings c.args.tetra c.args.counted c.args.labels c.deref.result.now
+    c.requires.store c.requires.cells c.requires.network c.requires.ids c.deref.ensures.value c.requires.least) in
+    record { ids = cut.0; labels = cut.1; corners = cut.2 }
 
--- the facets are those of the scene and the complex by any name
-cut_same : (cutting : Cutting) (s : Scene) (complex rising : Complex) (inside : List Bool) → cutting.scene ≡ s
-    → cutting.complex ≡ complex
-    → cut_facets cutting.scene.vertices rising (test_of cutting.complex.cells inside)
-    ≡ cut_facets s.vertices rising (test_of complex.cells inside)
-cut_same cutting s complex rising inside e f =
-    ap (λ (t : Scene). cut_facets t.vertices rising (test_of cutting.complex.cells inside)) e
-    ∙ ap (λ (x : Complex). cut_facets s.vertices rising (test_of x.cells inside)) f
-
--- so the mesh is of these points and facets
-mesh_is : (mesh : Mesh) (given points : List Point) (cut facets : List (List ℕ)) → given ≡ points → cut ≡ facets
-    → mesh.points.items ≡ (mesh_of given cut).points → mesh.faces.items ≡ (mesh_of given cut).faces
+-- the mesh of these points and facets, by its parts
+mesh_is : (mesh : Mesh) (given points : List Point) (facets : List (List ℕ)) → given ≡ points
+    → mesh.points.items ≡ (mesh_of given facets).points → mesh.faces.items ≡ (mesh_of given facets).faces
     → surface_of mesh ≡ mesh_of points facets
-mesh_is mesh given points cut facets same cut_is points_are faces_are =
+mesh_is mesh given points facets same points_are faces_are =
     ap (λ (list : List Point). record { points = list; faces = mesh.faces.items }) points_are
-    ∙ ap (λ (faces : List (List ℕ)). record { points = (mesh_of given cut).points; faces = faces }) faces_are
-    ∙ ap (mesh_of given) cut_is
+    ∙ ap (λ (faces : List (List ℕ)). record { points = (mesh_of given facets).points; faces = faces }) faces_are
     ∙ ap (λ (list : List Point). mesh_of list facets) same
 
 pub returns-clause-solution : goal.returns-clause-solution
-returns-clause-solution g c =
-    let s : Scene = scene_of_scan (shown_of c.args.scan.now) c.args.settings in
-    let network = c.requires.1.1.1.1.0 in
-    let rising : IsComplexOf g.cutting.scene network.listing.complex =
-    subst (λ (x : Scene). IsComplexOf x network.listing.complex) (sym c.requires.0) network.listing.complex_is in
+returns-clause-solution c =
+    let scan : Shown = shown_of c.args.scan.now in
+    let s : Scene = scene_of_scan scan c.args.settings in
+    let network = c.requires.network in
+    let lists = network.listing in
+    let labels =
+    over scan c.args.settings c.args.tetra c.args.counted c.args.labels c.deref.result.now c.requires.store c.requires.cells
+    network c.requires.ids c.deref.ensures.value c.requires.least in
+    let complex : Complex = complex_of c.args.counted.voted in
     record {
-      complex = network.listing.complex;
+      complex = lists.complex;
       inside = test_of c.args.counted.voted.cells c.args.labels.inside;
-      complex_is = network.listing.complex_is;
-      least = least_inside_is s c.args.counted.voted c.args.labels network c.requires.1.1.1.1.1.1.1.0;
+      complex_is = lists.complex_is;
+      least = least_inside_is s c.args.counted.voted c.args.labels network c.requires.least;
       mesh_is =
-          mesh_is c.in_ok-mesh.mesh c.args.tetra.points (corners ++ points_of (shown_of c.args.scan.now)) _ _
-          c.requires.1.1.0.points
-          (cut_same g.cutting s (complex_of c.args.counted.voted) network.listing.complex c.args.labels.inside
-          c.requires.0 c.requires.1.0)
-          (c.in_ok-mesh.ensures.points network.listing.complex rising)
-          (c.in_ok-mesh.ensures.faces network.listing.complex rising);
+          mesh_is c.in_ok-mesh.mesh c.args.tetra.points (corners ++ points_of scan) _ c.requires.store.points
+          (c.in_ok-mesh.ensures.points s complex labels lists.complex lists.complex_is)
+          (c.in_ok-mesh.ensures.faces s complex labels lists.complex lists.complex_is);
       counts = c.in_ok-cert.ensures.counts;
       certificate = c.in_ok-cert.ensures.states c.args.counted.voted (record {
-        network = c.requires.1.1.1.1.0;
+        network = network;
         cells = c.as_slice.ensures;
         facets = c.as_slice-2.ensures;
-        labels = c.requires.1.1.1.1.1.1.1.0;
-        flow = c.requires.1.1.1.1.1.1.0;
-        equal = c.requires.1.1.1.1.1.1.1.1;
+        labels = c.requires.least;
+        flow = c.requires.flow;
+        equal = c.requires.equal;
         cost = c.least_cost-cost.ensures;
-      }) network.listing;
+      }) lists;
     }
 
 pub returns-clause-well_formed : goal.returns-clause-well_formed
-returns-clause-well_formed g c =
+returns-clause-well_formed c =
     c.in_ok-cert.ensures.well_formed c.args.counted.voted
     (record {
-      network = c.requires.1.1.1.1.0;
+      network = c.requires.network;
       cells = c.as_slice.ensures;
       facets = c.as_slice-2.ensures;
-      labels = c.requires.1.1.1.1.1.1.1.0;
-      flow = c.requires.1.1.1.1.1.1.0;
-      equal = c.requires.1.1.1.1.1.1.1.1;
+      labels = c.requires.least;
+      flow = c.requires.flow;
+      equal = c.requires.equal;
       cost = c.least_cost-cost.ensures;
     })

@@ -1,4 +1,4 @@
-use Rattle.std.proofs.Common.{◌≡◌, refl, sym, subst, Bool, List}
+use Rattle.std.proofs.Common.{◌≡◌, sym, subst, Bool, List}
 use Rattle.flow_net.specs.declared.Net.{Net}
 use Rattle.flow_net.specs.Flows.{IsLeastInside, IsValidFlow, cost_of, value_of}
 use Rattle.scan.specs.Views.{shown_of}
@@ -23,19 +23,13 @@ solve_over-requires c =
     let equal : cost_of c.in_ok-counted.counted.voted.net c.in_ok-flow.labels
     ≡ value_of c.in_ok-counted.counted.voted.net c.in_ok-flow.flow =
     subst (λ (net : Net). cost_of net c.in_ok-flow.labels ≡ value_of net c.in_ok-flow.flow) (sym same)
-    c.in_ok-flow.ensures.cost in (
-      refl,
-      (
-        refl,
-        (
-          c.in_ok-tetra.ensures.store,
-          (
-            c.in_ok-tetra.ensures.cells,
-            (
-              c.in_ok-counted.ensures.network s stored,
-              (c.in_ok-counted.ensures.ids s stored, (flow, (least, equal))),
-            ),
-          ),
-        ),
-      ),
-    )
+    c.in_ok-flow.ensures.cost in
+    record {
+      store = c.in_ok-tetra.ensures.store;
+      cells = c.in_ok-tetra.ensures.cells;
+      network = c.in_ok-counted.ensures.network s stored;
+      ids = c.in_ok-counted.ensures.ids s stored;
+      flow = flow;
+      least = least;
+      equal = equal;
+    }

@@ -14,7 +14,7 @@ returns-then-queries c =
     IfOk-weaker c.flags_at.result (λ found. AreFlagged s c.deref.result.now points found.items)
     (λ found. AreLabels (shown_of c.args.scan.now) c.args.settings points found.items)
     (λ found h.
-    labels_of (shown_of c.args.scan.now) c.args.settings s flags c.facts.ensures c.in_ok-solid.ensures points found.items
+    labels_of (shown_of c.args.scan.now) c.args.settings s flags c.in_ok-solid.ensures points found.items
     c.requires (subst (λ (xs : List Bool). AreFlagged s xs points found.items) c.deref.ensures.value h)) c.flags_at.ensures
 
 pub returns : goal.returns
@@ -25,5 +25,5 @@ returns c =
     IfOk-weaker c.flags_along.result (λ found. AreFlagged s c.deref-2.result.now points found.items)
     (λ found. AreLabels (shown_of c.args.scan.now) c.args.settings points found.items)
     (λ found h.
-    labels_of (shown_of c.args.scan.now) c.args.settings s flags c.facts.ensures c.in_ok-solid.ensures points found.items
+    labels_of (shown_of c.args.scan.now) c.args.settings s flags c.in_ok-solid.ensures points found.items
     c.requires (subst (λ (xs : List Bool). AreFlagged s xs points found.items) c.deref-2.ensures.value h)) c.flags_along.ensures

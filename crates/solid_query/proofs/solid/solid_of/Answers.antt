@@ -6,7 +6,7 @@ use Rattle.solution.proofs.Certificates.{least_inside_is}
 use Rattle.solution.specs.Scans.{scene_of_scan}
 use Rattle.tetra_store.specs.Links.{links_of, IsLive}
 use Rattle.visibility.specs.Laws.{test_of}
-use Rattle.solid_query.specs.Labels.{AreAllLive}
+use Rattle.surface.specs.Labelled.{AreAllLive}
 use Rattle.solid_query.proofs.Flagged.{flags_are, ids_are}
 use Rattle.solid_query.proofs.solid.solid_of.Goals as goal
 
@@ -16,7 +16,7 @@ flags_by_number-requires-clause-below c =
     let s = c.in_ok-tetra.tetra in
     let are : AreAllLive s.slots c.deref.result.now =
     subst (AreAllLive s.slots) (sym c.deref.ensures.value)
-    (ids_are (shown_of c.args.scan.now) c.args.settings s c.in_ok-tetra.counted c.facts.ensures made) in
+    (ids_are (shown_of c.args.scan.now) c.args.settings s c.in_ok-tetra.counted made) in
     λ id h.
     c.number_limit-limit.ensures.above id
     (subst (IsLive (links_of s.slots)) (get_or_default c.deref.result.now h.0 0 id h.1 ∙ h.2) (are.live h.0 h.1))
@@ -26,7 +26,7 @@ flags_by_number-requires-clause-once c =
     let s = c.in_ok-tetra.tetra in
     let are : AreAllLive s.slots c.deref.result.now =
     subst (AreAllLive s.slots) (sym c.deref.ensures.value)
-    (ids_are (shown_of c.args.scan.now) c.args.settings s c.in_ok-tetra.counted c.facts.ensures c.in_ok-tetra.ensures) in
+    (ids_are (shown_of c.args.scan.now) c.args.settings s c.in_ok-tetra.counted c.in_ok-tetra.ensures) in
     are.once
 
 pub returns : goal.returns
@@ -56,5 +56,5 @@ returns c =
       least =
           least_inside_is (scene_of_scan scan c.args.settings) counted.voted labels made.network c.in_ok-labels.ensures.least;
       fits = λ id h. (let l = c.number_limit-limit.ensures.above id h in omega (arith, l, n));
-      flags_are = flags_are scan c.args.settings s counted c.facts.ensures made labels.inside flags each;
+      flags_are = flags_are scan c.args.settings s counted made labels.inside flags each;
     }

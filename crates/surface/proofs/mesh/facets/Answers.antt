@@ -1,205 +1,110 @@
 -- The mesh of the facets between inside and outside.
 --
--- Each answer begins with what the arguments are: the cells of a scene, their ids in the order of the listing, and labels in
--- that order. No id stands twice (`ids_once`), and the flags by id are the labels turned round (`outside_is`). So the sorted
--- facets that the store's cells give are the cut of the complex by the labels (`cut_is_facets`). They are a list of faces of
--- the points (`cut_is_list`), as the mesh wants them, and the mesh's points and faces are those of the cut; a rising complex
--- of the scene is this complex (`one_complex`). The sides of the cut are closed (`closed_sides`), and the mesh keeps this
+-- No number stands twice, and the flags by number are the labels turned round. So the sorted facets that the store's cells give are
+-- those that the labels cut (`are_cut_facets`), and a list of faces of the points (`are_faces`), as the mesh wants them. Over a scene
+-- they are its facets that the labels cut (`cut_in_scene`). The sides of the cut are closed (`closed_sides`), and the mesh keeps this
 -- (`mesh_closed`).
-use Rattle.std.proofs.Common.{ℕ, ◌+◌, ◌^◌, ◌≡◌, ◌<◌, ◌≤◌, ◌∙◌, not, length, get_or, subst, sym, ap, arith, IfOk, List, Bool}
-use Rattle.std.proofs.Common.{Option}
+use Rattle.std.proofs.Common.{ℕ, ◌^◌, ◌≡◌, ◌<◌, ◌≤◌, ◌∙◌, not, length, get_or, subst, sym, ap, arith, IfOk, List, Bool}
+use Rattle.std.proofs.Common.{Result, Ok, Err}
+use Rattle.std.proofs.lemmas.List.{get_or_default}
 use Rattle.std.proofs.lemmas.Result.{IfOk-weaker}
 use Rattle.geo_sign.specs.Point.{Point}
 use Rattle.flow_net.specs.Nets.{flag_at}
 use Rattle.mesh_ply.specs.Meshes.{mesh_of, IsFaceList}
-use Rattle.visibility.specs.Scenes.{Scene}
-use Rattle.visibility.specs.Complexes.{Complex}
-use Rattle.visibility.specs.Cuts.{cut_facets, IsAdmissible}
-use Rattle.visibility.specs.Laws.{test_of}
-use Rattle.visibility.specs.Listings.{IsListingOf}
-use Rattle.visibility.specs.Votes.{IsComplexOf}
-use Rattle.visibility.proofs.ListingAgreements.{with_rising}
-use Rattle.visibility.proofs.Ordered.{one_complex}
-use Rattle.tetra_store.specs.declared.boxed.TheConstants.{VERTEX_LIMIT}
-use Rattle.tetra_store.specs.declared.link.Cell.{Cell}
-use Rattle.vote_net.specs.Counts.{AreCellsOf, AreIdsOf}
+use Rattle.mesh_ply.specs.declared.mesh.Mesh.{Mesh}
+use Rattle.tetra_store.specs.Links.{links_of, IsLive}
+use Rattle.tetra_store.specs.Store.{Store, IsStore, vertices_of}
 use Rattle.surface.specs.Closed.{IsClosed}
-use Rattle.surface.specs.Labelled.{AreOutside, IsSortedCut}
-use Rattle.surface.proofs.ClosedCut.{closed_sides, mesh_closed}
-use Rattle.surface.proofs.CutList.{ids_once, outside_is, cut_is_facets, cut_is_list}
+use Rattle.surface.specs.Labelled.{AreAllLive, AreCutFacets, IsCutMesh, IsSortedCut, NoneHasCorner}
+use Rattle.surface.proofs.ClosedCut.{closed_sides, mesh_closed, none_flagged}
+use Rattle.surface.proofs.CutList.{cut_in_scene}
+use Rattle.surface.proofs.StoreCut.{are_cut_facets, are_faces}
 use Rattle.surface.proofs.mesh.facets.Goals as goal
 
-pub outside_flags-requires-clause-once : goal.outside_flags-requires-clause-once
-outside_flags-requires-clause-once g c =
-    let s : Scene = g.cutting.scene in
-    let listed : IsListingOf g.cutting.scene g.cutting.complex = c.requires.1.1.0 in
-    let complex : Complex = listed.complex in
-    let slots : List (Option Cell) = c.args.t.now.slots in
-    let ids : List ℕ = c.args.ids.now in
-    let labels : List Bool = c.args.labels.now.inside in
-    let points : List Point = c.args.t.now.points in
-    let cells : AreCellsOf s slots = c.requires.0 in
-    let count : s.vertices.count ≡ length points = c.requires.1.0 in
-    let all : IsComplexOf s complex = listed.complex_is in
-    let order : List (List ℕ) = g.cutting.complex.cells in
-    let are_ids : AreIdsOf slots order ids = c.requires.1.1.1.0 in
-    let few_points : length points ≤ 8 + VERTEX_LIMIT = c.facts.ensures.vertices.few in
-    let few : s.vertices.count ≤ 2 ^ 32 = omega (arith, count, few_points) in
-    ids_once s slots cells few complex all order listed.cells_are ids are_ids
+pub outside_flags-requires-clause-below : goal.outside_flags-requires-clause-below
+outside_flags-requires-clause-below c = λ id h.
+    c.number_limit.ensures.above id
+    (subst (IsLive (links_of c.args.t.now.slots)) (get_or_default c.args.ids.now h.0 0 id h.1 ∙ h.2)
+    (c.requires.ids.live h.0 h.1))
+
+-- what is known of the facets
+record AreFound (s : Store) (ids : List ℕ) (inside : List Bool) (facets : List (List ℕ)) : Type 0 where
+  are_cut : AreCutFacets s.slots ids inside facets
+  faces : IsFaceList (length s.points) facets
+  closed : IsClosed facets
+
+-- by the names that the lists have in the code
+found : (s : Store) → IsStore s → (ids : List ℕ) → AreAllLive s.slots ids → (inside labels flags outside : List Bool)
+    → labels ≡ inside → NoneHasCorner s.slots ids inside
+    → ((k : ℕ) → k < length ids → flag_at flags (get_or ids k 0) ≡ not (flag_at labels k)) → outside ≡ flags
+    → (facets given : List (List ℕ)) → given ≡ facets → IsSortedCut s.slots outside facets → AreFound s ids inside given
+found s store ids all inside labels flags outside labels_are none turned flags_are facets given same cut =
+    subst (AreFound s ids inside) (sym same)
+    (record {
+      are_cut = are_cut_facets (vertices_of s) s.slots store.linked few outside facets cut ids all inside flagged;
+      faces = are_faces (vertices_of s) s.slots store.linked few outside facets cut;
+      closed =
+          subst IsClosed (sym cut.facets_are)
+          (closed_sides (vertices_of s) s.slots store.linked outside
+          (none_flagged s.slots ids inside outside all none flagged) cut.sides cut.are_cut);
+    })
+  where
+    few : length s.points ≤ 2 ^ 32
+    few = let n = store.vertices.few in omega (arith, n)
+
+    flagged : (k : ℕ) → k < length ids → flag_at outside (get_or ids k 0) ≡ not (flag_at inside k)
+    flagged k l =
+        ap (λ (x : List Bool). flag_at x (get_or ids k 0)) flags_are ∙ turned k l
+        ∙ ap (λ (x : List Bool). not (flag_at x k)) labels_are
 
 pub mesh_of_facets-requires-clause-facets : goal.mesh_of_facets-requires-clause-facets
-mesh_of_facets-requires-clause-facets g c =
-    let s : Scene = g.cutting.scene in
-    let listed : IsListingOf g.cutting.scene g.cutting.complex = c.requires.1.1.0 in
-    let complex : Complex = listed.complex in
-    let slots : List (Option Cell) = c.args.t.now.slots in
-    let ids : List ℕ = c.args.ids.now in
-    let labels : List Bool = c.args.labels.now.inside in
-    let points : List Point = c.args.t.now.points in
-    let cells : AreCellsOf s slots = c.requires.0 in
-    let count : s.vertices.count ≡ length points = c.requires.1.0 in
-    let all : IsComplexOf s complex = listed.complex_is in
-    let order : List (List ℕ) = g.cutting.complex.cells in
-    let are_ids : AreIdsOf slots order ids = c.requires.1.1.1.0 in
-    let few_points : length points ≤ 8 + VERTEX_LIMIT = c.facts.ensures.vertices.few in
-    let few : s.vertices.count ≤ 2 ^ 32 = omega (arith, count, few_points) in
-    let inside : List ℕ → Bool = test_of order labels in
-    let none : IsAdmissible s complex inside =
-    ((with_rising s g.cutting.complex listed).admissible inside).0 c.requires.1.1.1.1.1 in
-    let outside : List Bool = c.in_ok-outside.outside.items in
-    let made : (k : ℕ) → k < length ids → flag_at outside (get_or ids k 0) ≡ not (flag_at labels k) =
-    λ k l. c.in_ok-outside.ensures k l ∙ ap (λ (x : List Bool). not (flag_at x k)) c.as_slice-inside.ensures in
-    let flags : AreOutside slots inside outside =
-    outside_is s slots cells few complex all order listed.cells_are ids labels outside are_ids made in
-    let sorted : IsSortedCut slots outside c.in_ok-facets.facets.items =
-    subst (λ (o : List Bool). IsSortedCut slots o c.in_ok-facets.facets.items) c.deref.ensures.value c.in_ok-facets.ensures in
-    let cut : List (List ℕ) = cut_facets s.vertices complex inside in
-    let is : c.deref-3.result.now ≡ cut =
-    c.deref-3.ensures.value
-    ∙ cut_is_facets s slots cells few complex all inside none outside c.in_ok-facets.facets.items flags sorted in
-    let at : c.deref-2.result.now ≡ points = c.deref-2.ensures.value ∙ c.in_ok-points.ensures in
-    subst (λ (ps : List Point). IsFaceList (length ps) c.deref-3.result.now) (sym at)
-    (subst (IsFaceList (length points)) (sym is) (subst (λ (n : ℕ). IsFaceList n cut) count (cut_is_list s complex all inside)))
+mesh_of_facets-requires-clause-facets c =
+    let is =
+    found c.args.t.now c.facts.ensures c.args.ids.now c.requires.ids _ _ _ _ c.as_slice-inside.ensures c.requires.corners
+    c.in_ok-outside.ensures c.deref.ensures.value _ _ c.deref-3.ensures.value c.in_ok-facets.ensures in
+    subst (λ (points : List Point). IsFaceList (length points) c.deref-3.result.now)
+    (sym (c.deref-2.ensures.value ∙ c.in_ok-points.ensures)) is.faces
 
-pub returns-clause-points : goal.returns-clause-points
-returns-clause-points g c rising is_rising =
-    let s : Scene = g.cutting.scene in
-    let listed : IsListingOf g.cutting.scene g.cutting.complex = c.requires.1.1.0 in
-    let complex : Complex = listed.complex in
-    let slots : List (Option Cell) = c.args.t.now.slots in
-    let ids : List ℕ = c.args.ids.now in
-    let labels : List Bool = c.args.labels.now.inside in
-    let points : List Point = c.args.t.now.points in
-    let cells : AreCellsOf s slots = c.requires.0 in
-    let count : s.vertices.count ≡ length points = c.requires.1.0 in
-    let all : IsComplexOf s complex = listed.complex_is in
-    let order : List (List ℕ) = g.cutting.complex.cells in
-    let are_ids : AreIdsOf slots order ids = c.requires.1.1.1.0 in
-    let few_points : length points ≤ 8 + VERTEX_LIMIT = c.facts.ensures.vertices.few in
-    let few : s.vertices.count ≤ 2 ^ 32 = omega (arith, count, few_points) in
-    let inside : List ℕ → Bool = test_of order labels in
-    let none : IsAdmissible s complex inside =
-    ((with_rising s g.cutting.complex listed).admissible inside).0 c.requires.1.1.1.1.1 in
-    let outside : List Bool = c.in_ok-outside.outside.items in
-    let made : (k : ℕ) → k < length ids → flag_at outside (get_or ids k 0) ≡ not (flag_at labels k) =
-    λ k l. c.in_ok-outside.ensures k l ∙ ap (λ (x : List Bool). not (flag_at x k)) c.as_slice-inside.ensures in
-    let flags : AreOutside slots inside outside =
-    outside_is s slots cells few complex all order listed.cells_are ids labels outside are_ids made in
-    let sorted : IsSortedCut slots outside c.in_ok-facets.facets.items =
-    subst (λ (o : List Bool). IsSortedCut slots o c.in_ok-facets.facets.items) c.deref.ensures.value c.in_ok-facets.ensures in
-    let cut : List (List ℕ) = cut_facets s.vertices complex inside in
-    let is : c.deref-3.result.now ≡ cut =
-    c.deref-3.ensures.value
-    ∙ cut_is_facets s slots cells few complex all inside none outside c.in_ok-facets.facets.items flags sorted in
-    let at : c.deref-2.result.now ≡ points = c.deref-2.ensures.value ∙ c.in_ok-points.ensures in
-    subst (λ (x : Complex).
-    IfOk c.mesh_of_facets.result (λ mesh. mesh.points.items ≡ (mesh_of points (cut_facets s.vertices x inside)).points))
-    (one_complex s complex rising all is_rising)
-    (subst (λ (ps : List Point). IfOk c.mesh_of_facets.result (λ mesh. mesh.points.items ≡ (mesh_of ps cut).points)) at
-    (subst (λ (fs : List (List ℕ)).
-    IfOk c.mesh_of_facets.result (λ mesh. mesh.points.items ≡ (mesh_of c.deref-2.result.now fs).points)) is
-    c.mesh_of_facets.ensures.points))
+-- what follows of a mesh of these points and faces
+of_both : {E : Type 0} (P Q R : Mesh → Type 0) (result : Result Mesh E) → ((mesh : Mesh) → P mesh → Q mesh → R mesh)
+    → IfOk result P → IfOk result Q → IfOk result R
+of_both P Q R (Ok mesh) so p q = so mesh p q
+of_both P Q R (Err e) so p q = tt
 
-pub returns-clause-faces : goal.returns-clause-faces
-returns-clause-faces g c rising is_rising =
-    let s : Scene = g.cutting.scene in
-    let listed : IsListingOf g.cutting.scene g.cutting.complex = c.requires.1.1.0 in
-    let complex : Complex = listed.complex in
-    let slots : List (Option Cell) = c.args.t.now.slots in
-    let ids : List ℕ = c.args.ids.now in
-    let labels : List Bool = c.args.labels.now.inside in
+pub returns : goal.returns
+returns c =
+    let is =
+    found c.args.t.now c.facts.ensures c.args.ids.now c.requires.ids _ _ _ _ c.as_slice-inside.ensures c.requires.corners
+    c.in_ok-outside.ensures c.deref.ensures.value _ _ c.deref-3.ensures.value c.in_ok-facets.ensures in
     let points : List Point = c.args.t.now.points in
-    let cells : AreCellsOf s slots = c.requires.0 in
-    let count : s.vertices.count ≡ length points = c.requires.1.0 in
-    let all : IsComplexOf s complex = listed.complex_is in
-    let order : List (List ℕ) = g.cutting.complex.cells in
-    let are_ids : AreIdsOf slots order ids = c.requires.1.1.1.0 in
-    let few_points : length points ≤ 8 + VERTEX_LIMIT = c.facts.ensures.vertices.few in
-    let few : s.vertices.count ≤ 2 ^ 32 = omega (arith, count, few_points) in
-    let inside : List ℕ → Bool = test_of order labels in
-    let none : IsAdmissible s complex inside =
-    ((with_rising s g.cutting.complex listed).admissible inside).0 c.requires.1.1.1.1.1 in
-    let outside : List Bool = c.in_ok-outside.outside.items in
-    let made : (k : ℕ) → k < length ids → flag_at outside (get_or ids k 0) ≡ not (flag_at labels k) =
-    λ k l. c.in_ok-outside.ensures k l ∙ ap (λ (x : List Bool). not (flag_at x k)) c.as_slice-inside.ensures in
-    let flags : AreOutside slots inside outside =
-    outside_is s slots cells few complex all order listed.cells_are ids labels outside are_ids made in
-    let sorted : IsSortedCut slots outside c.in_ok-facets.facets.items =
-    subst (λ (o : List Bool). IsSortedCut slots o c.in_ok-facets.facets.items) c.deref.ensures.value c.in_ok-facets.ensures in
-    let cut : List (List ℕ) = cut_facets s.vertices complex inside in
-    let is : c.deref-3.result.now ≡ cut =
-    c.deref-3.ensures.value
-    ∙ cut_is_facets s slots cells few complex all inside none outside c.in_ok-facets.facets.items flags sorted in
+    let facets : List (List ℕ) = c.deref-3.result.now in
+    let result = c.mesh_of_facets.result in
     let at : c.deref-2.result.now ≡ points = c.deref-2.ensures.value ∙ c.in_ok-points.ensures in
-    subst (λ (x : Complex).
-    IfOk c.mesh_of_facets.result (λ mesh. mesh.faces.items ≡ (mesh_of points (cut_facets s.vertices x inside)).faces))
-    (one_complex s complex rising all is_rising)
-    (subst (λ (ps : List Point). IfOk c.mesh_of_facets.result (λ mesh. mesh.faces.items ≡ (mesh_of ps cut).faces)) at
-    (subst (λ (fs : List (List ℕ)).
-    IfOk c.mesh_of_facets.result (λ mesh. mesh.faces.items ≡ (mesh_of c.deref-2.result.now fs).faces)) is
-    c.mesh_of_facets.ensures.faces))
-
-pub returns-clause-closed : goal.returns-clause-closed
-returns-clause-closed g c =
-    let s : Scene = g.cutting.scene in
-    let listed : IsListingOf g.cutting.scene g.cutting.complex = c.requires.1.1.0 in
-    let complex : Complex = listed.complex in
-    let slots : List (Option Cell) = c.args.t.now.slots in
-    let ids : List ℕ = c.args.ids.now in
-    let labels : List Bool = c.args.labels.now.inside in
-    let points : List Point = c.args.t.now.points in
-    let cells : AreCellsOf s slots = c.requires.0 in
-    let count : s.vertices.count ≡ length points = c.requires.1.0 in
-    let all : IsComplexOf s complex = listed.complex_is in
-    let order : List (List ℕ) = g.cutting.complex.cells in
-    let are_ids : AreIdsOf slots order ids = c.requires.1.1.1.0 in
-    let few_points : length points ≤ 8 + VERTEX_LIMIT = c.facts.ensures.vertices.few in
-    let few : s.vertices.count ≤ 2 ^ 32 = omega (arith, count, few_points) in
-    let inside : List ℕ → Bool = test_of order labels in
-    let none : IsAdmissible s complex inside =
-    ((with_rising s g.cutting.complex listed).admissible inside).0 c.requires.1.1.1.1.1 in
-    let outside : List Bool = c.in_ok-outside.outside.items in
-    let made : (k : ℕ) → k < length ids → flag_at outside (get_or ids k 0) ≡ not (flag_at labels k) =
-    λ k l. c.in_ok-outside.ensures k l ∙ ap (λ (x : List Bool). not (flag_at x k)) c.as_slice-inside.ensures in
-    let flags : AreOutside slots inside outside =
-    outside_is s slots cells few complex all order listed.cells_are ids labels outside are_ids made in
-    let sorted : IsSortedCut slots outside c.in_ok-facets.facets.items =
-    subst (λ (o : List Bool). IsSortedCut slots o c.in_ok-facets.facets.items) c.deref.ensures.value c.in_ok-facets.ensures in
-    let cut : List (List ℕ) = cut_facets s.vertices complex inside in
-    let is : c.deref-3.result.now ≡ cut =
-    c.deref-3.ensures.value
-    ∙ cut_is_facets s slots cells few complex all inside none outside c.in_ok-facets.facets.items flags sorted in
-    let at : c.deref-2.result.now ≡ points = c.deref-2.ensures.value ∙ c.in_ok-points.ensures in
-    let faces =
-    subst (λ (fs : List (List ℕ)).
-    IfOk c.mesh_of_facets.result (λ mesh. mesh.faces.items ≡ (mesh_of c.deref-2.result.now fs).faces)) is
+    let points_are : IfOk result (λ mesh. mesh.points.items ≡ (mesh_of points facets).points) =
+    subst (λ (places : List Point). IfOk result (λ mesh. mesh.points.items ≡ (mesh_of places facets).points)) at
+    c.mesh_of_facets.ensures.points in
+    let faces_are : IfOk result (λ mesh. mesh.faces.items ≡ (mesh_of points facets).faces) =
+    subst (λ (places : List Point). IfOk result (λ mesh. mesh.faces.items ≡ (mesh_of places facets).faces)) at
     c.mesh_of_facets.ensures.faces in
-    let closed : IsClosed cut =
-    subst IsClosed
-    (sym sorted.facets_are
-    ∙ cut_is_facets s slots cells few complex all inside none outside c.in_ok-facets.facets.items flags sorted)
-    (closed_sides s slots cells few complex all inside none outside flags sorted.sides sorted.moved) in
-    IfOk-weaker c.mesh_of_facets.result (λ mesh. mesh.faces.items ≡ (mesh_of c.deref-2.result.now cut).faces)
-    (λ mesh. IsClosed mesh.faces.items)
-    (λ mesh e. subst IsClosed (sym e)
-    (mesh_closed s.vertices.count c.deref-2.result.now cut (cut_is_list s complex all inside) closed)) faces
+    record {
+      cut =
+          of_both (λ mesh. mesh.points.items ≡ (mesh_of points facets).points)
+          (λ mesh. mesh.faces.items ≡ (mesh_of points facets).faces)
+          (IsCutMesh points c.args.t.now.slots c.args.ids.now c.args.labels.now.inside) result
+          (λ mesh p f. record { facets = facets; are_cut = is.are_cut; points_are = p; faces_are = f }) points_are faces_are;
+      points = λ scene listing over rising rising_is.
+          subst (λ (fs : List (List ℕ)). IfOk result (λ mesh. mesh.points.items ≡ (mesh_of points fs).points))
+          (cut_in_scene scene listing points c.args.t.now.slots c.args.ids.now c.args.labels.now.inside over rising rising_is
+          facets is.are_cut)
+          points_are;
+      faces = λ scene listing over rising rising_is.
+          subst (λ (fs : List (List ℕ)). IfOk result (λ mesh. mesh.faces.items ≡ (mesh_of points fs).faces))
+          (cut_in_scene scene listing points c.args.t.now.slots c.args.ids.now c.args.labels.now.inside over rising rising_is
+          facets is.are_cut)
+          faces_are;
+      valid = c.mesh_of_facets.ensures.valid;
+      rising = c.mesh_of_facets.ensures.rising;
+      closed =
+          IfOk-weaker result (λ mesh. mesh.faces.items ≡ (mesh_of points facets).faces) (λ mesh. IsClosed mesh.faces.items)
+          (λ mesh e. subst IsClosed (sym e) (mesh_closed (length points) points facets is.faces is.closed)) faces_are;
+    }

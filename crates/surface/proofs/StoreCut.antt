@@ -1,0 +1,181 @@
+-- The sorted facets of the sides between cells with a flag and cells with none are those that labels cut, where the flags are the
+-- labels turned round. A facet of a positive cell has three distinct vertices, and no two sides have one facet, so the facets rise
+-- strictly and are a list of faces.
+use Rattle.std.proofs.Common.{ℕ, zero, suc, ◌<◌, ◌≤◌, ◌^◌, ◌≡◌, ◌≢◌, sym, ap, ap₂, subst, ◌∙◌, inl, inr, ⊎_elim, arith}
+use Rattle.std.proofs.Common.{Bool, not, List, length, get_or, map, Option, Some, AllPairs, Contains}
+use Rattle.std.proofs.lemmas.Bool.{not-true, not-false, not_from_false}
+use Rattle.std.proofs.lemmas.List.{get_or-map, get_or_default, length-map}
+use Rattle.std.proofs.lemmas.List.Elements.{Contains-get_or}
+use Rattle.flow_net.specs.Nets.{flag_at}
+use Rattle.geo_sign.specs.Tetrahedron.{Tetrahedron, DirectedFacet, facet_of, IsRotated}
+use Rattle.geo_sign.specs.Rising.{IsBefore}
+use Rattle.geo_sign.specs.Vertices.{Vertices}
+use Rattle.geo_sign.proofs.CellRows.{AreDistinct, distinct}
+use Rattle.geo_sign.proofs.Rotations.{rotated_after, rotated_back}
+use Rattle.cell_laws.proofs.RimLists.{one_side}
+use Rattle.mesh_ply.specs.Meshes.{IsFace, IsFaceList}
+use Rattle.tetra_store.specs.declared.link.Cell.{Cell}
+use Rattle.tetra_store.specs.Links.{links_of, IsLinked, IsLive}
+use Rattle.vote_net.specs.declared.sides.Side.{Side}
+use Rattle.vote_net.specs.CellRows.{least_first, facet_row}
+use Rattle.vote_net.specs.CutSides.{IsCutSide}
+use Rattle.vote_net.specs.Gathered.{facet_key}
+use Rattle.vote_net.specs.Tables.{facet_of_side}
+use Rattle.vote_net.proofs.CellRows.{least_rotated, side_least}
+use Rattle.vote_net.proofs.Entries.{map_has, map_gets}
+use Rattle.vote_net.proofs.KeyOrders.{AreSmallOf, facets_before}
+use Rattle.vote_net.proofs.Nodes.{no_side}
+use Rattle.surface.specs.Labelled.{AreAllLive, AreCutFacets, IsCutFacet, IsSortedCut}
+
+-- ---- three distinct vertices below a limit
+AreProper : ℕ → DirectedFacet → Type 0
+AreProper n f = (f.a < n) × (f.b < n) × (f.c < n) × (f.a ≢ f.b) × (f.b ≢ f.c) × (f.c ≢ f.a)
+
+proper_rotated : (n : ℕ) (f g : DirectedFacet) → IsRotated f g → AreProper n f → AreProper n g
+unfolding AreProper
+proper_rotated n f g (inl e) h = subst (AreProper n) (sym e) h
+proper_rotated n f g (inr (inl e)) h = subst (AreProper n) (sym e) (h.1, h.2, h.0, h.4, h.5, h.3)
+proper_rotated n f g (inr (inr e)) h = subst (AreProper n) (sym e) (h.2, h.0, h.1, h.5, h.3, h.4)
+
+proper_side : (n : ℕ) (t : Tetrahedron) (k : ℕ) → AreDistinct t → t.a < n → t.b < n → t.c < n → t.d < n
+    → AreProper n (facet_of t k)
+unfolding AreProper
+proper_side n t zero q a b c d = (b, d, c, (λ e. q.d_b (sym e)), q.d_c, q.c_b)
+proper_side n t (suc zero) q a b c d = (a, c, d, (λ e. q.c_a (sym e)), (λ e. q.d_c (sym e)), q.d_a)
+proper_side n t (suc (suc zero)) q a b c d = (a, d, b, (λ e. q.d_a (sym e)), q.d_b, q.b_a)
+proper_side n t (suc (suc (suc k))) q a b c d = (a, b, c, (λ e. q.b_a (sym e)), (λ e. q.c_b (sym e)), q.c_a)
+
+least_same : (f g : DirectedFacet) → least_first f ≡ least_first g → IsRotated f g
+least_same f g e =
+    rotated_after f (least_first g) g (subst (IsRotated f) e (least_rotated f))
+    (rotated_back g (least_first g) (least_rotated g))
+
+-- the index of a live cell
+pub index_at : (slots : List (Option Cell)) (ids : List ℕ) → AreAllLive slots ids → (x : ℕ) → IsLive (links_of slots) x
+    → (k : ℕ) × (k < length ids) × (get_or ids k 0 ≡ x)
+index_at slots ids all x h = let c = all.all x h in (c.0, c.1, get_or_default ids c.0 0 x c.1 ∙ c.2)
+
+module _ (v : Vertices) (slots : List (Option Cell)) (linked : IsLinked v (links_of slots)) where
+  abbrev cell : ℕ → Tetrahedron
+  cell = (links_of slots).at
+
+  -- the facet of a side is a face
+  face_at : (x k : ℕ) → IsLive (links_of slots) x → IsFace v.count (facet_row (cell x) k)
+  unfolding AreProper
+  face_at x k h =
+      let f : DirectedFacet = least_first (facet_of (cell x) k) in
+      let l = side_least v (cell x) k (linked.positive x h) in
+      let p : AreProper v.count f =
+      proper_rotated v.count (facet_of (cell x) k) f (least_rotated (facet_of (cell x) k))
+      (proper_side v.count (cell x) k (distinct v (cell x) (linked.positive x h)) (linked.has x 0 h (omega arith)).0
+      (linked.has x 1 h (omega arith)).0 (linked.has x 2 h (omega arith)).0 (linked.has x 3 h (omega arith)).0) in
+      (l.0, l.1, p.4, p.1, p.2)
+
+  -- sides with one facet are one
+  pub one_of_facet : (x y j k : ℕ) → IsLive (links_of slots) x → IsLive (links_of slots) y → j < 4 → k < 4
+      → IsRotated (facet_of (cell x) j) (facet_of (cell y) k) → (x ≡ y) × (j ≡ k)
+  one_of_facet x y j k hx hy hj hk r =
+      let e : x ≡ y = linked.apart x y j k hx hy hj hk r in (
+        e,
+        one_side v (cell x) j k hj hk (linked.positive x hx)
+            (subst (λ (z : ℕ). IsRotated (facet_of (cell x) j) (facet_of (cell z) k)) (sym e) r),
+      )
+
+  -- ---- sorted facets
+  module _ (few : v.count ≤ 2 ^ 32) (outside : List Bool) (facets : List (List ℕ))
+      (cut : IsSortedCut slots outside facets) where
+    side_in : (i : ℕ) → i < length cut.sides → IsCutSide slots outside (get_or cut.sides i no_side)
+    side_in i l = cut.are_cut.each (get_or cut.sides i no_side) (Contains-get_or cut.sides i no_side l)
+
+    small : (x k : ℕ) → IsLive (links_of slots) x → AreSmallOf (least_first (facet_of (cell x) k))
+    small x k h =
+        let p = face_at x k h in let b = p.3 in let c = p.4 in
+        record { b = omega (arith, b, few); c = omega (arith, c, few) }
+
+    rise : AllPairs IsBefore (map facet_of_side cut.sides)
+    rise i j d l m =
+        let n = length-map cut.sides facet_of_side in
+        let lj : j < length cut.sides = omega (arith, m, n) in
+        let li : i < length cut.sides = omega (arith, l, lj) in
+        let x = get_or cut.sides i no_side in
+        let y = get_or cut.sides j no_side in
+        let p = side_in i li in
+        let q = side_in j lj in
+        let key : facet_key (facet_row (cell x.id) x.side) ≤ facet_key (facet_row (cell y.id) y.side) =
+        subst (λ (k : ℕ). k ≤ facet_key (facet_row (cell y.id) y.side)) (ap facet_key p.facet_is)
+        (subst (λ (k : ℕ). facet_key x.facet ≤ k) (ap facet_key q.facet_is) (cut.sorted i j no_side (omega (arith, l)) lj)) in
+        subst (λ (a : List ℕ). IsBefore a (get_or (map facet_of_side cut.sides) j d))
+        (sym (get_or-map facet_of_side cut.sides i no_side d li ∙ p.facet_is))
+        (subst (λ (b : List ℕ). IsBefore (facet_row (cell x.id) x.side) b)
+        (sym (get_or-map facet_of_side cut.sides j no_side d lj ∙ q.facet_is))
+        (⊎_elim (λ (h : IsBefore (facet_row (cell x.id) x.side) (facet_row (cell y.id) y.side)). h)
+        (λ (e : least_first (facet_of (cell x.id) x.side) ≡ least_first (facet_of (cell y.id) y.side)).
+        let one =
+        one_of_facet x.id y.id x.side y.side p.live q.live p.in_range q.in_range
+        (least_same (facet_of (cell x.id) x.side) (facet_of (cell y.id) y.side) e) in
+        let id = one.0 in
+        let side = one.1 in
+        let same : i ≡ j = cut.are_cut.once i j no_side li lj (omega (arith, id, side)) in
+        absurd (omega (arith, l, same)))
+        (facets_before (least_first (facet_of (cell x.id) x.side)) (least_first (facet_of (cell y.id) y.side))
+        (small x.id x.side p.live) (small y.id y.side q.live) key)))
+
+    faces : IsFaceList v.count (map facet_of_side cut.sides)
+    faces =
+        record {
+          each = λ i d m.
+              (let n = length-map cut.sides facet_of_side in
+              let l : i < length cut.sides = omega (arith, m, n) in
+              let p = side_in i l in
+              let x = get_or cut.sides i no_side in
+              subst (IsFace v.count) (sym (get_or-map facet_of_side cut.sides i no_side d l ∙ p.facet_is))
+              (face_at x.id x.side p.live));
+          rising = rise;
+        }
+
+    pub are_faces : IsFaceList v.count facets
+    are_faces = subst (IsFaceList v.count) (sym cut.facets_are) faces
+
+    -- ---- labels of the cells
+    module _ (ids : List ℕ) (all : AreAllLive slots ids) (inside : List Bool)
+        (flags : (k : ℕ) → k < length ids → flag_at outside (get_or ids k 0) ≡ not (flag_at inside k)) where
+      only : (x : Side) → Contains cut.sides x → IsCutFacet slots ids inside x.facet
+      only x h =
+          let p = cut.are_cut.each x h in
+          let b = linked.back x.id x.side p.other p.live p.in_range p.next in
+          let i = index_at slots ids all x.id p.live in
+          let j = index_at slots ids all p.other b.live in
+          record {
+            own = i.0;
+            side = x.side;
+            other = j.0;
+            listed = i.1;
+            in_range = p.in_range;
+            other_listed = j.1;
+            across = ap (λ (z : ℕ). (links_of slots).next z x.side) i.2 ∙ p.next ∙ ap Some (sym j.2);
+            is_outside = not-true (flag_at inside i.0) (sym (flags i.0 i.1) ∙ ap (flag_at outside) i.2 ∙ p.own);
+            is_inside = not-false (flag_at inside j.0) (sym (flags j.0 j.1) ∙ ap (flag_at outside) j.2 ∙ p.inside);
+            facet_is = p.facet_is ∙ ap (λ (z : ℕ). facet_row (cell z) x.side) (sym i.2);
+          }
+
+      there : (f : List ℕ) → IsCutFacet slots ids inside f → Contains (map facet_of_side cut.sides) f
+      there f c =
+          let x = get_or ids c.own 0 in
+          let z =
+          cut.are_cut.all x c.side (get_or ids c.other 0) c.in_range c.across
+          (flags c.own c.listed ∙ not_from_false (flag_at inside c.own) c.is_outside)
+          (flags c.other c.other_listed ∙ ap not c.is_inside) in
+          let is : z.0.facet ≡ f =
+          (cut.are_cut.each z.0 z.1).facet_is ∙ ap₂ (λ (i k : ℕ). facet_row (cell i) k) z.2 z.3 ∙ sym c.facet_is in
+          subst (Contains (map facet_of_side cut.sides)) is (map_gets facet_of_side cut.sides z.0 z.1)
+
+      pub are_cut_facets : AreCutFacets slots ids inside facets
+      are_cut_facets =
+          subst (AreCutFacets slots ids inside) (sym cut.facets_are)
+          (record {
+            only = λ f h.
+                (let p = map_has facet_of_side cut.sides f h in
+                subst (IsCutFacet slots ids inside) p.is (only p.from p.listed));
+            all = there;
+            rising = rise;
+          })
