@@ -21,6 +21,3 @@ pub use verdict::Verdict;
 
 /// The error of a call for which there was no memory.
 pub type NoMemory = std::alloc::AllocError;
-
-#[cfg(test)]
-mod tests;

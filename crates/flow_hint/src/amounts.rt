@@ -26,6 +26,31 @@ impl Amounts {
         })
     }
 
+    /// The same amounts once more.
+    pub fn copied(&self, alloc: Global) -> Result<Amounts, NoMemory> {
+        Ok(Amounts {
+            narrow: Vec::from_slice(alloc, self.narrow.as_slice())?,
+            wide: Vec::from_slice(alloc, self.wide.as_slice())?,
+        })
+    }
+
+    /// The same amounts, in 64 bits unless 32 are enough for what they become.
+    pub fn widened(self, alloc: Global, is_narrow: bool) -> Result<Amounts, NoMemory> {
+        if is_narrow || self.narrow.is_empty() {
+            return Ok(self);
+        }
+        let mut amounts = Amounts::new(alloc, self.len(), false)?;
+        for place in 0..self.len() {
+            amounts.set(place, self.get(place));
+        }
+        Ok(amounts)
+    }
+
+    /// How many places there are.
+    pub fn len(&self) -> usize {
+        self.narrow.len().max(self.wide.len())
+    }
+
     /// The amount at a place.
     #[inline]
     pub fn get(&self, place: usize) -> u64 {

@@ -4,6 +4,7 @@ ghost use Rattle.std.specs.Prelude.{◌≡◌, length, IfOk, IfSome};
 
 use crate::NoMemory;
 use crate::forest::Forest;
+use crate::kept::KeptPreflow;
 use crate::levels::Levels;
 use crate::preflow::{Preflow, Start};
 use crate::rounds::Rounds;
@@ -27,6 +28,10 @@ pub struct Hint {
 fn sent<'a>(alloc: Global, preflow: Preflow<'a>) -> Result<(Preflow<'a>, Levels), NoMemory>
     ensures { IfOk result (λ made. made.0.wiring ≡ preflow.entry.wiring) }
 {
+    if !preflow.has_room() {
+        let levels = Levels::none(alloc, preflow.wiring.nodes)?;
+        return Ok((preflow, levels));
+    }
     let mut forest = Forest::new(alloc, preflow)?;
     forest.run();
     let Forest { preflow, .. } = forest;
@@ -67,23 +72,30 @@ fn given_back<'a>(alloc: Global, preflow: Preflow<'a>) -> Result<Preflow<'a>, No
     Ok(preflow)
 }
 
-/// The hint by one way to start, or None where it is known not to be a flow.
+/// The amounts by one way to start, after those that can have come to sinks, and the levels. None where there is no hint.
 ///
 /// Where amounts are listed, sinks first take no more than these, so that mostly no less comes to any.
-fn hint_from(
+fn sent_from<'a>(
     alloc: Global,
-    net: &Net,
+    net: &'a Net,
     start: Start,
     first: &[u64],
-) -> Result<Option<Hint>, NoMemory>
-    ensures arcs { IfOk result (λ found. IfSome found (λ hint. length hint.flow.on_arc ≡ length net.now.arcs)) }
-    ensures sinks { IfOk result (λ found. IfSome found (λ hint. length hint.flow.on_sink ≡ length net.now.fixed)) }
+) -> Result<Option<(Preflow<'a>, Levels)>, NoMemory>
+    ensures { IfOk result (λ found. IfSome found (λ made. made.0.wiring.net.now ≡ net.now)) }
 {
     let Some(preflow) = Preflow::new(alloc, net, start, first)? else {
         return Ok(None);
     };
     let preflow = filled_first(alloc, preflow, first)?;
-    let (mut preflow, levels) = sent(alloc, preflow)?;
+    Ok(Some(sent(alloc, preflow)?))
+}
+
+/// The hint that amounts are after what has come to no sink has gone back, or None where not all of it has.
+fn settled(alloc: Global, preflow: Preflow<'_>, levels: Levels) -> Result<Option<Hint>, NoMemory>
+    ensures arcs { IfOk result (λ found. IfSome found (λ hint. length hint.flow.on_arc ≡ length preflow.entry.wiring.net.now.arcs)) }
+    ensures sinks { IfOk result (λ found. IfSome found (λ hint. length hint.flow.on_sink ≡ length preflow.entry.wiring.net.now.fixed)) }
+{
+    let mut preflow = preflow;
     preflow.give_beside();
     let preflow = given_back(alloc, preflow)?;
     if !preflow.is_settled() {
@@ -91,6 +103,22 @@ fn hint_from(
     }
     let flow = preflow.into_flow(alloc)?;
     Ok(Some(Hint { flow, levels }))
+}
+
+/// That hint, and the amounts as they were before.
+fn settled_and_kept(
+    alloc: Global,
+    preflow: Preflow<'_>,
+    levels: Levels,
+) -> Result<Option<(Hint, KeptPreflow)>, NoMemory>
+    ensures arcs { IfOk result (λ found. IfSome found (λ pair. length pair.0.flow.on_arc ≡ length preflow.entry.wiring.net.now.arcs)) }
+    ensures sinks { IfOk result (λ found. IfSome found (λ pair. length pair.0.flow.on_sink ≡ length preflow.entry.wiring.net.now.fixed)) }
+{
+    let kept = KeptPreflow::of(alloc, &preflow)?;
+    match settled(alloc, preflow, levels)? {
+        Some(hint) => Ok(Some((hint, kept))),
+        None => Ok(None),
+    }
 }
 
 /// A hint at a largest flow, or None where there is none: where capacities come to more than 2^62, or there are no arcs
@@ -103,20 +131,56 @@ pub fn find_hint(alloc: Global, net: &Net) -> Result<Option<Hint>, NoMemory>
     ensures arcs { IfOk result (λ found. IfSome found (λ hint. length hint.flow.on_arc ≡ length net.now.arcs)) }
     ensures sinks { IfOk result (λ found. IfSome found (λ hint. length hint.flow.on_sink ≡ length net.now.fixed)) }
 {
-    find_hint_above(alloc, net, &[])
-}
-
-/// A hint by which mostly no less comes to each sink than is listed, where a valid flow brings so much there. Nothing is listed
-/// past the end of the list.
-pub fn find_hint_above(alloc: Global, net: &Net, first: &[u64]) -> Result<Option<Hint>, NoMemory>
-    ensures arcs { IfOk result (λ found. IfSome found (λ hint. length hint.flow.on_arc ≡ length net.now.arcs)) }
-    ensures sinks { IfOk result (λ found. IfSome found (λ hint. length hint.flow.on_sink ≡ length net.now.fixed)) }
-{
     for start in [Start::Full, Start::Plain] {
-        let found = hint_from(alloc, net, start, first)?;
-        if found.is_some() {
-            return Ok(found);
+        if let Some((preflow, levels)) = sent_from(alloc, net, start, &[])? {
+            let found = settled(alloc, preflow, levels)?;
+            if found.is_some() {
+                return Ok(found);
+            }
         }
     }
     Ok(None)
+}
+
+/// A hint by which mostly no less comes to each sink than is listed, where a valid flow brings so much there, and the preflow
+/// that it was made of. Nothing is listed past the end of the list.
+///
+/// The preflow takes 4 bytes an arc, or 8 where capacities are large, and 24 a node.
+pub fn find_hint_above(
+    alloc: Global,
+    net: &Net,
+    first: &[u64],
+) -> Result<Option<(Hint, KeptPreflow)>, NoMemory>
+    ensures arcs { IfOk result (λ found. IfSome found (λ pair. length pair.0.flow.on_arc ≡ length net.now.arcs)) }
+    ensures sinks { IfOk result (λ found. IfSome found (λ pair. length pair.0.flow.on_sink ≡ length net.now.fixed)) }
+{
+    for start in [Start::Full, Start::Plain] {
+        if let Some((preflow, levels)) = sent_from(alloc, net, start, first)? {
+            let found = settled_and_kept(alloc, preflow, levels)?;
+            if found.is_some() {
+                return Ok(found);
+            }
+        }
+    }
+    Ok(None)
+}
+
+/// A hint that goes on from the preflow of an earlier one, and its own preflow.
+///
+/// Mostly it is a flow where the network is the earlier one at capacities that are larger, by the same for both arcs of a
+/// pair, and no less comes to any sink than by the earlier hint. There is none where the network has not as many nodes and
+/// arcs.
+pub fn find_hint_on(
+    alloc: Global,
+    net: &Net,
+    kept: KeptPreflow,
+) -> Result<Option<(Hint, KeptPreflow)>, NoMemory>
+    ensures arcs { IfOk result (λ found. IfSome found (λ pair. length pair.0.flow.on_arc ≡ length net.now.arcs)) }
+    ensures sinks { IfOk result (λ found. IfSome found (λ pair. length pair.0.flow.on_sink ≡ length net.now.fixed)) }
+{
+    let Some(preflow) = Preflow::on(alloc, net, kept)? else {
+        return Ok(None);
+    };
+    let (preflow, levels) = sent(alloc, preflow)?;
+    settled_and_kept(alloc, preflow, levels)
 }

@@ -142,8 +142,13 @@ impl<'a> Preflow<'a> {
         self.settle();
     }
 
+    /// Whether more can leave at a node.
+    pub fn has_room(&self) -> bool {
+        self.sink.iter().any(|amount| *amount > 0)
+    }
+
     /// Lets what is at each node leave there, as far as there is room.
-    fn settle(&mut self)
+    pub fn settle(&mut self)
         ensures { self.new.wiring ≡ self.old.wiring }
     {
         for node in 0..self.wiring.nodes {

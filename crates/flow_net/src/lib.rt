@@ -144,6 +144,3 @@ impl Net {
         self.arcs.change_smoothing(from, to);
     }
 }
-
-#[cfg(test)]
-mod tests;

@@ -12,6 +12,3 @@ pub use testing::is_valid_flow;
 
 /// The error of a call for which there was no memory.
 pub type NoMemory = std::alloc::AllocError;
-
-#[cfg(test)]
-mod tests;

@@ -15,7 +15,7 @@ use crate::paths::{augment, bottleneck};
 use crate::phases::Phase;
 use crate::residual::ResidualArc;
 use crate::searches::{Search, search_back};
-use flow_hint::{Hint, Levels, find_hint, find_hint_above, find_levels};
+use flow_hint::{Hint, KeptPreflow, Levels, find_hint, find_hint_above, find_levels};
 use flow_net::{Flow, Labels, Net, Sequence};
 use flow_valid::is_valid_flow;
 use std::alloc::Global;
@@ -101,7 +101,7 @@ fn improve(
 /// Goes on from a valid flow to a largest one, by rounds. No less leaves at any sink than before.
 ///
 /// Without memory the flow is valid, and its value is no smaller than before.
-fn finish(alloc: Global, net: &Net, flow: &mut Flow) -> Result<(), NoMemory>
+pub fn finish(alloc: Global, net: &Net, flow: &mut Flow) -> Result<(), NoMemory>
     requires { IsValidFlow net.now flow.old }
     ensures largest { OnOk result (IsLargest net.now flow.new) }
     ensures valid { IsValidFlow net.now flow.new }
@@ -125,7 +125,7 @@ pub fn zero_flow(alloc: Global, net: &Net) -> Result<Flow, NoMemory>
 
 /// The least-inside labels that levels show beside a valid flow, or None where they show none. Where they show some, the flow is a
 /// largest one.
-fn shown_by(
+pub fn shown_by(
     alloc: Global,
     net: &Net,
     flow: &Flow,
@@ -153,12 +153,16 @@ fn shown_by(
 
 /// A valid flow to start from, and the least-inside labels where it is known to be a largest one: that of a hint, which mostly is,
 /// or the flow of nothing where the hint's is not valid.
-fn first_flow(alloc: Global, net: &Net) -> Result<(Flow, Option<Labels>), NoMemory>
+fn first_flow(
+    alloc: Global,
+    net: &Net,
+    hint: Option<Hint>,
+) -> Result<(Flow, Option<Labels>), NoMemory>
     ensures valid { IfOk result (λ found. IsValidFlow net.now found.0) }
     ensures least { IfOk result (λ found. IfSome found.1 (λ labels. IsLeastInside net.now labels)) }
     ensures cost { IfOk result (λ found. IfSome found.1 (λ labels. cost_of net.now labels ≡ value_of net.now found.0)) }
 {
-    if let Some(Hint { flow, levels }) = find_hint(alloc, net)? {
+    if let Some(Hint { flow, levels }) = hint {
         if is_valid_flow(alloc, net, &flow)? {
             let labels = shown_by(alloc, net, &flow, levels)?;
             return Ok((flow, labels));
@@ -167,15 +171,19 @@ fn first_flow(alloc: Global, net: &Net) -> Result<(Flow, Option<Labels>), NoMemo
     Ok((zero_flow(alloc, net)?, None))
 }
 
-/// A flow of the largest value, and the least-inside labels where the hint showed them.
+/// A flow of the largest value, and the least-inside labels where a hint shows them.
 #[tactic(auto, using(crate::proofs::Cuts::shown_largest))]
-fn largest_flow(alloc: Global, net: &Net) -> Result<(Flow, Option<Labels>), NoMemory>
+fn largest_flow(
+    alloc: Global,
+    net: &Net,
+    hint: Option<Hint>,
+) -> Result<(Flow, Option<Labels>), NoMemory>
     ensures valid { IfOk result (λ found. IsValidFlow net.now found.0) }
     ensures largest { IfOk result (λ found. IsLargest net.now found.0) }
     ensures least { IfOk result (λ found. IfSome found.1 (λ labels. IsLeastInside net.now labels)) }
     ensures cost { IfOk result (λ found. IfSome found.1 (λ labels. cost_of net.now labels ≡ value_of net.now found.0)) }
 {
-    let (mut flow, found) = first_flow(alloc, net)?;
+    let (mut flow, found) = first_flow(alloc, net, hint)?;
     if let Some(labels) = found {
         return Ok((flow, Some(labels)));
     }
@@ -188,66 +196,13 @@ pub fn solve(alloc: Global, net: &Net) -> Result<Flow, NoMemory>
     ensures valid { IfOk result (λ flow. IsValidFlow net.now flow) }
     ensures largest { IfOk result (λ flow. IsLargest net.now flow) }
 {
-    let (flow, _labels) = largest_flow(alloc, net)?;
+    let hint = find_hint(alloc, net)?;
+    let (flow, _labels) = largest_flow(alloc, net, hint)?;
     Ok(flow)
 }
 
-/// Whether no less leaves at any sink of one flow than of another.
-fn keeps_sinks(before: &Flow, after: &Flow) -> bool
-    requires { length before.now.on_sink ≡ length after.now.on_sink }
-    ensures { result ≡ true → KeepsSinks before.now after.now }
-{
-    let before = before.on_sink.as_slice();
-    let after = after.on_sink.as_slice();
-    for node in 0..before.len() {
-        if after[node] < before[node] {
-            return false;
-        }
-    }
-    true
-}
-
-/// Puts the flow of a hint in the place of a valid flow, where that is valid too and no less leaves at any sink. Answers whether
-/// it is known to be a largest one.
-#[tactic(auto, using(crate::proofs::Cuts::shown_largest))]
-fn take_more(alloc: Global, net: &Net, flow: &mut Flow) -> Result<bool, NoMemory>
-    requires { IsValidFlow net.now flow.old }
-    ensures largest { IfOk result (λ is_largest. is_largest ≡ true → IsLargest net.now flow.new) }
-    ensures valid { IsValidFlow net.now flow.new }
-    ensures sinks { KeepsSinks flow.old flow.new }
-    ensures rises { value_of net.now flow.old ≤ value_of net.now flow.new }
-{
-    let Some(Hint { flow: more, levels }) = find_hint_above(alloc, net, flow.on_sink.as_slice())?
-    else {
-        return Ok(false);
-    };
-    if !is_valid_flow(alloc, net, &more)? || !keeps_sinks(flow, &more) {
-        return Ok(false);
-    }
-    let shown = shown_by(alloc, net, &more, levels)?;
-    *flow = more;
-    Ok(shown.is_some())
-}
-
-/// Goes on from a valid flow to a largest one, which is valid too, so 0 at the sinks of fixed nodes. No less leaves at any
-/// sink than before: what has come to a sink stays there, and only more is sent.
-///
-/// Without memory the flow is valid, its value is no smaller than before, and no less leaves at any sink.
-pub fn resume(alloc: Global, net: &Net, flow: &mut Flow) -> Result<(), NoMemory>
-    requires { IsValidFlow net.now flow.old }
-    ensures largest { OnOk result (IsLargest net.now flow.new) }
-    ensures valid { IsValidFlow net.now flow.new }
-    ensures rises { value_of net.now flow.old ≤ value_of net.now flow.new }
-    ensures sinks { KeepsSinks flow.old flow.new }
-{
-    if take_more(alloc, net, flow)? {
-        return Ok(());
-    }
-    finish(alloc, net, flow)
-}
-
 /// The least-inside labels that levels show, or None where they show none.
-fn shown_inside(alloc: Global, net: &Net, flow: &Flow) -> Result<Option<Labels>, NoMemory>
+pub fn shown_inside(alloc: Global, net: &Net, flow: &Flow) -> Result<Option<Labels>, NoMemory>
     requires { IsValidFlow net.now flow.now }
     ensures least { IfOk result (λ found. IfSome found (λ labels. IsLeastInside net.now labels)) }
     ensures cost { IfOk result (λ found. IfSome found (λ labels. cost_of net.now labels ≡ value_of net.now flow.now)) }
@@ -287,6 +242,21 @@ pub fn least_inside(alloc: Global, net: &Net, flow: &Flow) -> Result<Labels, NoM
     searched_inside(alloc, net, flow)
 }
 
+/// A flow of the largest value from a hint, and the least-inside labels, which cost as much.
+fn cut_by(alloc: Global, net: &Net, hint: Option<Hint>) -> Result<(Flow, Labels), NoMemory>
+    ensures valid { IfOk result (λ cut. IsValidFlow net.now cut.0) }
+    ensures largest { IfOk result (λ cut. IsLargest net.now cut.0) }
+    ensures least { IfOk result (λ cut. IsLeastInside net.now cut.1) }
+    ensures cost { IfOk result (λ cut. cost_of net.now cut.1 ≡ value_of net.now cut.0) }
+{
+    let (flow, found) = largest_flow(alloc, net, hint)?;
+    if let Some(labels) = found {
+        return Ok((flow, labels));
+    }
+    let labels = least_inside(alloc, net, &flow)?;
+    Ok((flow, labels))
+}
+
 /// A flow of the largest value, and the least-inside labels, which cost as much. It takes less time than `solve` and
 /// `least_inside` one after the other.
 pub fn minimum_cut(alloc: Global, net: &Net) -> Result<(Flow, Labels), NoMemory>
@@ -295,10 +265,24 @@ pub fn minimum_cut(alloc: Global, net: &Net) -> Result<(Flow, Labels), NoMemory>
     ensures least { IfOk result (λ cut. IsLeastInside net.now cut.1) }
     ensures cost { IfOk result (λ cut. cost_of net.now cut.1 ≡ value_of net.now cut.0) }
 {
-    let (flow, found) = largest_flow(alloc, net)?;
-    if let Some(labels) = found {
-        return Ok((flow, labels));
-    }
-    let labels = least_inside(alloc, net, &flow)?;
-    Ok((flow, labels))
+    let hint = find_hint(alloc, net)?;
+    cut_by(alloc, net, hint)
+}
+
+/// What `minimum_cut` answers, and the preflow of its hint, if there is one, for `minimum_cut_above` to go on from.
+pub fn minimum_cut_and_preflow(
+    alloc: Global,
+    net: &Net,
+) -> Result<(Flow, Labels, Option<KeptPreflow>), NoMemory>
+    ensures valid { IfOk result (λ cut. IsValidFlow net.now cut.0) }
+    ensures largest { IfOk result (λ cut. IsLargest net.now cut.0) }
+    ensures least { IfOk result (λ cut. IsLeastInside net.now cut.1) }
+    ensures cost { IfOk result (λ cut. cost_of net.now cut.1 ≡ value_of net.now cut.0) }
+{
+    let (hint, kept) = match find_hint_above(alloc, net, &[])? {
+        Some((hint, kept)) => (Some(hint), Some(kept)),
+        None => (None, None),
+    };
+    let (flow, labels) = cut_by(alloc, net, hint)?;
+    Ok((flow, labels, kept))
 }

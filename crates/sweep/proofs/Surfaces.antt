@@ -15,15 +15,17 @@ use Rattle.solution.specs.Scans.{scene_of_scan}
 use Rattle.solution.specs.Solutions.{surface_of}
 use Rattle.solution.proofs.Certificates.{cost_over, least_inside_is}
 use Rattle.solution.proofs.LeastCosts.{least_cost_law}
+use Rattle.surface.specs.Labelled.{AreLabelsOver}
 use Rattle.tetra_store.specs.Store.{Store}
 use Rattle.visibility.specs.Complexes.{Complex}
-use Rattle.visibility.specs.Cuts.{cost, cut_facets, IsAdmissible, IsLeastCost}
+use Rattle.visibility.specs.Cuts.{cost, cut_facets, IsLeastCost}
 use Rattle.visibility.specs.Laws.{test_of}
 use Rattle.visibility.specs.Networks.{complex_of}
 use Rattle.visibility.specs.Scenes.{Scene, scene_of}
 use Rattle.visibility.specs.Votes.{IsComplexOf}
 use Rattle.visibility.proofs.ListingAgreements.{with_rising}
 use Rattle.visibility.proofs.Networks.{node_count}
+use Rattle.vote_net.specs.Counts.{AreIdsOf}
 use Rattle.sweep.specs.Entries.{CostsLeast, IsBest, IsSurfaceOf}
 use Rattle.sweep.specs.Swept.{IsKept}
 use Rattle.sweep.proofs.Scenes.{scene_kept}
@@ -78,16 +80,18 @@ module _ (points scanners : List Point) (sights : List Sight) (settings : Settin
       let is = cost_over scene voted labels kept.network kept.least in
       omega (arith, fits, is)
 
-  -- what the surface is made from
-  pub vertex_count : scene.vertices.count ≡ length store.points
-  vertex_count = sym (ap length kept.stored ∙ length-append corners points)
-
-  pub label_count : length labels.inside ≡ length voted.cells
-  label_count = kept.least.count ∙ node_count scene voted kept.network
-
-  pub admissible : IsAdmissible scene (complex_of voted) inside
-  admissible =
-      ((with_rising scene (complex_of voted) kept.network.listing).admissible inside).1 best.least.least_cost.admissible
+  -- what the surface is made from, whatever the list of numbers is called
+  pub over : (given : List ℕ) → given ≡ ids → AreLabelsOver scene (complex_of voted) store.points store.slots given labels.inside
+  over given same =
+      record {
+        cells = kept.cells;
+        count = sym (ap length kept.stored ∙ length-append corners points);
+        lists = kept.network.listing;
+        ids_are = subst (AreIdsOf store.slots voted.cells) (sym same) kept.ids_are;
+        labels = kept.least.count ∙ node_count scene voted kept.network;
+        admissible =
+            ((with_rising scene (complex_of voted) kept.network.listing).admissible inside).1 best.least.least_cost.admissible;
+      }
 
   -- the mesh of the labels is the surface
   pub surface_is : (mesh : Mesh) → mesh.points.items ≡ (mesh_of store.points (cut_facets scene.vertices rising inside)).points

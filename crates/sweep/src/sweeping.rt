@@ -1,29 +1,20 @@
 //! A sweep: a scan's best surface at one smoothing, which can be raised. It stands on `delaunay` and `votes` for the
 //! network, on `max_flow` and on `surface`.
 
-ghost use Rattle.std.specs.Prelude.{◌≡◌, ◌<◌, ◌≤◌, length, IfOk, OnOk, OnErr};
-ghost use Rattle.flow_net.specs.Flows.{IsLargest, IsLeastInside, IsValidFlow};
+ghost use Rattle.std.specs.Prelude.{◌≡◌, ◌<◌, ◌≤◌, IfOk, OnOk, OnErr};
 ghost use Rattle.flow_net.specs.declared.votes.TheConstants.{WEIGHT_LIMIT};
-ghost use Rattle.max_flow.specs.Paths.{KeepsSinks};
-ghost use Rattle.mesh_ply.specs.Meshes.{IsMesh, mesh_of};
+ghost use Rattle.mesh_ply.specs.Meshes.{IsMesh};
 ghost use Rattle.scan.specs.Views.{shown_of};
 ghost use Rattle.solution.specs.Solutions.{surface_of};
 ghost use Rattle.surface.specs.Closed.{IsClosed};
-ghost use Rattle.surface.specs.Labelled.{Cutting};
-ghost use Rattle.visibility.specs.Complexes.{Complex};
-ghost use Rattle.visibility.specs.Cuts.{IsAdmissible, cut_facets};
-ghost use Rattle.visibility.specs.Laws.{test_of};
-ghost use Rattle.visibility.specs.Listings.{IsListingOf};
-ghost use Rattle.visibility.specs.Votes.{IsComplexOf};
-ghost use Rattle.vote_net.specs.Counts.{AreCellsOf, AreIdsOf};
 ghost use Rattle.sweep.specs.Entries.{CostsLeast, IsSurfaceOf};
 ghost use Rattle.sweep.specs.Swept.{IsOf, HasLargest, IsRaised, scene_in};
 
 use crate::NoMemory;
 use delaunay::build;
-use flow_net::{Flow, Labels, Net, Sequence, Settings, cost};
+use flow_net::{Flow, Labels, Settings, cost};
 use geo_sign::Point;
-use max_flow::{least_inside, minimum_cut, resume};
+use max_flow::{KeptPreflow, minimum_cut_above, minimum_cut_and_preflow};
 use mesh_ply::Mesh;
 use scan::Scan;
 use solution::{SeenPoints, seen_in};
@@ -31,13 +22,15 @@ use std::alloc::Global;
 use std::marker::Model;
 use surface::facets;
 use tetra_store::Tetra;
-use visibility::Scene;
 use vote_net::Counted;
 use votes::count_votes_as_stored;
 
 /// The best surface of a scan at one smoothing, with a largest flow, which is kept when the smoothing is raised.
 ///
 /// Contracts see its points, scanners and sights, the weights, the cells and the facets that have a capacity, and the flow.
+///
+/// For the next raise it holds 4 bytes a facet that has a capacity, or 8 where capacities are large, and 24 a cell. While a raise
+/// runs it takes as much once more, beside a second flow.
 #[derive(Drop)]
 pub struct Sweep {
     /// The memory that it was made with.
@@ -56,6 +49,8 @@ pub struct Sweep {
     flow: Flow,
     /// The least-inside labels.
     labels: Labels,
+    /// What the next raise goes on from, if there is anything: how long it takes hangs on it, and nothing else.
+    kept: Option<KeptPreflow>,
 }
 
 impl Model for Sweep {
@@ -66,51 +61,6 @@ impl Model for Sweep {
     ghost view = { λ s. record { points = s.seen.points.items; scanners = s.scanners.items; sights = s.seen.sights.items; settings = s.settings; cells = s.counted.voted.cells; facets = s.counted.voted.facets; flow = s.flow } };
 
     ghost invariant = { λ s. IsKept s.seen.points.items s.scanners.items s.seen.sights.items s.settings s.tetra s.counted.voted s.counted.ids.items s.flow s.labels };
-}
-
-/// The amounts of a flow once more.
-fn copied(alloc: Global, flow: &Flow) -> Result<Flow, NoMemory>
-    ensures { IfOk result (λ copy. copy ≡ flow.now) }
-{
-    Ok(Flow {
-        on_arc: Sequence::from(Vec::from_slice(alloc, flow.on_arc.as_slice())?),
-        on_sink: Sequence::from(Vec::from_slice(alloc, flow.on_sink.as_slice())?),
-    })
-}
-
-/// Goes on from a valid flow to a largest one, and answers the least-inside labels.
-fn cut_from(alloc: Global, net: &Net, flow: &mut Flow) -> Result<Labels, NoMemory>
-    requires { IsValidFlow net.now flow.old }
-    ensures largest { OnOk result (IsLargest net.now flow.new) }
-    ensures sinks { KeepsSinks flow.old flow.new }
-    ensures least { IfOk result (λ labels. IsLeastInside net.now labels) }
-{
-    resume(alloc, net, flow)?;
-    least_inside(alloc, net, flow)
-}
-
-/// The mesh of labels of a network's cells, which are those of a scene.
-fn mesh_of_labels(
-    alloc: Global,
-    scene: &Scene<'_>,
-    tetra: &Tetra,
-    counted: &Counted,
-    labels: &Labels,
-) -> Result<Mesh, NoMemory>
-    ghost cutting: { Cutting }
-    requires cells { AreCellsOf cutting.scene tetra.now.slots }
-    requires count { cutting.scene.vertices.count ≡ length tetra.now.points }
-    requires complex { IsListingOf cutting.scene cutting.complex }
-    requires ids { AreIdsOf tetra.now.slots cutting.complex.cells counted.now.ids.items }
-    requires labels { length labels.now.inside ≡ length cutting.complex.cells }
-    requires admissible { IsAdmissible cutting.scene cutting.complex (test_of cutting.complex.cells labels.now.inside) }
-    ensures points { (rising : Complex) → IsComplexOf cutting.scene rising → IfOk result (λ mesh. mesh.points.items ≡ (mesh_of tetra.now.points (cut_facets cutting.scene.vertices rising (test_of cutting.complex.cells labels.now.inside))).points) }
-    ensures faces { (rising : Complex) → IsComplexOf cutting.scene rising → IfOk result (λ mesh. mesh.faces.items ≡ (mesh_of tetra.now.points (cut_facets cutting.scene.vertices rising (test_of cutting.complex.cells labels.now.inside))).faces) }
-    ensures valid { IfOk result (λ mesh. IsMesh mesh.points.items mesh.faces.items) }
-    ensures closed { IfOk result (λ mesh. IsClosed mesh.faces.items) }
-{
-    let _scene = scene;
-    facets(alloc, tetra, &counted.ids, labels)
 }
 
 impl Sweep {
@@ -124,7 +74,7 @@ impl Sweep {
         let tetra = build(alloc, &seen.points)?;
         tetra.facts();
         let counted = count_votes_as_stored(alloc, &tetra, &seen.scene(scan, settings))?;
-        let (flow, labels) = minimum_cut(alloc, &counted.voted.net)?;
+        let (flow, labels, kept) = minimum_cut_and_preflow(alloc, &counted.voted.net)?;
         let scanners = Vec::from_slice(alloc, &scan.scanners)?;
         Ok(Sweep {
             alloc,
@@ -135,12 +85,13 @@ impl Sweep {
             counted,
             flow,
             labels,
+            kept,
         })
     }
 
     /// Raises the smoothing. The flow goes on from where it was, so that no less leaves at the sink of any cell.
     ///
-    /// Without memory all is as it was.
+    /// Without memory all that contracts see is as it was, and the next raise may take longer.
     pub fn raise(&mut self, smooth: u32) -> Result<(), NoMemory>
         requires above { self.old.settings.smooth < smooth }
         requires within { smooth ≤ WEIGHT_LIMIT }
@@ -149,10 +100,10 @@ impl Sweep {
         ensures largest { HasLargest self.new }
     {
         let before = self.settings.smooth;
-        let mut flow = copied(self.alloc, &self.flow)?;
         self.counted.voted.net.change_smoothing(before, smooth);
-        match cut_from(self.alloc, &self.counted.voted.net, &mut flow) {
-            Ok(labels) => {
+        let net = &self.counted.voted.net;
+        match minimum_cut_above(self.alloc, net, &self.flow, &mut self.kept) {
+            Ok((flow, labels)) => {
                 self.flow = flow;
                 self.labels = labels;
                 self.settings = Settings {
@@ -189,12 +140,6 @@ impl Sweep {
         ensures valid { IfOk result (λ mesh. IsMesh mesh.points.items mesh.faces.items) }
         ensures closed { IfOk result (λ mesh. IsClosed mesh.faces.items) }
     {
-        let scene = Scene {
-            points: &self.seen.points,
-            scanners: &self.scanners,
-            sights: &self.seen.sights,
-            settings: self.settings,
-        };
-        mesh_of_labels(self.alloc, &scene, &self.tetra, &self.counted, &self.labels)
+        facets(self.alloc, &self.tetra, &self.counted.ids, &self.labels)
     }
 }

@@ -1,12 +1,7 @@
-use Rattle.std.proofs.Common.{◌≤◌, refl, ap, sym, subst, arith}
-use Rattle.flow_net.specs.Flows.{IsValidFlow}
-use Rattle.flow_net.specs.declared.Flow.{Flow}
-use Rattle.sweep.specs.Swept.{HasLargest, Swept}
-use Rattle.sweep.proofs.Raising.{caps, caps_there, largest_of, lowered, network_there, raised, settings_at, valid_there}
+use Rattle.std.proofs.Common.{◌≤◌, refl, ap, arith}
+use Rattle.sweep.specs.Swept.{Swept}
+use Rattle.sweep.proofs.Raising.{caps, caps_there, lowered, network_there, raised, settings_at, valid_there}
 use Rattle.sweep.proofs.sweeping.Sweep.raise.Goals as goal
-
-pub returns-in_err-flow-clause-largest : goal.returns-in_err-flow-clause-largest
-returns-in_err-flow-clause-largest c = subst HasLargest c.self.view_is (largest_of _ _ _ _ _ _ _ _ _ c.self.invariant)
 
 pub change_smoothing-requires-clause-smoothed : goal.change_smoothing-requires-clause-smoothed
 change_smoothing-requires-clause-smoothed c = λ j l. (caps _ _ _ _ _ _ _ _ _ c.self.invariant j l).smoothed
@@ -16,18 +11,17 @@ change_smoothing-requires-clause-fits c = λ j l.
     (let cap = caps _ _ _ _ _ _ _ _ _ c.self.invariant j l in
     omega (arith, cap.smoothed, cap.small, c.requires.within))
 
-pub cut_from-requires : goal.cut_from-requires
-cut_from-requires c =
+pub minimum_cut_above-requires : goal.minimum_cut_above-requires
+minimum_cut_above-requires c =
     let le : c.self.inside.settings.smooth ≤ c.args.smooth =
     omega (arith, c.requires.above, ap (λ (w : Swept). w.settings.smooth) c.self.view_is) in
-    subst (λ (f : Flow). IsValidFlow c.change_smoothing.new.self f) (sym c.in_ok-flow.ensures)
-    (valid_there _ _ _ _ _ _ _ _ _ c.self.invariant (settings_at c.self.inside.settings c.args.smooth c.requires.within) refl
+    valid_there _ _ _ _ _ _ _ _ _ c.self.invariant (settings_at c.self.inside.settings c.args.smooth c.requires.within) refl
     c.change_smoothing.new.self
     (record {
       fixed_is = c.change_smoothing.ensures.fixed;
       sink_is = c.change_smoothing.ensures.sink;
       arcs_are = c.change_smoothing.ensures.arcs;
-    }) le)
+    }) le
 
 pub invariant_of-self-in-Ok : goal.invariant_of-self-in-Ok
 invariant_of-self-in-Ok c =
@@ -36,7 +30,7 @@ invariant_of-self-in-Ok c =
       fixed_is = c.change_smoothing.ensures.fixed;
       sink_is = c.change_smoothing.ensures.sink;
       arcs_are = c.change_smoothing.ensures.arcs;
-    }) c.cut_from.new.flow c.in-Ok.labels c.in-Ok.ensures.largest c.in-Ok.ensures.least
+    }) c.in-Ok.flow c.in-Ok.labels c.in-Ok.ensures.largest c.in-Ok.ensures.least
 
 pub change_smoothing-requires-in-Err-clause-smoothed : goal.change_smoothing-requires-in-Err-clause-smoothed
 change_smoothing-requires-in-Err-clause-smoothed c = λ j l.
@@ -60,8 +54,8 @@ change_smoothing-requires-in-Err-clause-fits c = λ j l.
     }) j l in
     omega (arith, cap.smoothed, cap.small, c.self.inside.settings.smooth_at_most))
 
-pub invariant_of-self-in-Err-1 : goal.invariant_of-self-in-Err-1
-invariant_of-self-in-Err-1 c =
+pub invariant_of-self-in-Err : goal.invariant_of-self-in-Err
+invariant_of-self-in-Err c =
     lowered _ _ _ _ _ _ _ _ _ c.self.invariant (settings_at c.self.inside.settings c.args.smooth c.requires.within) refl
     c.change_smoothing.new.self
     (record {

@@ -1,0 +1,127 @@
+//! A preflow that is kept, so that a later hint goes on from it where capacities have risen. It stands on preflows.
+
+ghost use Rattle.std.specs.Prelude.{◌≡◌, length, true, IfOk, IfSome};
+
+use crate::NoMemory;
+use crate::amounts::Amounts;
+use crate::preflow::Preflow;
+use crate::survey::Survey;
+use crate::wiring::Wiring;
+use flow_net::Net;
+use std::alloc::Global;
+
+/// The amounts that a hint was made of, before what had come to no sink went back: it stays where it got stuck, so that a later
+/// hint need not bring it there again.
+///
+/// Nothing is promised of it. In another network it gives a wrong hint or none.
+#[derive(Debug, Drop)]
+pub struct KeptPreflow {
+    /// How much more could flow along each arc between free nodes.
+    rooms: Amounts,
+    /// What had entered each node and not left it.
+    excess: Vec<u64>,
+    /// How much more could leave at each node.
+    sink: Vec<u64>,
+    /// How much had come to each node from fixed nodes.
+    source: Vec<u64>,
+}
+
+impl KeptPreflow {
+    /// The amounts of a preflow.
+    pub fn of(alloc: Global, preflow: &Preflow<'_>) -> Result<KeptPreflow, NoMemory> {
+        Ok(KeptPreflow {
+            rooms: preflow.rooms.copied(alloc)?,
+            excess: Vec::from_slice(alloc, preflow.excess.as_slice())?,
+            sink: Vec::from_slice(alloc, preflow.sink.as_slice())?,
+            source: Vec::from_slice(alloc, preflow.source.as_slice())?,
+        })
+    }
+
+    /// Whether there is an amount for each of so many arcs, and one of each kind for each of so many nodes.
+    fn has_lengths(&self, arcs: usize, nodes: usize) -> bool
+        ensures excess { result ≡ true → length self.now.excess.items ≡ nodes }
+        ensures sink { result ≡ true → length self.now.sink.items ≡ nodes }
+        ensures source { result ≡ true → length self.now.source.items ≡ nodes }
+    {
+        self.rooms.len() == arcs
+            && self.excess.len() == nodes
+            && self.sink.len() == nodes
+            && self.source.len() == nodes
+    }
+}
+
+impl<'a> Preflow<'a> {
+    /// The amounts of a kept preflow, and what more comes from fixed nodes where capacities have risen. None where the preflow
+    /// is not of so many nodes and arcs, the sums of capacities are too large or there are no arcs between free nodes.
+    pub fn on(
+        alloc: Global,
+        net: &'a Net,
+        kept: KeptPreflow,
+    ) -> Result<Option<Preflow<'a>>, NoMemory>
+        ensures { IfOk result (λ found. IfSome found (λ preflow. preflow.wiring.net.now ≡ net.now)) }
+    {
+        let survey = Survey::new(alloc, net)?;
+        let is_narrow = survey.is_narrow();
+        if !survey.is_fit() {
+            return Ok(None);
+        }
+        let Survey {
+            degree,
+            is_by_node,
+            source: sends,
+            ..
+        } = survey;
+        let Some(wiring) = Wiring::new(alloc, net, degree, is_by_node)? else {
+            return Ok(None);
+        };
+        if !kept.has_lengths(wiring.arcs, wiring.nodes) {
+            return Ok(None);
+        }
+        let KeptPreflow {
+            rooms,
+            excess,
+            sink,
+            source,
+        } = kept;
+        let mut preflow = Preflow {
+            wiring,
+            rooms: rooms.widened(alloc, is_narrow)?,
+            excess,
+            sink,
+            source,
+        };
+        preflow.open_arcs();
+        preflow.send_more(sends.as_slice());
+        preflow.settle();
+        Ok(Some(preflow))
+    }
+
+    /// Lets more flow along both arcs of each pair, by half of what their capacities together have risen by. So each amount stays
+    /// what it was where both have risen by the same.
+    fn open_arcs(&mut self)
+        ensures { self.new.wiring ≡ self.old.wiring }
+    {
+        for arc in 0..self.wiring.arcs {
+            let twin = self.wiring.ends(arc).twin;
+            if arc < twin {
+                let there = self.rooms.get(arc);
+                let back = self.rooms.get(twin);
+                let whole = self.wiring.cap(arc).saturating_add(self.wiring.cap(twin));
+                let more = whole.saturating_sub(there.saturating_add(back)) / 2;
+                self.rooms.set(arc, there.saturating_add(more));
+                self.rooms.set(twin, back.saturating_add(more));
+            }
+        }
+    }
+
+    /// Lets come to each node what fixed nodes can send there beyond what they have sent.
+    fn send_more(&mut self, sends: &[u64])
+        ensures { self.new.wiring ≡ self.old.wiring }
+    {
+        for node in 0..self.wiring.nodes.min(sends.len()) {
+            let more = sends[node].saturating_sub(self.source[node]);
+            self.source[node] = self.source[node].saturating_add(more);
+            self.excess[node] = self.excess[node].saturating_add(more);
+        }
+    }
+}

@@ -1,0 +1,157 @@
+//! Going on from a valid flow to a largest one, at which no less leaves at any sink. It stands on hints and on what tests and
+//! ends them in `solving`.
+//!
+//! Where no sink has room, the flow is a largest one already. Else a hint goes on from the preflow that an earlier one has left, and
+//! where there is none, or its hint fails the test, one is made in which the sinks first fill to what leaves there.
+
+ghost use Rattle.std.specs.Prelude.{◌≡◌, ◌≤◌, length, true, IfOk, IfSome, OnOk};
+ghost use Rattle.flow_net.specs.Flows.{IsValidFlow, IsLargest, IsLeastInside, value_of, cost_of};
+ghost use Rattle.max_flow.specs.Paths.{KeepsSinks};
+
+use crate::NoMemory;
+use crate::paths::has_room;
+use crate::solving::{finish, least_inside, shown_by, shown_inside};
+use flow_hint::{Hint, KeptPreflow, find_hint_above, find_hint_on};
+use flow_net::{Flow, Labels, Net, Sequence};
+use flow_valid::is_valid_flow;
+use std::alloc::Global;
+
+/// The amounts of a flow once more.
+fn copied(alloc: Global, flow: &Flow) -> Result<Flow, NoMemory>
+    ensures { IfOk result (λ copy. copy ≡ flow.now) }
+{
+    Ok(Flow {
+        on_arc: Sequence::from(Vec::from_slice(alloc, flow.on_arc.as_slice())?),
+        on_sink: Sequence::from(Vec::from_slice(alloc, flow.on_sink.as_slice())?),
+    })
+}
+
+/// Whether any sink has room.
+fn any_has_room(net: &Net, flow: &Flow) -> bool
+    requires { IsValidFlow net.now flow.now }
+{
+    for node in 0..net.fixed.as_slice().len() {
+        if has_room(net, flow, node) {
+            return true;
+        }
+    }
+    false
+}
+
+/// Whether no less leaves at any sink of one flow than of another.
+fn keeps_sinks(before: &Flow, after: &Flow) -> bool
+    requires { length before.now.on_sink ≡ length after.now.on_sink }
+    ensures { result ≡ true → KeepsSinks before.now after.now }
+{
+    let before = before.on_sink.as_slice();
+    let after = after.on_sink.as_slice();
+    for node in 0..before.len() {
+        if after[node] < before[node] {
+            return false;
+        }
+    }
+    true
+}
+
+/// The flow of a hint, and the least-inside labels where it is known to be a largest one. None where it is not valid, or less leaves
+/// at a sink than of a valid flow. Else its preflow is kept.
+fn tested(
+    alloc: Global,
+    net: &Net,
+    flow: &Flow,
+    found: Option<(Hint, KeptPreflow)>,
+    kept: &mut Option<KeptPreflow>,
+) -> Result<Option<(Flow, Option<Labels>)>, NoMemory>
+    requires { IsValidFlow net.now flow.now }
+    ensures valid { IfOk result (λ found. IfSome found (λ more. IsValidFlow net.now more.0)) }
+    ensures sinks { IfOk result (λ found. IfSome found (λ more. KeepsSinks flow.now more.0)) }
+    ensures least { IfOk result (λ found. IfSome found (λ more. IfSome more.1 (λ labels. IsLeastInside net.now labels))) }
+    ensures cost { IfOk result (λ found. IfSome found (λ more. IfSome more.1 (λ labels. cost_of net.now labels ≡ value_of net.now more.0))) }
+{
+    let Some((Hint { flow: more, levels }, preflow)) = found else {
+        return Ok(None);
+    };
+    if !is_valid_flow(alloc, net, &more)? || !keeps_sinks(flow, &more) {
+        return Ok(None);
+    }
+    let labels = shown_by(alloc, net, &more, levels)?;
+    *kept = Some(preflow);
+    Ok(Some((more, labels)))
+}
+
+/// A valid flow at which no less leaves at any sink than of another, and the least-inside labels where it is known to be a largest
+/// one: that of a hint, or the same flow where no hint passes the test.
+fn more_above(
+    alloc: Global,
+    net: &Net,
+    flow: &Flow,
+    kept: &mut Option<KeptPreflow>,
+) -> Result<(Flow, Option<Labels>), NoMemory>
+    requires { IsValidFlow net.now flow.now }
+    ensures valid { IfOk result (λ more. IsValidFlow net.now more.0) }
+    ensures sinks { IfOk result (λ more. KeepsSinks flow.now more.0) }
+    ensures least { IfOk result (λ more. IfSome more.1 (λ labels. IsLeastInside net.now labels)) }
+    ensures cost { IfOk result (λ more. IfSome more.1 (λ labels. cost_of net.now labels ≡ value_of net.now more.0)) }
+{
+    if let Some(preflow) = kept.take() {
+        let found = find_hint_on(alloc, net, preflow)?;
+        if let Some(more) = tested(alloc, net, flow, found, kept)? {
+            return Ok(more);
+        }
+    }
+    let found = find_hint_above(alloc, net, flow.on_sink.as_slice())?;
+    if let Some(more) = tested(alloc, net, flow, found, kept)? {
+        return Ok(more);
+    }
+    Ok((copied(alloc, flow)?, None))
+}
+
+/// A flow of the largest value at which no less leaves at any sink than of a valid one, and the least-inside labels, which cost as
+/// much: what has come to a sink stays there, and only more is sent.
+///
+/// It goes on from the preflow that an earlier call left, this one or `minimum_cut_and_preflow`, and leaves its own. On that hangs
+/// how long it takes, and nothing else: it takes longer where there is none, as there may be after want of memory, or that of
+/// another network.
+#[tactic(auto, using(crate::proofs::Cuts::shown_largest))]
+pub fn minimum_cut_above(
+    alloc: Global,
+    net: &Net,
+    flow: &Flow,
+    kept: &mut Option<KeptPreflow>,
+) -> Result<(Flow, Labels), NoMemory>
+    requires { IsValidFlow net.now flow.now }
+    ensures valid { IfOk result (λ cut. IsValidFlow net.now cut.0) }
+    ensures largest { IfOk result (λ cut. IsLargest net.now cut.0) }
+    ensures sinks { IfOk result (λ cut. KeepsSinks flow.now cut.0) }
+    ensures least { IfOk result (λ cut. IsLeastInside net.now cut.1) }
+    ensures cost { IfOk result (λ cut. cost_of net.now cut.1 ≡ value_of net.now cut.0) }
+{
+    if !any_has_room(net, flow) {
+        if let Some(labels) = shown_inside(alloc, net, flow)? {
+            return Ok((copied(alloc, flow)?, labels));
+        }
+    }
+    let (mut more, found) = more_above(alloc, net, flow, kept)?;
+    if let Some(labels) = found {
+        return Ok((more, labels));
+    }
+    finish(alloc, net, &mut more)?;
+    let labels = least_inside(alloc, net, &more)?;
+    Ok((more, labels))
+}
+
+/// Goes on from a valid flow to a largest one, which is valid too, so 0 at the sinks of fixed nodes. No less leaves at any
+/// sink than before: what has come to a sink stays there, and only more is sent.
+///
+/// Without memory the flow is valid, its value is no smaller than before, and no less leaves at any sink.
+pub fn resume(alloc: Global, net: &Net, flow: &mut Flow) -> Result<(), NoMemory>
+    requires { IsValidFlow net.now flow.old }
+    ensures largest { OnOk result (IsLargest net.now flow.new) }
+    ensures valid { IsValidFlow net.now flow.new }
+    ensures rises { value_of net.now flow.old ≤ value_of net.now flow.new }
+    ensures sinks { KeepsSinks flow.old flow.new }
+{
+    let (more, _labels) = minimum_cut_above(alloc, net, flow, &mut None)?;
+    *flow = more;
+    Ok(())
+}
