@@ -1,6 +1,6 @@
 -- The answer of `ask` to what it reads behind the scan.
 use Rattle.std.proofs.Common.{◌≡◌, ◌⊎◌, inl, inr, ℕ, ◌+◌, ◌≤◌, List, [], ◌∷◌, length, count_by, Bool, Option, Some, None, IfSome}
-use Rattle.std.proofs.Common.{Ok, Err, sym, ap, subst, ◌∙◌, arith, false}
+use Rattle.std.proofs.Common.{sym, ap, subst, ◌∙◌, arith, false}
 use Rattle.flow_net.specs.declared.votes.Settings.{Settings}
 use Rattle.geo_sign.specs.Point.{Point}
 use Rattle.host.specs.State.{State, Told, Files}
@@ -11,7 +11,7 @@ use Rattle.solid_query.specs.Queries.{points_in, Fails}
 use Rattle.solid_query.specs.declared.refusal.QueryRefusal.{QueryRefusal}
 use Rattle.solid_query.specs.declared.refusal.QueryRefusal.TheVariants as queries
 use Rattle.solution.specs.Scans.{points_of}
-use Rattle.recon_cmd.specs.Answers.{Answer, AskAnswer, FileTooLong, IsAsked, PointsRefused, WritesLabels, Write, ask_done}
+use Rattle.recon_cmd.specs.Answers.{Answer, AskAnswer, FileTooLong, IsAsked, PointsRefused, WritesLabels, Write}
 use Rattle.recon_cmd.specs.Answers.{file_limit, refusal}
 use Rattle.recon_cmd.specs.Checking.{IsReplyOf, ReadsOn}
 use Rattle.recon_cmd.specs.Lines.{too_long_points_line}

@@ -24,5 +24,9 @@ pub mod Outcomes
 pub mod ScanTextLengths
 pub mod SeedLemmas
 pub mod StepCounts
+pub mod SweepBuilds
+pub mod SweepEnds
+pub mod SweepReplies
+pub mod SweepWordLemmas
 pub mod WordLemmas
 pub mod RefusedForms

@@ -1,10 +1,14 @@
--- A mesh that was handed to the forms was not refused, and a run that ends with the code of a refusal refused.
-use Rattle.std.proofs.Common.{◌≡◌, refl, arith, inl, inr, List, ℕ}
+-- A mesh or a scan whose surfaces were handed to the forms was not refused, and a run that ends with the code of a refusal refused.
+use Rattle.std.proofs.Common.{◌≡◌, refl, arith, inl, inr, List, length, ℕ}
+use Rattle.std.specs.List.{zip}
 use Rattle.host.specs.State.{State}
 use Rattle.mesh_form.specs.Received.{Received}
 use Rattle.mesh_ply.specs.Meshes.{Surface}
+use Rattle.scan.specs.Shown.{Shown}
 use Rattle.recon_cmd.specs.Exports.{FormsHandOut}
 use Rattle.recon_cmd.specs.Status.{code_of}
+use Rattle.recon_cmd.specs.Steps.{CarriesOut}
+use Rattle.recon_cmd.specs.Sweeps.{SweepAsked, SweepHandOut, sweep_line}
 use Rattle.recon_cmd.specs.declared.status.Status.{Status}
 use Rattle.recon_cmd.specs.declared.status.Status.TheVariants.{Done, No, BadWords, Refused, Failed, NoMemory}
 
@@ -23,3 +27,13 @@ pub handed_not_refused : (outputs : List (List ℕ)) (mesh : Surface) (status : 
 handed_not_refused outputs mesh status before after new texts (inl (is, fronts, still)) e = absurd (cc (is, e))
 handed_not_refused outputs mesh status before after new texts (inr (all, inl (is, whole))) e = absurd (cc (is, e))
 handed_not_refused outputs mesh status before after new texts (inr (all, inr (is, stopped))) e = absurd (cc (is, e))
+
+pub surfaces_not_refused : (asked : SweepAsked) (scan : Shown) (status : Status) (before after : State) (new : List Received)
+    (texts : List (List ℕ)) → SweepHandOut asked scan status before after new texts → status ≡ Refused → ⊥
+surfaces_not_refused asked scan status before after new texts (inl (is, fronts, still)) e = absurd (cc (is, e))
+surfaces_not_refused asked scan status before after new texts (inr carries) e = by carries.carried
+  where
+    by : CarriesOut (zip asked.outputs texts) (sweep_line (length asked.outputs) carries.first carries.last) Done status before
+        after → ⊥
+    by (inl (is, whole)) = absurd (cc (is, e))
+    by (inr (is, stopped)) = absurd (cc (is, e))

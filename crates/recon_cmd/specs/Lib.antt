@@ -18,4 +18,6 @@ pub mod Stamps
 pub mod Status
 pub mod Verdicts
 pub mod Steps
+pub mod SweepLaws
+pub mod Sweeps
 pub mod Words

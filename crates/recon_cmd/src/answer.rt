@@ -18,6 +18,7 @@ mod reading;
 mod refusals;
 mod slice;
 mod stamps;
+mod sweeping;
 
 use crate::status::Status;
 use crate::words::Command;
@@ -31,6 +32,7 @@ use host::{Host, say_all, write_file};
 pub use reading::FILE_LIMIT;
 use slice::reply_to_slice;
 use std::alloc::{AllocError, Global};
+pub use sweeping::sweep_scan;
 
 /// A line that is said last.
 #[derive(Drop)]

@@ -12,7 +12,9 @@ mod verdicts;
 
 use crate::NoMemory;
 use cert_text::Certificate;
-pub use meshes::{line_of_export, line_of_mesh_refusal, line_of_slice, line_of_unbalanced_edge};
+pub use meshes::{
+    line_of_export, line_of_mesh_refusal, line_of_slice, line_of_sweep, line_of_unbalanced_edge,
+};
 use num_text::{push_ended, push_whole};
 pub use queries::{line_of_ask, line_of_query_refusal, line_of_too_long_points, text_of_labels};
 pub use refusals::line_of_refusal;

@@ -6,12 +6,14 @@ ghost use Rattle.recon_cmd.specs.Words.{are_names, ask_of, asked, build_of, cell
 mod demo;
 mod export;
 mod slice;
+mod sweeping;
 
 use crate::options::{Key, Options, height_in, number_in, seed_in, understand_options};
 pub use demo::Demo;
 pub use export::{ExportWords, understand_export};
 use scan::POINT_LIMIT;
 pub use slice::SliceWords;
+pub use sweeping::{SweepWords, sweep_entries, understand_sweep};
 
 /// The options of each command.
 const CELLS_KEYS: [Key; 2] = [Key::Unit, Key::Scanner];

@@ -1,6 +1,6 @@
 -- Forms of three types write PLY, OFF and OBJ: by type, in their order.
 use Rattle.std.proofs.Common.{◌≡◌, ◌⊎◌, inl, inr, ℕ, ◌+◌, ◌≤◌, ◌<◌, List, [], ◌∷◌, ◌++◌, length, map, All, Option, Some, None}
-use Rattle.std.proofs.Common.{IfSome, refl, sym, ap, subst, ◌∙◌, arith}
+use Rattle.std.proofs.Common.{IfSome, refl, sym, ap, subst, ◌∙◌, arith, unwrap_or}
 use Rattle.std.specs.List.{zip}
 use Rattle.std.specs.Option.{IsSomeAnd}
 use Rattle.host.specs.State.{State, Told, Files}
@@ -17,8 +17,10 @@ use Rattle.recon_cmd.specs.Status.{code_of}
 use Rattle.recon_cmd.specs.Words.{command_of}
 use Rattle.recon_cmd.specs.declared.status.Status.{Status}
 use Rattle.recon_cmd.specs.declared.status.Status.TheVariants.{Done, No, BadWords, Refused, Failed, NoMemory}
+use Rattle.recon_cmd.specs.Sweeps.{SweepAsked, entries_of, sweep_of}
 use Rattle.recon_cmd.proofs.MeshReplies.{unread_reads}
-use Rattle.recon_main.specs.Ends.{FormatsAnswer, RunsFor, RunsOn, WritesFormats}
+use Rattle.recon_cmd.proofs.SweepWordLemmas.{no_sweep}
+use Rattle.recon_main.specs.Ends.{FormatsAnswer, RunsFor, RunsOn, WritesFormats, sweep_in}
 
 -- the first of three forms has the mesh text of what it has received, the second OFF, the third OBJ
 pub record AreFormats (forms : List Received) (texts : List (List ℕ)) : Type 0 where
@@ -114,7 +116,7 @@ module _ (A B : Files → Answer → Type 0) (each : (files : Files) (answer : A
   told_among status (Some old) None tells = tells
   told_among status (Some old) (Some new) tells = tells_among status old new tells
 
-  run_among : ((files : Files) (answer : Answer) → B files answer → answer.reads ≡ 1) → (status : Status) (before after : State)
+  pub run_among : ((files : Files) (answer : Answer) → B files answer → answer.reads ≡ 1) → (status : Status) (before after : State)
       → Run ExportFits 1 A status before after → Run ExportFits 1 B status before after
   run_among one status before after run =
       record {
@@ -134,20 +136,25 @@ module _ (A B : Files → Answer → Type 0) (each : (files : Files) (answer : A
 -- ---- the whole run
 pub ran_on : {X : Type 0} (words : List (List ℕ)) (n : ℕ) → n ≡ 3
     → (code : ℕ) (before after : State) (old new : List Received) (texts : List (List ℕ)) → AreFormats new texts
+    → entries_of words ≡ None
     → IfSome (export_of n words)
     (λ names. (status : Status) × (code ≡ code_of status) × ExportOutcome names status before after old new texts)
-    → (export_of n words ≡ None
+    → (export_of n words ≡ None → sweep_of n words ≡ None
     → (status : Status) × (code ≡ code_of status) × Outcome (command_of words) status before after × X)
     → RunsOn words code before after
-ran_on {X} words n three code before after old new texts are exported ran =
-    subst (λ (k : ℕ). (status : Status) × (code ≡ code_of status) × RunsFor (export_of k words) words status before after) three
-    (by (export_of n words) exported ran)
+ran_on {X} words n three code before after old new texts are others exported ran =
+    subst (λ (k : ℕ).
+    (status : Status) × (code ≡ code_of status) × RunsFor (export_of k words) (sweep_in words) words status before after) three
+    (subst (λ (o : Option SweepAsked).
+    (status : Status) × (code ≡ code_of status) × RunsFor (export_of n words) o words status before after)
+    (sym (no_sweep words (unwrap_or (entries_of words) 0) others))
+    (by (export_of n words) exported (λ e. ran e (no_sweep words n others))))
   where
     by : (o : Option ExportNames)
         → IfSome o
         (λ names. (status : Status) × (code ≡ code_of status) × ExportOutcome names status before after old new texts)
         → (o ≡ None → (status : Status) × (code ≡ code_of status) × Outcome (command_of words) status before after × X)
-        → (status : Status) × (code ≡ code_of status) × RunsFor o words status before after
+        → (status : Status) × (code ≡ code_of status) × RunsFor o None words status before after
     by None exported ran = let found = ran refl in (found.0, found.1, found.2)
     by (Some names) (status, is, outcome) ran = (
       status,

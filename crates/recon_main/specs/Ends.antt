@@ -2,7 +2,10 @@
 --
 --     WritesFormats outputs ..            the answer that writes a mesh as PLY, OFF and OBJ
 --     FormatsAnswer names ..              a refusal of the mesh, or this answer
---     RunsFor export words status ..      what a run on these words does to its host
+--     WritesMeshes asked scan ..          the answer that writes the best surface at each weight as PLY
+--     MeshesAnswer asked ..               a refusal of the scan, or this answer
+--     sweep_in words                      what `sweep` asks for with as many outputs as its fifth word says
+--     RunsFor export sweep words ..       what a run on these words does to its host
 --     RunsOn words status before after    a run on these words ended with this status
 --     DoesNothing status before after     there was no memory for the words or for the forms
 --     RunsOrIdles words status ..         one of the two
@@ -11,18 +14,21 @@
 --     fresh                               a host that was not used
 --     EndsOver args status                the program ended so on these words, over that host
 --     EndsAfterARun status                it ended so on some words
-use Rattle.std.specs.Prelude.{◌≡◌, ◌≢◌, ◌⊎◌, ℕ, List, [], ◌∷◌, length, map, drop, Result, Ok, Err, Option, Some, None, false}
-use Rattle.std.specs.Prelude.{string_bytes}
+use Rattle.std.specs.Prelude.{◌≡◌, ◌≢◌, ◌⊎◌, ℕ, ◌-◌, ◌<◌, List, [], ◌∷◌, length, map, drop, slice_index_or, Result, Ok, Err}
+use Rattle.std.specs.Prelude.{Option, Some, None, false, string_bytes, unwrap_or}
 use Rattle.std.specs.IoError.{error_kind}
 use Rattle.std.specs.List.{zip}
 use Rattle.host.specs.State.{State, Files}
 use Rattle.mesh_form.specs.Texts.{off_text, obj_text}
 use Rattle.mesh_ply.specs.Meshes.{Surface}
 use Rattle.mesh_ply.specs.Texts.{mesh_text}
-use Rattle.recon_cmd.specs.Answers.{Answer, MeshFileAnswer}
+use Rattle.scan.specs.Shown.{Shown}
+use Rattle.sweep.specs.Entries.{CostsAt, IsSurfaceAt, given_by, smoothing_of}
+use Rattle.recon_cmd.specs.Answers.{Answer, MeshFileAnswer, ScanAnswer}
 use Rattle.recon_cmd.specs.Exports.{ExportFits, ExportNames, export_of, exported_line}
 use Rattle.recon_cmd.specs.Outcome.{Outcome, Run}
 use Rattle.recon_cmd.specs.Status.{code_of}
+use Rattle.recon_cmd.specs.Sweeps.{SweepAsked, entries_of, sweep_line, sweep_of}
 use Rattle.recon_cmd.specs.Words.{command_of}
 use Rattle.recon_cmd.specs.declared.status.Status.{Status}
 use Rattle.recon_cmd.specs.declared.status.Status.TheVariants.{Done, NoMemory}
@@ -50,15 +56,43 @@ abbrev pub FormatsAnswer : ExportNames → Files → Answer → Type 0
 FormatsAnswer names files answer =
     (bytes : List ℕ) × (files names.mesh ≡ Some bytes) × MeshFileAnswer (WritesFormats names.outputs) bytes answer
 
--- what a run on these words does that ends so: `export` with three outputs, or else a command of `run`
-abbrev pub RunsFor : Option ExportNames → List (List ℕ) → Status → State → State → Type 0
-RunsFor (Some names) words status before after = Run ExportFits 1 (FormatsAnswer names) status before after
-RunsFor None words status before after = Outcome (command_of words) status before after
+-- the mesh of the best surface at each weight is written as PLY, in order, and what the first and the last cost is said
+pub record WritesMeshes (asked : SweepAsked) (scan : Shown) (answer : Answer) : Type 0 where
+  pub meshes : List Surface
+  pub count : length meshes ≡ length asked.outputs
+  pub each : (k : ℕ) (d : Surface) → k < length meshes
+      → IsSurfaceAt (given_by scan) asked.options.vote (smoothing_of asked.options.smooth asked.step k) (slice_index_or meshes k d)
+  pub first : ℕ
+  pub last : ℕ
+  pub first_is : CostsAt (given_by scan) asked.options.vote asked.options.smooth first
+  pub last_is : CostsAt (given_by scan) asked.options.vote
+      (smoothing_of asked.options.smooth asked.step (length asked.outputs - 1)) last
+  pub is : answer ≡ record {
+    status = Done;
+    reads = 1;
+    writes = zip asked.outputs (map (λ (mesh : Surface). mesh_text mesh.points mesh.faces) meshes);
+    line = sweep_line (length asked.outputs) first last;
+  }
+
+-- the scan is refused, or its best surfaces are written
+abbrev pub MeshesAnswer : SweepAsked → Files → Answer → Type 0
+MeshesAnswer asked files answer =
+    (bytes : List ℕ) × (files asked.input ≡ Some bytes) × ScanAnswer asked.options (λ _. WritesMeshes asked) bytes answer
+
+-- what `sweep` asks for with as many outputs as its fifth word says, if the words are `sweep`
+abbrev pub sweep_in : List (List ℕ) → Option SweepAsked
+sweep_in words = sweep_of (unwrap_or (entries_of words) 0) words
+
+-- what a run on these words does that ends so: `export` with three outputs, `sweep`, or else a command of `run`
+abbrev pub RunsFor : Option ExportNames → Option SweepAsked → List (List ℕ) → Status → State → State → Type 0
+RunsFor (Some names) sweep words status before after = Run ExportFits 1 (FormatsAnswer names) status before after
+RunsFor None (Some asked) words status before after = Run ExportFits 1 (MeshesAnswer asked) status before after
+RunsFor None None words status before after = Outcome (command_of words) status before after
 
 -- a run on these words ended with this status
 abbrev pub RunsOn : List (List ℕ) → ℕ → State → State → Type 0
 RunsOn words code before after =
-    (status : Status) × (code ≡ code_of status) × RunsFor (export_of 3 words) words status before after
+    (status : Status) × (code ≡ code_of status) × RunsFor (export_of 3 words) (sweep_in words) words status before after
 
 -- there was no memory for the words or for the forms, and nothing is done
 abbrev pub DoesNothing : ℕ → State → State → Type 0

@@ -1,13 +1,16 @@
 //! How the program ends, by what the system hands in as its words. It stands on `recon_cmd`, and on the forms of `mesh_form`.
-ghost use Rattle.std.specs.Prelude.{◌≡◌, false, drop, map, string_bytes, IfOk, OnErr};
+ghost use Rattle.std.specs.Prelude.{◌≡◌, false, drop, map, string_bytes, IfOk, OnErr, Some, None};
 ghost use Rattle.std.specs.Process.{exit_status};
 ghost use Rattle.std.specs.Vec.Iter.{into_iter_items};
+ghost use Rattle.recon_cmd.specs.Sweeps.{entries_of};
 ghost use Rattle.recon_main.specs.Ends.{EndsOn, EndsOver, EndsAfterARun, RunsOn, RunsOrIdles};
 
+use crate::advice::command_begun;
 use crate::real::RealHost;
+use crate::unnamed::Unnamed;
 use host::Host;
 use mesh_form::{Form, ObjForm, OffForm, PlyForm};
-use recon_cmd::{Status, run, run_forms};
+use recon_cmd::{Status, run, run_forms, sweep_entries};
 use std::alloc::{AllocError, Global};
 use std::env::Args;
 use std::io::ErrorKind;
@@ -18,26 +21,34 @@ use std::{env, io};
 /// The whole program: it ends with what the system's words come to over the system's files and output.
 ///
 /// Nothing is known of what a system hands in, so the clause names no words: it says that the status is one of [`ends_over`].
-pub fn ends_on<R: Env + Files + Print + AllocGlobal + Drop>(rt: R) -> ExitCode
+/// The program's name is left out of them, whatever it is.
+pub fn ends_on<R: Env + Files + Print + Eprint + AllocGlobal + Drop>(rt: R) -> ExitCode
     ensures { EndsAfterARun (exit_status result) }
 {
-    let args = env::args(&rt);
+    let args = env::args(&(Unnamed(&rt), rt.alloc()));
     ends_over(rt, args)
 }
 
 /// The status that the program ends with on these words, over the system's files and output, of which nothing was used before.
-pub fn ends_over<R: Files + Print + AllocGlobal + Drop>(rt: R, args: io::Result<Args>) -> ExitCode
+///
+/// What the system itself hands in as words decides only which lines of use a person is told.
+pub fn ends_over<R: Env + Files + Print + Eprint + AllocGlobal + Drop>(
+    rt: R,
+    args: io::Result<Args>,
+) -> ExitCode
     ensures { EndsOver args (exit_status result) }
 {
     let alloc = rt.alloc();
+    let command = command_begun(&rt);
     let mut host = RealHost::new(rt);
+    host.begin(command);
     ends(alloc, args, &mut host)
 }
 
 /// The status that the program ends with, after a run on the words behind the program's name.
 ///
 /// Words of which one is no text are no command, as if there were none. Where there is no memory for the words or for the forms
-/// of `export`, the status is 5 and nothing is done.
+/// of `export` and `sweep`, the status is 5 and nothing is done.
 pub fn ends<H: Host>(alloc: Global, args: io::Result<Args>, host: &mut H) -> ExitCode
     requires { (H.state host.old).writing ≡ false }
     ensures { EndsOn args (exit_status result) (H.state host.old) (H.state host.new) }
@@ -53,8 +64,8 @@ pub fn ends<H: Host>(alloc: Global, args: io::Result<Args>, host: &mut H) -> Exi
     ExitCode::from(status)
 }
 
-/// The status of a run on these words, where `export` writes PLY, OFF and OBJ. Where there is no memory for the three forms,
-/// nothing is done.
+/// The status of a run on these words, where `export` writes PLY, OFF and OBJ, and `sweep` writes PLY. Where there is no memory for
+/// the forms, nothing is done.
 fn run_on<H: Host>(alloc: Global, words: &[String], host: &mut H) -> u8
     requires { (H.state host.old).writing ≡ false }
     ensures { RunsOrIdles (map string_bytes words.now) result (H.state host.old) (H.state host.new) }
@@ -68,6 +79,39 @@ fn run_on<H: Host>(alloc: Global, words: &[String], host: &mut H) -> u8
 /// The same, and no status where there is no memory for the forms.
 fn run_in_forms<H: Host>(alloc: Global, words: &[String], host: &mut H) -> Result<u8, AllocError>
     requires { (H.state host.old).writing ≡ false }
+    ensures ran { IfOk result (λ status. RunsOn (map string_bytes words.now) status (H.state host.old) (H.state host.new)) }
+    ensures idle { OnErr result (H.state host.new ≡ H.state host.old) }
+{
+    match sweep_entries(words) {
+        Some(entries) => run_in_meshes(alloc, words, host, entries),
+        None => run_in_formats(alloc, words, host),
+    }
+}
+
+/// The same of words of `sweep`, where each of so many surfaces is written as PLY.
+fn run_in_meshes<H: Host>(
+    alloc: Global,
+    words: &[String],
+    host: &mut H,
+    entries: u32,
+) -> Result<u8, AllocError>
+    requires closed { (H.state host.old).writing ≡ false }
+    requires entries { entries_of (map string_bytes words.now) ≡ Some entries }
+    ensures ran { IfOk result (λ status. RunsOn (map string_bytes words.now) status (H.state host.old) (H.state host.new)) }
+    ensures idle { OnErr result (H.state host.new ≡ H.state host.old) }
+{
+    let mut forms: Vec<Box<dyn Form>> = Vec::new(alloc);
+    while forms.len() < entries as usize {
+        let form = PlyForm::new(alloc);
+        forms.push(Box::new(alloc, form)?)?;
+    }
+    Ok(run_forms(alloc, words, host, &mut forms))
+}
+
+/// The same of other words, where `export` writes a mesh as PLY, OFF and OBJ.
+fn run_in_formats<H: Host>(alloc: Global, words: &[String], host: &mut H) -> Result<u8, AllocError>
+    requires closed { (H.state host.old).writing ≡ false }
+    requires others { entries_of (map string_bytes words.now) ≡ None }
     ensures ran { IfOk result (λ status. RunsOn (map string_bytes words.now) status (H.state host.old) (H.state host.new)) }
     ensures idle { OnErr result (H.state host.new ≡ H.state host.old) }
 {

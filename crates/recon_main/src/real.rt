@@ -2,20 +2,28 @@
 //!
 //! It is the trusted edge of the program. The system tells no bytes, so no proof says what a file holds. Its counts and
 //! its open files are told, and what a call of it took and gave is what the file under it took and gave, in std's words.
+//!
+//! A person is told on standard error which call failed and why, how a command is used and how to mend a refusal. Nothing hangs
+//! on that: where such a word is not said, or there is no memory for a name in it, all goes on as before. None is said while a
+//! file is open for writing, since where standard error is closed that file may have taken its number.
 ghost use Rattle.std.specs.Prelude.{false, true, ◌≡◌, ◌≤◌, ◌<◌, IfOk, OnOk, OnErr, IsErr, IfSome, IsTrue, length, take, Ok};
 ghost use Rattle.std.specs.Io.KnownBytes.{ReadConsumes, WriteAppends};
 ghost use Rattle.host.specs.State.{IsFront, IsNext, FailedFrom, takes, appends};
 ghost use Rattle.host.specs.Counts.{Rose, next};
 
+use crate::advice::{NO_FACE, USES, cure_of, has_no_face};
 use crate::retried::{create_retried, open_retried, read_retried, write_retried};
 use host::{Failed, Host};
+use std::fs::OpenFile;
 use std::io;
+use std::io::ErrorKind;
 use std::rt::Files;
 
 /// The files and the standard output of the system, over its runtime.
 ///
-/// A call that is interrupted is made again, 1,000 times in all at most. Each other error is a fault, and so are the last of
-/// these interruptions and a write that takes nothing of bytes that are not empty.
+/// A read or a write that is interrupted is made again, 1,000 times in all at most. (std makes an interrupted open again by
+/// itself, as often as it takes.) Each other error is a fault, and so are the last of these interruptions and a write that takes
+/// nothing of bytes that are not empty. A file that was written is finished when the system has put its bytes where they stay.
 #[derive(Drop)]
 pub struct RealHost<R: Drop, F: Drop> {
     rt: R,
@@ -23,9 +31,27 @@ pub struct RealHost<R: Drop, F: Drop> {
     writing: Option<F>,
     faults: u64,
     opens: u64,
+    // the place among `USES` of the command that the words begin with
+    command: Option<usize>,
+    // the file that was opened or made last, where there was memory for its name
+    name: Option<String>,
+    // why a write failed, until the file is closed
+    trouble: Option<io::Error>,
 }
 
-impl<R: Files + Print + Drop> RealHost<R, R::File> {
+/// Has the system put the bytes of the file where they stay. What keeps none, as a pipe or a terminal, has nothing to put.
+fn sync<F: OpenFile>(file: &F) -> io::Result<()> {
+    match file.sync_data() {
+        Err(error)
+            if matches!(
+                error.kind(),
+                ErrorKind::InvalidInput | ErrorKind::Unsupported
+            ) => Ok(()),
+        answer => answer,
+    }
+}
+
+impl<R: Files + Print + Eprint + AllocGlobal + Drop> RealHost<R, R::File> {
     ghost use Rattle.recon_main.specs.Real.{state_of};
 
     /// With no file open, and no fault so far.
@@ -40,7 +66,17 @@ impl<R: Files + Print + Drop> RealHost<R, R::File> {
             writing: None,
             faults: 0,
             opens: 0,
+            command: None,
+            name: None,
+            trouble: None,
         }
+    }
+
+    /// The words begin with the command at this place among [`USES`], or with none.
+    pub fn begin(&mut self, command: Option<usize>)
+        ensures { state_of self.new ≡ state_of self.old }
+    {
+        self.command = command;
     }
 
     /// How many calls failed.
@@ -59,15 +95,56 @@ impl<R: Files + Print + Drop> RealHost<R, R::File> {
     {
         match answer {
             Ok(value) => Ok(value),
-            Err(_) => {
-                self.faults = self.faults.saturating_add(1);
-                Err(Failed)
+            Err(_) => Err(self.fault()),
+        }
+    }
+
+    /// Counts a fault.
+    fn fault(&mut self) -> Failed
+        ensures rose { Rose self.old.faults self.new.faults }
+        ensures fault { self.new ≡ record self.old { faults = next self.old.faults } }
+    {
+        self.faults = self.faults.saturating_add(1);
+        Failed
+    }
+
+    /// Tells why a call on what has this name failed, if it did.
+    fn tell<T>(&self, name: &str, answer: &io::Result<T>) {
+        if let Err(error) = answer {
+            let _ = eprintln!(self.rt; "recon: {name}: {error}");
+        }
+    }
+
+    /// The same of the file that is open.
+    fn tell_of_file<T>(&self, answer: &io::Result<T>) {
+        match &self.name {
+            Some(name) => self.tell(name.as_str(), answer),
+            None => self.tell("a file", answer),
+        }
+    }
+
+    /// Tells what a person can do about this line.
+    fn advise(&self, line: &[u8]) {
+        if line == b"refused words\n".as_slice() {
+            self.tell_uses();
+        } else if let Some(cure) = cure_of(line) {
+            let _ = eprintln!(self.rt; "recon: {cure}");
+        } else if has_no_face(line) {
+            let _ = eprintln!(self.rt; "recon: {NO_FACE}");
+        }
+    }
+
+    /// Tells how the command is used, or where the words begin with none how all are.
+    fn tell_uses(&self) {
+        for (place, (name, words)) in USES.iter().enumerate() {
+            if self.command.unwrap_or(place) == place {
+                let _ = eprintln!(self.rt; "usage: recon {name} {words}");
             }
         }
     }
 }
 
-impl<R: Files + Print + Drop> Host for RealHost<R, R::File> {
+impl<R: Files + Print + Eprint + AllocGlobal + Drop> Host for RealHost<R, R::File> {
     ghost use Rattle.recon_main.specs.Real.{state_of, left_of, held_of};
 
     ghost state = { state_of };
@@ -75,7 +152,9 @@ impl<R: Files + Print + Drop> Host for RealHost<R, R::File> {
     fn open(&mut self, name: &str) -> Result<(), Failed> {
         self.opens = self.opens.saturating_add(1);
         self.reading = None;
+        self.name = String::from_str(self.rt.alloc(), name).ok();
         let opened = open_retried(&self.rt, name);
+        self.tell(name, &opened);
         self.reading = Some(self.counted(opened)?);
         Ok(())
     }
@@ -93,12 +172,15 @@ impl<R: Files + Print + Drop> Host for RealHost<R, R::File> {
             unreachable!()
         };
         let answer = read_retried(file, buffer);
+        self.tell_of_file(&answer);
         self.counted(answer)
     }
 
     fn create(&mut self, name: &str) -> Result<(), Failed> {
         self.reading = None;
+        self.name = String::from_str(self.rt.alloc(), name).ok();
         let created = create_retried(&self.rt, name);
+        self.tell(name, &created);
         self.writing = Some(self.counted(created)?);
         Ok(())
     }
@@ -114,17 +196,36 @@ impl<R: Files + Print + Drop> Host for RealHost<R, R::File> {
         let Some(file) = &mut self.writing else {
             unreachable!()
         };
-        let answer = write_retried(file, bytes);
-        self.counted(answer)
+        match write_retried(file, bytes) {
+            Ok(count) => Ok(count),
+            Err(error) => {
+                self.trouble = Some(error);
+                Err(self.fault())
+            }
+        }
     }
 
+    /// Where a write failed, that is why the file is not finished.
     fn finish(&mut self) -> Result<(), Failed> {
+        let put = match &self.writing {
+            Some(file) => sync(file),
+            None => Ok(()),
+        };
         self.writing = None;
-        Ok(())
+        let finished = match self.trouble.take() {
+            Some(error) => Err(error),
+            None => put,
+        };
+        self.tell_of_file(&finished);
+        self.counted(finished)
     }
 
     fn say(&mut self, bytes: &[u8]) -> Result<usize, Failed> {
         let answer = write_retried(&mut io::writer(&self.rt), bytes);
+        self.tell("standard output", &answer);
+        if answer.is_ok() {
+            self.advise(bytes);
+        }
         self.counted(answer)
     }
 

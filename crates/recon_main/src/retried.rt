@@ -15,7 +15,8 @@ use std::{fs, io};
 /// How often a call that is interrupted is made.
 const MOST_TRIES: u32 = 1000;
 
-/// Opens a file to read it.
+/// Opens a file to read it. Of the system's own files std makes an interrupted open again by itself, as often as it takes, so no
+/// interruption comes here.
 pub fn open_retried<R: Files>(rt: &R, name: &str) -> io::Result<R::File>
     ensures patient { IfErr result (λ error. error_kind error ≢ ErrorKind.Interrupted) }
 {
@@ -29,7 +30,7 @@ pub fn open_retried<R: Files>(rt: &R, name: &str) -> io::Result<R::File>
     Err(ErrorKind::TimedOut.into())
 }
 
-/// Makes a file, or empties it, to write it.
+/// Makes a file, or empties it, to write it. Interruptions are as of [`open_retried`].
 pub fn create_retried<R: Files>(rt: &R, name: &str) -> io::Result<R::File>
     ensures patient { IfErr result (λ error. error_kind error ≢ ErrorKind.Interrupted) }
 {

@@ -78,7 +78,7 @@ fn hand_out<H: Host>(
 }
 
 /// Writes the text of each form to its output, in order, and says the line.
-fn write_forms<H: Host>(
+pub fn write_forms<H: Host>(
     host: &mut H,
     outputs: &[String],
     forms: &[Box<dyn Form>],

@@ -1,7 +1,9 @@
-//! The lines of the commands that read a mesh first, in memory. It stands on `mesh_ply`, which tells what it refuses.
+//! The lines of the commands that read a mesh first, or hand meshes to forms, in memory. It stands on `mesh_ply`, which tells
+//! what it refuses.
 ghost use Rattle.std.specs.Prelude.{◌≡◌, IfOk, Some};
 ghost use Rattle.recon_cmd.specs.Exports.{exported_line};
 ghost use Rattle.recon_cmd.specs.MeshLines.{mesh_refusal_line, slice_line, unbalanced_line};
+ghost use Rattle.recon_cmd.specs.Sweeps.{sweep_line};
 
 use crate::NoMemory;
 use crate::lines::push_labelled;
@@ -68,6 +70,24 @@ pub fn line_of_export(
     push_labelled(&mut line, b"exported ", forms)?;
     push_labelled(&mut line, b" points ", points)?;
     push_labelled(&mut line, b" faces ", faces)?;
+    line.push(b'\n')?;
+    Ok(line)
+}
+
+/// The line of `sweep`: the number of surfaces, and what the first and the last cost.
+#[tactic(auto, unfolding(crate::specs::Sweeps::sweep_line))]
+pub fn line_of_sweep(
+    alloc: Global,
+    entries: u64,
+    first: u64,
+    last: u64,
+) -> Result<Vec<u8>, NoMemory>
+    ensures { IfOk result (λ line. line.items ≡ sweep_line entries first last) }
+{
+    let mut line = Vec::new(alloc);
+    push_labelled(&mut line, b"sweep ", entries)?;
+    push_labelled(&mut line, b" first_cost ", first)?;
+    push_labelled(&mut line, b" last_cost ", last)?;
     line.push(b'\n')?;
     Ok(line)
 }

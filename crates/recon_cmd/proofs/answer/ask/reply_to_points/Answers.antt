@@ -1,4 +1,4 @@
-use Rattle.std.proofs.Common.{inr, inl, subst, sym, List, ℕ, ◌≡◌, ◌∙◌, ap, Ok, ◌≤◌, length}
+use Rattle.std.proofs.Common.{inr, inl, subst, List, ℕ, ◌≡◌, Ok}
 use Rattle.std.proofs.lemmas.Result.{IfOk-weaker}
 use Rattle.geo_sign.specs.Point.{Point}
 use Rattle.scan.specs.Views.{shown_of}

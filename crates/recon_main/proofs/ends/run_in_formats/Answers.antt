@@ -2,8 +2,8 @@ use Rattle.std.proofs.Common.{◌≡◌, ◌∙◌, refl, ap, map, length, strin
 use Rattle.mesh_form.specs.Texts.{off_text, obj_text}
 use Rattle.mesh_ply.specs.Texts.{mesh_text}
 use Rattle.recon_main.proofs.Formats.{ran_on, by_kinds, three_pushed, at_kind}
-use Rattle.recon_main.proofs.ends.run_in_forms.OwnLists.{own-1}
-use Rattle.recon_main.proofs.ends.run_in_forms.Goals as goal
+use Rattle.recon_main.proofs.ends.run_in_formats.OwnLists.{own-1}
+use Rattle.recon_main.proofs.ends.run_in_formats.Goals as goal
 
 pub returns-clause-ran : goal.returns-clause-ran
 returns-clause-ran g c =
@@ -25,4 +25,4 @@ returns-clause-ran g c =
     (λ b is. at_kind
     (λ i x. (own-1.entry i).1.text_of x ≡ obj_text ((own-1.entry i).1.received x).points ((own-1.entry i).1.received x).faces) _
     c.into_dyn_box-in_ok-new-3.result.vtable c.into_dyn_box-in_ok-new-3.ensures.0 (λ x. refl) b.vtable b.value is))
-    c.run_forms.ensures.exported c.run_forms.ensures.ran
+    c.requires.others c.run_forms.ensures.exported c.run_forms.ensures.ran

@@ -1,0 +1,206 @@
+-- What `sweep` does: its outcome from that of its steps.
+use Rattle.std.proofs.Common.{◌≡◌, inl, inr, ℕ, ◌+◌, ◌≤◌, ◌-◌, List, [], length, Option, Some, None, IfSome, Ok, false}
+use Rattle.std.proofs.Common.{refl, sym, ap, subst, ◌∙◌, arith, map, string_bytes}
+use Rattle.std.proofs.lemmas.List.{length-map}
+use Rattle.std.specs.List.{zip}
+use Rattle.host.specs.Counts.{Rose}
+use Rattle.host.specs.State.{State, Told, Files}
+use Rattle.host.specs.Whole.{OnlyReads}
+use Rattle.mesh_form.specs.Received.{Received}
+use Rattle.scan.specs.Shown.{Shown}
+use Rattle.scan.specs.Views.{shown_of}
+use Rattle.scan.specs.declared.scan.Scan.{Scan}
+use Rattle.sweep.proofs.Handings.{fronts_of_entries}
+use Rattle.sweep.specs.Entries.{CostsAt, HaveEntries, given_by, smoothing_of}
+use Rattle.recon_cmd.specs.Answers.{Answer, read_as}
+use Rattle.recon_cmd.specs.Exports.{ExportFits}
+use Rattle.recon_cmd.specs.Replies.{line_bytes}
+use Rattle.recon_cmd.specs.Steps.{Bytes, CarriesOut, IsReading, ReadsBy}
+use Rattle.recon_cmd.specs.Sweeps.{IsFileOfScan, SweepAnswer, SweepAsked, SweepFormsAfter, SweepHandOut}
+use Rattle.recon_cmd.specs.Sweeps.{SweepOutcome, WritesSweep, sweep_asked, sweep_line}
+use Rattle.recon_cmd.specs.declared.words.sweeping.SweepWords.{SweepWords}
+use Rattle.recon_cmd.specs.declared.answer.Line.{Line}
+use Rattle.recon_cmd.specs.declared.answer.reading.Reading.TheVariants as readings
+use Rattle.recon_cmd.specs.declared.status.Status.{Status}
+use Rattle.recon_cmd.specs.declared.status.Status.TheVariants.{Done, Refused, Failed, NoMemory}
+use Rattle.recon_cmd.proofs.Outcomes.{failed_by, obeyed_by, starved_by}
+
+-- each answer reads one file
+answer_reads : (asked : SweepAsked) (forms : List Received) (texts : List (List ℕ)) (files : Files) (answer : Answer)
+    → SweepAnswer asked forms texts files answer → answer.reads ≡ 1
+answer_reads asked forms texts files answer (bytes, there, inl (inl long)) = ap (λ (a : Answer). a.reads) long.is
+answer_reads asked forms texts files answer (bytes, there, inl (inr refused)) = ap (λ (a : Answer). a.reads) refused.is
+answer_reads asked forms texts files answer (bytes, there, inr answered) = ap (λ (a : Answer). a.reads) answered.answers.is
+
+sweep_reads : (asked : SweepAsked) (forms : List Received) (texts : List (List ℕ)) (before after : State)
+    → before.writing ≡ false → OnlyReads before after → ReadsBy 1 (SweepAnswer asked forms texts) before after
+sweep_reads asked forms texts before after closed only =
+    record {
+      told = only.told;
+      writing = only.writing ∙ closed;
+      opens = omega (arith, only.opens);
+      no_more = by_cases before.told;
+    }
+  where
+    by_cases : (o : Option Told)
+        → IfSome o
+        (λ told. (answer : Answer) → SweepAnswer asked forms texts told.files answer → after.opens ≤ before.opens + answer.reads)
+    by_cases None = tt
+    by_cases (Some told) = λ answer is. omega (arith, only.opens, answer_reads asked forms texts told.files answer is)
+
+-- the file is a text of the scan
+file_of : (asked : SweepAsked) (scan : Scan) (held : Bytes) (before : State)
+    → IfSome before.told (IsReading asked.input asked.options (readings.Scan scan held))
+    → IsFileOfScan asked.input asked.options (shown_of scan) before
+file_of asked scan held before read = by_cases before.told read
+  where
+    by_cases : (o : Option Told) → IfSome o (IsReading asked.input asked.options (readings.Scan scan held))
+        → IfSome o
+        (λ told. (bytes : List ℕ) × (told.files asked.input ≡ Some bytes) × (read_as asked.options bytes ≡ Ok (shown_of scan)))
+    by_cases None read = tt
+    by_cases (Some told) (bytes, there, (same, within, is)) = (bytes, there, is)
+
+-- the scan is there, and is answered so
+answered_scan : (asked : SweepAsked) (forms : List Received) (texts : List (List ℕ)) (scan : Scan) (held : Bytes)
+    (answer : Answer) (o : Option Told) → WritesSweep asked forms texts (shown_of scan) answer → answer.reads ≡ 1
+    → IfSome o (IsReading asked.input asked.options (readings.Scan scan held))
+    → IfSome o
+    (λ told. (reads : ℕ)
+    × SweepAnswer asked forms texts told.files
+    (record { status = answer.status; reads = reads; writes = answer.writes; line = answer.line }))
+answered_scan asked forms texts scan held answer None answers one read = tt
+answered_scan asked forms texts scan held answer (Some told) answers one (bytes, there, (same, within, is)) =
+    (answer.reads, (bytes, there, inr (record { within = within; scan = shown_of scan; read = is; answers = answers })))
+
+-- the scan is refused with this line
+refused_scan : (asked : SweepAsked) (forms : List Received) (texts : List (List ℕ)) (line : Line) (o : Option Told)
+    → IfSome o (IsReading asked.input asked.options (readings.Refused line))
+    → IfSome o (λ told. (reads : ℕ)
+    × SweepAnswer asked forms texts told.files
+    (record { status = Refused; reads = reads; writes = []; line = line_bytes line }))
+refused_scan asked forms texts line None read = tt
+refused_scan asked forms texts line (Some told) (bytes, there, unread) = (1, (bytes, there, inl unread))
+
+-- ---- forms
+-- the forms have received the meshes of their entries, and their texts are carried out
+pub handed : (words : SweepWords) (scan : Shown) (forms : ℕ) (result : Status) (before after : State) (new : List Received)
+    (texts : List (List ℕ)) (first last : ℕ) (line : List ℕ)
+    → length words.outputs.now ≡ forms → length new ≡ forms
+    → HaveEntries (given_by scan) words.options.settings.vote words.options.settings.smooth words.step new
+    → CostsAt (given_by scan) words.options.settings.vote words.options.settings.smooth first
+    → CostsAt (given_by scan) words.options.settings.vote (smoothing_of words.options.settings.smooth words.step (forms - 1)) last
+    → line ≡ sweep_line (length words.outputs.now) first last
+    → CarriesOut (zip (map string_bytes words.outputs.now) texts) line Done result before after
+    → SweepHandOut (sweep_asked words) scan result before after new texts
+handed words scan forms result before after new texts first last line same count each first_is last_is line_is carried =
+    inr (record {
+      first = first;
+      last = last;
+      entries =
+          record {
+            count = count ∙ sym outputs;
+            each = each;
+            first_is = first_is;
+            last_is =
+                subst (λ (n : ℕ). CostsAt (given_by scan) words.options.settings.vote
+                (smoothing_of words.options.settings.smooth words.step (n - 1)) last) (sym outputs) last_is;
+          };
+      carried =
+          subst (λ (l : List ℕ). CarriesOut (zip (map string_bytes words.outputs.now) texts) l Done result before after)
+          (line_is
+          ∙ ap (λ (n : ℕ). sweep_line n first last) (sym (length-map words.outputs.now string_bytes))) carried;
+    })
+  where
+    outputs : length (map string_bytes words.outputs.now) ≡ forms
+    outputs = length-map words.outputs.now string_bytes ∙ same
+
+-- lists whose values of a kind are the same are as long
+pub as_long : {V B : Type 0} (kind : B → V) (received : B → Received) (old new : List B) → map kind new ≡ map kind old
+    → length (map received new) ≡ length old
+as_long kind received old new same =
+    length-map new received ∙ (sym (length-map new kind) ∙ (ap length same ∙ length-map old kind))
+
+-- ---- outcomes
+
+-- a call failed while the scan was read
+pub swept_failed : (asked : SweepAsked) (before after : State) (old : List Received) (texts : List (List ℕ))
+    → before.writing ≡ false → OnlyReads before after → Rose before.faults after.faults
+    → SweepOutcome asked Failed before after old old texts
+swept_failed asked before after old texts closed only rose =
+    record {
+      run = failed_by ExportFits 1 (SweepAnswer asked old texts) before after tt
+          (sweep_reads asked old texts before after closed only) rose;
+      forms = inl refl;
+    }
+
+-- there was no memory for the scan
+pub swept_starved : (asked : SweepAsked) (before after : State) (old : List Received) (texts : List (List ℕ))
+    → before.writing ≡ false → OnlyReads before after → after.faults ≡ before.faults
+    → SweepOutcome asked NoMemory before after old old texts
+swept_starved asked before after old texts closed only same =
+    record {
+      run = starved_by ExportFits 1 (SweepAnswer asked old texts) before after tt
+          (sweep_reads asked old texts before after closed only) same;
+      forms = inl refl;
+    }
+
+-- the scan is refused
+pub swept_refused : (asked : SweepAsked) (line : Line) (result : Status) (before mid after : State) (old : List Received)
+    (texts : List (List ℕ)) → before.writing ≡ false → OnlyReads before mid → mid.faults ≡ before.faults
+    → IfSome before.told (IsReading asked.input asked.options (readings.Refused line))
+    → CarriesOut [] (line_bytes line) Refused result mid after → SweepOutcome asked result before after old old texts
+swept_refused asked line result before mid after old texts closed only same read carried =
+    record {
+      run = obeyed_by ExportFits 1 (SweepAnswer asked old texts) Refused [] (line_bytes line) result before mid after tt tt tt
+          (refused_scan asked old texts line before.told read) (sweep_reads asked old texts before mid closed only) same carried;
+      forms = by carried;
+    }
+  where
+    by : CarriesOut [] (line_bytes line) Refused result mid after → SweepFormsAfter asked result before old old
+    by (inl (is, whole)) = subst (λ (s : Status). SweepFormsAfter asked s before old old) (sym is) refl
+    by (inr (is, stopped)) = subst (λ (s : Status). SweepFormsAfter asked s before old old) (sym is) (inl refl)
+
+-- the scan was read, and its surfaces handed to the forms
+pub swept : (asked : SweepAsked) (scan : Scan) (held : Bytes) (result : Status) (before mid after : State)
+    (old new : List Received) (texts : List (List ℕ)) → before.writing ≡ false → OnlyReads before mid
+    → mid.faults ≡ before.faults → IfSome before.told (IsReading asked.input asked.options (readings.Scan scan held))
+    → SweepHandOut asked (shown_of scan) result mid after new texts → SweepOutcome asked result before after old new texts
+swept asked scan held result before mid after old new texts closed only same read (inl (is, fronts, still)) =
+    subst (λ (s : Status). SweepOutcome asked s before after old new texts) (sym is) (record {
+      run = starved_by ExportFits 1 (SweepAnswer asked new texts) before after tt
+          (subst (λ (s : State). ReadsBy 1 (SweepAnswer asked new texts) before s) (sym still)
+          (sweep_reads asked new texts before mid closed only)) (ap (λ (s : State). s.faults) still ∙ same);
+      forms = inr (shown_of scan, file_of asked scan held before read, fronts);
+    })
+swept asked scan held result before mid after old new texts closed only same read (inr carries) =
+    record {
+      run = obeyed_by ExportFits 1 (SweepAnswer asked new texts) Done (zip asked.outputs texts) line result before mid after tt
+          tt tt
+          (answered_scan asked new texts scan held answer before.told
+          (record {
+            first = carries.first;
+            last = carries.last;
+            entries = carries.entries;
+            is = refl;
+          }) refl read)
+          (sweep_reads asked new texts before mid closed only) same carries.carried;
+      forms = by carries.carried;
+    }
+  where
+    line : List ℕ
+    line = sweep_line (length asked.outputs) carries.first carries.last
+
+    answer : Answer
+    answer = record { status = Done; reads = 1; writes = zip asked.outputs texts; line = line }
+
+    by : CarriesOut (zip asked.outputs texts) line Done result mid after → SweepFormsAfter asked result before old new
+    by (inl (is, whole)) =
+        subst (λ (s : Status). SweepFormsAfter asked s before old new) (sym is)
+        (shown_of scan, file_of asked scan held before read, carries.entries.each)
+    by (inr (is, stopped)) =
+        subst (λ (s : Status). SweepFormsAfter asked s before old new) (sym is)
+        (inr (
+          shown_of scan,
+          file_of asked scan held before read,
+          fronts_of_entries (given_by (shown_of scan)) asked.options.vote asked.options.smooth asked.step new carries.entries.each,
+        ))

@@ -1,0 +1,101 @@
+-- Laws over the definitions of a run of `sweep`, for a reader of the contract of `run_forms`.
+--
+--   SweepsOn asked bytes ..       a run of `sweep` over a host that tells these bytes of its scan, in which no call failed
+--   AcceptedIsSwept               an accepted scan: the texts are written, or there was no memory
+--   RefusedIsNotSwept             a refused scan: it is refused, or there was no memory
+--   SweepAnswerIsOne              `sweep` has one answer where the files are given, and what the forms make
+--   entry_options asked k         the options of entry k
+--   Builds asked k names ..       an answer of `build` to the same scan at the weights of entry k
+--   HasBuiltMesh names built r    a form has received the mesh that `build` writes
+--   HasBuiltCost names built n    the number is the cost that the certificate of `build` states
+--   AreBuilt asked forms ..       the meshes and the costs of a sweep are those of `build`
+--   EntriesAreBuilt               so are all that an answer of `sweep` has which is done
+use Rattle.std.specs.Prelude.{◌≡◌, ◌⊎◌, ℕ, ◌-◌, ◌<◌, ◌≤◌, List, length, slice_index_or, Some, Ok, Err}
+use Rattle.cert_text.specs.Certificates.{Claim}
+use Rattle.host.specs.Counts.{Rose}
+use Rattle.host.specs.State.{Files, State, Told}
+use Rattle.mesh_form.specs.Received.{Received, HasAll}
+use Rattle.mesh_ply.specs.Meshes.{Surface}
+use Rattle.scan.specs.Shown.{Shown}
+use Rattle.scan.specs.declared.refusal.ScanRefusal.{ScanRefusal}
+use Rattle.sweep.specs.Entries.{smoothing_of}
+use Rattle.recon_cmd.specs.Answers.{Answer, AnswerOf, file_limit, read_as}
+use Rattle.recon_cmd.specs.Laws.{texts_by}
+use Rattle.recon_cmd.specs.Options.{Options}
+use Rattle.recon_cmd.specs.Replies.{Shows}
+use Rattle.recon_cmd.specs.Sweeps.{SweepAnswer, SweepAsked, SweepOutcome, sweep_line}
+use Rattle.recon_cmd.specs.Words.{SurfaceNames, build}
+use Rattle.recon_cmd.specs.declared.status.Status.{Status}
+use Rattle.recon_cmd.specs.declared.status.Status.TheVariants.{Done, Refused, NoMemory}
+
+-- a run of `sweep` over a host that tells its files, where the file of the scan has these bytes and no call failed
+pub record SweepsOn (asked : SweepAsked) (bytes : List ℕ) (status : Status) (before after : State) (old new : List Received)
+    (texts : List (List ℕ)) : Type 0 where
+  pub told : Told
+  pub tells : before.told ≡ Some told
+  pub file : told.files asked.input ≡ Some bytes
+  pub no_failure : ¬ Rose before.faults after.faults
+  pub outcome : SweepOutcome asked status before after old new texts
+
+-- the scan is accepted: the texts are written, or there was no memory
+abbrev pub AcceptedIsSwept : Type 0
+AcceptedIsSwept =
+    (asked : SweepAsked) (bytes : List ℕ) (scan : Shown) (status : Status) (before after : State) (old new : List Received)
+    (texts : List (List ℕ)) → SweepsOn asked bytes status before after old new texts → length bytes ≤ file_limit
+    → read_as asked.options bytes ≡ Ok scan → (status ≡ Done) ⊎ (status ≡ NoMemory)
+
+-- the file is too long, or is no scan for whichever reason: it is refused, or there was no memory
+abbrev pub RefusedIsNotSwept : Type 0
+RefusedIsNotSwept =
+    (asked : SweepAsked) (bytes : List ℕ) (status : Status) (before after : State) (old new : List Received)
+    (texts : List (List ℕ)) → SweepsOn asked bytes status before after old new texts
+    → (file_limit < length bytes) ⊎ ((why : ScanRefusal) × (read_as asked.options bytes ≡ Err why))
+    → (status ≡ Refused) ⊎ (status ≡ NoMemory)
+
+-- Two runs may hand in other forms. Where these are as many, and make their texts of what they have received in the same ways,
+-- the answers are one.
+abbrev pub SweepAnswerIsOne : Type 0
+SweepAnswerIsOne =
+    (asked : SweepAsked) (makes : List (Received → List ℕ)) (forms others : List Received) (files : Files)
+    (answer other : Answer) → length forms ≡ length others → SweepAnswer asked forms (texts_by makes forms) files answer
+    → SweepAnswer asked others (texts_by makes others) files other → answer ≡ other
+
+-- the options of entry k
+abbrev pub entry_options : SweepAsked → (k : ℕ) → Options
+entry_options asked k = record asked.options { smooth = smoothing_of asked.options.smooth asked.step k }
+
+-- an answer of `build` to the same scan, at the weights of entry k
+pub record Builds (asked : SweepAsked) (k : ℕ) (names : SurfaceNames) (files : Files) (built : Answer) : Type 0 where
+  pub input : names.input ≡ asked.input
+  pub answers : AnswerOf (Some (build names (entry_options asked k))) files built
+
+-- the form has received exactly the mesh that is built
+pub record HasBuiltMesh (names : SurfaceNames) (built : Answer) (r : Received) : Type 0 where
+  pub mesh : Surface
+  pub claim : Claim
+  pub shown : Shows names.mesh names.cert mesh claim built
+  pub all : HasAll r mesh.points mesh.faces
+
+-- the number is the cost that the certificate states
+pub record HasBuiltCost (names : SurfaceNames) (built : Answer) (n : ℕ) : Type 0 where
+  pub mesh : Surface
+  pub claim : Claim
+  pub shown : Shows names.mesh names.cert mesh claim built
+  pub cost_is : n ≡ claim.counts.cost
+
+-- each form has received the mesh that `build` writes at the weights of its entry, and the line says the costs that `build` states at
+-- those of the first and of the last
+pub record AreBuilt (asked : SweepAsked) (forms : List Received) (files : Files) (answer : Answer) : Type 0 where
+  pub each : (k : ℕ) (d : Received) (names : SurfaceNames) (built : Answer) → k < length forms
+      → Builds asked k names files built → HasBuiltMesh names built (slice_index_or forms k d)
+  pub first : ℕ
+  pub last : ℕ
+  pub line_is : answer.line ≡ sweep_line (length asked.outputs) first last
+  pub first_is : (names : SurfaceNames) (built : Answer) → Builds asked 0 names files built → HasBuiltCost names built first
+  pub last_is : (names : SurfaceNames) (built : Answer) → Builds asked (length asked.outputs - 1) names files built
+      → HasBuiltCost names built last
+
+abbrev pub EntriesAreBuilt : Type 0
+EntriesAreBuilt =
+    (asked : SweepAsked) (forms : List Received) (texts : List (List ℕ)) (files : Files) (answer : Answer)
+    → SweepAnswer asked forms texts files answer → answer.status ≡ Done → AreBuilt asked forms files answer

@@ -1,0 +1,217 @@
+//! What a person is told on standard error beside the line that is promised: how a command is used, and how to mend what was
+//! refused. No clause speaks of these texts. How to mend a refusal is the table of `docs/using.md`, and a test of `tools/tests`
+//! compares the two.
+
+use std::rt::Env;
+
+/// The commands, each with the words behind it.
+pub const USES: [(&str, &str); 9] = [
+    (
+        "build",
+        "IN MESH CERT [unit=U] [vote=V] [smooth=L] [scanner=X,Y,Z]",
+    ),
+    (
+        "check",
+        "IN MESH CERT [unit=U] [vote=V] [smooth=L] [scanner=X,Y,Z]",
+    ),
+    (
+        "upgrade",
+        "IN MESH CERT OUT [unit=U] [vote=V] [smooth=L] [scanner=X,Y,Z]",
+    ),
+    (
+        "ask",
+        "IN POINTS OUT [unit=U] [vote=V] [smooth=L] [scanner=X,Y,Z]",
+    ),
+    (
+        "sweep",
+        "IN FROM STEP N OUT1 .. OUTN [unit=U] [vote=V] [scanner=X,Y,Z]",
+    ),
+    ("slice", "MESH H OUT"),
+    ("export", "MESH PLY OFF OBJ"),
+    ("cells", "IN OUT [unit=U] [scanner=X,Y,Z]"),
+    ("demo", "N SEED"),
+];
+
+/// The longest name of a command has fewer bytes.
+const COMMAND_LIMIT: usize = 16;
+
+/// What is told of a surface without a face.
+pub const NO_FACE: &str =
+    "no face: are all points one place at this unit (unit=1000 makes millimetres of metres), or is smooth= large beside vote=?";
+
+/// What a refusal begins with, behind its first word, and how to mend it.
+const CURES: [(&[&str], &str); 31] = [
+    (
+        &["1 not_ply"],
+        "another format: make a PLY of it. Or something stands before ply, as the mark that some editors put at the front of a text, or behind it in its line: take it out",
+    ),
+    (
+        &["2 bad_line"],
+        "a misspelled word, a type that PLY has not (int64), a name with a space, a version other than 1.0, a property before the first element: mend the line. A name with a letter beyond ASCII: scan.py makes it plain",
+    ),
+    (
+        &["3 long_line", "4 long_header"],
+        "a line of over 1,000 bytes or a header of over 1,000 lines, mostly comments: delete them",
+    ),
+    (
+        &["5 twice"],
+        "two properties or elements of one name: scan.py renames the second property of its element",
+    ),
+    (
+        &["6 head_cut", "17 cut"],
+        "the file was cut, or its header states more rows or properties than there are: export or copy it again",
+    ),
+    (
+        &[
+            "7 missing vertex",
+            "7 missing vertex_x",
+            "7 missing vertex_y",
+            "7 missing vertex_z",
+        ],
+        "the points or their coordinates have other names in this file: rename them. scan.py takes X, Y, Z for them",
+    ),
+    (
+        &["7 missing vertex_scanner"],
+        "name the scanner of each point (scan.py with index=), or hand in one place by scanner=; points with normals get scanners by normals=yes",
+    ),
+    (
+        &[
+            "7 missing scanner",
+            "7 missing scanner_x",
+            "7 missing scanner_y",
+            "7 missing scanner_z",
+        ],
+        "the file numbers its scanners and has no positions: scan.py with positions=",
+    ),
+    (
+        &["8 list_property"],
+        "a coordinate is a list in this file: export it as single values",
+    ),
+    (
+        &["9 binary_float"],
+        "the program reads no binary floating point: scan.py",
+    ),
+    (
+        &["10 too_many vertex"],
+        "at most 1,048,576 points: scan.py with side= or with from= and to=, or tiles.py",
+    ),
+    (
+        &["10 too_many scanner"],
+        "at most 65,536 places: one for each station, and not for each point",
+    ),
+    (
+        &["11 two_scanners"],
+        "leave out scanner=, or take the element out",
+    ),
+    (
+        &["12 bad_token"],
+        "a word is no number: nan and inf, a scanner's number with decimals (both: scan.py), a weight with decimals, or a decimal comma",
+    ),
+    (
+        &["13 long_number"],
+        "over 30 digits, or 18 in a scanner's number, or 4 in an exponent: write fewer",
+    ),
+    (
+        &["14 out_of_range"],
+        "farther out than 2,097,151: a smaller unit, or an origin near the object (origin= of scan.py)",
+    ),
+    (
+        &["15 no_such_scanner"],
+        "point r names scanner i, and scanners are numbered from 0 up to one less than the count of element scanner: is the file's numbering from 1, or a row of its scanners missing?",
+    ),
+    (
+        &["16 bad_count"],
+        "the length of a list is no number: the body is not what the header says",
+    ),
+    (
+        &["18 trailing"],
+        "more rows than the header says: mend the count, or cut the file at byte a. Or more values in a row than it has properties",
+    ),
+    (
+        &["19 too_long scan"],
+        "over 4 GiB: fewer points, by scan.py with side= or with from= and to=",
+    ),
+    (
+        &["21 bad_weight"],
+        "a weight is 1 to 255: multiply or round the weights of the file into that range, or give a point of weight 0 an empty list of scanners",
+    ),
+    (
+        &["22 too_many_sights"],
+        "at most 8,388,608 sights: name fewer scanners a point, or take fewer points",
+    ),
+    (
+        &["19 too_long mesh", "19 too_long cert"],
+        "over 4 GiB, so most likely another file than was meant",
+    ),
+    (&["19 too_long points"], "over 4 GiB: ask in parts"),
+    (
+        &["23 bad_query"],
+        "of ask: value n of the points, counted from 0, is no number: a comma or a semicolon, a header line, nan",
+    ),
+    (
+        &["24 long_query"],
+        "over 30 digits, or 4 in an exponent: write fewer",
+    ),
+    (
+        &["25 query_range"],
+        "the point is farther out than a scan's can be: a smaller unit, or leave the point out, which is outside",
+    ),
+    (
+        &["26 query_cut"],
+        "there are n values, and three make a point: is a column missing, or one too many, or the file cut?",
+    ),
+    (
+        &["27 too_many_queries"],
+        "over 3,145,728 values: ask in parts",
+    ),
+    (
+        &["28 unbalanced"],
+        "of slice: the mesh is not closed at the edge between points a and b, counted from 0: take a mesh that build wrote",
+    ),
+    (
+        &["29 mesh_line", "30 mesh_cut"],
+        "of slice and export: the mesh is not as build wrote it: edited, saved by a viewer, brought to floats, with other line ends (then n is 1), or cut: take that file",
+    ),
+];
+
+/// The place among [`USES`] of the command that the words behind the program's name begin with, if it is one.
+pub fn command_begun<R: Env>(rt: &R) -> Option<usize> {
+    let mut word = [0; COMMAND_LIMIT];
+    let Ok(length) = rt.arg(1, &mut word) else {
+        return None;
+    };
+    let first = word.get(..length)?;
+    for (place, (name, _)) in USES.iter().enumerate() {
+        if first == name.as_bytes() {
+            return Some(place);
+        }
+    }
+    None
+}
+
+/// How to mend what was refused, if the line is a refusal of a file.
+pub fn cure_of(line: &[u8]) -> Option<&'static str> {
+    let reason = line.strip_prefix(b"refused ")?;
+    for (fronts, cure) in &CURES {
+        if fronts.iter().any(|front| is_behind(reason, front)) {
+            return Some(*cure);
+        }
+    }
+    None
+}
+
+/// Whether the reason begins with these words.
+fn is_behind(reason: &[u8], front: &str) -> bool {
+    match reason.strip_prefix(front.as_bytes()) {
+        Some([b' ' | b'\n', ..]) => true,
+        _ => false,
+    }
+}
+
+/// Whether the line is that of a surface without a face.
+pub fn has_no_face(line: &[u8]) -> bool {
+    line.starts_with(b"points ")
+        && line
+            .windows(9)
+            .any(|front| front == b" faces 0 ".as_slice())
+}
