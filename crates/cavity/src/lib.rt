@@ -10,8 +10,6 @@
 mod cavity;
 mod flood;
 mod marks;
-#[cfg(test)]
-mod tests;
 
 pub use cavity::{Cavity, CellList, FacetList, cavity_of};
 use std::alloc::AllocError;

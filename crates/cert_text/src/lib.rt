@@ -22,8 +22,6 @@ mod row;
 mod stamp;
 mod stamp_print;
 mod stamp_read;
-#[cfg(test)]
-mod tests;
 mod words;
 
 pub use certificate::{Certificate, FlowRow, NoMemory, SinkRow};

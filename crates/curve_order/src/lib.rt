@@ -12,8 +12,6 @@
 mod curve;
 mod rounds;
 mod sorting;
-#[cfg(test)]
-mod tests;
 
 pub use rounds::in_rounds;
 pub use sorting::order;

@@ -39,8 +39,6 @@ mod building;
 mod insertion;
 mod laws;
 mod numbering;
-#[cfg(test)]
-mod tests;
 
 pub use building::build;
 pub use insertion::{insert, insert_with};

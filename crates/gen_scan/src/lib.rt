@@ -7,8 +7,6 @@
 
 mod cube;
 mod generate;
-#[cfg(test)]
-mod tests;
 
 pub use generate::gen_scan;
 use std::alloc::AllocError;

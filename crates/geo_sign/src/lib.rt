@@ -46,8 +46,6 @@ mod polynomial;
 mod scanner;
 mod sign;
 mod sphere;
-#[cfg(test)]
-mod tests;
 mod vector;
 
 pub use laws::{

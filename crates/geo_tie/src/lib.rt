@@ -5,8 +5,6 @@
 #![tactic(auto)]
 
 mod cells;
-#[cfg(test)]
-mod tests;
 mod tie;
 
 pub use cells::{PLAIN_LIMIT, plain_cells};

@@ -22,6 +22,3 @@ use std::alloc::AllocError;
 
 /// There was no memory.
 pub type NoMemory = AllocError;
-
-#[cfg(test)]
-mod tests;

@@ -13,8 +13,6 @@ mod lines;
 mod print;
 mod read;
 mod refusal;
-#[cfg(test)]
-mod tests;
 
 pub use facet::{facet_first, pair_first, vertex_first};
 pub use lines::{number_line, word_line};

@@ -6,8 +6,6 @@
 
 mod laws;
 mod merging;
-#[cfg(test)]
-mod tests;
 
 pub use laws::{each_row_has_its_point, points_are_merged};
 pub use merging::{Merged, merge};

@@ -15,8 +15,6 @@ mod off;
 mod ply;
 mod receipt;
 mod stage;
-#[cfg(test)]
-mod tests;
 
 pub use driving::{drive, drive_all};
 pub use form::Form;

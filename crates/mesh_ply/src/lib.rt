@@ -16,8 +16,6 @@ mod laws;
 mod mesh;
 mod read;
 mod refusal;
-#[cfg(test)]
-mod tests;
 mod text;
 mod words;
 

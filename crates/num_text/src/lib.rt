@@ -14,8 +14,6 @@ mod digits;
 mod laws;
 mod print;
 mod refusal;
-#[cfg(test)]
-mod tests;
 mod whole_number;
 
 pub use decimal::{SCALED_LIMIT, UNIT_LIMIT, scaled};

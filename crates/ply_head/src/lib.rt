@@ -24,8 +24,6 @@ mod read;
 mod refusal;
 mod statement;
 mod steps;
-#[cfg(test)]
-mod tests;
 mod words;
 
 pub use header::{

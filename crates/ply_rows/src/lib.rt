@@ -46,8 +46,6 @@ mod laws;
 mod place;
 mod refusal;
 mod rows;
-#[cfg(test)]
-mod tests;
 mod text;
 mod tokens;
 

@@ -23,8 +23,6 @@ mod rings;
 mod slicing;
 mod step;
 mod successors;
-#[cfg(test)]
-mod tests;
 mod text;
 
 pub use laws::{closed_meshes_are_sliced, slices_are_unique};

@@ -25,8 +25,6 @@ mod removal;
 mod renumbering;
 mod replace;
 mod store;
-#[cfg(test)]
-mod tests;
 
 pub use boxed::VERTEX_LIMIT;
 pub use cells::Cells;

@@ -8,8 +8,6 @@
 
 mod goal;
 mod side;
-#[cfg(test)]
-mod tests;
 mod walk;
 
 pub use side::{facet, side_to};

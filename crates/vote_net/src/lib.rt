@@ -17,8 +17,6 @@ mod passes;
 mod rows;
 mod sides;
 mod tables;
-#[cfg(test)]
-mod tests;
 
 pub use cells::rising_cells;
 pub use keys::{cell_key, facet_key};

@@ -9,8 +9,6 @@ mod counting;
 mod fixing;
 mod ordering;
 mod tally;
-#[cfg(test)]
-mod tests;
 
 pub use counting::{count_votes, count_votes_alone, count_votes_as_stored};
 use std::alloc::AllocError;
