@@ -21,8 +21,11 @@ without pieces that float, with the colors of its points. What comes out is no l
 Flips of a mesh of 200,000 faces take some 20 seconds with numpy (Debian: python3-numpy), and two minutes without it; the
 result is the same. Two million faces take some three minutes and 1.3 GB with it.
 """
+from __future__ import annotations
+
 import sys
 import time
+from typing import Any, Sequence
 
 from toolbox import half_edges
 from toolbox.engine import Flipper, Smoother, np, pair_edges, pieces_of
@@ -40,20 +43,20 @@ KEYS = ('unit', 'origin', 'pieces', 'by', 'flips', 'smooth', 'within', 'manifold
 class Progress:
     """A line on a terminal that says each second what is done."""
 
-    def __init__(self):
+    def __init__(self) -> None:
         self.last, self.is_on = time.monotonic(), sys.stderr.isatty()
 
-    def tell(self, text):
+    def tell(self, text: str) -> None:
         if self.is_on and time.monotonic() - self.last > 1:
             print(f'\r{text:78.78}', end='', file=sys.stderr, flush=True)
             self.last = time.monotonic()
 
-    def end(self):
+    def end(self) -> None:
         if self.is_on:
             print('\r' + ' ' * 78 + '\r', end='', file=sys.stderr, flush=True)
 
 
-def whole(word, key, least, most):
+def whole(word: str, key: str, least: int, most: int) -> int:
     if not word.isdecimal() or not least <= int(word) <= most:
         raise Refusal(f'{key}= is a whole number from {least} to {most:,}')
     return int(word)
@@ -62,7 +65,7 @@ def whole(word, key, least, most):
 class Wishes:
     """What the options ask for."""
 
-    def __init__(self, options):
+    def __init__(self, options: Any) -> None:
         self.unit = whole(options.unit or '1', 'unit', 1, 1000000)
         self.origin = [float(word) for word in three(options.origin or '0,0,0', 'origin')]
         self.pieces = whole(options.pieces, 'pieces', 1, 10 ** 9) if options.pieces else None
@@ -82,7 +85,7 @@ class Wishes:
 class Work:
     """A mesh on its way, and what was said of it."""
 
-    def __init__(self, name, wishes, progress):
+    def __init__(self, name: str, wishes: Wishes, progress: Progress) -> None:
         self.wishes, self.progress, self.said, self.fine = wishes, progress, [], 1
         self.places, self.corners = read_mesh(name)
         if not len(self.corners):
@@ -90,10 +93,10 @@ class Work:
         self.twins = pair_edges(self.places, self.corners)
         self.said.append(f'read {len(self.places)} vertices and {number_of(self.face_count(), "face")} of {name}')
 
-    def face_count(self):
+    def face_count(self) -> int:
         return len(self.corners) // 3
 
-    def keep_pieces(self):
+    def keep_pieces(self) -> None:
         """Keeps the largest pieces."""
         piece = list(map(int, pieces_of(self.corners, self.twins)))
         sizes = self.sizes_of(piece)
@@ -108,7 +111,7 @@ class Work:
         self.places, self.corners = arrayed(places, 3), arrayed([number[corner] for corner in corners], 1)
         self.twins = pair_edges(self.places, self.corners)
 
-    def sizes_of(self, piece):
+    def sizes_of(self, piece: list[int]) -> list[int]:
         """The faces of each piece, or its volume."""
         sizes = [0] * (max(piece, default=-1) + 1)
         for face, number in enumerate(piece):
@@ -119,13 +122,13 @@ class Work:
                 sizes[number] += 1
         return [abs(size) for size in sizes]
 
-    def flip(self):
+    def flip(self) -> tuple[int, int]:
         """Flips edges, and answers how many."""
         flipper = Flipper(self.places, self.corners, self.twins)
         flipper.run(self.progress.tell)
         return flipper.flipped, flipper.kept
 
-    def smooth(self):
+    def smooth(self) -> None:
         """Smooths, on a grid that is finer than a unit."""
         while self.fine < FINEST and 2 * self.fine * self.reach() <= LONGEST:
             self.fine *= 2
@@ -142,10 +145,10 @@ class Work:
                          f'{sum(far) / len(far) / scale:.4g} on the mean and {max(far) / scale:.4g} at most, '
                          f'{smoother.held_back} were put back where faces crossed, and {number_of(flips, "edge")} more flipped')
 
-    def reach(self):
+    def reach(self) -> int:
         return max((max(column) - min(column) for column in zip(*(map(int, place) for place in self.places))), default=1) or 1
 
-    def mean_angle(self):
+    def mean_angle(self) -> float:
         """The mean angle between neighboring faces, in degrees."""
         points = [tuple(map(float, place)) for place in self.places]
         corners = list(map(int, self.corners))
@@ -155,14 +158,14 @@ class Work:
                   for h, twin in enumerate(map(int, self.twins)) if h < twin]
         return sum(angles) / max(len(angles), 1) * 57.29577951308232
 
-    def split(self):
+    def split(self) -> Sequence[int]:
         """Splits vertices where sheets touch, and answers the vertex that each one is a copy of."""
         fans, copies = half_edges.fans_of(list(map(int, self.corners)), list(map(int, self.twins)))
         self.corners = fans
         self.said.append(f'split off {number_of(len(copies), "vertex" if len(copies) == 1 else "vertice")}')
         return list(range(len(self.places))) + copies
 
-    def finished(self, scan):
+    def finished(self, scan: str | None) -> Finished:
         """The mesh to be written."""
         columns = []
         if scan is not None:
@@ -175,7 +178,7 @@ class Work:
         return Finished([spots[k] for k in origins], list(zip(corners[::3], corners[1::3], corners[2::3])),
                         [(name, kind, [values[k] for k in origins]) for name, kind, values in columns])
 
-    def run(self, scan):
+    def run(self, scan: str | None) -> Finished:
         if self.wishes.pieces is not None:
             self.keep_pieces()
         self.first_places = self.places
@@ -190,14 +193,14 @@ class Work:
         return self.finished(scan)
 
 
-def arrayed(values, width):
+def arrayed(values: list[Any], width: int) -> Any:
     """Whole numbers as the engine wants them."""
     if np is None:
         return values
     return np.array(values, np.int64).reshape(-1, 3) if width == 3 else np.array(values, np.int64)
 
 
-def main(names, options):
+def main(names: Sequence[str], options: Any) -> str:
     wishes, progress = Wishes(options), Progress()
     form_of(names[1])
     try:

@@ -18,42 +18,47 @@
 A point is drawn evenly on the surface together with a scanner, and kept where that scanner sees it, and not at a grazing
 angle.
 """
+from __future__ import annotations
+
 import itertools
 import math
 import random
+from typing import Any, Iterator, Sequence, Tuple
 
 from toolbox.ply_text import IS_NUMBER, SCANNER_LIMIT, Property, Refusal, Writer, whole_file
 from toolbox.tool import number_of, run
 
+Place = Sequence[float]
+Box = Tuple[Place, Place]
 LIMIT = 2097151
 COUNT_LIMIT = 10 ** 8
 
 
-def less(a, b):
+def less(a: Place, b: Place) -> Place:
     return a[0] - b[0], a[1] - b[1], a[2] - b[2]
 
 
-def dot(a, b):
+def dot(a: Place, b: Place) -> float:
     return a[0] * b[0] + a[1] * b[1] + a[2] * b[2]
 
 
-def along(a, d, t):
+def along(a: Place, d: Place, t: float) -> Place:
     return a[0] + d[0] * t, a[1] + d[1] * t, a[2] + d[2] * t
 
 
-def direction(draw):
+def direction(draw: random.Random) -> Place:
     """A direction, drawn evenly."""
     z, turn = draw.uniform(-1, 1), draw.uniform(0, 2 * math.pi)
     ring = math.sqrt(1 - z * z)
     return ring * math.cos(turn), ring * math.sin(turn), z
 
 
-def ring_of_scanners(far, heights):
+def ring_of_scanners(far: float, heights: tuple[float, float]) -> list[Place]:
     """Eight places around an object."""
     return [(far * math.cos(0.3 + math.pi / 4 * k), far * math.sin(0.3 + math.pi / 4 * k), heights[k % 2]) for k in range(8)]
 
 
-def box_is_met(low, high, a, d, first, last):
+def box_is_met(low: Place, high: Place, a: Place, d: Place, first: float, last: float) -> bool:
     """Whether the line from a along d passes through the inside of a box between the two parameters."""
     for k in range(3):
         if abs(d[k]) < 1e-12:
@@ -69,7 +74,7 @@ class Torus:
     """A ring of radius 0.7 whose tube has the radius 0.28."""
     scanners = ring_of_scanners(2.2, (1.4, -1.5))
 
-    def draw(self, draw):
+    def draw(self, draw: random.Random) -> tuple[Place, Place]:
         while True:
             around, tube = draw.uniform(0, 2 * math.pi), draw.uniform(0, 2 * math.pi)
             far = 0.7 + 0.28 * math.cos(tube)
@@ -78,7 +83,7 @@ class Torus:
         out = math.cos(tube) * math.cos(around), math.cos(tube) * math.sin(around), math.sin(tube)
         return (far * math.cos(around), far * math.sin(around), 0.28 * math.sin(tube)), out
 
-    def is_hidden(self, p, d):
+    def is_hidden(self, p: Place, d: Place) -> bool:
         for k in range(1, 40):
             x, y, z = along(p, d, 0.02 + k * 0.02)
             if math.hypot(math.hypot(x, y) - 0.7, z) < 0.28:
@@ -89,11 +94,11 @@ class Torus:
 class Balls:
     """Balls joined to one body."""
 
-    def __init__(self, balls, scanners):
+    def __init__(self, balls: Sequence[tuple[Place, float]], scanners: list[Place]) -> None:
         self.balls, self.scanners = balls, scanners
         self.weights = [radius * radius for _, radius in balls]
 
-    def draw(self, draw):
+    def draw(self, draw: random.Random) -> tuple[Place, Place]:
         while True:
             (centre, radius), = draw.choices(self.balls, self.weights)
             out = direction(draw)
@@ -101,7 +106,7 @@ class Balls:
             if all(dot(less(p, c), less(p, c)) >= r * r for c, r in self.balls if c != centre):
                 return p, out
 
-    def is_hidden(self, p, d):
+    def is_hidden(self, p: Place, d: Place) -> bool:
         length = dot(d, d)
         for centre, radius in self.balls:
             m = less(p, centre)
@@ -115,7 +120,7 @@ class Balls:
 class Boxes:
     """Boxes seen from outside, and perhaps one seen from inside."""
 
-    def __init__(self, solid, hollow, scanners):
+    def __init__(self, solid: Sequence[Box], hollow: Sequence[Box], scanners: list[Place]) -> None:
         self.solid, self.scanners = solid, scanners
         self.faces, self.weights = [], []
         for (low, high), sign in [(box, 1) for box in solid] + [(box, -1) for box in hollow]:
@@ -124,7 +129,7 @@ class Boxes:
                     self.faces.append((low, high, axis, end, sign))
                     self.weights.append(math.prod(high[k] - low[k] for k in range(3) if k != axis))
 
-    def draw(self, draw):
+    def draw(self, draw: random.Random) -> tuple[Place, Place]:
         (low, high, axis, end, sign), = draw.choices(self.faces, self.weights)
         p = [draw.uniform(low[k], high[k]) for k in range(3)]
         p[axis] = (low, high)[end][axis]
@@ -132,7 +137,7 @@ class Boxes:
         out[axis] = sign if end else -sign
         return tuple(p), out
 
-    def is_hidden(self, p, d):
+    def is_hidden(self, p: Place, d: Place) -> bool:
         return any(box_is_met(low, high, p, d, 1e-6, 1) for low, high in self.solid)
 
 
@@ -140,7 +145,7 @@ class Tube:
     """A tube as thin as a five-hundredth of its length. Each sight goes along its inside from a point to one of the ends."""
     scanners = [(-1.05, 0, 0), (1.05, 0, 0)]
 
-    def rows(self, draw):
+    def rows(self, draw: random.Random) -> Iterator[tuple[Place, int]]:
         while True:
             turn = draw.uniform(0, 2 * math.pi)
             yield (draw.uniform(-1, 1), 0.002 * math.cos(turn), 0.002 * math.sin(turn)), draw.randrange(2)
@@ -149,14 +154,14 @@ class Tube:
 class Crowd:
     """Points in a ball, each seen by 20 of the scanners in it."""
 
-    def __init__(self):
+    def __init__(self) -> None:
         places = random.Random('crowd')
         self.scanners = [self.place(places) for _ in range(SCANNER_LIMIT)]
 
-    def place(self, draw):
+    def place(self, draw: random.Random) -> Place:
         return tuple(c * draw.random() ** (1 / 3) for c in direction(draw))
 
-    def rows(self, draw):
+    def rows(self, draw: random.Random) -> Iterator[tuple[Place, int]]:
         while True:
             p = self.place(draw)
             for _ in range(20):
@@ -167,7 +172,7 @@ class Paraboloid:
     """A bowl, whose points have many cells between them, seen from over it."""
     scanners = [(0.2, 0.1, 1.5), (-0.3, 0.2, 1.7), (0.1, -0.4, 1.6), (0.0, 0.0, 2.2)]
 
-    def rows(self, draw):
+    def rows(self, draw: random.Random) -> Iterator[tuple[Place, int]]:
         while True:
             x, y = draw.uniform(-0.8, 0.8), draw.uniform(-0.8, 0.8)
             yield (x, y, x * x + y * y), draw.randrange(4)
@@ -184,7 +189,7 @@ FURNITURE = [((-0.8, -0.6, -0.5), (-0.2, -0.3, -0.15)), ((0.2, 0.3, -0.5), (0.8,
              ((-0.05, -0.06, -0.49), (0.05, 0.06, 0.49)), ((-0.6, 0.35, -0.49), (-0.5, 0.45, 0.49))]
 
 
-def shape_of(name):
+def shape_of(name: str) -> Any:
     if name == 'torus':
         return Torus()
     if name == 'sphere':
@@ -200,14 +205,14 @@ def shape_of(name):
     raise Refusal(f'there is no shape {name}: torus, room, statue, cube, sphere, {", ".join(WORST)} are known')
 
 
-def wrong_point(draw, p, d):
+def wrong_point(draw: random.Random, p: Place, d: Place) -> Place:
     """A point as scanners err at edges and in dust."""
     if draw.random() < 0.5:
         return along(p, d, 0.9 * draw.random())
     return tuple(draw.uniform(-1.2, 1.2) for _ in range(3))
 
 
-def seen_point(draw, shape, noise, stray):
+def seen_point(draw: random.Random, shape: Balls | Boxes | Torus, noise: float, stray: float) -> tuple[Place, int]:
     """A point as one of the scanners saw it, and that scanner's number."""
     while True:
         p, out = shape.draw(draw)
@@ -221,7 +226,7 @@ def seen_point(draw, shape, noise, stray):
     return along(p, d, draw.gauss(0, noise) / length), index
 
 
-def rows_of(draw, shape, noise, stray):
+def rows_of(draw: random.Random, shape: Any, noise: float, stray: float) -> Iterator[tuple[Place, int]]:
     """Points and the numbers of their scanners, without end."""
     if hasattr(shape, 'rows'):
         yield from shape.rows(draw)
@@ -229,17 +234,17 @@ def rows_of(draw, shape, noise, stray):
         yield seen_point(draw, shape, noise, stray)
 
 
-def scaled(place, scale):
+def scaled(place: Place, scale: float) -> list[str]:
     return [str(max(-LIMIT, min(LIMIT, round(c * scale)))) for c in place]
 
 
-def number(text, what, least, most):
+def number(text: str, what: str, least: int, most: int) -> float:
     if not IS_NUMBER(text) or not least <= float(text) <= most:
         raise Refusal(f'{what} is a number from {least} to {most}, and not {text}')
     return float(text)
 
 
-def main(names, options):
+def main(names: Sequence[str], options: Any) -> str:
     shape, out = shape_of(names[0]), names[3]
     count = int(number(names[1], 'COUNT', 0, COUNT_LIMIT))
     scale = number(options.scale or '500000', 'scale', 1, LIMIT)

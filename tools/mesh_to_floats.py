@@ -5,34 +5,38 @@ PLY with whole-number coordinates. Coordinates are divided by the unit, and the 
   mesh_to_floats.py IN OUT [unit=U] [origin=X,Y,Z]
 
   unit=U             the unit that the mesh was built with. Without it 1
-  origin=X,Y,Z       the place that floats_to_text, thin, clip or surround took off. Without it 0,0,0
+  origin=X,Y,Z       the place that was taken off the scan. Without it 0,0,0
 
 Coordinates are exact decimals, rounded only where they have over 30 digits. The faces stay as they are.
 """
+from __future__ import annotations
+
 from decimal import Decimal
+from typing import Any, Sequence, TextIO
 
 from toolbox.exact import quotients
-from toolbox.ply_text import ARE_THREE, Property, Reader, Refusal, plain_names, whole_file
+from toolbox.ply_text import ARE_THREE, Element, Property, Reader, Refusal, plain_names, whole_file
 from toolbox.tool import number_of, run, three
 
 
-def unit_of(options):
+def unit_of(options: Any) -> Decimal:
     word = options.unit or '1'
     if not word.isdecimal() or not 1 <= int(word) <= 1000000:
         raise Refusal('unit= is a whole number from 1 to 1,000,000')
     return Decimal(word)
 
 
-def head(vertex, face):
+def head(vertex: Element, face: Element) -> str:
     columns = [Property(axis, 'double').line() for axis in 'xyz']
     return '\n'.join(['ply', 'format ascii 1.0', 'comment made by mesh_to_floats', f'element vertex {vertex.count}', *columns,
                       f'element face {face.count}', plain_names(face.properties)[0].line(), 'end_header', ''])
 
 
-def pass_mesh(reader, file, unit, origin):
+def pass_mesh(reader: Reader, file: TextIO, unit: Decimal, origin: list[Decimal]) -> tuple[Element, Element]:
     """Writes the mesh, and answers its two elements."""
     vertex, face = reader.element('vertex'), reader.element('face')
-    if reader.elements != [vertex, face] or vertex.has_lists() or len(face.properties) != 1 or not face.has_lists():
+    if (vertex is None or face is None or reader.elements != [vertex, face] or vertex.has_lists() or len(face.properties) != 1
+            or not face.has_lists()):
         raise Refusal('this is no mesh of recon: vertices and then faces, each with a list')
     x, y, z = vertex.point_columns()
     if any(vertex.properties[k].kind.startswith(('float', 'double')) for k in (x, y, z)):
@@ -49,7 +53,7 @@ def pass_mesh(reader, file, unit, origin):
     return vertex, face
 
 
-def main(names, options):
+def main(names: Sequence[str], options: Any) -> str:
     unit, origin = unit_of(options), [Decimal(word) for word in three(options.origin or '0,0,0', 'origin')]
     reader = Reader(names[0])
     try:

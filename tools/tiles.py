@@ -1,8 +1,7 @@
 #!/usr/bin/env python3
 """A scan of any size cut into tiles that `recon` takes, and the tiles' surfaces put together.
 
-  tiles.py split SCAN FOLDER [points=N] [overlap=D | spacings=K] [unit=U] [vote=V] [smooth=L] [index=NAME] [positions=TABLE]
-                 [origin=X,Y,Z] [open_end=yes] [stations=yes] [position=header|matrix]
+  tiles.py split FILE .. FOLDER [points=N] [overlap=D | spacings=K] [through=N] [unit=U] [vote=V] [smooth=L] [how it is read]
   tiles.py join FOLDER OUT [fill=yes] [report=FILE]
 
 `split` halves space by planes along the axes until each box, its tile's *core*, has at most so many points in it and within
@@ -15,12 +14,10 @@ says what each is; and jobs that build and check each tile's surface, as `jobs.t
   through=N          how many points from outside a tile are handed in to it at most, whose sights enter its box. Without it a
                      tenth of points=
   unit=, vote=, smooth=   options of `recon` for the jobs
-  stations=yes       SCAN is a table of stations, as stations_to_ply.py takes it
-  index=, positions=, origin=, open_end=, position=   how the scan is read: as by floats_to_text.py, ptx_to_ply.py and
-                     stations_to_ply.py
+  index=, positions=, position=, table=, images=, normals=, far=, origin=, open_end=   how the scan is read, with the meaning
+                     that they have for scan.py
 
-SCAN is a PLY, whose points may have lists of scanners, a PTX, a list of numbers seen from one place (positions=), or a table.
-Of a PLY what `recon` does not read is left out.
+FILE .. is all that scan.py reads, in the same words. What `recon` does not read is left out.
 
 `join` takes, when all jobs are done, of each tile's surface the faces whose middle lies in its core, and makes one vertex of
 what is one scanned point. It says of each two tiles that meet how many edges at their seam are not there one way as often as the
@@ -30,54 +27,62 @@ other: open ones, of one face or two, and crowded ones, where three or more meet
                      its reverse equally often
   report=FILE        a text of a line for each such edge: the two tiles, `open` or `crowded`, and the edge's two ends
 """
+from __future__ import annotations
+
+from typing import Any, Sequence
+
 from toolbox.ply_text import IS_NUMBER, Refusal
 from toolbox.scan_feeds import KEYS
 from toolbox.tile_join import join
 from toolbox.tile_split import Wanted, split
-from toolbox.tool import run, yes
+from toolbox.tool import NotUnderstood, run, yes
 
 SPLIT = ('points', 'overlap', 'spacings', 'through', 'unit', 'vote', 'smooth') + KEYS
 JOIN = ('fill', 'report')
 
 
-def whole(text, key, least, most):
+def whole(text: str, key: str, least: int, most: int) -> int:
     """The value of an option, a whole number."""
     if not text.isdecimal() or not least <= int(text) <= most:
         raise Refusal(f'{key}= is a whole number from {least} to {most:,}')
     return int(text)
 
 
-def length(text, key):
+def length(text: str, key: str) -> float:
     if not IS_NUMBER(text) or not 0 <= float(text) < 1e30:
         raise Refusal(f'{key}= is a number, 0 or more')
     return float(text)
 
 
-def refuse_others(options, mine, others, command):
+def refuse_others(options: Any, mine: tuple[str, ...], others: tuple[str, ...], command: str) -> None:
     for key in others:
         if key not in mine and getattr(options, key) is not None:
             raise Refusal(f'{key}= is no option of {command}')
 
 
-def main(names, options):
-    command, one, other = names
-    if command == 'split':
+def wanted_of(options: Any) -> tuple[Wanted, list[str]]:
+    """What a split is asked for, and the options of `recon` for its jobs."""
+    limits = {'unit': (1, 1000000), 'vote': (1, 65535), 'smooth': (0, 65535)}
+    handed = {key: whole(getattr(options, key), key, *ends) for key, ends in limits.items() if getattr(options, key) is not None}
+    if options.overlap is not None and options.spacings is not None:
+        raise Refusal('overlap= and spacings= say the same thing: give one of them')
+    points = whole(options.points or '800000', 'points', 20, 1048576)
+    through = points // 10 if options.through is None else whole(options.through, 'through', 0, points // 2)
+    overlap = None if options.overlap is None else length(options.overlap, 'overlap')
+    wanted = Wanted(points, through, overlap, length(options.spacings or '20', 'spacings'), handed.get('unit', 1), options)
+    return wanted, [f'{key}={value}' for key, value in handed.items()]
+
+
+def main(names: Sequence[str], options: Any) -> str:
+    command, *others = names or ['']
+    if command == 'split' and len(others) > (options.table is None):
         refuse_others(options, SPLIT, JOIN, command)
-        limits = {'unit': (1, 1000000), 'vote': (1, 65535), 'smooth': (0, 65535)}
-        handed = {key: whole(getattr(options, key), key, *ends) for key, ends in limits.items()
-                  if getattr(options, key) is not None}
-        if options.overlap is not None and options.spacings is not None:
-            raise Refusal('overlap= and spacings= say the same thing: give one of them')
-        points = whole(options.points or '800000', 'points', 20, 1048576)
-        through = points // 10 if options.through is None else whole(options.through, 'through', 0, points // 2)
-        wanted = Wanted(points, through, None if options.overlap is None else length(options.overlap, 'overlap'),
-                        length(options.spacings or '20', 'spacings'), handed.get('unit', 1), options)
-        return split(one, other, wanted, [f'{key}={value}' for key, value in handed.items()])
-    if command == 'join':
+        return split(others[:-1], others[-1], *wanted_of(options))
+    if command == 'join' and len(others) == 2:
         refuse_others(options, JOIN, SPLIT, command)
-        return join(one, other, yes(options.fill, 'fill'), options.report)
-    raise Refusal(f'there is no command {command}: split or join')
+        return join(others[0], others[1], yes(options.fill, 'fill'), options.report)
+    raise NotUnderstood
 
 
 if __name__ == '__main__':
-    run(main, __doc__, 3, SPLIT + JOIN)
+    run(main, __doc__, None, SPLIT + JOIN)

@@ -1,9 +1,14 @@
 """What the tests of tools/ share: programs called, files written and compared."""
+from __future__ import annotations
+
 import os
 import re
 import struct
 import subprocess
 import sys
+import tempfile
+import unittest
+from typing import Any, Sequence
 
 HERE = os.path.dirname(os.path.abspath(__file__))
 TOOLS = os.path.dirname(HERE)
@@ -11,38 +16,48 @@ ROOT = os.path.dirname(TOOLS)
 DEV = os.path.join(ROOT, 'dev')
 PLACES = [os.environ.get('RECON', ''), os.path.join(ROOT, 'recon'),
           os.path.join(ROOT, 'crates', 'recon_main', 'out', 'recon_main')]
-RECON = next(filter(os.path.exists, PLACES), None)
+RECON = next(filter(os.path.exists, PLACES), '')
 sys.path[:0] = [TOOLS, DEV]
 
 
-def write(name, data):
+class InFolder(unittest.TestCase):
+    """Tests that begin in an empty folder each."""
+
+    def setUp(self) -> None:
+        folder = tempfile.TemporaryDirectory()
+        self.addCleanup(folder.cleanup)
+        self.addCleanup(os.chdir, ROOT)
+        os.chdir(folder.name)
+
+
+def write(name: str, data: bytes | str) -> None:
     with open(name, 'wb') as file:
         file.write(data.encode('ascii') if isinstance(data, str) else data)
 
 
-def read(name):
+def read(name: str) -> str:
     with open(name, 'rb') as file:
         return file.read().decode('ascii')
 
 
-def call(program, *words):
+def call(program: str, *words: str) -> Any:
     """Status, standard output and standard error of a program of tools/ or dev/."""
     path = next(filter(os.path.exists, (os.path.join(folder, program + '.py') for folder in (TOOLS, DEV))))
     done = subprocess.run([sys.executable, path, *words], capture_output=True, text=True)
     return done.returncode, done.stdout, done.stderr
 
 
-def equal(got, wanted):
+def equal(got: Any, wanted: Any) -> None:
     if got != wanted:
         raise AssertionError(f'\n  got    {got!r}\n  wanted {wanted!r}')
 
 
-def says(program, line, *words):
+def says(program: str, line: str, *words: str) -> None:
     """The program ends well with this line."""
     equal(call(program, *words), (0, f'{program}.py: {line}\n', ''))
 
 
-def refuses(program, part, *words, out='out.ply'):
+def refuses(program: str, part: str, *words: str, out: str = 'out.ply') -> None:
     """The program refuses with a line that has this part, and leaves what was there."""
     write(out, 'before')
     status, said, error = call(program, *words)
@@ -51,7 +66,7 @@ def refuses(program, part, *words, out='out.ply'):
     equal((read(out), os.path.exists(out + '.part')), ('before', False))
 
 
-def holds(name, wanted):
+def holds(name: str, wanted: str) -> None:
     """The file is this text but for its comment, and `recon` reads it, where `recon` is built."""
     text = read(name)
     equal(re.sub('comment made by .*\n', '', text), wanted)
@@ -61,7 +76,7 @@ def holds(name, wanted):
         equal((done.returncode, done.stdout[:7]), (0, 'points '))
 
 
-def head(count, columns, scanners=None):
+def head(count: int, columns: str, scanners: int | None = None) -> str:
     """The header of what the programs write."""
     lines = ['ply', 'format ascii 1.0', f'element vertex {count}'] + ['property ' + column for column in columns.split(', ')]
     if scanners is not None:
@@ -72,7 +87,8 @@ def head(count, columns, scanners=None):
 SCAN = 'double x, double y, double z, int scanner'
 
 
-def binary(order, end, rows, columns='fffB', names='x y z red', extra=b'', more=''):
+def binary(order: str, end: str, rows: Sequence[Any], columns: str = 'fffB', names: str = 'x y z red',
+           extra: bytes = b'', more: str = '') -> bytes:
     """A binary PLY as other programs write it."""
     types = {'f': 'float', 'd': 'double', 'B': 'uchar', 'h': 'short', 'i': 'int', 'q': 'list uchar int'}
     kind = {'<': 'little', '>': 'big'}[order]
@@ -85,8 +101,11 @@ def binary(order, end, rows, columns='fffB', names='x y z red', extra=b'', more=
 POINTS = [(0.1, -2.5, 1e-7, 255), (float('nan'), 0, 0, 1), (3, float('inf'), 0, 2), (100000, 16777216, -0.75, 0)]
 
 
-class Nothing:
-    """No options."""
+class Given:
+    """These options and no others."""
 
-    def __getattr__(self, key):
+    def __init__(self, **values) -> None:
+        vars(self).update(values)
+
+    def __getattr__(self, key: str) -> None:
         return None

@@ -1,9 +1,11 @@
 """Definitions that a contract rests on, counted."""
+from __future__ import annotations
+
 import os
 import pathlib
 
+from helpers import ROOT, InFolder, call, equal, write
 import believed
-from helpers import ROOT, call, equal, write
 
 LOW = """-- Numbers.
 use Rattle.std.specs.Prelude.{ℕ, ◌≡◌}
@@ -46,21 +48,21 @@ pub fn second(a: u32) -> u32
 """
 
 
-def test_believed_definitions_are_those_that_are_named():
-    for name, text in (('low/specs/Numbers.antt', LOW), ('high/specs/Both.antt', HIGH), ('high/src/lib.rt', CODE)):
-        os.makedirs(os.path.dirname(name), exist_ok=True)
-        write(name, text.encode())
-    crates, believed.CRATES = believed.CRATES, pathlib.Path.cwd()
-    try:
-        first = '3 definitions of 2 files of `specs/`, together 6 lines. `high`: Both 2; `low`: Numbers 4'
-        equal(believed.told('high', 'src/lib.rt', 'first'), f'`first`: {first}')
-        equal(believed.told('high', 'Both', 'IsBoth'), f'`IsBoth`: {first}')
-        second = '2 definitions of 2 files of `specs/`, together 4 lines. `high`: Both 2; `low`: Numbers 2'
-        equal(believed.told('high', 'src/lib.rt', 'second'), f'`second`: {second}')
-    finally:
-        believed.CRATES = crates
+class Believed(InFolder):
+    def test_believed_definitions_are_those_that_are_named(self) -> None:
+        for name, text in (('low/specs/Numbers.antt', LOW), ('high/specs/Both.antt', HIGH), ('high/src/lib.rt', CODE)):
+            os.makedirs(os.path.dirname(name), exist_ok=True)
+            write(name, text.encode())
+        crates, believed.CRATES = believed.CRATES, pathlib.Path.cwd()
+        try:
+            first = '3 definitions of 2 files of `specs/`, together 6 lines. `high`: Both 2; `low`: Numbers 4'
+            equal(believed.told('high', 'src/lib.rt', 'first'), f'`first`: {first}')
+            equal(believed.told('high', 'Both', 'IsBoth'), f'`IsBoth`: {first}')
+            second = '2 definitions of 2 files of `specs/`, together 4 lines. `high`: Both 2; `low`: Numbers 2'
+            equal(believed.told('high', 'src/lib.rt', 'second'), f'`second`: {second}')
+        finally:
+            believed.CRATES = crates
 
-
-def test_believed_definitions_stand_in_the_promises():
-    promises = pathlib.Path(ROOT, 'docs', 'promises.md').read_text()
-    equal([line for line in call('believed')[1].splitlines() if line not in promises], [])
+    def test_believed_definitions_stand_in_the_promises(self) -> None:
+        promises = pathlib.Path(ROOT, 'docs', 'promises.md').read_text()
+        equal([line for line in call('believed')[1].splitlines() if line not in promises], [])

@@ -1,9 +1,11 @@
 """Examples on the pages of crates, beside the tests that they are."""
+from __future__ import annotations
+
 import os
 import pathlib
 
+from helpers import InFolder, call, equal, write
 import examples
-from helpers import call, equal, write
 
 PAGE = """//! A crate.
 //!
@@ -30,31 +32,35 @@ fn example(rt: HostRuntime) {
 """
 
 
-def faults(page, test, name='a_crate', file='tests.rt'):
+def faults(page: str, test: str, name: str = 'a_crate', file: str = 'tests.rt') -> list[str]:
     """What is told of a crate with this page and this file of tests."""
     os.makedirs(os.path.dirname(os.path.join(name, 'src', file)), exist_ok=True)
     write(os.path.join(name, 'src', 'lib.rt'), page)
     write(os.path.join(name, 'src', file), test)
-    return examples.faults_of(pathlib.Path(name))
+    kept, examples.TOP = examples.TOP, pathlib.Path.cwd()
+    try:
+        return examples.faults_of(pathlib.Path(name))
+    finally:
+        examples.TOP = kept
 
 
-def test_examples_are_the_bodies_of_tests():
-    equal(faults(PAGE, TEST), [])
-    equal(faults(PAGE.replace('rust', 'text'), 'fn helper() {\n}\n\n' + TEST + '\n#[test]\nfn other() {\n}\n'), [])
-    equal(faults(PAGE, TEST, 'b_crate', 'tests/example.rt'), [])
-    equal(faults('//! A crate.\n', ''), [])
-    equal(faults('//! A crate.\n', '', 'geo_sign'), ['geo_sign has none'])
+class Examples(InFolder):
+    def test_examples_are_the_bodies_of_tests(self) -> None:
+        equal(faults(PAGE, TEST), [])
+        equal(faults(PAGE.replace('rust', 'text'), 'fn helper() {\n}\n\n' + TEST + '\n#[test]\nfn other() {\n}\n'), [])
+        equal(faults(PAGE, TEST, 'b_crate', 'tests/example.rt'), [])
+        equal(faults('//! A crate.\n', ''), [])
+        equal(faults('//! A crate.\n', '', 'geo_sign'), ['geo_sign has none'])
 
-
-def test_examples_that_are_not_the_bodies_of_tests():
-    line = ['a_crate: line 4 is `    ok();` on the page, `    no();` in the test']
-    equal(faults(PAGE, TEST.replace('ok', 'no')), line)
-    equal(faults(PAGE, TEST.replace('    ok', 'ok')), [line[0].replace('    no', 'ok')])
-    equal(faults(PAGE, TEST[:-2] + '    end();\n}\n'), ['a_crate: line 6 is `no line` on the page, `end();` in the test'])
-    more = ['a_crate: line 3 is `` on the page, `if two == 2 {` in the test']
-    equal(faults(PAGE.replace('//! if', '//!\n//! if'), TEST), more)
-    equal(faults('//! A crate.\n', TEST), ['a_crate has a test `example`, and none on its page'])
-    equal(faults(PAGE.replace('//! Two:', '//! # Other'), TEST), ['a_crate has a test `example`, and none on its page'])
-    for test in ('', TEST.replace('#[test]\n', ''), TEST.replace('example', 'examples')):
-        equal(faults(PAGE, test), ['a_crate has one on its page, and no test `example`'])
-    equal(call('examples', 'no_crate'), (1, 'examples: there is no crate no_crate\nexamples: 0 in 0 crates\n', ''))
+    def test_examples_that_are_not_the_bodies_of_tests(self) -> None:
+        line = ['a_crate: line 4 is `    ok();` on the page, `    no();` in the test']
+        equal(faults(PAGE, TEST.replace('ok', 'no')), line)
+        equal(faults(PAGE, TEST.replace('    ok', 'ok')), [line[0].replace('    no', 'ok')])
+        equal(faults(PAGE, TEST[:-2] + '    end();\n}\n'), ['a_crate: line 6 is `no line` on the page, `end();` in the test'])
+        more = ['a_crate: line 3 is `` on the page, `if two == 2 {` in the test']
+        equal(faults(PAGE.replace('//! if', '//!\n//! if'), TEST), more)
+        equal(faults('//! A crate.\n', TEST), ['a_crate has a test `example`, and none on its page'])
+        equal(faults(PAGE.replace('//! Two:', '//! # Other'), TEST), ['a_crate has a test `example`, and none on its page'])
+        for test in ('', TEST.replace('#[test]\n', ''), TEST.replace('example', 'examples')):
+            equal(faults(PAGE, test), ['a_crate has one on its page, and no test `example`'])
+        equal(call('examples', 'no_crate'), (1, 'examples: there is no crate no_crate\nexamples: 0 in 0 crates\n', ''))

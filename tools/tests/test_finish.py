@@ -1,4 +1,6 @@
 """Meshes that are finished: crossings, flips, smoothing, pieces, splits, colors and forms, on small meshes."""
+from __future__ import annotations
+
 import itertools
 import json
 import os
@@ -6,15 +8,17 @@ import random
 import struct
 import subprocess
 import sys
+import unittest
 from fractions import Fraction
+from typing import Any, Sequence
 
-from helpers import RECON, TOOLS, call, equal, head, refuses, write
+from helpers import RECON, TOOLS, InFolder, call, equal, head, refuses, write
 from toolbox import flips, half_edges, smoothing
 from toolbox.crossing import cross, orient
 from toolbox.vectors import Numbers, normal
 
 
-def mesh_text(places, faces):
+def mesh_text(places: Sequence[Any], faces: Sequence[Any]) -> str:
     """A mesh as `recon build` writes it."""
     lines = ['ply', 'format ascii 1.0', f'element vertex {len(places)}', 'property int x', 'property int y', 'property int z',
              f'element face {len(faces)}', 'property list uchar int vertex_indices', 'end_header']
@@ -25,11 +29,11 @@ def mesh_text(places, faces):
 TETRAHEDRON = [(0, 2, 1), (0, 1, 3), (0, 3, 2), (1, 2, 3)]
 
 
-def ball(count, size, roughness=0, seed=1):
+def ball(count: int, size: int, roughness: float = 0, seed: int = 1) -> Any:
     """A closed mesh of a cube's sides cut into squares of two triangles each, drawn out to a ball."""
     draw, places, faces = random.Random(seed), {}, []
 
-    def number(place):
+    def number(place: Sequence[Any]) -> int:
         return places.setdefault(place, len(places))
 
     for axis, end, i, j in itertools.product(range(3), (0, count), range(count), range(count)):
@@ -49,16 +53,16 @@ def ball(count, size, roughness=0, seed=1):
     return spots, faces
 
 
-def flat(faces):
+def flat(faces: Sequence[Any]) -> list[int]:
     return [corner for face in faces for corner in face]
 
 
-def crossing_pairs(places, corners):
+def crossing_pairs(places: Sequence[Any], corners: list[int]) -> set[Any]:
     faces = [tuple(corners[at:at + 3]) for at in range(0, len(corners), 3)]
     return {pair for pair in itertools.combinations(range(len(faces)), 2) if cross(places, faces[pair[0]], faces[pair[1]])}
 
 
-def common_places(one, other):
+def common_places(one: Sequence[Any], other: Sequence[Any]) -> bool:
     """Whether two triangles have a place in common, by cutting one's corners off at the planes of the other, in fractions."""
     a, b, c = other
     away = tuple(normal_of(a, b, c))
@@ -70,19 +74,19 @@ def common_places(one, other):
     return bool(clipped([tuple(map(Fraction, p)) for p in one], walls))
 
 
-def less(a, b):
+def less(a: Sequence[Any], b: Sequence[Any]) -> list[int]:
     return [x - y for x, y in zip(a, b)]
 
 
-def cross_product(a, b):
+def cross_product(a: list[int], b: list[int]) -> Any:
     return a[1] * b[2] - a[2] * b[1], a[2] * b[0] - a[0] * b[2], a[0] * b[1] - a[1] * b[0]
 
 
-def normal_of(a, b, c):
+def normal_of(a: Sequence[Any], b: Sequence[Any], c: Sequence[Any]) -> Any:
     return cross_product(less(b, a), less(c, a))
 
 
-def clipped(polygon, walls):
+def clipped(polygon: Sequence[Any], walls: Sequence[Any]) -> list[Any]:
     """What is left of a polygon on the inner sides of some planes, borders too."""
     for start, inward in walls:
         sides = [sum(x * y for x, y in zip(less(p, start), inward)) for p in polygon]
@@ -100,38 +104,14 @@ def clipped(polygon, walls):
     return polygon
 
 
-def test_triangles_cross_exactly_where_they_have_a_place_in_common():
-    draw, met = random.Random(2), 0
-    while met < 300:
-        size = draw.choice((2, 3, 6, 1000000))
-        places = [tuple(draw.randrange(size + 1) for _ in range(3)) for _ in range(6)]
-        one, other = places[:3], places[3:]
-        if not any(normal_of(*one)) or not any(normal_of(*other)) or len(set(places)) < 6:
-            continue
-        expected = common_places(one, other)
-        equal(cross(places, (0, 1, 2), (3, 4, 5)), expected)
-        equal(cross(places, (4, 5, 3), (2, 1, 0)), expected)
-        met += expected
-
-
-def test_neighbors_cross_where_one_lies_on_the_other():
-    places = [(0, 0, 0), (4, 0, 0), (0, 4, 0), (4, 4, 0), (1, 1, 0), (1, 1, 5), (-4, -4, 0), (3, 1, 0)]
-    cases = [((0, 1, 2), (1, 0, 3), True), ((0, 1, 2), (1, 0, 5), False), ((1, 2, 0), (2, 1, 3), False),
-             ((0, 1, 2), (0, 4, 7), True), ((0, 1, 2), (0, 4, 5), True), ((0, 1, 2), (0, 6, 5), False),
-             ((0, 1, 2), (2, 1, 0), True), ((0, 1, 2), (0, 3, 5), True), ((0, 1, 2), (4, 5, 6), True)]
-    for one, other, expected in cases:
-        equal((one, other, cross(places, one, other)), (one, other, expected))
-        equal(cross(places, other, one), expected)
-
-
-def check_flips(places, faces):
+def check_flips(places: Sequence[Any], faces: Sequence[Any]) -> int:
     """Flips a mesh, and checks what holds of it after."""
     corners = flat(faces)
     before = crossing_pairs(places, corners)
     flipper = flips.Flipper(places, corners, half_edges.pair_edges(places, corners))
     falling = []
 
-    def tell(_):
+    def tell(_: str) -> None:
         falling.append(total_angle(places, corners))
 
     start = total_angle(places, corners)
@@ -143,7 +123,7 @@ def check_flips(places, faces):
     return flipper.flipped
 
 
-def total_angle(places, corners):
+def total_angle(places: Sequence[Any], corners: list[int]) -> float:
     """The sum of angle times length."""
     from math import acos, dist
     twins = half_edges.pair_edges(places, corners)
@@ -152,14 +132,7 @@ def total_angle(places, corners):
                * dist(places[corners[h]], places[corners[t]]) for h, t in enumerate(twins) if h < t)
 
 
-def test_flips_make_angles_fall_and_no_faces_cross():
-    for size, roughness in ((40, 0), (40, 0.3), (1500000, 0.6)):
-        places, faces = ball(4, size, roughness)
-        equal(crossing_pairs(places, flat(faces)), set())
-        equal(check_flips(places, faces) > 20, True)
-
-
-def best_edge(places, corners):
+def best_edge(places: Sequence[Any], corners: list[int]) -> Any:
     """The flipper of a mesh and the edge that gains most."""
     flipper = flips.Flipper(places, corners, half_edges.pair_edges(places, corners))
     for edge, twin in enumerate(flipper.twins):
@@ -168,72 +141,20 @@ def best_edge(places, corners):
     return flipper, max(flipper.gains, key=flipper.gains.get)
 
 
-def test_a_flip_that_would_cross_is_not_made():
-    places, faces = ball(5, 100000, 0.3)
-    flipper, edge = best_edge(places, flat(faces))
-    equal(flipper.cross_nothing([edge]), [edge])
-    middle = [sum(column) // 3 for column in zip(*(places[k] for k in flipper.new_faces(edge)[0]))]
-    spike = [tuple(x + y for x, y in zip(middle, step)) for step in ((0, 0, 0), (200, 0, 0), (0, 200, 0), (-100, -100, 200))]
-    spike[0] = tuple(x - 100 for x in spike[0])
-    faces += [tuple(k + len(places) for k in face) for face in TETRAHEDRON]
-    places += spike
-    equal(crossing_pairs(places, flat(faces)), set())
-    flipper, again = best_edge(places, flat(faces))
-    equal((again, flipper.cross_nothing([edge])), (edge, []))
-    equal(check_flips(places, faces) > 20, True)
-
-
 TOUCHING = [(0, 0, 0), (0, 0, 10), (10, 0, 5), (0, 10, 5), (-10, 0, 5), (0, -10, 5)]
 
 
-def outward(places, faces):
+def outward(places: Sequence[Any], faces: Sequence[Any]) -> list[Any]:
     """The faces of a tetrahedron, seen from outside."""
     middle = [sum(places[k][axis] for k in set(flat(faces))) for axis in range(3)]
     scaled = [tuple(4 * x for x in place) for place in places]
     return [face if orient(*(scaled[k] for k in face), tuple(middle)) < 0 else face[::-1] for face in faces]
 
 
-def test_sheets_that_touch_are_told_apart():
-    one = outward(TOUCHING, [tuple((0, 1, 2, 3)[k] for k in face) for face in TETRAHEDRON])
-    other = outward(TOUCHING, [tuple((0, 1, 4, 5)[k] for k in face) for face in TETRAHEDRON])
-    corners = flat(one + other)
-    twins = half_edges.pair_edges(TOUCHING, corners)
-    equal(half_edges.pieces_of(corners, twins), [0] * 4 + [1] * 4)
-    fans, copies = half_edges.fans_of(corners, twins)
-    equal((sorted(copies), fans[:12] == corners[:12], set(fans[12:])), ([0, 1], True, {4, 5, 6, 7}))
-
-
 SCAN_ROWS = [(100, 100, 100), (100, -100, -100), (-100, 100, -100), (-100, -100, 100)]
 
 
-def test_what_is_written():
-    write('in.ply', mesh_text(SCAN_ROWS, [(0, 1, 2), (0, 2, 3), (0, 3, 1), (1, 3, 2)]))
-    columns = 'float x, float y, float z, uchar red, uchar green, uchar blue, float intensity'
-    rows = [(0.1, 0.1, 0.1, 1, 2, 3, 0.5), (0.1, 0.1, 0.1, 9, 9, 9, 9), (0.1, -0.1, -0.1, 4, 5, 6, 0.25),
-            (-0.1, 0.1, -0.1, 7, 8, 9, 1), (-0.0996, -0.1, 0.1004, 10, 11, 12, 2)]
-    write('scan.ply', head(5, columns) + ''.join(' '.join(map(str, row)) + '\n' for row in rows))
-    status, said, error = call('finish', 'in.ply', 'out.ply', 'unit=1000', 'scan=scan.ply', 'origin=5,0,0')
-    equal((status, error, 'brought back red, green, blue, intensity of scan.ply' in said), (0, '', True))
-    with open('out.ply', 'rb') as file:
-        text, body = file.read().split(b'end_header\n')
-    equal(struct.unpack_from('<dddBBBf', body, 31), (5.1, -0.1, -0.1, 4, 5, 6, 0.25))
-    equal(struct.unpack_from('<dddBBBf', body, 93)[3:], (10, 11, 12, 2.0))
-    equal(struct.unpack_from('<B3i', body, 4 * 31)[0], 3)
-    equal(call('finish', 'in.ply', 'out.stl')[0], 0)
-    with open('out.stl', 'rb') as file:
-        data = file.read()
-    equal((len(data), struct.unpack_from('<I', data, 80)[0]), (84 + 4 * 50, 4))
-    equal(struct.unpack_from('<3f', data, 84 + 12), (100, 100, 100))
-    equal(call('finish', 'in.ply', 'out.glb', 'unit=1000', 'scan=scan.ply')[0], 0)
-    check_glb('out.glb')
-    write('scan.ply', head(4, columns.replace('uchar', 'ushort')) + ''.join(
-        ' '.join(map(str, place)) + f' {256 * k + 3} {512 + k} {768} 0.5\n' for k, place in zip((1, 4, 7, 10), SCAN_ROWS)))
-    equal(call('finish', 'in.ply', 'out.glb', 'scan=scan.ply')[0], 0)
-    with open('out.glb', 'rb') as file:
-        equal(bytes((1, 2, 3, 255, 4, 2, 3, 255, 7, 2, 3, 255)) in file.read(), True)
-
-
-def check_glb(name):
+def check_glb(name: str) -> None:
     with open(name, 'rb') as file:
         data = file.read()
     magic, version, length, size, kind = struct.unpack_from('<4sIII4s', data)
@@ -247,73 +168,14 @@ def check_glb(name):
     equal(round(first, 7), 0.1)
 
 
-def two_balls():
+def two_balls() -> Any:
     places, faces = ball(3, 1000)
     far = [(x // 4 + 5000, y // 4, z // 4) for x, y, z in places]
     return places + far, faces + [tuple(k + len(places) for k in face) for face in faces[:-2]] + \
         [tuple(k + len(places) for k in face) for face in faces[-2:]]
 
 
-def test_pieces_and_smoothing():
-    places, faces = two_balls()
-    write('in.ply', mesh_text(places, faces))
-    said = call('finish', 'in.ply', 'out.ply', 'pieces=1', 'by=volume', 'flips=no')[1]
-    equal('kept 1 of 2 pieces and left out 108 faces; ' in said, True)
-    equal(said.endswith('wrote 56 vertices and 108 faces to out.ply\n'), True)
-    places, faces = ball(6, 100000, 0.05)
-    write('in.ply', mesh_text(places, faces))
-    said = call('finish', 'in.ply', 'out.ply', 'smooth=3', 'within=2000')[1]
-    with open('out.ply', 'rb') as file:
-        body = file.read().split(b'end_header\n')[1]
-    moved = [struct.unpack_from('<ddd', body, 24 * k) for k in range(len(places))]
-    far = max(sum((x - y) ** 2 for x, y in zip(*pair)) ** 0.5 for pair in zip(moved, places))
-    equal((1500 < far < 2000.1, '3 steps' in said), (True, True))
-    parts = said.split('neighboring faces went from ')[1].split()
-    equal(float(parts[2]) * 2 < float(parts[0]), True)
-
-
-def test_smoothing_crosses_nothing():
-    # two sheets nearer to each other than the roughness that is taken off
-    places, faces = ball(4, 1000, 0.3)
-    inner = [tuple(round(x * 0.93) for x in place) for place in places]
-    places, faces = places + inner, faces + [tuple(len(places) + k for k in face[::-1]) for face in faces]
-    corners = flat(faces)
-    equal(crossing_pairs(places, corners), set())
-    smoother = smoothing.Smoother(places, corners, 300.0)
-    for _ in range(3):
-        smoother.step(half_edges.pair_edges(places, corners))
-        equal(crossing_pairs(places, corners), set())
-
-
-def test_crossings_of_far_places_by_numpy():
-    try:
-        import numpy as np
-        from toolbox import fast_mesh
-    except ImportError:
-        return
-    draw = random.Random(4)
-    for size in (4, 1000, 4000000):
-        places = [tuple(draw.randrange(size) for _ in range(3)) for _ in range(60)]
-        pairs = [draw.sample(range(60), 6) for _ in range(1000)]
-        pairs += [row[:3] + row[:k] + row[3:6 - k] for row in pairs[:300] for k in (1, 2)]
-        pairs = [row for row in pairs
-                 if all(any(normal_of(*(places[k] for k in half))) for half in (row[:3], row[3:]))]
-        rows = np.array(pairs)
-        got = fast_mesh.crossing(np.array(places), rows[:, :3], rows[:, 3:])
-        equal(got.tolist(), [cross(places, row[:3], row[3:]) for row in pairs])
-
-
-def test_with_numpy_and_without_it_is_the_same():
-    try:
-        import numpy  # noqa: F401
-    except ImportError:
-        return
-    for size in (3000, 1900000):
-        write('in.ply', mesh_text(*ball(6, size, 0.1)))
-        check_same(size // 15)
-
-
-def check_same(within):
+def check_same(within: int) -> None:
     made = []
     for without in ('', '1'):
         done = subprocess.run([sys.executable, os.path.join(TOOLS, 'finish.py'), 'in.ply', 'out.ply', 'smooth=2',
@@ -323,29 +185,160 @@ def check_same(within):
     equal(made[0] == made[1] and 'flipped' in made[0][0], True)
 
 
-def test_what_recon_builds_is_finished():
-    if not RECON:
-        return
-    equal(call('make_scan', 'statue', '600', '1', 'scan.ply')[0], 0)
-    subprocess.run([RECON, 'build', 'scan.ply', 'mesh.ply', 'cert'], check=True, capture_output=True)
-    status, said, error = call('finish', 'mesh.ply', 'out.ply', 'pieces=1', 'scan=scan.ply', 'manifold=yes')
-    equal((status, error, 'brought back scanner of scan.ply' in said), (0, '', True))
+class Finish(InFolder):
+    def test_triangles_cross_exactly_where_they_have_a_place_in_common(self) -> None:
+        draw, met = random.Random(2), 0
+        while met < 300:
+            size = draw.choice((2, 3, 6, 1000000))
+            places = [tuple(draw.randrange(size + 1) for _ in range(3)) for _ in range(6)]
+            one, other = places[:3], places[3:]
+            if not any(normal_of(*one)) or not any(normal_of(*other)) or len(set(places)) < 6:
+                continue
+            expected = common_places(one, other)
+            equal(cross(places, (0, 1, 2), (3, 4, 5)), expected)
+            equal(cross(places, (4, 5, 3), (2, 1, 0)), expected)
+            met += expected
 
+    def test_neighbors_cross_where_one_lies_on_the_other(self) -> None:
+        places = [(0, 0, 0), (4, 0, 0), (0, 4, 0), (4, 4, 0), (1, 1, 0), (1, 1, 5), (-4, -4, 0), (3, 1, 0)]
+        cases = [((0, 1, 2), (1, 0, 3), True), ((0, 1, 2), (1, 0, 5), False), ((1, 2, 0), (2, 1, 3), False),
+                 ((0, 1, 2), (0, 4, 7), True), ((0, 1, 2), (0, 4, 5), True), ((0, 1, 2), (0, 6, 5), False),
+                 ((0, 1, 2), (2, 1, 0), True), ((0, 1, 2), (0, 3, 5), True), ((0, 1, 2), (4, 5, 6), True)]
+        for one, other, expected in cases:
+            equal((one, other, cross(places, one, other)), (one, other, expected))
+            equal(cross(places, other, one), expected)
 
-def test_meshes_that_are_not_finished():
-    tetrahedron = mesh_text(SCAN_ROWS, [(0, 1, 2), (0, 2, 3), (0, 3, 1), (1, 3, 2)])
-    write('in.ply', tetrahedron)
-    write('scan.ply', head(1, 'float x, float y, float z') + '100 100 100\n')
-    for words, part in ((('smooth=3',), 'stand together'), (('within=1',), 'stand together'), (('by=size',), 'by='),
-                        (('smooth=1', 'within=0'), 'within='), (('pieces=0',), 'pieces='), (('unit=0',), 'unit='),
-                        (('scan=scan.ply',), '3 of 4 vertices are no points of scan.ply at unit=1')):
-        refuses('finish', part, 'in.ply', 'out.ply', *words)
-    refuses('finish', 'ends in none of .ply, .stl, .glb', 'in.ply', 'out.obj', out='out.obj')
-    spoiled = ((tetrahedron.replace('int x', 'double x'), 'floating point already'), (tetrahedron[:-1], 'it is cut'),
-               (tetrahedron[:-8], 'it has 24 numbers where its header says 28'),
-               (tetrahedron.replace('3 0 1 2', '3 0 1 4'), 'a face is no triangle'),
-               (tetrahedron.replace('3 0 1 2', '3 0 1 3'), 'not closed'), (tetrahedron.replace('3 1 3 2\n', ''), 'numbers where'),
-               (mesh_text([], []), 'no faces'))
-    for text, part in spoiled:
-        write('in.ply', text)
-        refuses('finish', part, 'in.ply', 'out.ply')
+    def test_flips_make_angles_fall_and_no_faces_cross(self) -> None:
+        for size, roughness in ((40, 0), (40, 0.3), (1500000, 0.6)):
+            places, faces = ball(4, size, roughness)
+            equal(crossing_pairs(places, flat(faces)), set())
+            equal(check_flips(places, faces) > 20, True)
+
+    def test_a_flip_that_would_cross_is_not_made(self) -> None:
+        places, faces = ball(5, 100000, 0.3)
+        flipper, edge = best_edge(places, flat(faces))
+        equal(flipper.cross_nothing([edge]), [edge])
+        middle = [sum(column) // 3 for column in zip(*(places[k] for k in flipper.new_faces(edge)[0]))]
+        spike = [tuple(x + y for x, y in zip(middle, step)) for step in ((0, 0, 0), (200, 0, 0), (0, 200, 0), (-100, -100, 200))]
+        spike[0] = tuple(x - 100 for x in spike[0])
+        faces += [tuple(k + len(places) for k in face) for face in TETRAHEDRON]
+        places += spike
+        equal(crossing_pairs(places, flat(faces)), set())
+        flipper, again = best_edge(places, flat(faces))
+        equal((again, flipper.cross_nothing([edge])), (edge, []))
+        equal(check_flips(places, faces) > 20, True)
+
+    def test_sheets_that_touch_are_told_apart(self) -> None:
+        one = outward(TOUCHING, [tuple((0, 1, 2, 3)[k] for k in face) for face in TETRAHEDRON])
+        other = outward(TOUCHING, [tuple((0, 1, 4, 5)[k] for k in face) for face in TETRAHEDRON])
+        corners = flat(one + other)
+        twins = half_edges.pair_edges(TOUCHING, corners)
+        equal(half_edges.pieces_of(corners, twins), [0] * 4 + [1] * 4)
+        fans, copies = half_edges.fans_of(corners, twins)
+        equal((sorted(copies), fans[:12] == corners[:12], set(fans[12:])), ([0, 1], True, {4, 5, 6, 7}))
+
+    def test_what_is_written(self) -> None:
+        write('in.ply', mesh_text(SCAN_ROWS, [(0, 1, 2), (0, 2, 3), (0, 3, 1), (1, 3, 2)]))
+        columns = 'float x, float y, float z, uchar red, uchar green, uchar blue, float intensity'
+        rows = [(0.1, 0.1, 0.1, 1, 2, 3, 0.5), (0.1, 0.1, 0.1, 9, 9, 9, 9), (0.1, -0.1, -0.1, 4, 5, 6, 0.25),
+                (-0.1, 0.1, -0.1, 7, 8, 9, 1), (-0.0996, -0.1, 0.1004, 10, 11, 12, 2)]
+        write('scan.ply', head(5, columns) + ''.join(' '.join(map(str, row)) + '\n' for row in rows))
+        status, said, error = call('finish', 'in.ply', 'out.ply', 'unit=1000', 'scan=scan.ply', 'origin=5,0,0')
+        equal((status, error, 'brought back red, green, blue, intensity of scan.ply' in said), (0, '', True))
+        with open('out.ply', 'rb') as file:
+            text, body = file.read().split(b'end_header\n')
+        equal(struct.unpack_from('<dddBBBf', body, 31), (5.1, -0.1, -0.1, 4, 5, 6, 0.25))
+        equal(struct.unpack_from('<dddBBBf', body, 93)[3:], (10, 11, 12, 2.0))
+        equal(struct.unpack_from('<B3i', body, 4 * 31)[0], 3)
+        equal(call('finish', 'in.ply', 'out.stl')[0], 0)
+        with open('out.stl', 'rb') as file:
+            data = file.read()
+        equal((len(data), struct.unpack_from('<I', data, 80)[0]), (84 + 4 * 50, 4))
+        equal(struct.unpack_from('<3f', data, 84 + 12), (100, 100, 100))
+        equal(call('finish', 'in.ply', 'out.glb', 'unit=1000', 'scan=scan.ply')[0], 0)
+        check_glb('out.glb')
+        write('scan.ply', head(4, columns.replace('uchar', 'ushort')) + ''.join(
+            ' '.join(map(str, place)) + f' {256 * k + 3} {512 + k} {768} 0.5\n' for k, place in zip((1, 4, 7, 10), SCAN_ROWS)))
+        equal(call('finish', 'in.ply', 'out.glb', 'scan=scan.ply')[0], 0)
+        with open('out.glb', 'rb') as file:
+            equal(bytes((1, 2, 3, 255, 4, 2, 3, 255, 7, 2, 3, 255)) in file.read(), True)
+
+    def test_pieces_and_smoothing(self) -> None:
+        places, faces = two_balls()
+        write('in.ply', mesh_text(places, faces))
+        said = call('finish', 'in.ply', 'out.ply', 'pieces=1', 'by=volume', 'flips=no')[1]
+        equal('kept 1 of 2 pieces and left out 108 faces; ' in said, True)
+        equal(said.endswith('wrote 56 vertices and 108 faces to out.ply\n'), True)
+        places, faces = ball(6, 100000, 0.05)
+        write('in.ply', mesh_text(places, faces))
+        said = call('finish', 'in.ply', 'out.ply', 'smooth=3', 'within=2000')[1]
+        with open('out.ply', 'rb') as file:
+            body = file.read().split(b'end_header\n')[1]
+        moved = [struct.unpack_from('<ddd', body, 24 * k) for k in range(len(places))]
+        far = max(sum((x - y) ** 2 for x, y in zip(*pair)) ** 0.5 for pair in zip(moved, places))
+        equal((1500 < far < 2000.1, '3 steps' in said), (True, True))
+        parts = said.split('neighboring faces went from ')[1].split()
+        equal(float(parts[2]) * 2 < float(parts[0]), True)
+
+    def test_smoothing_crosses_nothing(self) -> None:
+        # two sheets nearer to each other than the roughness that is taken off
+        places, faces = ball(4, 1000, 0.3)
+        inner = [tuple(round(x * 0.93) for x in place) for place in places]
+        places, faces = places + inner, faces + [tuple(len(places) + k for k in face[::-1]) for face in faces]
+        corners = flat(faces)
+        equal(crossing_pairs(places, corners), set())
+        smoother = smoothing.Smoother(places, corners, 300.0)
+        for _ in range(3):
+            smoother.step(half_edges.pair_edges(places, corners))
+            equal(crossing_pairs(places, corners), set())
+
+    def test_crossings_of_far_places_by_numpy(self) -> None:
+        try:
+            import numpy as np
+            from toolbox import fast_mesh
+        except ImportError:
+            return
+        draw = random.Random(4)
+        for size in (4, 1000, 4000000):
+            places = [tuple(draw.randrange(size) for _ in range(3)) for _ in range(60)]
+            pairs = [draw.sample(range(60), 6) for _ in range(1000)]
+            pairs += [row[:3] + row[:k] + row[3:6 - k] for row in pairs[:300] for k in (1, 2)]
+            pairs = [row for row in pairs
+                     if all(any(normal_of(*(places[k] for k in half))) for half in (row[:3], row[3:]))]
+            rows = np.array(pairs)
+            got = fast_mesh.crossing(np.array(places), rows[:, :3], rows[:, 3:])
+            equal(got.tolist(), [cross(places, row[:3], row[3:]) for row in pairs])
+
+    def test_with_numpy_and_without_it_is_the_same(self) -> None:
+        try:
+            import numpy  # noqa: F401
+        except ImportError:
+            return
+        for size in (3000, 1900000):
+            write('in.ply', mesh_text(*ball(6, size, 0.1)))
+            check_same(size // 15)
+
+    @unittest.skipUnless(RECON, 'recon is not built here')
+    def test_what_recon_builds_is_finished(self) -> None:
+        equal(call('make_scan', 'statue', '600', '1', 'scan.ply')[0], 0)
+        subprocess.run([RECON, 'build', 'scan.ply', 'mesh.ply', 'cert'], check=True, capture_output=True)
+        status, said, error = call('finish', 'mesh.ply', 'out.ply', 'pieces=1', 'scan=scan.ply', 'manifold=yes')
+        equal((status, error, 'brought back scanner of scan.ply' in said), (0, '', True))
+
+    def test_meshes_that_are_not_finished(self) -> None:
+        tetrahedron = mesh_text(SCAN_ROWS, [(0, 1, 2), (0, 2, 3), (0, 3, 1), (1, 3, 2)])
+        write('in.ply', tetrahedron)
+        write('scan.ply', head(1, 'float x, float y, float z') + '100 100 100\n')
+        for words, part in ((('smooth=3',), 'stand together'), (('within=1',), 'stand together'), (('by=size',), 'by='),
+                            (('smooth=1', 'within=0'), 'within='), (('pieces=0',), 'pieces='), (('unit=0',), 'unit='),
+                            (('scan=scan.ply',), '3 of 4 vertices are no points of scan.ply at unit=1')):
+            refuses('finish', part, 'in.ply', 'out.ply', *words)
+        refuses('finish', 'ends in none of .ply, .stl, .glb', 'in.ply', 'out.obj', out='out.obj')
+        spoiled = ((tetrahedron.replace('int x', 'double x'), 'floating point already'), (tetrahedron[:-1], 'it is cut'),
+                   (tetrahedron[:-8], 'it has 24 numbers where its header says 28'),
+                   (tetrahedron.replace('3 0 1 2', '3 0 1 4'), 'a face is no triangle'),
+                   (tetrahedron.replace('3 0 1 2', '3 0 1 3'), 'not closed'), (tetrahedron.replace('3 1 3 2\n', ''), 'numbers where'),
+                   (mesh_text([], []), 'no faces'))
+        for text, part in spoiled:
+            write('in.ply', text)
+            refuses('finish', part, 'in.ply', 'out.ply')

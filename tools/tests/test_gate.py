@@ -1,14 +1,16 @@
 """What goes round the gate: edits that still apply, lines of progress, minutes by crate, and what attacks came to."""
+from __future__ import annotations
+
 import os
 import pathlib
 import subprocess
 import sys
 
+from helpers import DEV, ROOT, InFolder, equal, write
 import attack
 import minutes
 import progress
 import wrong_bodies
-from helpers import DEV, ROOT, equal, write
 
 EDIT = 'file: src/lib.rt\nold: a < b\nnew: a <= b\n'
 GATE = """== low
@@ -33,7 +35,7 @@ points 4
 """
 
 
-def faults(text, source='if a < b {\n'):
+def faults(text: str, source: str = 'if a < b {\n') -> list[str]:
     """What is told of an edit of a crate with one file."""
     os.makedirs('crates/low/src', exist_ok=True)
     os.makedirs('attack/low', exist_ok=True)
@@ -46,74 +48,77 @@ def faults(text, source='if a < b {\n'):
         wrong_bodies.TOP = kept
 
 
-def test_edits_apply_to_the_sources():
-    equal(faults(EDIT), [])
-    equal(faults(EDIT + 'old: a <= b\nnew:\n'), [])
-    equal(faults(EDIT + EDIT), ['attack/low/an_edit.edit takes away what stands 0 times: a < b'])
-    equal(faults(EDIT, 'a < b, a < b'), ['attack/low/an_edit.edit takes away what stands 2 times: a < b'])
-    equal(faults(EDIT.replace('lib', 'other')), ['attack/low/an_edit.edit names src/other.rt, which its crate has not'])
-    equal(faults('old: a\nnew: b\n'), ['attack/low/an_edit.edit has a line that is out of place: old: a'])
-    equal(faults(EDIT + 'old: a\n'), ['attack/low/an_edit.edit ends without a pair of lines old: and new:'])
-
-
-def said(text, in_turn):
+def said(text: str, in_turn: bool) -> list[str]:
     """What is said of a run, line by line."""
     seen = progress.Progress(['low', 'host', 'high'] if not in_turn else ['low', 'high'], in_turn, 'LOG')
     return [it for it in (seen.said(line, 9) for line in text.splitlines()) if it is not None]
 
 
-def test_progress_tells_each_crate():
-    equal(said(GATE, False), [
-        'proved low, 1 of 3, 9 min', 'proved here before host, 2 of 3, 9 min', 'NOT PROVED high, 9 min: LOG from line 4 on',
-        'proved the tests of low, 9 min', 'trying 4 wrong bodies of low, 9 min', 'rt: FAILED: high', '3 passed, 1 failed',
-        'levels: all are as told'])
-    equal(said(RUN, True), ['proved low, 1 of 2, 9 min', 'proved high, 2 of 2, 9 min', 'rt: running out/high', 'points 4'])
-    uses = {'low': [], 'mid': ['low'], 'side': ['low'], 'high': ['mid', 'side', 'low']}
-    equal(progress.proved_in_turn('high', uses), ['low', 'mid', 'side', 'high'])
-    page = '| `low` | 20.0 | 30.0 | 40.0 | 90.0 |\n| `high` | 40.0 | 10.0 | 40.0 | 90.0 |\n| All crates | 60.0 | 40.0 | 80.0 | 180.0 |\n'
-    behind = 'on 4 processors, less where crates were proved here before'
-    equal(progress.expected(page, progress.Progress(['low', 'high'], False, 'LOG'), 4), f': from nothing about 45 min {behind}')
-    equal(progress.expected(page, progress.Progress(['low', 'high'], True, 'LOG'), 4), f': from nothing about 30 min {behind}')
-    equal(progress.expected(page, progress.Progress(['host'], True, 'LOG'), 4), '')
+class Gate(InFolder):
+    def test_each_program_has_a_head_that_may_be_cut(self) -> None:
+        for name in ('attack', 'believed', 'bench', 'definitions', 'examples', 'fail_alloc', 'levels', 'measure_surface', 'minutes', 'pictures',
+                     'progress', 'seams', 'wrong_bodies'):
+            line = f'{sys.executable} {os.path.join(DEV, name + ".py")} --help | head -c 1'
+            done = subprocess.run(line, shell=True, capture_output=True, text=True)
+            equal((name, len(done.stdout), done.stderr), (name, 1, ''))
 
+    def test_edits_apply_to_the_sources(self) -> None:
+        equal(faults(EDIT), [])
+        equal(faults(EDIT + 'old: a <= b\nnew:\n'), [])
+        equal(faults(EDIT + EDIT), ['attack/low/an_edit.edit takes away what stands 0 times: a < b'])
+        equal(faults(EDIT, 'a < b, a < b'), ['attack/low/an_edit.edit takes away what stands 2 times: a < b'])
+        equal(faults(EDIT.replace('lib', 'other')), ['attack/low/an_edit.edit names src/other.rt, which its crate has not'])
+        equal(faults('old: a\nnew: b\n'), ['attack/low/an_edit.edit has a line that is out of place: old: a'])
+        equal(faults(EDIT + 'old: a\n'), ['attack/low/an_edit.edit ends without a pair of lines old: and new:'])
 
-def test_progress_keeps_the_status_and_the_text():
-    write('gate.txt', GATE)
-    words = [sys.executable, os.path.join(DEV, 'progress.py'), 'kept.log', 'sh', '-c', 'cat gate.txt; exit 3']
-    done = subprocess.run(words, capture_output=True, text=True)
-    equal(done.returncode, 3)
-    equal(done.stdout.splitlines()[-1], f'failed with status 3: the full text is in {os.path.realpath("kept.log")}')
-    equal(pathlib.Path('kept.log').read_text(), GATE)
+    def test_progress_tells_each_crate(self) -> None:
+        equal(said(GATE, False), [
+            'proved low, 1 of 3, 9 min', 'proved here before host, 2 of 3, 9 min', 'NOT PROVED high, 9 min: LOG from line 4 on',
+            'proved the tests of low, 9 min', 'trying 4 wrong bodies of low, 9 min', 'rt: FAILED: high', '3 passed, 1 failed',
+            'levels: all are as told'])
+        equal(said(RUN, True), ['proved low, 1 of 2, 9 min', 'proved high, 2 of 2, 9 min', 'rt: running out/high', 'points 4'])
+        uses = {'low': [], 'mid': ['low'], 'side': ['low'], 'high': ['mid', 'side', 'low']}
+        equal(progress.proved_in_turn('high', uses), ['low', 'mid', 'side', 'high'])
+        page = '| `low` | 20.0 | 30.0 | 40.0 | 90.0 |\n| `high` | 40.0 | 10.0 | 40.0 | 90.0 |\n| All crates | 60.0 | 40.0 | 80.0 | 180.0 |\n'
+        behind = 'on 4 processors, less where crates were proved here before'
+        equal(progress.expected(page, progress.Progress(['low', 'high'], False, 'LOG'), 4), f': from nothing about 45 min {behind}')
+        equal(progress.expected(page, progress.Progress(['low', 'high'], True, 'LOG'), 4), f': from nothing about 30 min {behind}')
+        equal(progress.expected(page, progress.Progress(['host'], True, 'LOG'), 4), '')
 
+    def test_progress_keeps_the_status_and_the_text(self) -> None:
+        write('gate.txt', GATE)
+        words = [sys.executable, os.path.join(DEV, 'progress.py'), 'kept.log', 'sh', '-c', 'cat gate.txt; exit 3']
+        done = subprocess.run(words, capture_output=True, text=True)
+        equal(done.returncode, 3)
+        equal(done.stdout.splitlines()[-1], f'failed with status 3: the full text is in {os.path.realpath("kept.log")}')
+        equal(pathlib.Path('kept.log').read_text(), GATE)
 
-def test_minutes_go_to_crates():
-    rattle = ['/opt/kit/bin/rattle', 'check', '--crate-name', 'votes', 'src/lib.rt']
-    equal(minutes.work_of(rattle, '/x/crates/votes'), ('votes', 'proofs'))
-    equal(minutes.work_of([*rattle, '--test'], '/x/crates/votes'), ('votes', 'tests'))
-    equal(minutes.work_of(rattle, '/tmp/rt-edit-7-abc'), ('votes', 'edits'))
-    equal(minutes.work_of(['run', '/tmp/rt-run-7-abc/bin/votes_tests'], '/tmp'), ('votes', 'tests'))
-    equal(minutes.work_of(['python3', 'rt', 'ci'], '/x'), None)
-    sums = {('votes', 'proofs'): 60.0, ('votes', 'edits'): 30.0}
-    text = minutes.table(minutes.collections.Counter(sums), 120.0, 0)
-    equal(text.splitlines()[2:6], ['| `votes` | 1.0 | 0.0 | 0.5 | 1.5 |', '| All crates | 1.0 | 0.0 | 0.5 | 1.5 |', '| The rest | | | | 0.5 |',
-                                  '| The whole run | | | | 2.0 |'])
+    def test_minutes_go_to_crates(self) -> None:
+        rattle = ['/opt/kit/bin/rattle', 'check', '--crate-name', 'votes', 'src/lib.rt']
+        equal(minutes.work_of(rattle, '/x/crates/votes'), ('votes', 'proofs'))
+        equal(minutes.work_of([*rattle, '--test'], '/x/crates/votes'), ('votes', 'tests'))
+        equal(minutes.work_of(rattle, '/tmp/rt-edit-7-abc'), ('votes', 'edits'))
+        equal(minutes.work_of(['run', '/tmp/rt-run-7-abc/bin/votes_tests'], '/tmp'), ('votes', 'tests'))
+        equal(minutes.work_of(['python3', 'rt', 'ci'], '/x'), None)
+        sums = {('votes', 'proofs'): 60.0, ('votes', 'edits'): 30.0}
+        text = minutes.table(minutes.collections.Counter(sums), 120.0, 0)
+        equal(text.splitlines()[2:6], ['| `votes` | 1.0 | 0.0 | 0.5 | 1.5 |', '| All crates | 1.0 | 0.0 | 0.5 | 1.5 |', '| The rest | | | | 0.5 |',
+                                      '| The whole run | | | | 2.0 |'])
 
+    def test_minutes_measure_a_run(self) -> None:
+        work = 'cd rt-edit-1; exec -a /kit/rattle "$0" -c "\nimport time\nwhile time.process_time() < 1.5: pass" --crate-name low'
+        os.mkdir('rt-edit-1')
+        words = [sys.executable, os.path.join(DEV, 'minutes.py'), 'table.md', 'bash', '-c', f'({work}); exit 4', sys.executable]
+        equal(subprocess.run(words, capture_output=True, text=True).returncode, 4)
+        rows = pathlib.Path('table.md').read_text().splitlines()
+        equal([row.split(' | ')[0] for row in rows[2:6]], ['| `low`', '| All crates', '| The rest', '| The whole run'])
 
-def test_minutes_measure_a_run():
-    work = 'cd rt-edit-1; exec -a /kit/rattle "$0" -c "\nimport time\nwhile time.process_time() < 1.5: pass" --crate-name low'
-    os.mkdir('rt-edit-1')
-    words = [sys.executable, os.path.join(DEV, 'minutes.py'), 'table.md', 'bash', '-c', f'({work}); exit 4', sys.executable]
-    equal(subprocess.run(words, capture_output=True, text=True).returncode, 4)
-    rows = pathlib.Path('table.md').read_text().splitlines()
-    equal([row.split(' | ')[0] for row in rows[2:6]], ['| `low`', '| All crates', '| The rest', '| The whole run'])
-
-
-def test_attacks_are_told_apart():
-    text = ('rt: must-fail low/one.edit: refused, as it must be: note\nrt: must-fail low/two.edit: refused, as it must be (only by a limit)\n'
-            'rt: must-fail low/three.edit: NOT REFUSED: the crate\nrt: must-fail low/four.edit: BAD EDIT: it\n')
-    results = attack.results_of(text)
-    equal([attack.kind_of(it) for it in results.values()], ['refused', 'less', 'missed', 'bad'])
-    equal(attack.line_of('low', results, 7),
-          'low: 4 tried, 2 refused (1 by a name or a limit alone), 1 not refused, 1 bad, 7 min')
-    equal(attack.crates_of(['no_crate'])[1], ['no_crate'])
-    equal(os.path.isdir(os.path.join(ROOT, 'attack')), True)
+    def test_attacks_are_told_apart(self) -> None:
+        text = ('rt: must-fail low/one.edit: refused, as it must be: note\nrt: must-fail low/two.edit: refused, as it must be (only by a limit)\n'
+                'rt: must-fail low/three.edit: NOT REFUSED: the crate\nrt: must-fail low/four.edit: BAD EDIT: it\n')
+        results = attack.results_of(text)
+        equal([attack.kind_of(it) for it in results.values()], ['refused', 'less', 'missed', 'bad'])
+        equal(attack.line_of('low', results, 7),
+              'low: 4 tried, 2 refused (1 by a name or a limit alone), 1 not refused, 1 bad, 7 min')
+        equal(attack.crates_of(['no_crate'])[1], ['no_crate'])
+        equal(os.path.isdir(os.path.join(ROOT, 'attack')), True)

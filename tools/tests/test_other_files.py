@@ -1,11 +1,15 @@
 """Files of other programs: PCD, LAS, E57, COLMAP's points; and those that are named and not read."""
+from __future__ import annotations
+
+import base64
 import os
 import random
 import struct
+import zlib
 
-import colmap_to_ply
-import floats_to_text
-from helpers import Nothing, binary, call, equal, head, holds, read, refuses, says, write
+from helpers import Given, InFolder, binary, call, equal, head, holds, read, refuses, says, write
+import scan
+from typing import Any, Callable
 from test_all import changed
 from toolbox.e57_file import Column
 from toolbox.ply_text import Refusal
@@ -28,32 +32,6 @@ nan 0.32 0 4.2108e+06 5 6
 PCD_COLUMNS = 'float x, float y, double z, uchar red, uchar green, uchar blue, float normal_0, float normal_1, int scanner'
 
 
-def test_pcd_and_its_viewpoint():
-    write('in.pcd', PCD)
-    says('floats_to_text', 'read 3 points of in.pcd; left out 1 not finite; wrote 2 points and 1 scanner to out.ply', 'in.pcd',
-         'out.ply')
-    rows = '0.93773 0.33763 0 128 128 224 1 2 0\n0.90805 0.35641 0 128 128 224 3 4 0\n'
-    holds('out.ply', head(2, PCD_COLUMNS, 1) + rows + '1 2 3.5\n')
-    values = [(0.5, 0.25, 1e-7, 4.2108e+06, 1, 2), (2, 3, 4, 0, 5, 6)]
-    body = b''.join(struct.pack('<ffdfff', *row) for row in values)
-    write('in.pcd', PCD[:PCD.index('DATA')].replace('POINTS 3', 'POINTS 2').encode('ascii') + b'DATA binary\n' + body)
-    equal(call('floats_to_text', 'in.pcd', 'out.ply')[0], 0)
-    holds('out.ply', head(2, PCD_COLUMNS, 1) + '0.5 0.25 1e-07 128 128 224 1.0 2.0 0\n2.0 3.0 4.0 0 0 0 5.0 6.0 0\n1 2 3.5\n')
-    write('more.xyz', '7 8 9\n')
-    says('stations_to_ply', 'read 3 points of 2 files; left out nothing; wrote 3 points and 2 scanners to out.ply', 'out.ply',
-         'in.pcd', 'more.xyz=4,4,4')
-    equal(read('out.ply').endswith('7 8 9 1\n1 2 3.5\n4 4 4\n'), True)
-    spoiled = ((PCD.replace('ascii', 'zipped'), 'zipped is not read'),
-               (PCD[:-30], 'cut: line 13, the last one, has no end'), (PCD.replace(' 5 6', ' 5'), 'point 2 has 5 values'),
-               (PCD.replace('POINTS 3', 'POINTS 4'), 'cut: the file ends in point 3 of 4'),
-               (PCD[:150], 'cut: the file ends in the header'), (PCD + '1 2 3 4 5 6\n', 'something follows'),
-               (PCD.replace('SIZE 4', 'SIZE 3'), 'the field x of the PCD has a type'),
-               (PCD.replace('POINTS 3\n', ''), 'no line POINTS'))
-    for text, part in spoiled:
-        write('in.pcd', text)
-        refuses('floats_to_text', part, 'in.pcd', 'out.ply')
-
-
 # a body that pcl_convert_pcd_ascii_binary of PCL 1.13 packed, of ten points x y z
 PACKED = bytes.fromhex(
     '3c00000078000000010000400001803f2005034000004020030080200300a0200300c0200300e02003040041000010200300004023e01b03'
@@ -64,19 +42,7 @@ COMPRESSED = '\n'.join(['VERSION 0.7', 'FIELDS x y z', 'SIZE 4 4 4', 'TYPE F F F
                         'POINTS 10', 'DATA binary_compressed', '']).encode('ascii')
 
 
-def test_pcd_that_is_compressed():
-    write('in.pcd', COMPRESSED + PACKED)
-    equal(call('floats_to_text', 'in.pcd', 'out.ply')[0], 0)
-    rows = [list(map(float, row.split())) for row in read('out.ply').split('end_header\n')[1].splitlines()[:10]]
-    equal(rows, [[k, 0.5, k % 3, 0] for k in range(10)])
-    spoiled = ((PACKED[:-1], 'cut: the file ends in the compressed body'), (PACKED[:4], 'has not the bytes of 10 points'),
-               (PACKED[:8] + b'\xff' + PACKED[9:], 'not understood'), (PACKED[:8] + b'\0' + PACKED[9:], 'compressed body'))
-    for data, part in spoiled:
-        write('in.pcd', COMPRESSED + data)
-        refuses('floats_to_text', part, 'in.pcd', 'out.ply')
-
-
-def las(version, kind, rows, count=None, extra=b''):
+def las(version: int, kind: int, rows: list[bytes], count: None = None, extra: bytes = b'') -> bytes:
     """A LAS file of the format of the American Society for Photogrammetry."""
     size = 375 if version == 4 else 227
     body = b''.join(rows)
@@ -90,39 +56,16 @@ def las(version, kind, rows, count=None, extra=b''):
     return bytes(data) + extra + body
 
 
-def test_las_and_its_stations():
-    old = [struct.pack('<iiiHBBbBHdHHH', 123456, -1, 3, 9, 0, 2, 0, 0, k, 1.5, 65280, 0, 256) for k in (0, 1)]
-    write('in.las', las(2, 3, old, extra=b'a remark'))
-    write('places.txt', '500000 4000000 0\n500001 4000000 0\n')
-    columns = ('double x, double y, double z, ushort intensity, uchar classification, int scanner, double gpstime, '
-               'ushort red, ushort green, ushort blue')
-    says('floats_to_text', 'read 2 points of in.las; left out nothing; wrote 2 points and 2 scanners to out.ply', 'in.las',
-         'out.ply', 'index=PointSourceId', 'positions=places.txt')
-    rows = ''.join(f'500123.456 4000000.499 -6.25 9 2 {k} 1.5 65280 0 256\n' for k in (0, 1))
-    equal(read('out.ply').split('vertex 2\n')[1],
-          head(2, columns, 2).split('vertex 2\n')[1] + rows + '500000 4000000 0\n500001 4000000 0\n')
-    new = [struct.pack('<iiiHHBBhHd', 1000, 0, 0, 9, 0, 2, 0, 0, 3, 1.5) + b'more']
-    write('in.las', las(4, 6, new))
-    equal(call('floats_to_text', 'in.las', 'out.ply')[0], 0)
-    equal(read('out.ply').splitlines()[-1], '500001 4000000.5 -7 9 2 3 1.5')
-    write('in.las', las(4, 6, new)[:-1])
-    refuses('floats_to_text', 'cut: the file ends in point 0 of 1', 'in.las', 'out.ply')
-    write('in.las', las(2, 131, old))
-    refuses('floats_to_text', 'this is LAZ', 'in.las', 'out.ply')
-    write('in.las', las(2, 11, old))
-    refuses('floats_to_text', 'the point format 11', 'in.las', 'out.ply')
-
-
-def paged(data):
+def paged(data: bytes) -> bytes:
     """The pages of an E57: 1020 bytes and a checksum each."""
     return b''.join(data[at:at + 1020].ljust(1020, b'\0') + b'\0\0\0\0' for at in range(0, len(data), 1020))
 
 
-def physical(at):
+def physical(at: int) -> int:
     return at // 1020 * 1024 + at % 1020
 
 
-def bits(values, width):
+def bits(values: list[int], width: int) -> bytes:
     """Whole numbers packed by bits."""
     packed = sum(value << k * width for k, value in enumerate(values))
     return packed.to_bytes((len(values) * width + 7) // 8, 'little')
@@ -137,18 +80,18 @@ COLUMNS = ('<cartesianX type="Float" precision="single"/><cartesianY type="Float
            '<colorRed type="Integer" minimum="0" maximum="255"/>')
 
 
-def station_xml(offset, count, pose=POSE, columns=COLUMNS):
+def station_xml(offset: int, count: int, pose: str = POSE, columns: str = COLUMNS) -> str:
     return (f'<vectorChild type="Structure">{pose}<points type="CompressedVector" fileOffset="{offset}" recordCount="{count}">'
             f'<prototype type="Structure">{columns}</prototype><codecs type="Vector"/></points></vectorChild>')
 
 
-def packet(parts):
+def packet(parts: list[bytes]) -> bytes:
     body = struct.pack(f'<{len(parts)}H', *map(len, parts)) + b''.join(parts)
     body += b'\0' * (-len(body) % 4 + 2)
     return struct.pack('<BBHH', 1, 0, len(body) + 5, len(parts)) + body
 
 
-def e57(count, spoil=lambda text: text):
+def e57(count: int, spoil: Callable[..., Any] = lambda text: text) -> bytes:
     """An E57 of one station whose points stand in two packets that divide bytes anywhere."""
     x = struct.pack(f'<{count}f', *range(count))
     y = struct.pack(f'<{count}d', *[k / 4 for k in range(count)])
@@ -164,41 +107,25 @@ def e57(count, spoil=lambda text: text):
     return paged(struct.pack('<8sII4Q', b'ASTM-E57', 1, 0, length, physical(at), len(text), 1024) + section + text)
 
 
-def test_e57_and_its_poses():
-    write('in.e57', e57(900))
-    said = 'read 900 points of in.e57; left out 1 not finite; wrote 899 points and 1 scanner to out.ply'
-    says('floats_to_text', said, 'in.e57', 'out.ply')
-    lines = read('out.ply').split('end_header\n')[1].splitlines()
-    for row in (0, 2, 3, 500, 899):
-        x, y, z, red, scanner = map(float, lines[row - (row > 1)].split())
-        wanted = 100 - row / 4, row, (row % 1006 - 5) * 0.5 + 1 - 1.5
-        equal((max(abs(a - b) for a, b in zip((x, y, z), wanted)) < 1e-9, red, scanner), (True, 7, 0))
-    equal(lines[-1], '100.0 0.0 -1.5')
-    equal(call('stations_to_ply', 'out.ply', 'in.e57')[0], 0)
-    write('in.e57', e57(900, lambda text: text.replace('>0.7071067811865476</w>', '/>')))
-    equal(call('floats_to_text', 'in.e57', 'out.ply')[0], 0)
-    x, y = map(float, read('out.ply').split('end_header\n')[1].splitlines()[-2].split()[:2])
-    equal((x, y), (100 - 899, -899 / 4))
-    write('in.e57', e57(900)[:-1024])
-    refuses('floats_to_text', 'cut: the header of the E57 says', 'in.e57', 'out.ply')
-    write('in.e57', e57(900, lambda text: text.replace('cartesianX', 'sphericalRange')))
-    refuses('floats_to_text', 'spherical ones are not read', 'in.e57', 'out.ply')
-    write('in.e57', e57(900, lambda text: text.replace('recordCount="900"', 'recordCount="901"')))
-    refuses('floats_to_text', 'station 0 has 900 of its 901 points', 'in.e57', 'out.ply')
-    write('in.e57', e57(900, lambda text: text.replace('<data3D', '<data3D<')))
-    refuses('floats_to_text', 'is not understood', 'in.e57', 'out.ply')
-
-
-def test_numbers_packed_by_bits():
-    for width in range(0, 41):
-        node = {'type': 'Integer', 'minimum': '-3', 'maximum': str(-3 + 2 ** width - 1)}
-        column, values = Column(node), [(k * 0x9E3779B97F4A7C15) % 2 ** width for k in range(50)]
-        data, got = bits(values, width), []
-        for at in range(0, len(data), 7):
-            column.bytes += data[at:at + 7]
-            got += column.take(min(column.count(50), 50 - len(got)))
-        got += column.take(50 - len(got)) if not width else []
-        equal(got, [value - 3 for value in values])
+# three points as PDAL 2.2 wrote them, as LAS 1.4 of the point format 7 and as E57
+PDAL_LAS = zlib.decompress(base64.b85decode(
+    'c-r%E40dB+5MV$Dj4S~zjy?={07zcJNY6;mKtUrYH77N(SQACwoADKUIb%5^gvYMJzzn3Au^9Ac<;P3DNdflgG)S(YMa~gI`#B=(>4A#3!fCL)Lkp1Ja'
+    '-wYCd?{83h)RwFFg=eM5&D_YXnKQ3EDQ`LiVO^XT)?1V5QGFdT(*h9hT$*65l#k%rOFHp9$)_d=YXm~iXa9ipzC*V10zqJf#C~KGbe^QEDWp+YzzR7ST'
+    'MB'))
+PDAL_E57 = zlib.decompress(base64.b85decode(
+    'c-rNbO>g5w7{|TrF1u8G0K{SC^$BU^*oo^VSvhIFDTPW+Te_hFR;y}aKgrHwd!q5AZF+=qK^!=6=Sy%#960bX_y}A%ATgeC9KW^M6-OqAN$mgp=Ks8m9'
+    'ryWYsDEs??<nbbUrxWLKRX-gmwR$r>V8V+W2HFmD6#TD`9OT$O+U%_?)s6N%-^T;4|3kQzCKLmAJduZ4&7h=IREwM5AW|t;=|wM{O9%q<)QMP@(thPp5'
+    'iF)DEF0rl)IeoY+r_fdJZ(kB<g9+hN-C#dBn%jw5NSO+S5DQc7MYGyM00kQ`uq$J?%N8bC1m_XdCKsa84BWv{#JHo*Kr*#YF?fENl=uH3mn+;r__rsWM'
+    't-)6_XkKTozQt$rF2S|9{?%(a5S7oQy-ot(vUIzb+sacPKxxWO)&*5@2&l3ZYiD1?<s9)#9+9={mux+C|6%j>0bj%w|y`yrb0yXr1tNZrE$ynNYrj1@y'
+    '5r*rJz1nZif*|vEgZL__pn{BXkXtyT1-!-9WThMHceZfp1f|e$Eh+Y$#QuiYUQ=nSE=@|Lj1wD=`dP4|!Y7X$2BDy%0(wn>{F}uh6Y9Q6ZR%Nk3dW2A3'
+    'dc<G|4EafN3QW1NM*%UugeMP1IG^yeEBd0aj-TE?MZtV2+6xF`lEW1^b{Pq=HwcLL^$ARX^5z4-He92;t+?t#>`^>pYr>!K601{)fbzw@I$o&9yY7L=M'
+    '2;YdJZjz{5_Sq6BUDpS5Ri*cfdM56g&5y{wlj|huW;aV%lzOhV?GxP#El!$vZk>nEpKf4R?<#eE#3CO*1O}DrJEh!^6l>C#6sgjV+rDn;E2U3b3nowg*'
+    'XO(X+H`7Xfla`^|Z~7rc&^Dp$B9h@e5XFECEr%NP@Z1y^wi`GKevXzNo8fS@h+bh`zc-#Djw<#%xjQ3^l|N4(DM{<Ik-SUCQrUwr$zvZAd`qNu{;k67U'
+    'HHi2fVm+3GC3CBZSW;^Z#!XEk{7ns%*gRf&|#vpzCpBW1sZ<pUhzthwqMBFpYj22yu^%Sst$`9avS?Zi_-Q(i5K@P<1{?Yh14sxl#|S9P<$U(X)bZYbp'
+    'I_REP@na`y<yO{O;`VwT)^_f{oZ!uaHt&EmTt$Jm7lArPCihrxw%c4nn<okBR<fGZL&1}FElY3dp3xtCA0>LuPDxp%{MXiTTK`=W-4_l70sCrn`dXR)>'
+    '$%7zNJY3a!(5;499voph##PnCRjr9uW6NrH^CKfv`mR{E^gU+eUS#t1E8mO!zo3!+8T>z=|LwmXee^G}CXGt'))
+PDAL_ROWS = ((500001.25, 4000008.5, 2.638, 7, 130, 60, 253), (500002.5, 4000009.125, -3, 8, 1, 2, 3),
+             (500003, 4000010, 0.5, 9, 4, 5, 6))
 
 
 # images.bin as COLMAP 3.8 wrote it of two pictures, the one with two points
@@ -210,63 +137,164 @@ IMAGES_BIN = bytes.fromhex(
 IMAGES_TEXT = ('# pictures\n4 1 0 0 0 0 0 -10 1 b.jpg\n\n1 0.5 0.5 0.5 0.5 1 2 3 1 one\n100 200 -1 5.5 6.5 7\n')
 
 
-def test_points_of_colmap():
-    write('in.ply', binary('<', '\n', [(0.5, 1, 2, 9), (3, 4, 5, 8), (float('nan'), 0, 0, 1)]))
-    write('in.ply.vis', struct.pack('<QIIIIII', 3, 2, 1, 0, 0, 1, 1))
-    line = ('read 3 points of in.ply and 2 pictures; left out 1 not finite; wrote 2 points with 2 sights and 2 scanners to '
-            'out.ply')
-    for name, data in (('images.bin', IMAGES_BIN), ('images.txt', IMAGES_TEXT)):
-        write(name, data)
-        says('colmap_to_ply', line, 'in.ply', name, 'out.ply')
-        text, body = read('out.ply').split('end_header\n')
-        equal('property list ushort ushort scanner\n' in text, True)
-        rows = body.splitlines()
-        equal(rows[:2], ['0.5 1.0 2.0 9 2 1 0', '3.0 4.0 5.0 8 0'])
-        equal([list(map(float, row.split())) for row in rows[2:]], [[0, 0, 10], [-2, -3, -1]])
-    write('short.bin', IMAGES_BIN[:-1])
-    refuses('colmap_to_ply', 'cut: the images end in the points of picture 1', 'in.ply', 'short.bin', 'out.ply')
-    write('short.bin', IMAGES_BIN[:100])
-    refuses('colmap_to_ply', 'cut: the images end in picture 1', 'in.ply', 'short.bin', 'out.ply')
-    write('in.ply.vis', struct.pack('<QIIIIII', 3, 2, 1, 2, 0, 1, 1))
-    refuses('colmap_to_ply', 'point 0 is seen by picture 2, and there are 2', 'in.ply', 'images.txt', 'out.ply')
-    write('in.ply.vis', struct.pack('<QIII', 3, 2, 1, 0))
-    refuses('colmap_to_ply', 'cut: fused.ply.vis ends in point 1 of 3', 'in.ply', 'images.txt', 'out.ply')
-    write('in.ply.vis', struct.pack('<Q', 2))
-    refuses('colmap_to_ply', 'not of the 3 points', 'in.ply', 'images.txt', 'out.ply')
+class OtherFiles(InFolder):
+    def test_pcd_and_its_viewpoint(self) -> None:
+        write('in.pcd', PCD)
+        says('scan', 'read 3 points of in.pcd; left out 1 not finite; wrote 2 points and 1 scanner to out.ply', 'in.pcd',
+             'out.ply')
+        rows = '0.93773 0.33763 0 128 128 224 1 2 0\n0.90805 0.35641 0 128 128 224 3 4 0\n'
+        holds('out.ply', head(2, PCD_COLUMNS, 1) + rows + '1 2 3.5\n')
+        values = [(0.5, 0.25, 1e-7, 4.2108e+06, 1, 2), (2, 3, 4, 0, 5, 6)]
+        body = b''.join(struct.pack('<ffdfff', *row) for row in values)
+        write('in.pcd', PCD[:PCD.index('DATA')].replace('POINTS 3', 'POINTS 2').encode('ascii') + b'DATA binary\n' + body)
+        equal(call('scan', 'in.pcd', 'out.ply')[0], 0)
+        holds('out.ply', head(2, PCD_COLUMNS, 1) + '0.5 0.25 1e-07 128 128 224 1.0 2.0 0\n2.0 3.0 4.0 0 0 0 5.0 6.0 0\n1 2 3.5\n')
+        write('more.xyz', '7 8 9\n')
+        says('scan', 'read 3 points of 2 files; left out nothing; wrote 3 points and 2 scanners to out.ply', 'in.pcd',
+             'more.xyz=4,4,4', 'out.ply')
+        equal(read('out.ply').endswith('7 8 9 1\n1 2 3.5\n4 4 4\n'), True)
+        spoiled = ((PCD.replace('ascii', 'zipped'), 'zipped is not read'),
+                   (PCD[:-30], 'cut: line 13, the last one, has no end'), (PCD.replace(' 5 6', ' 5'), 'point 2 has 5 values'),
+                   (PCD.replace('POINTS 3', 'POINTS 4'), 'cut: the file ends in point 3 of 4'),
+                   (PCD[:150], 'cut: the file ends in the header'), (PCD + '1 2 3 4 5 6\n', 'something follows'),
+                   (PCD.replace('SIZE 4', 'SIZE 3'), 'the field x of the PCD has a type'),
+                   (PCD.replace('POINTS 3\n', ''), 'no line POINTS'))
+        for text, part in spoiled:
+            write('in.pcd', text)
+            refuses('scan', part, 'in.pcd', 'out.ply')
 
+    def test_pcd_that_is_compressed(self) -> None:
+        write('in.pcd', COMPRESSED + PACKED)
+        equal(call('scan', 'in.pcd', 'out.ply')[0], 0)
+        rows = [list(map(float, row.split())) for row in read('out.ply').split('end_header\n')[1].splitlines()[:10]]
+        equal(rows, [[k, 0.5, k % 3, 0] for k in range(10)])
+        spoiled = ((PACKED[:-1], 'cut: the file ends in the compressed body'), (PACKED[:4], 'has not the bytes of 10 points'),
+                   (PACKED[:8] + b'\xff' + PACKED[9:], 'not understood'), (PACKED[:8] + b'\0' + PACKED[9:], 'compressed body'))
+        for data, part in spoiled:
+            write('in.pcd', COMPRESSED + data)
+            refuses('scan', part, 'in.pcd', 'out.ply')
 
-def test_files_that_are_named_and_not_read():
-    cases = ((b'LASF' + bytes(300), 'LAS, which floats_to_text reads'),
-             (b'ASTM-E57' + bytes(99), 'E57, which floats_to_text reads'),
-             (PCD.encode('ascii'), 'PCD, which floats_to_text reads'), (b'PK\3\4' + bytes(9), 'zip'), (b'\x89HDF\r\n', 'HDF5'))
-    for data, part in cases:
-        write('in.ptx', data)
-        refuses('ptx_to_ply', part, 'in.ptx', 'out.ply')
-    write('in.xyz', '1,5 2,5 3,5\n')
-    refuses('stations_to_ply', 'line 1 has decimal commas', 'out.ply', 'in.xyz=0,0,0')
-    write('in.xyz', '1,5;2,5;3,5\n')
-    refuses('stations_to_ply', 'line 1 has decimal commas', 'out.ply', 'in.xyz=0,0,0')
-    write('in.xyz', '1 2 3\n')
-    refuses('stations_to_ply', 'a station is FILE=X,Y,Z', 'out.ply', 'in.xyz')
-    write('in.ply', binary('<', '\n', [(1, 2, 3, 4)]))
-    refuses('stations_to_ply', 'does not say where its scanner stood', 'out.ply', 'in.ply')
+    def test_las_and_its_stations(self) -> None:
+        old = [struct.pack('<iiiHBBbBHdHHH', 123456, -1, 3, 9, 0, 2, 0, 0, k, 1.5, 65280, 0, 256) for k in (0, 1)]
+        write('in.las', las(2, 3, old, extra=b'a remark'))
+        write('places.txt', '500000 4000000 0\n500001 4000000 0\n')
+        columns = ('double x, double y, double z, ushort intensity, uchar classification, int scanner, double gpstime, '
+                   'ushort red, ushort green, ushort blue')
+        says('scan', 'read 2 points of in.las; left out nothing; wrote 2 points and 2 scanners to out.ply', 'in.las',
+             'out.ply', 'index=PointSourceId', 'positions=places.txt')
+        rows = ''.join(f'500123.456 4000000.499 -6.25 9 2 {k} 1.5 65280 0 256\n' for k in (0, 1))
+        equal(read('out.ply').split('vertex 2\n')[1],
+              head(2, columns, 2).split('vertex 2\n')[1] + rows + '500000 4000000 0\n500001 4000000 0\n')
+        new = [struct.pack('<iiiHHBBhHd', 1000, 0, 0, 9, 0, 2, 0, 0, 3, 1.5) + b'more']
+        write('in.las', las(4, 6, new))
+        equal(call('scan', 'in.las', 'out.ply')[0], 0)
+        equal(read('out.ply').splitlines()[-1], '500001 4000000.5 -7 9 2 3 1.5')
+        write('in.las', las(4, 6, new)[:-1])
+        refuses('scan', 'cut: the file ends in point 0 of 1', 'in.las', 'out.ply')
+        write('in.las', las(2, 131, old))
+        refuses('scan', 'this is LAZ', 'in.las', 'out.ply')
+        write('in.las', las(2, 11, old))
+        refuses('scan', 'the point format 11', 'in.las', 'out.ply')
 
+    def test_e57_and_its_poses(self) -> None:
+        write('in.e57', e57(900))
+        said = 'read 900 points of in.e57; left out 1 not finite; wrote 899 points and 1 scanner to out.ply'
+        says('scan', said, 'in.e57', 'out.ply')
+        lines = read('out.ply').split('end_header\n')[1].splitlines()
+        for row in (0, 2, 3, 500, 899):
+            x, y, z, red, scanner = map(float, lines[row - (row > 1)].split())
+            wanted = 100 - row / 4, row, (row % 1006 - 5) * 0.5 + 1 - 1.5
+            equal((max(abs(a - b) for a, b in zip((x, y, z), wanted)) < 1e-9, red, scanner), (True, 7, 0))
+        equal(lines[-1], '100.0 0.0 -1.5')
+        equal(call('scan', 'in.e57', 'in.e57', 'out.ply')[0], 0)
+        write('in.e57', e57(900, lambda text: text.replace('>0.7071067811865476</w>', '/>')))
+        equal(call('scan', 'in.e57', 'out.ply')[0], 0)
+        x, y = map(float, read('out.ply').split('end_header\n')[1].splitlines()[-2].split()[:2])
+        equal((x, y), (100 - 899, -899 / 4))
+        write('in.e57', e57(900)[:-1024])
+        refuses('scan', 'cut: the header of the E57 says', 'in.e57', 'out.ply')
+        write('in.e57', e57(900, lambda text: text.replace('cartesianX', 'sphericalRange')))
+        refuses('scan', 'spherical ones are not read', 'in.e57', 'out.ply')
+        write('in.e57', e57(900, lambda text: text.replace('recordCount="900"', 'recordCount="901"')))
+        refuses('scan', 'station 0 has 900 of its 901 points', 'in.e57', 'out.ply')
+        write('in.e57', e57(900, lambda text: text.replace('<data3D', '<data3D<')))
+        refuses('scan', 'is not understood', 'in.e57', 'out.ply')
 
-def test_changed_files_of_other_programs_are_taken_or_refused():
-    draw, taken = random.Random(3), 0
-    rows = [struct.pack('<iiiHBBbBHdHHH', 123456, -1, 3, 9, 0, 2, 0, 0, 0, 1.5, 65280, 0, 256)]
-    write('in.ply', binary('<', '\n', [(0.5, 1, 2, 9), (3, 4, 5, 8)]))
-    write('in.ply.vis', struct.pack('<QIIII', 2, 2, 1, 0, 0))
-    files = ((floats_to_text, ('in', 'out'), PCD.encode('ascii')), (floats_to_text, ('in', 'out'), COMPRESSED + PACKED),
-             (floats_to_text, ('in', 'out'), las(2, 3, rows)), (floats_to_text, ('in', 'out'), e57(200)),
-             (colmap_to_ply, ('in.ply', 'in.bin', 'out'), IMAGES_BIN))
-    for _ in range(600):
-        program, words, data = draw.choice(files)
-        data = changed(draw, data)
-        write(words[-2], data[:draw.randrange(len(data))] if draw.random() < 0.2 else data)
-        try:
-            program.main(words, Nothing())
-            taken += 1
-        except (Refusal, ArithmeticError):
-            equal(os.path.exists('out.part'), False)
-    equal(50 < taken < 550, True)
+    def test_files_that_pdal_wrote(self) -> None:
+        for name, data, dropped in (('in.las', PDAL_LAS, (4, 5, 6)), ('in.e57', PDAL_E57, (7,))):
+            write(name, data)
+            equal(call('scan', name, 'out.ply')[0], 0)
+            rows = [row.split() for row in read('out.ply').split('end_header\n')[1].splitlines()[:3]]
+            equal(tuple(tuple(float(word) for k, word in enumerate(row) if k not in dropped) for row in rows), PDAL_ROWS)
+
+    def test_numbers_packed_by_bits(self) -> None:
+        for width in range(0, 41):
+            node = {'type': 'Integer', 'minimum': '-3', 'maximum': str(-3 + 2 ** width - 1)}
+            column, values = Column(node), [(k * 0x9E3779B97F4A7C15) % 2 ** width for k in range(50)]
+            data, got = bits(values, width), []
+            for at in range(0, len(data), 7):
+                column.bytes += data[at:at + 7]
+                got += column.take(min(column.count(50), 50 - len(got)))
+            got += column.take(50 - len(got)) if not width else []
+            equal(got, [value - 3 for value in values])
+
+    def test_points_of_colmap(self) -> None:
+        write('in.ply', binary('<', '\n', [(0.5, 1, 2, 9), (3, 4, 5, 8), (float('nan'), 0, 0, 1)]))
+        write('in.ply.vis', struct.pack('<QIIIIII', 3, 2, 1, 0, 0, 1, 1))
+        line = ('read 3 points of in.ply and 2 pictures; left out 1 not finite; wrote 2 points and 2 scanners to out.ply; '
+                '2 sights')
+        for name, data in (('images.bin', IMAGES_BIN), ('images.txt', IMAGES_TEXT)):
+            write(name, data)
+            says('scan', line, 'in.ply', 'out.ply', 'images=' + name)
+            text, body = read('out.ply').split('end_header\n')
+            equal('property list ushort ushort scanner\n' in text, True)
+            rows = body.splitlines()
+            equal(rows[:2], ['0.5 1.0 2.0 9 2 1 0', '3.0 4.0 5.0 8 0'])
+            equal([list(map(float, row.split())) for row in rows[2:]], [[0, 0, 10], [-2, -3, -1]])
+        write('short.bin', IMAGES_BIN[:-1])
+        refuses('scan', 'cut: the images end in the points of picture 1', 'in.ply', 'out.ply', 'images=short.bin')
+        write('short.bin', IMAGES_BIN[:100])
+        refuses('scan', 'cut: the images end in picture 1', 'in.ply', 'out.ply', 'images=short.bin')
+        write('in.ply.vis', struct.pack('<QIIIIII', 3, 2, 1, 2, 0, 1, 1))
+        refuses('scan', 'point 0 is seen by picture 2, and there are 2', 'in.ply', 'out.ply', 'images=images.txt')
+        write('in.ply.vis', struct.pack('<QIII', 3, 2, 1, 0))
+        refuses('scan', 'cut: fused.ply.vis ends in point 1 of 3', 'in.ply', 'out.ply', 'images=images.txt')
+        write('in.ply.vis', struct.pack('<Q', 2))
+        refuses('scan', 'not of the 3 points', 'in.ply', 'out.ply', 'images=images.txt')
+
+    def test_files_that_are_named_and_not_read(self) -> None:
+        for data, part in ((b'PK\3\4' + bytes(9), 'zip'), (b'\x1f\x8b' + bytes(9), 'gzip'), (b'\x89HDF\r\n', 'HDF5')):
+            write('in.ptx', data)
+            refuses('scan', part, 'in.ptx', 'out.ply')
+        write('in.xyz', '1,5 2,5 3,5\n')
+        refuses('scan', 'line 1 has decimal commas', 'in.xyz=0,0,0', 'out.ply')
+        write('in.xyz', '1,5;2,5;3,5\n')
+        refuses('scan', 'line 1 has decimal commas', 'in.xyz=0,0,0', 'out.ply')
+        write('in.xyz', '1 2 3\n')
+        refuses('scan', 'is no PLY, PCD, LAS, E57 or PTX', 'in.xyz', 'out.ply')
+        refuses('scan', 'in.xyz does not say where its scanner stood', 'in.xyz', 'in.xyz=0,0,0', 'out.ply')
+        refuses('scan', 'a=b is no option', 'a=b', 'out.ply')
+        refuses('scan', 'index= does not go with files of stations', 'in.xyz=0,0,0', 'out.ply', 'index=a')
+        refuses('scan', 'far= goes with normals=yes', 'in.xyz', 'out.ply', 'far=1')
+        write('in.ply', binary('<', '\n', [(1, 2, 3, 4)]))
+        refuses('scan', 'in.ply does not say where its scanner stood', 'in.ply', 'in.xyz=0,0,0', 'out.ply')
+
+    def test_changed_files_of_other_programs_are_taken_or_refused(self) -> None:
+        draw, taken = random.Random(3), 0
+        rows = [struct.pack('<iiiHBBbBHdHHH', 123456, -1, 3, 9, 0, 2, 0, 0, 0, 1.5, 65280, 0, 256)]
+        write('in.ply', binary('<', '\n', [(0.5, 1, 2, 9), (3, 4, 5, 8)]))
+        write('in.ply.vis', struct.pack('<QIIII', 2, 2, 1, 0, 0))
+        files = (PCD.encode('ascii'), COMPRESSED + PACKED, las(2, 3, rows), e57(200), IMAGES_BIN)
+        for _ in range(600):
+            whole = draw.choice(files)
+            data = changed(draw, whole)
+            write('in.bin', data[:draw.randrange(len(data))] if draw.random() < 0.2 else data)
+            try:
+                if whole is IMAGES_BIN:
+                    scan.main(('in.ply', 'out'), Given(images='in.bin'))
+                else:
+                    scan.main(('in.bin', 'out'), Given())
+                taken += 1
+            except (Refusal, ArithmeticError):
+                equal(os.path.exists('out.part'), False)
+        equal(50 < taken < 550, True)

@@ -14,8 +14,8 @@ if np is None:
     from toolbox.half_edges import pair_edges, pieces_of
     from toolbox.smoothing import Smoother
 else:
-    from toolbox.fast_flips import Flipper
+    from toolbox.fast_flips import Flipper  # type: ignore[assignment]
     from toolbox.fast_mesh import pair_edges, pieces_of
-    from toolbox.fast_smoothing import Smoother
+    from toolbox.fast_smoothing import Smoother  # type: ignore[assignment]
 
 __all__ = ['Flipper', 'Smoother', 'np', 'pair_edges', 'pieces_of']

@@ -1,4 +1,8 @@
 """Edge flips of large meshes, by numpy: the same flips as those of flips.py, in the same rounds."""
+from __future__ import annotations
+
+from typing import Callable, Iterator
+
 import numpy as np
 
 from toolbox.fast_mesh import CHUNK, Columns, Grid, after, axes, before, boxes_of, crossing, edge_keys
@@ -9,7 +13,7 @@ from toolbox.vectors import across, unit
 class Flipper:
     """A closed mesh whose edges are flipped."""
 
-    def __init__(self, places, corners, twins):
+    def __init__(self, places: np.ndarray, corners: np.ndarray, twins: np.ndarray) -> None:
         self.places, self.corners, self.twins = places, corners, twins
         self.spots = places.astype(float)
         triangles = corners.reshape(-1, 3)
@@ -19,15 +23,15 @@ class Flipper:
         self.base = Grid(*boxes_of(places, triangles), np.arange(len(triangles)))
         self.is_changed = np.zeros(len(triangles), bool)
 
-    def normals_of(self, triangles):
+    def normals_of(self, triangles: np.ndarray) -> np.ndarray:
         return np.stack(unit(Columns, across(*(axes(self.spots, triangles[:, k]) for k in range(3)))), axis=1)
 
-    def around(self, edges):
+    def around(self, edges: np.ndarray) -> tuple[np.ndarray, np.ndarray, np.ndarray, np.ndarray, np.ndarray]:
         """The half edges of the quads about some edges: edges, then their twins, and the six sides behind them."""
         across_edges = self.twins[edges]
         return across_edges, after(edges), before(edges), after(across_edges), before(across_edges)
 
-    def weigh(self, edges):
+    def weigh(self, edges: np.ndarray) -> None:
         """Finds the gain of each of these edges."""
         for start in range(0, len(edges), CHUNK):
             part = edges[start:start + CHUNK]
@@ -38,7 +42,7 @@ class Flipper:
             gains[self.corners[ca] == self.corners[db]] = NEVER
             self.gains[part] = gains
 
-    def best_apart(self, waiting):
+    def best_apart(self, waiting: np.ndarray) -> np.ndarray:
         """Of the edges that wait those that gain most among all that touch their faces and the four faces around, best
         first."""
         order = waiting[np.lexsort((waiting, -self.gains[waiting]))]
@@ -51,7 +55,7 @@ class Flipper:
             is_best &= best[self.twins[h] // 3] >= rank
         return order[is_best]
 
-    def are_new(self, edges):
+    def are_new(self, edges: np.ndarray) -> np.ndarray:
         """Whether the other diagonals are no edges yet, and none stands here twice."""
         _, _, ca, _, db = self.around(edges)
         top, low = self.corners[ca], self.corners[db]
@@ -63,12 +67,12 @@ class Flipper:
         is_first[np.unique(keys, return_index=True)[1]] = True
         return (order[at] != keys) & is_first
 
-    def new_faces(self, edges):
+    def new_faces(self, edges: np.ndarray) -> np.ndarray:
         twin, _, ca, _, db = self.around(edges)
         a, b, c, d = (self.corners[h] for h in (edges, twin, ca, db))
         return np.concatenate([np.stack([a, d, c], axis=1), np.stack([d, b, c], axis=1)])
 
-    def cross_nothing(self, edges):
+    def cross_nothing(self, edges: np.ndarray) -> np.ndarray:
         """Whether the new faces of each edge cross no face but its own two, and none of a better edge among these."""
         faces, owner = self.new_faces(edges), np.tile(np.arange(len(edges)), 2)
         low, high = boxes_of(self.places, faces)
@@ -83,7 +87,7 @@ class Flipper:
         is_free[owner[one[crossing(self.places, faces[one], faces[other])]]] = False
         return is_free
 
-    def faces_near(self, low, high):
+    def faces_near(self, low: np.ndarray, high: np.ndarray) -> Iterator[tuple[np.ndarray, np.ndarray]]:
         """Pairs of a box and a face that may meet: faces as they were when the grid was made, and those that changed."""
         row, face = self.base.meet(low, high)
         keep = ~self.is_changed[face]
@@ -93,7 +97,7 @@ class Flipper:
         if len(changed):
             yield Grid(*boxes_of(self.places, triangles[changed]), changed).meet(low, high)
 
-    def turn(self, edges):
+    def turn(self, edges: np.ndarray) -> np.ndarray:
         """Flips edges, and answers the faces whose edges gain otherwise now."""
         twin, bc, ca, ad, db = self.around(edges)
         outer = [self.twins[h] for h in (ca, ad, db, bc)]
@@ -109,14 +113,14 @@ class Flipper:
         self.flipped += len(edges)
         return np.unique(np.concatenate([edges // 3, twin // 3] + [far // 3 for far in outer]))
 
-    def renew_grid(self):
+    def renew_grid(self) -> None:
         """Makes the grid anew where much has changed."""
         if self.is_changed.sum() * 8 > len(self.is_changed):
             triangles = self.corners.reshape(-1, 3)
             self.base = Grid(*boxes_of(self.places, triangles), np.arange(len(triangles)))
             self.is_changed[:] = False
 
-    def run(self, tell):
+    def run(self, tell: Callable[[str], None]) -> None:
         """Flips edges until none is left that gains."""
         halves = np.arange(len(self.corners))
         changed, waiting = halves[halves < self.twins], np.zeros(0, int)
@@ -140,6 +144,6 @@ class Flipper:
             tell(f'{self.flipped} edges flipped, {len(waiting) + len(changed)} to look at')
 
 
-def halves_of(faces):
+def halves_of(faces: np.ndarray) -> np.ndarray:
     """The half edges of some faces."""
     return (3 * faces[:, None] + np.arange(3)).ravel()

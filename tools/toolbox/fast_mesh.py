@@ -1,9 +1,13 @@
 """The same as half_edges and flips, for large meshes, by numpy."""
+from __future__ import annotations
+
+from typing import Iterator
+
 import numpy as np
 
 from toolbox import half_edges
 from toolbox.crossing import cross
-from toolbox.vectors import across, dot
+from toolbox.vectors import Vector, across, dot
 
 CHUNK = 200000
 SMALL = 1 << 19
@@ -14,21 +18,21 @@ class Columns:
     sqrt, larger, choose = np.sqrt, np.maximum, np.where
 
 
-def after(h):
+def after(h: np.ndarray) -> np.ndarray:
     return h + 1 - 3 * (h % 3 == 2)
 
 
-def before(h):
+def before(h: np.ndarray) -> np.ndarray:
     return h - 1 + 3 * (h % 3 == 0)
 
 
-def edge_keys(corners, count):
+def edge_keys(corners: np.ndarray, count: int) -> np.ndarray:
     """A number for each half edge, the same for both ways."""
     ends = corners[after(np.arange(len(corners)))]
     return np.minimum(corners, ends) * count + np.maximum(corners, ends)
 
 
-def pair_edges(places, corners):
+def pair_edges(places: np.ndarray, corners: np.ndarray) -> np.ndarray:
     """The twin of each half edge; refused where the mesh is not closed."""
     keys = edge_keys(corners, len(places))
     order = np.argsort(keys, kind='stable')
@@ -50,14 +54,14 @@ def pair_edges(places, corners):
 class Rows:
     """Places as triples of whole numbers without limits."""
 
-    def __init__(self, places):
+    def __init__(self, places: np.ndarray) -> None:
         self.places = places
 
-    def __getitem__(self, number):
+    def __getitem__(self, number: int) -> tuple[int, ...]:
         return tuple(map(int, self.places[number]))
 
 
-def pieces_of(corners, twins):
+def pieces_of(corners: np.ndarray, twins: np.ndarray) -> np.ndarray:
     """The number of its piece for each face, from 0 in the order of their first faces."""
     across_faces = twins.reshape(-1, 3) // 3
     piece = np.arange(len(across_faces))
@@ -70,13 +74,13 @@ def pieces_of(corners, twins):
         piece = least
 
 
-def axes(places, numbers):
+def axes(places: np.ndarray, numbers: np.ndarray) -> Vector:
     """Columns of coordinates."""
     rows = places[numbers]
     return rows[:, 0], rows[:, 1], rows[:, 2]
 
 
-def ranges(starts, counts):
+def ranges(starts: np.ndarray, counts: np.ndarray) -> tuple[np.ndarray, np.ndarray]:
     """All numbers of ranges, one range after another, and the number of the range of each."""
     owner = np.repeat(np.arange(len(counts)), counts)
     first = np.cumsum(counts) - counts
@@ -87,7 +91,7 @@ class Grid:
     """Boxes in a grid of cubes, for each of a few sizes of cubes, so that a box lies in eight cubes at most."""
     MOST = 512
 
-    def __init__(self, low, high, names):
+    def __init__(self, low: np.ndarray, high: np.ndarray, names: np.ndarray) -> None:
         self.low, self.high, self.names = low, high, names
         sizes = np.frexp((high - low).max(axis=1, initial=1).astype(float))[1]
         least = int(np.median(sizes)) if len(sizes) else 1
@@ -99,13 +103,14 @@ class Grid:
             order = np.argsort(keys, kind='stable')
             self.levels.append((shift, keys[order], owner[order]))
 
-    def meet(self, low, high):
+    def meet(self, low: np.ndarray, high: np.ndarray) -> tuple[np.ndarray, np.ndarray]:
         """All pairs of a box that is asked for and a box of the grid that have a place in common, as two columns."""
         found = [part for level in self.levels for part in self.meet_level(low, high, *level)]
         return (np.concatenate([part[0] for part in found] or [np.zeros(0, int)]),
                 self.names[np.concatenate([part[1] for part in found] or [np.zeros(0, int)])])
 
-    def meet_level(self, low, high, shift, keys, owner):
+    def meet_level(self, low: np.ndarray, high: np.ndarray, shift: int, keys: np.ndarray,
+                   owner: np.ndarray) -> Iterator[tuple[np.ndarray, np.ndarray]]:
         span = ((high >> shift) - (low >> shift) + 1).astype(float).prod(axis=1)
         boxes = np.unique(owner) if (span > self.MOST).any() else owner
         for row in np.flatnonzero(span > self.MOST):
@@ -115,7 +120,8 @@ class Grid:
         for start in range(0, len(asked), CHUNK // 4):
             yield self.meet_cells(low, high, asked[start:start + CHUNK // 4], shift, keys, owner)
 
-    def meet_cells(self, low, high, asked, shift, keys, owner):
+    def meet_cells(self, low: np.ndarray, high: np.ndarray, asked: np.ndarray, shift: int, keys: np.ndarray,
+                   owner: np.ndarray) -> tuple[np.ndarray, np.ndarray]:
         """The same for boxes that meet few cubes. A pair is taken in the cube of the least corner of what both have."""
         cells, row = cells_of(low, high, asked, shift)
         key = mixed(cells)
@@ -130,7 +136,7 @@ class Grid:
         return row, box
 
 
-def cells_of(low, high, rows, shift):
+def cells_of(low: np.ndarray, high: np.ndarray, rows: np.ndarray, shift: int) -> tuple[np.ndarray, np.ndarray]:
     """The cubes that some boxes meet, and the number of the box of each."""
     first, last = low[rows] >> shift, high[rows] >> shift
     wide = last - first + 1
@@ -140,20 +146,20 @@ def cells_of(low, high, rows, shift):
     return first + step, rows[owner]
 
 
-def mixed(cells):
+def mixed(cells: np.ndarray) -> np.ndarray:
     """A number for each cube; two cubes may have the same."""
     keys = cells.astype(np.uint64)
     return ((keys[:, 0] * np.uint64(0x9E3779B97F4A7C15)) ^ (keys[:, 1] * np.uint64(0xC2B2AE3D27D4EB4F))
             ^ (keys[:, 2] * np.uint64(0x165667B19E3779F9)))
 
 
-def boxes_of(places, triangles):
+def boxes_of(places: np.ndarray, triangles: np.ndarray) -> tuple[np.ndarray, np.ndarray]:
     """The least and the greatest corner of the box of each triangle."""
     a, b, c = places[triangles[:, 0]], places[triangles[:, 1]], places[triangles[:, 2]]
     return np.minimum(np.minimum(a, b), c), np.maximum(np.maximum(a, b), c)
 
 
-def sides(places, triangles, others):
+def sides(places: np.ndarray, triangles: np.ndarray, others: np.ndarray) -> np.ndarray:
     """The signs of the sides of the planes of `triangles` on which the corners of `others` lie, in three columns; 0 for
     common corners. Coordinates are near each other."""
     base = places[triangles[:, 0]]
@@ -168,7 +174,7 @@ def sides(places, triangles, others):
     return np.stack(columns, axis=1)
 
 
-def sure_sides(places, triangles, others):
+def sure_sides(places: np.ndarray, triangles: np.ndarray, others: np.ndarray) -> np.ndarray:
     """The same for coordinates that are far from each other, by rounded sums: 0 where their errors may reach the sign."""
     spots = places.astype(float)
     base = spots[triangles[:, 0]]
@@ -179,13 +185,13 @@ def sure_sides(places, triangles, others):
     return np.sign(np.where(np.abs(values) > 64 * 2.0 ** -53 * reach[:, None] ** 3, values, 0))
 
 
-def apart(signs, others, triangles):
+def apart(signs: np.ndarray, others: np.ndarray, triangles: np.ndarray) -> np.ndarray:
     """Where all corners that are not common lie strictly on one side, so that the triangles do not cross."""
     own = ~(others[:, :, None] == triangles[:, None, :]).any(axis=2)
     return ((signs > 0) | ~own).all(axis=1) & own.any(axis=1) | ((signs < 0) | ~own).all(axis=1) & own.any(axis=1)
 
 
-def crossing(places, triangles, others):
+def crossing(places: np.ndarray, triangles: np.ndarray, others: np.ndarray) -> np.ndarray:
     """Which pairs of triangles cross, each as the numbers of its three corners."""
     found = np.zeros(len(triangles), bool)
     for start in range(0, len(triangles), CHUNK):
@@ -194,7 +200,7 @@ def crossing(places, triangles, others):
     return found
 
 
-def crossing_part(places, triangles, others):
+def crossing_part(places: np.ndarray, triangles: np.ndarray, others: np.ndarray) -> np.ndarray:
     reach = np.abs(places[np.concatenate([triangles, others], axis=1)] - places[triangles[:, :1]]).max(axis=(1, 2), initial=0)
     left = np.flatnonzero(reach < SMALL)
     on_one = sides(places, triangles[left], others[left])
@@ -214,7 +220,7 @@ def crossing_part(places, triangles, others):
     return found
 
 
-def edges_meet(places, triangles, others, signs):
+def edges_meet(places: np.ndarray, triangles: np.ndarray, others: np.ndarray, signs: np.ndarray) -> tuple[np.ndarray, np.ndarray]:
     """Whether an edge of `others` without a common corner meets its triangle, where `signs` are the sides of its ends; and
     whether that is left open, since an edge lies in the plane or two corners are common."""
     common = (others[:, :, None] == triangles[:, None, :]).any(axis=2)

@@ -1,19 +1,21 @@
 """Smoothing of large meshes, by numpy: the same steps as those of smoothing.py."""
+from __future__ import annotations
+
 import numpy as np
 
 from toolbox.fast_mesh import Columns, Grid, axes, boxes_of, crossing
 from toolbox.smoothing import ROUNDS, agreed, held, pull
-from toolbox.vectors import across, dot, unit
+from toolbox.vectors import Vector, across, dot, unit
 
 
 class Smoother:
     """A mesh whose vertices move."""
 
-    def __init__(self, places, corners, within):
+    def __init__(self, places: np.ndarray, corners: np.ndarray, within: float) -> None:
         self.places, self.home, self.within, self.held_back = places, places.copy(), within, 0
         self.triangles = corners.reshape(-1, 3)
 
-    def step(self, twins):
+    def step(self, twins: np.ndarray) -> None:
         """Moves the vertices once."""
         triangles, around = self.triangles, twins.reshape(-1, 3) // 3
         spots = self.places.astype(float)
@@ -29,7 +31,7 @@ class Smoother:
         self.places[:] = np.floor(spots + 0.5)
         self.untangle(before)
 
-    def moved(self, spots, normals, counts):
+    def moved(self, spots: np.ndarray, normals: Vector, counts: np.ndarray) -> np.ndarray:
         """The places after each vertex went the mean of its faces' ways."""
         a, b, c = corners = [axes(spots, self.triangles[:, k]) for k in range(3)]
         sums = np.zeros((3, 3, len(spots)))
@@ -43,7 +45,7 @@ class Smoother:
         moved = np.stack(held(Columns, home, place, self.within), axis=1)
         return np.where(counts[:, None] > 0, moved, spots)
 
-    def untangle(self, before):
+    def untangle(self, before: np.ndarray) -> None:
         """Puts corners of faces that cross back until none cross."""
         faces = np.arange(len(self.triangles))
         found = self.crossing_faces(faces)
@@ -58,7 +60,7 @@ class Smoother:
             is_back[back] = True
             found = self.crossing_faces(faces[is_back[self.triangles].any(axis=1)])
 
-    def crossing_faces(self, faces):
+    def crossing_faces(self, faces: np.ndarray) -> np.ndarray:
         """The faces that cross one of these, and these."""
         low, high = boxes_of(self.places, self.triangles)
         one, other = Grid(low, high, np.arange(len(low))).meet(low[faces], high[faces])

@@ -1,12 +1,16 @@
 """What an edge flip gains: how much the angles between faces fall, over the five edges of two neighboring faces. The formulas
 serve numbers and columns of numbers, as those of vectors do."""
-from toolbox.vectors import across, angle, dot, less, unit
+from __future__ import annotations
+
+from typing import Any
+
+from toolbox.vectors import Vector, across, angle, dot, less, unit
 
 NEVER = float('-inf')
 LEAST_GAIN = 1e-9
 
 
-def gain(kit, quad, normals):
+def gain(kit: Any, quad: list[Vector], normals: list[Vector]) -> Any:
     """What is gained where the faces a b c and b a d become a d c and d b c: by how much the sum of angle times length over
     the five edges falls. `normals` are those of both faces and of the four across bc, ca, ad and db. It is NEVER where a new
     face would turn away from both."""
@@ -17,7 +21,7 @@ def gain(kit, quad, normals):
     folds = (dot(left, both) <= 0) | (dot(right, both) <= 0)
     left, right = unit(kit, left), unit(kit, right)
 
-    def length(p, q):
+    def length(p: Vector, q: Vector) -> Any:
         return kit.sqrt(dot(less(q, p), less(q, p)))
 
     now = angle(kit, one, other) * length(a, b)

@@ -7,13 +7,19 @@ would cross, the one that gains more is made. So the angles fall with each flip,
 
 Names: Flipper (a mesh whose edges are flipped) · Cubes (boxes near a box). fast_flips does the same by numpy.
 """
-from toolbox.crossing import cross
+from __future__ import annotations
+
+from typing import Callable, Collection, Iterable, Sequence, Tuple
+
+from toolbox.crossing import Places, cross
 from toolbox.flip_gain import gain
 from toolbox.half_edges import after, before
-from toolbox.vectors import Numbers, normal
+from toolbox.vectors import Numbers, Vector, normal
+
+Box = Tuple[Vector, Vector]
 
 
-def box_of(places, triangle):
+def box_of(places: Places, triangle: Sequence[int]) -> Box:
     """The least and the greatest corner of the box of a triangle."""
     columns = list(zip(*(places[corner] for corner in triangle)))
     return tuple(map(min, columns)), tuple(map(max, columns))
@@ -22,35 +28,35 @@ def box_of(places, triangle):
 class Cubes:
     """Boxes in cubes of a few sizes, each in the cubes that it meets, at most eight of its own size."""
 
-    def __init__(self, places, triangles):
+    def __init__(self, places: Places, triangles: Iterable[Sequence[int]]) -> None:
         self.boxes, self.cubes, self.sizes = {}, {}, {}
         sizes = sorted(self.size_of(box_of(places, triangle), 1) for triangle in triangles)
         self.least = sizes[len(sizes) // 2] if sizes else 1
 
     @staticmethod
-    def size_of(box, least):
+    def size_of(box: Box, least: int) -> int:
         return max(max(high - low for low, high in zip(*box)).bit_length(), least)
 
     @staticmethod
-    def cubes_of(box, size):
+    def cubes_of(box: Box, size: int) -> list[tuple[int, int, int, int]]:
         (a, b, c), (p, q, r) = ((x >> size, y >> size, z >> size) for x, y, z in box)
         return [(size, i, j, k) for i in range(a, p + 1) for j in range(b, q + 1) for k in range(c, r + 1)]
 
-    def put(self, name, box):
+    def put(self, name: int, box: Box) -> None:
         size = self.size_of(box, self.least)
         self.boxes[name] = box
         self.sizes[size] = self.sizes.get(size, 0) + 1
         for cube in self.cubes_of(box, size):
             self.cubes.setdefault(cube, set()).add(name)
 
-    def take(self, name):
+    def take(self, name: int) -> None:
         box = self.boxes.pop(name)
         size = self.size_of(box, self.least)
         self.sizes[size] -= 1
         for cube in self.cubes_of(box, size):
             self.cubes[cube].discard(name)
 
-    def near(self, box):
+    def near(self, box: Box) -> list[int]:
         """The names of all boxes that have a place in common with this one."""
         found, (low, high) = set(), box
         for size, count in self.sizes.items():
@@ -64,7 +70,7 @@ class Cubes:
         return [name for name in found if self.meet(self.boxes[name], low, high)]
 
     @staticmethod
-    def meet(box, low, high):
+    def meet(box: Box, low: Vector, high: Vector) -> bool:
         (a, b, c), (p, q, r) = box
         return (a <= high[0] and b <= high[1] and c <= high[2] and p >= low[0] and q >= low[1] and r >= low[2])
 
@@ -72,7 +78,7 @@ class Cubes:
 class Flipper:
     """A closed mesh whose edges are flipped."""
 
-    def __init__(self, places, corners, twins):
+    def __init__(self, places: Places, corners: list[int], twins: list[int]) -> None:
         self.places, self.corners, self.twins = places, corners, twins
         self.normals = [self.normal_of(face) for face in range(len(corners) // 3)]
         self.edges = {self.key(h) for h in range(len(corners))}
@@ -82,27 +88,27 @@ class Flipper:
             self.cubes.put(face, box_of(places, self.triangle(face)))
         self.gains, self.flipped, self.kept = {}, 0, 0
 
-    def triangle(self, face):
+    def triangle(self, face: int) -> list[int]:
         return self.corners[3 * face:3 * face + 3]
 
-    def normal_of(self, face):
+    def normal_of(self, face: int) -> Vector:
         return normal(Numbers, *(self.places[corner] for corner in self.triangle(face)))
 
-    def key(self, h):
+    def key(self, h: int) -> tuple[int, int]:
         one, other = self.corners[h], self.corners[after(h)]
         return (one, other) if one < other else (other, one)
 
-    def around(self, edge):
+    def around(self, edge: int) -> tuple[int, int, int, int, int]:
         """The half edges about an edge: its twin, and the four sides of both faces."""
         twin = self.twins[edge]
         return twin, after(edge), before(edge), after(twin), before(twin)
 
-    def quad(self, edge):
+    def quad(self, edge: int) -> list[int]:
         """The corners of both faces: the edge's ends, and then those across."""
         twin, _, ca, _, db = self.around(edge)
         return [self.corners[h] for h in (edge, twin, ca, db)]
 
-    def weigh(self, edge):
+    def weigh(self, edge: int) -> None:
         """Finds what this edge gains, and forgets it where it gains nothing."""
         self.gains.pop(edge, None)
         twin, *sides = self.around(edge)
@@ -114,7 +120,7 @@ class Flipper:
         if won > 0:
             self.gains[edge] = won
 
-    def best_apart(self):
+    def best_apart(self) -> list[int]:
         """The edges that gain most among all that touch their faces and the four faces around, best first."""
         order = sorted(self.gains, key=lambda edge: (-self.gains[edge], edge))
         best = {}
@@ -123,20 +129,20 @@ class Flipper:
             best.setdefault(self.twins[edge] // 3, rank)
         return [edge for rank, edge in enumerate(order) if self.is_best(edge, rank, best)]
 
-    def is_best(self, edge, rank, best):
+    def is_best(self, edge: int, rank: int, best: dict[int, int]) -> bool:
         twin, *sides = self.around(edge)
         return (best[edge // 3] == rank == best[twin // 3]
                 and all(best.get(self.twins[h] // 3, rank) >= rank for h in sides))
 
-    def new_faces(self, edge):
+    def new_faces(self, edge: int) -> tuple[Sequence[int], Sequence[int]]:
         a, b, c, d = self.quad(edge)
         return (a, d, c), (d, b, c)
 
-    def new_key(self, edge):
+    def new_key(self, edge: int) -> tuple[int, int]:
         _, _, c, d = self.quad(edge)
         return (c, d) if c < d else (d, c)
 
-    def are_new(self, chosen):
+    def are_new(self, chosen: list[int]) -> list[int]:
         """Those whose other diagonal is no edge yet, each diagonal once."""
         taken, free = set(), []
         for edge in chosen:
@@ -146,7 +152,7 @@ class Flipper:
             taken.add(key)
         return free
 
-    def cross_nothing(self, chosen):
+    def cross_nothing(self, chosen: list[int]) -> list[int]:
         """Those whose new faces cross no face but their own two, and none of a better edge among these."""
         faces = [(rank, face) for rank, edge in enumerate(chosen) for face in self.new_faces(edge)]
         fresh = Cubes(self.places, [face for _, face in faces])
@@ -156,16 +162,16 @@ class Flipper:
                 if not any(self.crosses(edge, face) or self.crosses_better(rank, face, faces, fresh)
                            for face in self.new_faces(edge))]
 
-    def crosses(self, edge, face):
+    def crosses(self, edge: int, face: Sequence[int]) -> bool:
         own = edge // 3, self.twins[edge] // 3
         return any(other not in own and cross(self.places, face, self.triangle(other))
                    for other in self.cubes.near(box_of(self.places, face)))
 
-    def crosses_better(self, rank, face, faces, fresh):
+    def crosses_better(self, rank: int, face: Sequence[int], faces: list[tuple[int, Sequence[int]]], fresh: Cubes) -> bool:
         return any(faces[name][0] < rank and cross(self.places, face, faces[name][1])
                    for name in fresh.near(box_of(self.places, face)))
 
-    def turn(self, edge):
+    def turn(self, edge: int) -> list[int]:
         """Flips an edge, and answers the faces whose edges gain otherwise now."""
         twin, bc, ca, ad, db = self.around(edge)
         a, b, c, d = self.quad(edge)
@@ -183,7 +189,7 @@ class Flipper:
         self.flipped += 1
         return [edge // 3, twin // 3] + [far // 3 for far in outer]
 
-    def forget(self, faces):
+    def forget(self, faces: set[int]) -> set[int]:
         """Takes out what the edges of these faces gained, and answers these edges."""
         edges = set()
         for face in faces:
@@ -193,9 +199,9 @@ class Flipper:
                 edges.add(min(h, self.twins[h]))
         return edges
 
-    def run(self, tell):
+    def run(self, tell: Callable[[str], None]) -> None:
         """Flips edges until none is left that gains."""
-        changed = [h for h, twin in enumerate(self.twins) if h < twin]
+        changed: Collection[int] = [h for h, twin in enumerate(self.twins) if h < twin]
         while True:
             for edge in changed:
                 self.weigh(edge)

@@ -7,22 +7,25 @@ touch there, and the two faces that bound one wedge of the solid belong together
 Names: after, before (half edges of the same face) · pair_edges (the twins) · pieces_of (which faces hang together by
 twins) · fans_of (a number for each corner, the same for corners that hang together around their vertex).
 """
+from __future__ import annotations
+
 from functools import cmp_to_key
+from typing import Any
 
-from toolbox.crossing import orient
+from toolbox.crossing import Places, orient
 from toolbox.ply_text import Refusal
-from toolbox.vectors import across, dot
+from toolbox.vectors import Vector, across, dot
 
 
-def after(h):
+def after(h: int) -> int:
     return h + 1 if h % 3 < 2 else h - 2
 
 
-def before(h):
+def before(h: int) -> int:
     return h - 1 if h % 3 else h + 2
 
 
-def pair_edges(places, corners):
+def pair_edges(places: Places, corners: list[int]) -> list[int]:
     """The twin of each half edge; refused where the mesh is not closed."""
     edges = {}
     for h, corner in enumerate(corners):
@@ -35,7 +38,7 @@ def pair_edges(places, corners):
     return twins
 
 
-def pairs_around(places, corners, around):
+def pairs_around(places: Places, corners: Any, around: list[int]) -> list[tuple[int, int]]:
     """The half edges of one edge in pairs, each of which bounds a wedge of the solid."""
     low = min(corners[around[0]], corners[after(around[0])])
     there = [h for h in around if corners[h] == low]
@@ -49,18 +52,18 @@ def pairs_around(places, corners, around):
     return wedges(turned(places, corners, around, back[0]), set(there))
 
 
-def turned(places, corners, around, first):
+def turned(places: Places, corners: Any, around: list[int], first: int) -> list[int]:
     """The half edges of one edge in the order of their faces, counterclockwise seen against the edge, from `first` on."""
     end, start = places[corners[first]], places[corners[after(first)]]
     apex = {h: places[corners[before(h)]] for h in around}
 
-    def quarter(h):
+    def quarter(h: int) -> int:
         side = orient(start, end, apex[first], apex[h])
         if side == 0:
             return 0 if same_side(start, end, apex[first], apex[h]) else 2
         return 1 if side > 0 else 3
 
-    def compare(one, other):
+    def compare(one: int, other: int) -> int:
         if quarter(one) != quarter(other):
             return quarter(one) - quarter(other)
         return -orient(start, end, apex[one], apex[other])
@@ -68,12 +71,12 @@ def turned(places, corners, around, first):
     return sorted(around, key=cmp_to_key(compare))
 
 
-def same_side(a, b, c, d):
+def same_side(a: Vector, b: Vector, c: Vector, d: Vector) -> bool:
     """Whether two places of a plane through a and b are on one side of the line through these."""
     return dot(across(a, b, c), across(a, b, d)) > 0
 
 
-def wedges(order, there):
+def wedges(order: list[int], there: set[int]) -> list[tuple[int, int]]:
     """Pairs of a backward half edge and the forward one that closes its wedge, as brackets pair."""
     pairs, open_ones = [], []
     for h in order + order:
@@ -84,7 +87,7 @@ def wedges(order, there):
     return list(dict(pairs[:len(order) // 2]).items())
 
 
-def pieces_of(corners, twins):
+def pieces_of(corners: list[int], twins: list[int]) -> list[int]:
     """The number of its piece for each face, from 0 in the order of their first faces."""
     piece, count = [-1] * (len(corners) // 3), 0
     for first in range(len(piece)):
@@ -94,7 +97,7 @@ def pieces_of(corners, twins):
     return piece
 
 
-def spread(piece, twins, first, number):
+def spread(piece: list[int], twins: list[int], first: int, number: int) -> None:
     """Gives the number to all faces that hang together with the first."""
     piece[first], left = number, [first]
     while left:
@@ -106,7 +109,7 @@ def spread(piece, twins, first, number):
                 left.append(other)
 
 
-def fans_of(corners, twins):
+def fans_of(corners: list[int], twins: list[int]) -> tuple[list[int], list[int]]:
     """For each corner the number of its vertex after vertices are split where sheets only touch: the first fan of a vertex
     keeps its number, others come behind the last. Also the vertex that each new one is a copy of."""
     fan, copies, count = [-1] * len(corners), [], max(corners, default=-1) + 1

@@ -3,15 +3,18 @@
 Names: read_mesh · Finished (a mesh to be written: coordinates, corners, and columns of values of the vertices) ·
 write_mesh (by the ending of the name).
 """
+from __future__ import annotations
+
 import contextlib
 import json
 import os
 import re
 import struct
+from typing import Any, BinaryIO, Callable, Iterator, NoReturn
 
 from toolbox.engine import np
 from toolbox.ply_text import FORMATS, Refusal
-from toolbox.vectors import Numbers, normal
+from toolbox.vectors import Numbers, Vector, normal
 
 HEAD = re.compile(rb'ply\nformat ascii 1\.0\nelement vertex ([0-9]{1,10})\nproperty int x\nproperty int y\nproperty int z\n'
                   rb'element face ([0-9]{1,10})\nproperty list uchar int vertex_indices\nend_header\n')
@@ -19,7 +22,7 @@ WHOLE = ('char', 'uchar', 'short', 'ushort', 'int', 'uint', 'int8', 'uint8', 'in
 NOT_OURS = 'this is no mesh as `recon build` wrote it: '
 
 
-def read_mesh(path):
+def read_mesh(path: str) -> tuple[Any, Any]:
     """The places of the vertices, and the corners of all faces one after another."""
     with open(path, 'rb') as file:
         data = file.read()
@@ -42,11 +45,11 @@ def read_mesh(path):
     return (places, corners) if is_right else refuse_faces()
 
 
-def refuse_faces():
+def refuse_faces() -> NoReturn:
     raise Refusal(NOT_OURS + 'a face is no triangle of its vertices')
 
 
-def numbers_of(data, count):
+def numbers_of(data: bytes, count: int) -> Any:
     """The whole numbers of a text."""
     if re.search(rb'[^-0-9 \n]', data) or data and not data.endswith(b'\n'):
         raise Refusal(NOT_OURS + 'it is cut or has words that are no whole numbers')
@@ -63,12 +66,12 @@ class Finished:
     """A mesh to be written: rows of coordinates, rows of corners, and the columns of its vertices: a name, a type of PLY and
     the values, one a vertex."""
 
-    def __init__(self, places, faces, columns):
+    def __init__(self, places: list[Vector], faces: list[Vector], columns: list[tuple[str, str, list[float]]]) -> None:
         self.places, self.faces, self.columns = places, faces, columns
 
 
 @contextlib.contextmanager
-def whole_bytes(path):
+def whole_bytes(path: str) -> Iterator[BinaryIO]:
     """A binary file that is written beside its place and moved there when it is whole."""
     part = path + '.part'
     with open(part, 'wb') as file:
@@ -81,7 +84,7 @@ def whole_bytes(path):
     os.replace(part, path)
 
 
-def ply_parts(mesh):
+def ply_parts(mesh: Finished) -> Iterator[bytes]:
     """A binary PLY, in pieces."""
     lines = ['ply', 'format binary_little_endian 1.0', 'comment made by finish', f'element vertex {len(mesh.places)}']
     lines += [f'property double {axis}' for axis in 'xyz'] + [f'property {kind} {name}' for name, kind, _ in mesh.columns]
@@ -94,7 +97,7 @@ def ply_parts(mesh):
     yield b''.join(face.pack(3, *corners) for corners in mesh.faces)
 
 
-def stl_parts(mesh):
+def stl_parts(mesh: Finished) -> Iterator[bytes]:
     """A binary STL, in pieces."""
     yield b'made by finish'.ljust(80) + struct.pack('<I', len(mesh.faces))
     row = struct.Struct('<12fH')
@@ -103,13 +106,13 @@ def stl_parts(mesh):
         yield b''.join(row.pack(*normal(Numbers, a, b, c), *a, *b, *c, 0) for a, b, c in triangles)
 
 
-def colors_of(columns):
+def colors_of(columns: list[Any]) -> bytes:
     """Red, green and blue as bytes, with a fourth that says that nothing shines through. Of 16 bits the upper eight are taken."""
-    shift = 8 if max(map(max, columns)) > 255 else 0
+    shift = 8 if max(max(column) for column in columns) > 255 else 0
     return b''.join(bytes((*(max(0, min(value >> shift, 255)) for value in color), 255)) for color in zip(*columns))
 
 
-def glb_parts(mesh):
+def glb_parts(mesh: Finished) -> Iterator[bytes]:
     """A binary glTF, in pieces: the mesh with its colors, if it has any."""
     named = {name: (kind, column) for name, kind, column in mesh.columns}
     colors = [named.get(name) for name in ('red', 'green', 'blue')]
@@ -121,7 +124,7 @@ def glb_parts(mesh):
                  {'bufferView': 1, 'componentType': 5126, 'count': len(mesh.places), 'type': 'VEC3', 'min': low, 'max': high}]
     attributes = {'POSITION': 1}
     if all(color and color[0] in WHOLE for color in colors):
-        data.append(colors_of([column for _, column in colors]))
+        data.append(colors_of([color[1] for color in colors if color]))
         accessors.append({'bufferView': 2, 'componentType': 5121, 'normalized': True, 'count': len(mesh.places),
                           'type': 'VEC4'})
         attributes['COLOR_0'] = 2
@@ -142,7 +145,7 @@ def glb_parts(mesh):
 FORMS = {'.ply': ply_parts, '.stl': stl_parts, '.glb': glb_parts}
 
 
-def form_of(path):
+def form_of(path: str) -> Callable[..., Any]:
     """The form that the name's ending says."""
     ending = os.path.splitext(path)[1].lower()
     if ending not in FORMS:
@@ -150,7 +153,7 @@ def form_of(path):
     return FORMS[ending]
 
 
-def write_mesh(path, mesh):
+def write_mesh(path: str, mesh: Finished) -> None:
     parts = form_of(path)(mesh)
     with whole_bytes(path) as file:
         for part in parts:

@@ -8,10 +8,16 @@ text or binary) · plain_names (columns under names that every reader takes) · 
 known at the end) · decimals (whether three words are a point) · index_text (the number of a scanner, written as a whole
 number) · read_positions (a table of scanner positions).
 """
+from __future__ import annotations
+
 import contextlib
 import os
 import re
 import struct
+from typing import TYPE_CHECKING, BinaryIO, Callable, Iterator, Sequence, TextIO
+
+if TYPE_CHECKING:
+    from toolbox.tile_split import LateFile
 
 CHUNK = 1 << 20
 ROW_LIMIT = 4294967295
@@ -33,10 +39,10 @@ class Refusal(Exception):
 class Property:
     """A column: its name, its type and, for a list, the type of its count."""
 
-    def __init__(self, name, kind, count_kind=None):
+    def __init__(self, name: str, kind: str, count_kind: str | None = None) -> None:
         self.name, self.kind, self.count_kind = name, kind, count_kind
 
-    def line(self):
+    def line(self) -> str:
         types = self.kind if self.count_kind is None else f'list {self.count_kind} {self.kind}'
         return f'property {types} {self.name}'
 
@@ -44,16 +50,16 @@ class Property:
 class Element:
     """A table: its name, how many rows it has, and its columns."""
 
-    def __init__(self, name, count, properties):
+    def __init__(self, name: str, count: int, properties: list[Property]) -> None:
         self.name, self.count, self.properties = name, count, properties
 
-    def has_lists(self):
+    def has_lists(self) -> bool:
         return any(p.count_kind is not None for p in self.properties)
 
-    def row_format(self):
+    def row_format(self) -> str:
         return ''.join(FORMATS[p.kind] for p in self.properties)
 
-    def column(self, name):
+    def column(self, name: str) -> int | None:
         """The place of the column of this name, in any case where no other is so spelled; None where there is none."""
         names = [p.name for p in self.properties]
         if name in names:
@@ -61,7 +67,7 @@ class Element:
         folded = [n.lower() for n in names]
         return folded.index(name.lower()) if folded.count(name.lower()) == 1 else None
 
-    def point_columns(self):
+    def point_columns(self) -> list[int]:
         """The places of x, y and z."""
         places = []
         for axis in 'xyz':
@@ -72,7 +78,7 @@ class Element:
         return places
 
 
-def head_lines(file):
+def head_lines(file: BinaryIO) -> Iterator[tuple[int, list[str]]]:
     """The header's lines as words, with their numbers, each ended by LF or CR LF, up to `end_header`."""
     for number in range(1, LINE_LIMIT + 1):
         line = file.readline(LINE_LIMIT + 2)
@@ -90,7 +96,7 @@ def head_lines(file):
     raise Refusal(f'the header has over {LINE_LIMIT} lines')
 
 
-def read_head(file):
+def read_head(file: BinaryIO) -> tuple[str, list[Element]]:
     """The kind of the body and the elements, in their order."""
     kind, elements = None, []
     for number, words in head_lines(file):
@@ -115,7 +121,7 @@ def read_head(file):
     return kind, elements
 
 
-def read_property(words, bad):
+def read_property(words: list[str], bad: Refusal) -> Property:
     if len(words) == 3 and words[1] in FORMATS:
         return Property(words[2], words[1])
     if len(words) == 5 and words[1] == 'list' and FORMATS.get(words[2], 'f') not in 'fd' and words[3] in FORMATS:
@@ -126,11 +132,11 @@ def read_property(words, bad):
 class TextBody:
     """The words of a text body, some at a time. Line ends have no meaning, but the last line has to have one."""
 
-    def __init__(self, file, open_end):
+    def __init__(self, file: BinaryIO, open_end: bool) -> None:
         self.file, self.open_end = file, open_end
         self.words, self.at, self.tail = [], 0, b''
 
-    def fill(self):
+    def fill(self) -> bool:
         """Reads more words behind those that are not used yet; False at the end of the file."""
         chunk = self.file.read(CHUNK)
         if not chunk and not self.tail:
@@ -149,13 +155,13 @@ class TextBody:
         self.at = 0
         return True
 
-    def need(self, count, element, row):
+    def need(self, count: int, element: Element, row: int) -> None:
         """Sees to it that this many words are there."""
         while len(self.words) - self.at < count:
             if not self.fill():
                 raise Refusal(f'cut: the file ends in row {row} of the {element.count} of {element.name}')
 
-    def rows(self, element):
+    def rows(self, element: Element) -> Iterator[list[str]]:
         if element.has_lists():
             yield from self.list_rows(element)
             return
@@ -169,7 +175,7 @@ class TextBody:
                 yield words[k:k + width]
             row += taken
 
-    def list_rows(self, element):
+    def list_rows(self, element: Element) -> Iterator[list[str]]:
         for row in range(element.count):
             values = []
             for p in element.properties:
@@ -182,13 +188,13 @@ class TextBody:
                 self.at += count
             yield values
 
-    def finish(self):
+    def finish(self) -> None:
         while self.at < len(self.words) or self.fill():
             if self.at < len(self.words):
                 raise Refusal('after the last row something follows')
 
 
-def list_count(word, element, row):
+def list_count(word: str, element: Element, row: int) -> int:
     if not word.isdecimal() or len(word) > 20 or int(word) > ROW_LIMIT:
         raise Refusal(f'row {row} of {element.name} has the count {word[:40]} in a list')
     return int(word)
@@ -197,11 +203,11 @@ def list_count(word, element, row):
 class BinaryBody:
     """The rows of a binary body in either byte order, each number by repr."""
 
-    def __init__(self, file, order):
+    def __init__(self, file: BinaryIO, order: str) -> None:
         self.file, self.order = file, order
         self.length = os.fstat(file.fileno()).st_size
 
-    def rows(self, element):
+    def rows(self, element: Element) -> Iterator[list[str]]:
         if element.has_lists():
             yield from self.list_rows(element)
             return
@@ -217,7 +223,7 @@ class BinaryBody:
                 yield list(map(repr, values))
             row += taken
 
-    def list_rows(self, element):
+    def list_rows(self, element: Element) -> Iterator[list[str]]:
         for row in range(element.count):
             values = []
             for p in element.properties:
@@ -228,14 +234,14 @@ class BinaryBody:
                 values += self.values(p.kind, count, element, row)
             yield values
 
-    def values(self, kind, count, element, row):
+    def values(self, kind: str, count: int, element: Element, row: int) -> list[str]:
         size = count * struct.calcsize(self.order + FORMATS[kind])
         data = self.file.read(size) if size <= self.length else b''
         if len(data) < size:
             raise Refusal(f'cut: the file ends in row {row} of the {element.count} of {element.name}')
         return list(map(repr, struct.unpack(f'{self.order}{count}{FORMATS[kind]}', data)))
 
-    def finish(self):
+    def finish(self) -> None:
         if self.file.read(1):
             raise Refusal('after the last row something follows')
 
@@ -245,12 +251,12 @@ class Reader:
 
     A binary file whose rows have one size is refused before any row is read where its length is not theirs."""
 
-    def __init__(self, path, open_end=False):
+    def __init__(self, path: str, open_end: bool = False) -> None:
         self.file = open(path, 'rb')
         try:
             kind, self.elements = read_head(self.file)
             if kind == 'ascii':
-                self.body = TextBody(self.file, open_end)
+                self.body: TextBody | BinaryBody = TextBody(self.file, open_end)
             else:
                 self.body = BinaryBody(self.file, ORDERS[kind])
                 self.check_length(ORDERS[kind])
@@ -258,7 +264,7 @@ class Reader:
             self.file.close()
             raise
 
-    def check_length(self, order):
+    def check_length(self, order: str) -> None:
         left = os.fstat(self.file.fileno()).st_size - self.file.tell()
         for element in self.elements:
             if element.has_lists():
@@ -270,26 +276,26 @@ class Reader:
         if left:
             raise Refusal('after the last row something follows')
 
-    def element(self, name):
+    def element(self, name: str) -> Element | None:
         """The element of this name, or None."""
         found = [e for e in self.elements if e.name == name]
         if len(found) > 1:
             raise Refusal(f'two elements have the name {name}')
         return found[0] if found else None
 
-    def rows(self, element):
+    def rows(self, element: Element) -> Iterator[list[str]]:
         """The rows of the next element, each a list of words."""
         return self.body.rows(element)
 
-    def finish(self):
+    def finish(self) -> None:
         """Sees to it that nothing follows the last row."""
         self.body.finish()
 
-    def close(self):
+    def close(self) -> None:
         self.file.close()
 
 
-def plain_names(properties):
+def plain_names(properties: list[Property]) -> list[Property]:
     """The same columns under names that every reader takes: printable ASCII, no two the same."""
     taken, plain = set(), []
     for p in properties:
@@ -303,7 +309,7 @@ def plain_names(properties):
 
 
 @contextlib.contextmanager
-def whole_file(path):
+def whole_file(path: str) -> Iterator[TextIO]:
     """A text file that is written beside its place and moved there when it is whole, so a run that ends early leaves what
     was there."""
     part = path + '.part'
@@ -321,11 +327,12 @@ class Writer:
     """A text PLY of an element `vertex`, whose count is known at the end, and perhaps an element `scanner`, into a file of
     `whole_file`. A comment of the right length keeps room for the counts."""
 
-    def __init__(self, file, properties, made_by):
+    def __init__(self, file: LateFile | TextIO, properties: list[Property], made_by: str) -> None:
         self.file, self.properties, self.made_by = file, plain_names(properties), made_by
-        self.count, self.scanners, self.head_length = 0, None, None
+        self.count, self.head_length = 0, 0
+        self.scanners: int | None = None
 
-    def head(self, scanner_count):
+    def head(self, scanner_count: int) -> str:
         lines = ['ply', 'format ascii 1.0', f'element vertex {self.count}'] + [p.line() for p in self.properties]
         if self.scanners is not None:
             lines += [f'element scanner {scanner_count}'] + [f'property double {axis}' for axis in 'xyz']
@@ -333,18 +340,18 @@ class Writer:
         lines.insert(2, f'comment made by {self.made_by} ' + '.' * room)
         return '\n'.join(lines + ['end_header', ''])
 
-    def begin(self, has_scanners):
+    def begin(self, has_scanners: bool) -> None:
         """Writes the header with its counts to be mended."""
         self.scanners = 0 if has_scanners else None
         text = self.head(0)
         self.head_length = len(text)
         self.file.write(text)
 
-    def row(self, words):
+    def row(self, words: Sequence[str]) -> None:
         self.file.write(' '.join(words) + '\n')
         self.count += 1
 
-    def finish(self, positions):
+    def finish(self, positions: Sequence[Sequence[str]]) -> None:
         """Writes the scanners' rows and mends the counts."""
         for position in positions:
             self.file.write(' '.join(position) + '\n')
@@ -354,7 +361,7 @@ class Writer:
         self.file.write(text)
 
 
-def decimals(x, y, z, place):
+def decimals(x: str, y: str, z: str, place: Callable[[], str]) -> bool:
     """True where the three words are a point, False where one of them is no finite number; refused where it is no number."""
     if ARE_THREE(f'{x} {y} {z}'):
         return True
@@ -364,7 +371,7 @@ def decimals(x, y, z, place):
     return False
 
 
-def index_text(word, place):
+def index_text(word: str, place: Callable[[], str]) -> str | None:
     """The number of a scanner as a whole number, also where it was written `3.000000`; None where it is not finite."""
     if word.isdecimal() and len(word) <= 18:
         return word
@@ -375,7 +382,7 @@ def index_text(word, place):
     return str(int(float(word)))
 
 
-def read_positions(path):
+def read_positions(path: str) -> list[tuple[list[str], str | None]]:
     """A table of scanner positions: a line `X Y Z` each, perhaps with a file's name behind; `#` begins a comment."""
     rows = []
     with open(path, encoding='utf-8', errors='surrogateescape') as file:

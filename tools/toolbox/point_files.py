@@ -3,14 +3,17 @@
 Each reader has `elements`, whose first is `vertex`, and then perhaps `scanner`, as ply_text.Reader has them, and their rows
 as lists of words. Names: open_points · PcdReader, LasReader.
 """
+from __future__ import annotations
+
 import os
 import struct
+from typing import Any, Iterator
 
 from toolbox.exact import shifted
 from toolbox.ply_text import CHUNK, FORMATS, ROW_LIMIT, Element, Property, Reader, Refusal
 from toolbox.text_lines import Lines
 
-def open_points(path, open_end=False):
+def open_points(path: str, open_end: bool = False) -> Any:
     """A reader of the points of a file of any of these kinds; one that is none of them is read as PLY."""
     start = start_of(path)
     if start.startswith(b'LASF'):
@@ -25,12 +28,12 @@ def open_points(path, open_end=False):
     return Reader(path, open_end)
 
 
-def start_of(path):
+def start_of(path: str) -> bytes:
     with open(path, 'rb') as file:
         return file.read(4096)
 
 
-def is_pcd(start):
+def is_pcd(start: bytes) -> bool:
     """Whether a file begins as PCD does: remarks, and then its version or its fields."""
     for line in start.split(b'\n'):
         if line.strip() and not line.startswith(b'#'):
@@ -38,7 +41,7 @@ def is_pcd(start):
     return False
 
 
-def has_rows(path):
+def has_rows(path: str) -> bool:
     """Whether the file is of a kind that open_points reads row by row."""
     start = start_of(path)
     return start.startswith((b'LASF', b'ASTM-E57')) or is_pcd(start) or start.split(b'\n')[0].rstrip() == b'ply'
@@ -47,7 +50,7 @@ def has_rows(path):
 class FileReader:
     """What readers share: the file, and elements by name."""
 
-    def __init__(self, path):
+    def __init__(self, path: str) -> None:
         self.path, self.file, self.elements = path, open(path, 'rb'), []
         try:
             self.begin()
@@ -55,16 +58,20 @@ class FileReader:
             self.file.close()
             raise
 
-    def element(self, name):
+    def begin(self) -> None:
+        """Reads the header, and tells the elements."""
+        raise NotImplementedError
+
+    def element(self, name: str) -> Element | None:
         return next((element for element in self.elements if element.name == name), None)
 
-    def finish(self):
+    def finish(self) -> None:
         pass
 
-    def close(self):
+    def close(self) -> None:
         self.file.close()
 
-    def structs(self, row, count):
+    def structs(self, row: struct.Struct, count: int) -> Iterator[tuple[float, ...]]:
         """The rows of a binary body."""
         left, done = os.fstat(self.file.fileno()).st_size - self.file.tell(), 0
         if left < row.size * count:
@@ -82,11 +89,11 @@ PCD_TYPES = {('F', '4'): 'float', ('F', '8'): 'double', ('U', '1'): 'uchar', ('U
 class PcdReader(FileReader):
     """A PCD file, ascii, binary or compressed. Its VIEWPOINT is the one scanner of all points; a packed color becomes three columns."""
 
-    def __init__(self, path, open_end):
+    def __init__(self, path: str, open_end: bool) -> None:
         self.open_end = open_end
         super().__init__(path)
 
-    def begin(self):
+    def begin(self) -> None:
         self.head = self.read_head()
         for key in ('FIELDS', 'SIZE', 'TYPE', 'POINTS'):
             if key not in self.head:
@@ -103,7 +110,7 @@ class PcdReader(FileReader):
         self.elements = [Element('vertex', count, properties + [Property('scanner', 'int')]),
                          Element('scanner', 1, [Property(axis, 'double') for axis in 'xyz'])]
 
-    def read_head(self):
+    def read_head(self) -> dict[str, list[str]]:
         head, self.head_lines = {}, 0
         while 'DATA' not in head:
             line = self.file.readline(CHUNK)
@@ -115,13 +122,13 @@ class PcdReader(FileReader):
                 head[words[0]] = words[1:]
         return head
 
-    def number(self, key):
+    def number(self, key: str) -> int:
         words = self.head[key]
         if len(words) != 1 or not words[0].isdecimal() or int(words[0]) > ROW_LIMIT:
             raise Refusal(f'the line {key} of the PCD is no count')
         return int(words[0])
 
-    def columns(self):
+    def columns(self) -> tuple[list[tuple[str, str]], list[Property]]:
         """The types of the values of a row, and the properties that they become."""
         names, sizes, types = (self.head[key] for key in ('FIELDS', 'SIZE', 'TYPE'))
         counts = self.head.get('COUNT', ['1'] * len(names))
@@ -138,7 +145,7 @@ class PcdReader(FileReader):
                                else [Property(own, PCD_TYPES[kind, size])])
         return kinds, properties
 
-    def rows(self, element):
+    def rows(self, element: Element) -> Iterator[list[str]]:
         if element.name == 'scanner':
             yield self.place
             return
@@ -149,12 +156,12 @@ class PcdReader(FileReader):
             words.append('0')
             yield words
 
-    def position(self):
+    def position(self) -> list[str]:
         """Where the scanner stood."""
         return self.place
 
     @staticmethod
-    def colors(word, kind):
+    def colors(word: str, kind: str) -> list[str]:
         """The three parts of a packed color, whose bits may stand as those of a number with a point."""
         try:
             bits = struct.unpack('<I', struct.pack('<f', float(word)))[0] if kind == 'float' else int(word) & 0xFFFFFFFF
@@ -162,12 +169,12 @@ class PcdReader(FileReader):
             raise Refusal(f'{word[:40]} is no color of a PCD') from None
         return [str(bits >> shift & 255) for shift in (16, 8, 0)]
 
-    def binary_rows(self, count):
+    def binary_rows(self, count: int) -> Iterator[list[str]]:
         row = struct.Struct('<' + ''.join(FORMATS[kind] for _, kind in self.kinds))
         for values in self.structs(row, count):
             yield list(map(repr, values))
 
-    def packed_rows(self, count):
+    def packed_rows(self, count: int) -> Iterator[list[str]]:
         """The rows of a compressed body, which has all values of a field side by side."""
         head = self.file.read(8)
         packed, size = struct.unpack('<II', head) if len(head) == 8 else (0, 0)
@@ -184,7 +191,7 @@ class PcdReader(FileReader):
         for values in zip(*columns):
             yield list(map(repr, values))
 
-    def text_rows(self, count):
+    def text_rows(self, count: int) -> Iterator[list[str]]:
         lines = Lines(self.path, self.open_end, self.file.tell())
         lines.number = self.head_lines
         try:
@@ -203,7 +210,7 @@ class PcdReader(FileReader):
             lines.close()
 
 
-def unpacked(data, size):
+def unpacked(data: bytes, size: int) -> bytearray:
     """Bytes that were packed by LZF: runs as they stand, and copies of what came before."""
     out, at = bytearray(), 0
     try:
@@ -237,19 +244,19 @@ LAS_ROWS = [LAS_OLD, LAS_OLD + LAS_TIME, LAS_OLD + LAS_COLOR, LAS_OLD + LAS_TIME
 LAS_TYPES = {'H': 'ushort', 'B': 'uchar', 'd': 'double', 'i': 'double'}
 
 
-def whole_and_places(number):
+def whole_and_places(number: float) -> tuple[int, int]:
     """A number as a whole one over a power of ten, by its shortest decimal."""
     from decimal import Decimal
     sign, digits, exponent = Decimal(repr(number)).as_tuple()
     whole = int(''.join(map(str, digits))) * (-1 if sign else 1)
-    return (whole * 10 ** exponent, 0) if exponent > 0 else (whole, -exponent)
+    return (whole * 10 ** int(exponent), 0) if int(exponent) > 0 else (whole, -int(exponent))
 
 
 class LasReader(FileReader):
     """A LAS file that is not compressed, of version 1.0 to 1.4. Coordinates keep their digits; `pointsourceid` numbers the
     station of a point. LAS has no positions of stations."""
 
-    def begin(self):
+    def begin(self) -> None:
         head = self.file.read(375)
         if len(head) < 227:
             raise Refusal('cut: the file ends in the header of a LAS')
@@ -274,7 +281,7 @@ class LasReader(FileReader):
         properties = [Property(name, LAS_TYPES[code]) for code, name in self.fields if name]
         self.elements = [Element('vertex', count, properties)]
 
-    def rows(self, element):
+    def rows(self, element: Element) -> Iterator[list[str]]:
         kept = [k for k, (_, name) in enumerate(self.fields) if name][3:]
         sums = []
         for (scale, places), (start, start_places) in zip(self.scales, self.starts):
@@ -282,7 +289,7 @@ class LasReader(FileReader):
             sums.append((scale * 10 ** (most - places), start * 10 ** (most - start_places), most))
         (a, p, i), (b, q, j), (c, r, k) = sums
         for values in self.structs(self.row, element.count):
-            place = shifted(values[0] * a + p, i), shifted(values[1] * b + q, j), shifted(values[2] * c + r, k)
-            if None in place:
+            x, y, z = shifted(values[0] * a + p, i), shifted(values[1] * b + q, j), shifted(values[2] * c + r, k)
+            if x is None or y is None or z is None:
                 raise Refusal('a coordinate has over 30 digits')
-            yield [*place, *(repr(values[at]) for at in kept)]
+            yield [x, y, z, *(repr(values[at]) for at in kept)]

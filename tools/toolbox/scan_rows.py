@@ -1,6 +1,9 @@
 """What the rows of a scan say beside their coordinates, by the places that `recon` makes of them."""
+from __future__ import annotations
+
 import re
 from decimal import ROUND_HALF_UP, Decimal
+from typing import Any, Iterator, Sequence
 
 from toolbox.mesh_files import WHOLE
 from toolbox.ply_text import IS_NUMBER, Reader, Refusal
@@ -8,7 +11,7 @@ from toolbox.ply_text import IS_NUMBER, Reader, Refusal
 PLAIN = re.compile(r'([+-]?)([0-9]+)(?:\.([0-9]*))?').fullmatch
 
 
-def scaled(word, unit):
+def scaled(word: str, unit: int) -> int:
     """The number times the unit, rounded to the nearest whole number, halves away from zero."""
     plain = PLAIN(word)
     if plain is None:
@@ -21,12 +24,12 @@ def scaled(word, unit):
     return -value if sign == '-' else value
 
 
-def value_of(word, kind):
+def value_of(word: str, kind: str) -> float:
     """A word as a number of its type."""
     return int(float(word)) if kind in WHOLE else float(word)
 
 
-def columns_of(path, unit, places):
+def columns_of(path: str, unit: int, places: Sequence[Any]) -> list[tuple[str, str, list[float]]]:
     """The columns of a scan beside x, y and z, each as a name, a type and the values at these places: those of the first row
     at each. Refused where a place is that of no row."""
     reader = Reader(path, True)
@@ -49,7 +52,8 @@ def columns_of(path, unit, places):
     return [(name, kind, [value_of(rows[place][at], kind) for place in places]) for at, (name, kind) in enumerate(columns)]
 
 
-def rows_at(rows, point, kept, unit, found):
+def rows_at(rows: Iterator[Any], point: list[int], kept: list[int], unit: int,
+            found: dict[tuple[int, int, int], Any]) -> dict[tuple[int, int, int], Any]:
     """The kept words of the first row at each of these places."""
     x, y, z = point
     for words in rows:

@@ -8,18 +8,21 @@ these faces go back to where they were before the step.
 
 Names: Smoother (a mesh whose vertices move). fast_smoothing does the same by numpy, to the same digit.
 """
-from math import floor
+from __future__ import annotations
 
-from toolbox.crossing import cross
+from math import floor
+from typing import Any, Sequence
+
+from toolbox.crossing import Places, cross
 from toolbox.flips import Cubes, box_of
-from toolbox.vectors import Numbers, across, dot, less, unit
+from toolbox.vectors import Numbers, Vector, across, dot, less, unit
 
 ROUNDS = 2
 OPEN_COSINE = 0.5
 THIRD = 1 / 3
 
 
-def agreed(kit, own, around, area, areas):
+def agreed(kit: Any, own: Vector, around: Sequence[Vector], area: Any, areas: Sequence[Any]) -> Vector:
     """The mean direction of a face and the three across its edges."""
     x, y, z = own[0] * area, own[1] * area, own[2] * area
     for other, size in zip(around, areas):
@@ -28,14 +31,14 @@ def agreed(kit, own, around, area, areas):
     return unit(kit, (x, y, z))
 
 
-def pull(direction, a, b, c, place):
+def pull(direction: Vector, a: Vector, b: Vector, c: Vector, place: Vector) -> Vector:
     """What moves a place along a direction into the plane through the middle of a triangle."""
     middle = (a[0] + b[0] + c[0]) * THIRD, (a[1] + b[1] + c[1]) * THIRD, (a[2] + b[2] + c[2]) * THIRD
     far = dot(less(middle, place), direction)
     return direction[0] * far, direction[1] * far, direction[2] * far
 
 
-def held(kit, home, place, within):
+def held(kit: Any, home: Vector, place: Vector, within: float) -> Vector:
     """The place, or the one within reach of home on the way to it."""
     way = less(place, home)
     part = within / kit.larger(kit.sqrt(dot(way, way)), within)
@@ -45,14 +48,14 @@ def held(kit, home, place, within):
 class Smoother:
     """A mesh whose vertices move."""
 
-    def __init__(self, places, corners, within):
+    def __init__(self, places: Places, corners: list[int], within: float) -> None:
         self.places, self.home, self.within, self.held_back = places, list(places), within, 0
         self.corners = corners
 
-    def triangle(self, face):
+    def triangle(self, face: int) -> list[int]:
         return self.corners[3 * face:3 * face + 3]
 
-    def step(self, twins):
+    def step(self, twins: list[int]) -> None:
         """Moves the vertices once."""
         faces = range(len(self.corners) // 3)
         vectors = [across(*(self.places[corner] for corner in self.triangle(face))) for face in faces]
@@ -60,7 +63,7 @@ class Smoother:
         normals = [unit(Numbers, v) for v in vectors]
         for _ in range(ROUNDS):
             normals = [self.agreed_normal(normals, areas, twins, face) for face in faces]
-        spots = [tuple(map(float, place)) for place in self.places]
+        spots: list[Vector] = [tuple(map(float, place)) for place in self.places]
         for _ in range(ROUNDS):
             spots = self.moved(spots, normals)
         before = list(self.places)
@@ -68,11 +71,11 @@ class Smoother:
         self.untangle(before)
 
     @staticmethod
-    def agreed_normal(normals, areas, twins, face):
+    def agreed_normal(normals: list[Vector], areas: list[float], twins: list[int], face: int) -> Vector:
         around = [twins[h] // 3 for h in range(3 * face, 3 * face + 3)]
         return agreed(Numbers, normals[face], [normals[k] for k in around], areas[face], [areas[k] for k in around])
 
-    def moved(self, spots, normals):
+    def moved(self, spots: list[Vector], normals: list[Vector]) -> list[Vector]:
         """The places after each vertex went the mean of its faces' ways."""
         sums = [[[0.0, 0.0, 0.0] for _ in spots] for _ in range(3)]
         counts = [0] * len(spots)
@@ -89,14 +92,14 @@ class Smoother:
         return [self.within_reach(number, spots[number], [total[number] for total in sums], count)
                 for number, count in enumerate(counts)]
 
-    def within_reach(self, number, spot, parts, count):
+    def within_reach(self, number: int, spot: Vector, parts: list[list[float]], count: int) -> Vector:
         if not count:
             return spot
         one, two, three = parts
         place = tuple(spot[k] + (one[k] + two[k] + three[k]) / count for k in range(3))
         return held(Numbers, self.home[number], place, self.within)
 
-    def untangle(self, before):
+    def untangle(self, before: Places) -> None:
         """Puts corners of faces that cross back until none cross."""
         faces = range(len(self.corners) // 3)
         cubes = Cubes(self.places, map(self.triangle, faces))
@@ -112,11 +115,11 @@ class Smoother:
             for face in moved:
                 cubes.take(face)
                 cubes.put(face, box_of(self.places, self.triangle(face)))
-            crossing = self.crossing_faces(moved, cubes) if back else None
+            crossing = self.crossing_faces(moved, cubes) if back else set()
 
-    def crossing_faces(self, faces, cubes):
+    def crossing_faces(self, faces: Sequence[int], cubes: Cubes) -> set[int]:
         """The faces that cross one of these, and these."""
-        found = set()
+        found: set[int] = set()
         for face in faces:
             for other in cubes.near(box_of(self.places, self.triangle(face))):
                 if other != face and cross(self.places, self.triangle(face), self.triangle(other)):

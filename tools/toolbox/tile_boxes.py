@@ -7,11 +7,16 @@ each axis.
 Names: Sample (some rows of a stream) · mean_spacing · Core (a tile's box) · Cut (a box that was halved) · divide (halves a
 box until each tile has few enough points) · cores_of (the boxes of a division, in their order).
 """
+from __future__ import annotations
+
 import math
 import random
+from typing import Sequence, Tuple
 
 from toolbox.ply_text import Refusal
 
+Place = Sequence[float]
+Row = Tuple[Place, Sequence[str]]
 SAMPLE_SIZE = 400000
 ASKED = 4000
 # The median distance to the nearest of points that lie evenly, in no order, on a surface, a square of side 1 for each.
@@ -21,17 +26,17 @@ MEDIAN = math.sqrt(math.log(2) / math.pi)
 class Sample:
     """Some rows of a stream, each as likely to be among them as any other. The same stream gives the same rows."""
 
-    def __init__(self, size=SAMPLE_SIZE):
+    def __init__(self, size: int = SAMPLE_SIZE) -> None:
         self.size, self.rows, self.count, self.draw = size, [], 0, random.Random(1)
         self.level, self.next = 1.0, size - 1
         self.skip()
 
-    def skip(self):
+    def skip(self) -> None:
         """Finds the next row that is taken (algorithm L of Li's paper on reservoir sampling)."""
         self.level *= math.exp(math.log(1 - self.draw.random()) / self.size)
         self.next += int(math.log(1 - self.draw.random()) / math.log1p(-self.level)) + 1
 
-    def add(self, row):
+    def add(self, row: Row) -> None:
         if self.count < self.size:
             self.rows.append(row)
         elif self.count == self.next:
@@ -39,7 +44,7 @@ class Sample:
             self.skip()
         self.count += 1
 
-    def share(self):
+    def share(self) -> float:
         """How many rows of the stream one of the sample stands for."""
         return self.count / len(self.rows)
 
@@ -47,22 +52,22 @@ class Sample:
 class Grid:
     """Points by the cubes, of one side, that they lie in."""
 
-    def __init__(self, points, side):
+    def __init__(self, points: list[Place], side: float) -> None:
         self.side, self.cubes = side, {}
         for p in points:
             self.cubes.setdefault(self.cube(p), []).append(p)
 
-    def cube(self, point):
+    def cube(self, point: Place) -> tuple[int, ...]:
         return tuple(int(value // self.side) for value in point)
 
-    def nearest(self, point):
+    def nearest(self, point: Place) -> float:
         """The distance of the nearest other point, or the side where none is in the cubes around."""
         i, j, k = self.cube(point)
         near = (self.cubes.get((i + a, j + b, k + c), ()) for a in (-1, 0, 1) for b in (-1, 0, 1) for c in (-1, 0, 1))
         return min((math.dist(point, other) for cube in near for other in cube if other is not point), default=self.side)
 
 
-def mean_spacing(points, share):
+def mean_spacing(points: list[Place], share: float) -> float:
     """The side of the square of the surface that a point has, as the median of distances tells it; each of the points stands
     for so many."""
     low, high = ([end(p[k] for p in points) for k in range(3)] for end in (min, max))
@@ -74,37 +79,37 @@ def mean_spacing(points, share):
 class Core:
     """A box with its least coordinates, which belong to it, and its greatest, which do not; infinite where it has no end."""
 
-    def __init__(self, low=(-math.inf,) * 3, high=(math.inf,) * 3):
+    def __init__(self, low: Sequence[float] = (-math.inf,) * 3, high: Sequence[float] = (math.inf,) * 3) -> None:
         self.low, self.high = list(low), list(high)
 
-    def holds(self, point):
+    def holds(self, point: Place) -> bool:
         (a, b, c), (d, e, f), (x, y, z) = self.low, self.high, point
         return a <= x < d and b <= y < e and c <= z < f
 
-    def reaches(self, point, overlap):
+    def reaches(self, point: Place, overlap: float) -> bool:
         """Whether a point is of the box or near enough to it."""
         (a, b, c), (d, e, f), (x, y, z) = self.low, self.high, point
         return (a - overlap <= x <= d + overlap and b - overlap <= y <= e + overlap
                 and c - overlap <= z <= f + overlap)
 
-    def halves(self, axis, at):
+    def halves(self, axis: int, at: float) -> tuple[Core, Core]:
         """The two boxes below and above a plane."""
         below, above = Core(self.low, self.high), Core(self.low, self.high)
         below.high[axis] = above.low[axis] = at
         return below, above
 
-    def near(self, _):
+    def near(self, _: Place) -> tuple[Core]:
         return (self,)
 
 
 class Cut:
     """A box that was halved at a plane: its two halves, and how far the overlap reaches on both sides of the plane."""
 
-    def __init__(self, axis, at, overlap, below, above):
+    def __init__(self, axis: int, at: float, overlap: float, below: Core | Cut, above: Core | Cut) -> None:
         self.axis, self.below, self.above = axis, below, above
         self.low, self.high = at - overlap, at + overlap
 
-    def near(self, point):
+    def near(self, point: Place) -> tuple[Core, ...]:
         """The cores in which the point lies or to which it is near enough."""
         value = point[self.axis]
         if value > self.high:
@@ -114,7 +119,7 @@ class Cut:
         return (*self.below.near(point), *self.above.near(point))
 
 
-def between(a, b):
+def between(a: float, b: float) -> float:
     """A decimal of few digits above a and not above b."""
     for digits in range(1, 17):
         value = float(f'{a / 2 + b / 2:.{digits}g}')
@@ -123,7 +128,7 @@ def between(a, b):
     return b
 
 
-def halving(values):
+def halving(values: list[float]) -> float | None:
     """A place that parts the values as evenly as may be, or None where they are all the same."""
     values.sort()
     middle = values[len(values) // 2]
@@ -134,7 +139,7 @@ def halving(values):
     return between(middle, above[0]) if above else None
 
 
-def best_cut(core, points, overlap):
+def best_cut(core: Core, points: list[Place], overlap: float) -> tuple[int, float] | None:
     """The axis and the place of the plane along which the fewest points stand in the overlap, or None where there is none."""
     inside, found = [p for p in points if core.holds(p)], []
     for axis in range(3):
@@ -144,7 +149,7 @@ def best_cut(core, points, overlap):
     return min(found)[1:] if found else None
 
 
-def divide(core, points, share, overlap, limit):
+def divide(core: Core, points: list[Place], share: float, overlap: float, limit: int) -> Core | Cut:
     """Halves a box until each tile has at most so many points, by the points of a sample in its box and the overlap, each of
     which stands for so many. What a sample errs by is allowed for."""
     expected = share * len(points) + (4 * share * math.sqrt(len(points)) if share > 1 else 0)
@@ -153,14 +158,14 @@ def divide(core, points, share, overlap, limit):
     cut = best_cut(core, points, overlap)
     if cut is None:
         raise Refusal(f'over {limit} points lie so near each other that no box parts them: take a smaller overlap=, a larger '
-                      'points=, or thin.py first')
+                      'points=, or thin the scan first (scan.py with side=)')
     axis, at = cut
     below, above = core.halves(axis, at)
     first, last = ([p for p in points if p[axis] <= at + overlap], [p for p in points if p[axis] >= at - overlap])
     return Cut(axis, at, overlap, divide(below, first, share, overlap, limit), divide(above, last, share, overlap, limit))
 
 
-def cores_of(division):
+def cores_of(division: Core | Cut) -> list[Core]:
     if isinstance(division, Core):
         return [division]
     return cores_of(division.below) + cores_of(division.above)

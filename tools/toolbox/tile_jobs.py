@@ -4,7 +4,10 @@ A job builds a tile's surface and checks it. It leaves NAME.mesh.ply, NAME.cert 
 with what was said; else NAME.log, and it says why and ends with the status of the run that failed. The program is `recon`, or
 what the variable RECON names.
 """
+from __future__ import annotations
+
 import os
+from typing import Any
 
 JOB = ('{recon} build {name}.ply {name}.mesh.ply {name}.cert{options} >{name}.log 2>&1 && '
        '{recon} check {name}.ply {name}.mesh.ply {name}.cert{options} >>{name}.log 2>&1 && mv {name}.log {name}.done || '
@@ -23,7 +26,7 @@ $(TILES:%=%.done): %.done: %.ply
 """
 
 
-def write(folder, names, options):
+def write(folder: str, names: list[str], options: Any) -> None:
     """Writes `jobs.txt` and `Makefile` into a folder; `options` are the words behind the files."""
     more = ''.join(' ' + option for option in options)
     with open(os.path.join(folder, 'jobs.txt'), 'w', encoding='ascii') as file:

@@ -7,6 +7,8 @@ a later tile's box as well.
 Names: Tile (a tile as the join sees it) · Mesh, read_mesh (a tile's surface) · Seams (counts edges where tiles meet) · Joined
 (what was written so far) · join.
 """
+from __future__ import annotations
+
 import contextlib
 import json
 import math
@@ -15,6 +17,7 @@ import shutil
 from array import array
 from decimal import ROUND_HALF_UP, Decimal
 from fractions import Fraction
+from typing import Any, BinaryIO, Callable, Iterator, TextIO
 
 from toolbox.ply_text import CHUNK, Refusal, read_head, whole_file
 from toolbox.tile_gaps import Gaps
@@ -34,7 +37,7 @@ end_header
 """
 
 
-def scaled(ends, unit, other):
+def scaled(ends: list[float | None], unit: int, other: int) -> list[Fraction | int]:
     """The coordinates of a core's corner, exact, in scaled units; far out where the core has no end."""
     return [other if end is None else Fraction(repr(end)) * unit for end in ends]
 
@@ -43,7 +46,7 @@ class Tile:
     """A tile in scaled units. `low` and `high` bound three times a coordinate of its core, `inner` the places that no other
     tile has points at, and `reach` those that its own points may have."""
 
-    def __init__(self, number, row, unit, overlap):
+    def __init__(self, number: int, row: dict[str, Any], unit: int, overlap: float) -> None:
         self.number, self.name = number, row['name']
         low, high = scaled(row['low'], unit, -FAR), scaled(row['high'], unit, FAR)
         self.low, self.high = [math.ceil(3 * end) for end in low], [math.ceil(3 * end) for end in high]
@@ -53,23 +56,23 @@ class Tile:
         self.reach = [(math.floor(a) - far, math.ceil(b) + far) for a, b in zip(low, high)]
         self.others = []
 
-    def meets(self, other):
+    def meets(self, other: Tile) -> bool:
         return all(a <= d and c <= b for (a, b), (c, d) in zip(self.reach, other.reach))
 
-    def has(self, point):
+    def has(self, point: tuple[int, int, int]) -> bool:
         """Whether a scanned point may be one of the tile's."""
         return all(a <= v <= b for (a, b), v in zip(self.reach, point))
 
-    def last_with(self, point):
+    def last_with(self, point: tuple[int, int, int]) -> int:
         """The last tile that may have a scanned point of this one."""
         return max((other.number for other in self.others if other.has(point)), default=self.number)
 
-    def distance(self, point):
+    def distance(self, point: tuple[int, int, int]) -> int:
         """How far the core is from the third part of a place, in squares of thirds."""
         return sum(max(a - v, 0, v - b) ** 2 for a, v, b in zip(self.low, point, self.high))
 
 
-def read_handed(folder, unit):
+def read_handed(folder: str, unit: int) -> set[int]:
     """The places, in scaled units, of the points that were handed in to tiles from outside."""
     found = set()
     with open(os.path.join(folder, 'handed.txt'), encoding='ascii') as file:
@@ -78,7 +81,7 @@ def read_handed(folder, unit):
     return found
 
 
-def read_tiles(folder):
+def read_tiles(folder: str) -> tuple[list[Tile], set[int]]:
     """What `tiles.json` says, as tiles in the order of their numbers, and the places that any tile may have."""
     path = os.path.join(folder, 'tiles.json')
     with open(path, encoding='ascii') as file:
@@ -99,12 +102,12 @@ def read_tiles(folder):
 class Mesh:
     """A tile's surface: three coordinates for each point, and three numbers of points for each face."""
 
-    def __init__(self, points, corners):
+    def __init__(self, points: array, corners: array) -> None:
         self.x, self.y, self.z = points[0::3], points[1::3], points[2::3]
         self.a, self.b, self.c = corners[1::4], corners[2::4], corners[3::4]
 
 
-def whole_numbers(file):
+def whole_numbers(file: BinaryIO) -> array:
     """The numbers of the rest of a text."""
     numbers, tail = array('i'), b''
     for chunk in iter(lambda: file.read(CHUNK), b''):
@@ -117,7 +120,7 @@ def whole_numbers(file):
     return numbers
 
 
-def read_mesh(path):
+def read_mesh(path: str) -> Mesh:
     """The surface that `recon build` wrote."""
     with open(path, 'rb') as file:
         kind, elements = read_head(file)
@@ -137,7 +140,7 @@ def read_mesh(path):
 OUT, IN, DEEP = 0, 1, 3
 
 
-def depths(mesh, tile, handed):
+def depths(mesh: Mesh, tile: Tile, handed: set[int]) -> bytearray:
     """Of each point whether it lies in the core, and if so whether no other tile has it."""
     (x0, x1), (y0, y1), (z0, z1) = tile.inner
     (xl, yl, zl), (xh, yh, zh) = tile.low, tile.high
@@ -150,7 +153,7 @@ def depths(mesh, tile, handed):
     return found
 
 
-def keep_faces(mesh, tile, depth):
+def keep_faces(mesh: Mesh, tile: Tile, depth: bytearray) -> array:
     """The faces whose middle lies in the core, by their numbers. A point of another face counts as not deep from here on."""
     (xl, yl, zl), (xh, yh, zh) = tile.low, tile.high
     xs, ys, zs = mesh.x, mesh.y, mesh.z
@@ -164,7 +167,7 @@ def keep_faces(mesh, tile, depth):
     return kept
 
 
-def used_points(mesh, kept):
+def used_points(mesh: Mesh, kept: array) -> bytearray:
     """Of each point whether a face that is kept has it."""
     used = bytearray(len(mesh.x))
     for k in kept:
@@ -172,12 +175,12 @@ def used_points(mesh, kept):
     return used
 
 
-def packed(x, y, z):
+def packed(x: int, y: int, z: int) -> int:
     """A place as one number."""
     return ((x + HALF) << 44) + ((y + HALF) << 22) + z + HALF
 
 
-def unpacked(number):
+def unpacked(number: int) -> tuple[int, int, int]:
     return (number >> 44) - HALF, (number >> 22 & 2 * HALF - 1) - HALF, (number & 2 * HALF - 1) - HALF
 
 
@@ -185,11 +188,11 @@ class Seams:
     """Edges that several tiles may have faces at, each until the last of these tiles was joined; and counts of those that are
     not there one way as often as the other, for each two tiles: open ones, of one face or two, and crowded ones, of more."""
 
-    def __init__(self, tiles, report):
+    def __init__(self, tiles: list[Tile], report: TextIO | None) -> None:
         self.tiles, self.report, self.edges = tiles, report, {}
         self.counts, self.gaps = {}, Gaps()
 
-    def add(self, last, tile, start, end):
+    def add(self, last: int, tile: Tile, start: int, end: int) -> None:
         """Takes in the directed edge of a face between two places, which no tile behind `last` has."""
         edges = self.edges.setdefault(last, {})
         key = (start, end) if start < end else (end, start)
@@ -199,7 +202,7 @@ class Seams:
         entry[start > end] += 1
         entry[3] = tile.number
 
-    def name(self, key, first, last):
+    def name(self, key: tuple[int, int], first: int, last: int) -> tuple[int, int]:
         """The two tiles whose seam an edge lies at: those that have faces at it, or the one that has and the one with the
         nearest core."""
         if first == last:
@@ -209,7 +212,7 @@ class Seams:
             last = min(others, key=lambda other: other.distance(middle)).number if others else first
         return min(first, last), max(first, last)
 
-    def settle(self, tile, number_of_place):
+    def settle(self, tile: Tile, number_of_place: Callable[..., Any]) -> None:
         """Counts the edges that no later tile has, and lets go of them."""
         for key, (there, back, first, last) in self.edges.pop(tile.number, {}).items():
             if there == back:
@@ -219,7 +222,7 @@ class Seams:
             places = unpacked(start), unpacked(end)
             self.gaps.add(number_of_place(start), number_of_place(end), places, abs(there - back))
 
-    def tell(self, key, name, is_crowded):
+    def tell(self, key: tuple[int, int], name: tuple[int, int], is_crowded: bool) -> None:
         """Counts an edge at the seam of two tiles, and writes it into the report."""
         self.counts.setdefault(name, [0, 0])[is_crowded] += 1
         if self.report:
@@ -227,7 +230,7 @@ class Seams:
             names = ' '.join(self.tiles[number].name for number in name)
             self.report.write(f'{names} {"crowded" if is_crowded else "open"} {ends}\n')
 
-    def lines(self):
+    def lines(self) -> Iterator[str]:
         for (one, other), (open_, crowded) in sorted(self.counts.items()):
             yield f'seam {self.tiles[one].name} {self.tiles[other].name}: {open_} open, {crowded} crowded'
 
@@ -236,22 +239,22 @@ class Joined:
     """The vertices and faces that were written, and the numbers of the vertices that a later tile may have, by the last
     such tile. `handed` are the places that any tile may have."""
 
-    def __init__(self, vertices, faces, seams, handed):
+    def __init__(self, vertices: TextIO, faces: TextIO, seams: Seams, handed: set[int]) -> None:
         self.vertices, self.faces, self.seams, self.handed = vertices, faces, seams, handed
         self.numbers, self.vertex_count, self.face_count, self.filled = {}, 0, 0, 0
 
-    def number(self, place, last):
+    def number(self, place: int, last: int) -> tuple[int, bool]:
         """The number of a vertex that several tiles may have, and whether it is new."""
         numbers = self.numbers.setdefault(last, {})
         before = len(numbers)
         number = numbers.setdefault(place, self.vertex_count)
         return number, len(numbers) > before
 
-    def number_of_place(self, place):
+    def number_of_place(self, place: int) -> int:
         """The number of a vertex that is there."""
         return next(numbers[place] for numbers in self.numbers.values() if place in numbers)
 
-    def add_vertices(self, mesh, tile, depth, used):
+    def add_vertices(self, mesh: Mesh, tile: Tile, depth: bytearray, used: bytearray) -> tuple[array, dict[int, tuple[int, int]]]:
         """Gives the used points of a tile their numbers and writes the new ones; answers the numbers, and the place and last
         tile of those that are not deep."""
         numbers, shared = array('I', bytes(4 * len(depth))), {}
@@ -272,19 +275,19 @@ class Joined:
             self.vertex_count += 1
         return numbers, shared
 
-    def add_edges(self, tile, corners, shared):
+    def add_edges(self, tile: Tile, corners: tuple[int, int, int], shared: dict[int, tuple[int, int]]) -> None:
         """Hands on the edges of a face that another face may be missing at."""
         for start, end in zip(corners, corners[1:] + corners[:1]):
             if start in shared and end in shared:
                 (one, first), (other, second) = shared[start], shared[end]
                 self.seams.add(min(first, second), tile, one, other)
 
-    def add_face(self, corners):
+    def add_face(self, corners: tuple[int, int, int]) -> None:
         """Writes a face by the numbers of its vertices, the smallest first."""
         first = corners.index(min(corners))
         self.faces.write('3 %d %d %d\n' % (corners[first:] + corners[:first]))
 
-    def add(self, mesh, tile):
+    def add(self, mesh: Mesh, tile: Tile) -> None:
         """Takes in a tile's surface."""
         depth = depths(mesh, tile, self.handed)
         kept = keep_faces(mesh, tile, depth)
@@ -298,7 +301,7 @@ class Joined:
         self.seams.settle(tile, self.number_of_place)
         self.numbers.pop(tile.number, None)
 
-    def fill(self):
+    def fill(self) -> None:
         """Writes triangles over the gaps that are left."""
         for corners in self.seams.gaps.faces():
             self.add_face(corners)
@@ -307,7 +310,7 @@ class Joined:
 
 
 @contextlib.contextmanager
-def passing_file(path):
+def passing_file(path: str) -> Iterator[TextIO]:
     """A text file that is taken away at the end."""
     with open(path, 'w+', encoding='ascii', newline='\n', buffering=CHUNK) as file:
         try:
@@ -316,13 +319,14 @@ def passing_file(path):
             os.unlink(path)
 
 
-def copy(passing, file):
+def copy(passing: TextIO, file: TextIO) -> None:
     """Puts what was written into a passing file behind what stands in another."""
     passing.seek(0)
     shutil.copyfileobj(passing, file, CHUNK)
 
 
-def join_tiles(folder, tiles, handed, out, fills, report):
+def join_tiles(folder: str, tiles: list[Tile], handed: set[int], out: str, fills: bool, report: TextIO | None) -> tuple[Joined,
+               int]:
     """Writes the joined surface, and answers what was joined and how many faces the tiles had."""
     had = 0
     with whole_file(out) as file, passing_file(out + '.vertices.part') as vertices, passing_file(out + '.faces.part') as faces:
@@ -339,7 +343,7 @@ def join_tiles(folder, tiles, handed, out, fills, report):
     return joined, had
 
 
-def join(folder, out, fills, report):
+def join(folder: str, out: str, fills: bool, report: str | None) -> str:
     """Puts the surfaces of a folder's tiles together, and answers the lines to be said."""
     tiles, handed = read_tiles(folder)
     with whole_file(report) if report else contextlib.nullcontext() as file:

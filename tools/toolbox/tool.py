@@ -4,22 +4,29 @@ The words are names first and then options `key=value`, as those of `recon`; --h
 A program says one line and ends with 0 (3 where it wrote no point), or says on standard error why not and ends with 1 (2 where
 the words are wrong).
 """
+from __future__ import annotations
+
 import os
 import sys
+from typing import Any, Callable
 
-from toolbox.ply_text import IS_NUMBER, Refusal
+from toolbox.ply_text import IS_NUMBER, Refusal, Writer
 
 
-def field(key):
+def field(key: str) -> str:
     """The name under which an option is kept; `from` is a word of the language."""
     return 'from_' if key == 'from' else key
+
+
+class NotUnderstood(Exception):
+    """The words are none of the program's."""
 
 
 class NoPoint(str):
     """The line of a run that wrote a scan without a point."""
 
 
-def said_of(writer, line):
+def said_of(writer: Writer, line: str) -> str:
     """The line of a run that wrote points, or that of one that wrote none."""
     return line if writer.count else NoPoint(line + ': no point is left')
 
@@ -27,14 +34,13 @@ def said_of(writer, line):
 class Options:
     """The values of the options by key, or None."""
 
-    def __init__(self, keys):
+    def __init__(self, keys: tuple[str, ...]) -> None:
         for key in keys:
             setattr(self, field(key), None)
 
 
-def read_words(words, name_count, keys):
-    """The names, and the options behind them; None where the words are none of ours. Without a count all words that are no
-    option are names."""
+def read_words(words: list[str], name_count: int | None, keys: tuple[str, ...]) -> tuple[list[str], Options]:
+    """The names, and the options behind them. Without a count all words that are no option are names."""
     names, options = [], Options(keys)
     for word in words:
         key, equals, value = word.partition('=')
@@ -42,18 +48,18 @@ def read_words(words, name_count, keys):
             names.append(word)
         elif equals and key in keys:
             if getattr(options, field(key)) is not None or not value:
-                return None
+                raise NotUnderstood
             setattr(options, field(key), value)
         elif name_count is None:
             names.append(word)
         else:
-            return None
+            raise NotUnderstood
     if '' in names or name_count is not None and len(names) != name_count:
-        return None
+        raise NotUnderstood
     return names, options
 
 
-def run(main, doc, name_count, keys):
+def run(main: Callable[..., Any], doc: str, name_count: int | None, keys: tuple[str, ...]) -> None:
     """Runs `main(names, options)`, which answers the line to be said."""
     words = sys.argv[1:]
     name = os.path.basename(sys.argv[0])
@@ -61,12 +67,11 @@ def run(main, doc, name_count, keys):
         if '--help' in words or '-h' in words:
             print(doc.strip(), flush=True)
             return
-        parsed = read_words(words, name_count, keys)
-        if parsed is None:
-            sys.exit(told(2, f'{name}: the words are not understood; {name} --help says which are'))
-        line = main(*parsed)
+        line = main(*read_words(words, name_count, keys))
         print(f'{name}: {line}', flush=True)
         sys.exit(3 if isinstance(line, NoPoint) else 0)
+    except NotUnderstood:
+        sys.exit(told(2, f'{name}: the words are not understood; {name} --help says which are'))
     except Refusal as refusal:
         sys.exit(told(1, f'{name}: refused: {refusal}'))
     except ArithmeticError:
@@ -78,13 +83,13 @@ def run(main, doc, name_count, keys):
         sys.exit(told(1, f'{name}: refused: {error.strerror}: {error.filename or "writing"}'))
 
 
-def told(status, line):
+def told(status: int, line: str) -> int:
     """Says a line on standard error, and answers the status."""
     print(line, file=sys.stderr)
     return status
 
 
-def three(text, what):
+def three(text: str, what: str) -> list[str]:
     """The three numbers of `X,Y,Z`, as words."""
     words = text.split(',')
     if len(words) != 3 or not all(map(IS_NUMBER, words)):
@@ -92,19 +97,19 @@ def three(text, what):
     return words
 
 
-def yes(value, key):
+def yes(value: str | None, key: str) -> bool:
     """Whether a switch is on."""
     if value not in (None, 'yes', 'no'):
         raise Refusal(f'{key} is yes or no')
     return value == 'yes'
 
 
-def left_out(counts):
+def left_out(counts: dict[str, int]) -> str:
     """What was left out, in words."""
     parts = [f'{count} {what}' for what, count in counts.items() if count]
     return ', '.join(parts) or 'nothing'
 
 
-def number_of(count, what):
+def number_of(count: int, what: str) -> str:
     """`1 point`, `2 points`."""
     return f'{count} {what}' + ('' if count == 1 else 's')

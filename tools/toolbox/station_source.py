@@ -1,30 +1,26 @@
-#!/usr/bin/env python3
-"""Files of points, one a station, and the stations' positions become a PLY scan that `recon` reads.
+"""Points of files that are one a station, each with its scanner's position. Of points that stand in rows the coordinates are
+taken alone, digits as they stand.
 
-  stations_to_ply.py OUT FILE=X,Y,Z [FILE=X,Y,Z ..] [open_end=yes]
-  stations_to_ply.py OUT table=TABLE [open_end=yes]
-
-  FILE=X,Y,Z         a file and where its scanner stood. All files are in one frame. A PCD says it by its VIEWPOINT, and an
-                     E57 of one station by its pose: then FILE alone will do
-  table=TABLE        the same as lines `X Y Z FILE` of a text file; FILE is sought from the table's folder on, and `#`
-                     begins a comment
-  open_end=yes       take text files whose last line has no end (else they count as cut)
-
-A file is a PLY of any kind, a PCD, a LAS or an E57; a PTS (the number of its rows, and then the rows); or a list of numbers
-with X, Y and Z first in each line, parted by spaces, tabs, commas or semicolons, perhaps with one heading, and with lines of
-remarks that begin with `#` or `//`. Only coordinates are taken, digits as they stand. Points with one that is nan or
-infinite are left out.
+A file is a PLY of any kind, a PCD, a LAS or an E57; a PTS (the number of its rows, and then the rows); or a list of numbers with
+X, Y and Z first in each line, parted by spaces, tabs, commas or semicolons, perhaps with one heading, and with lines of remarks
+that begin with `#` or `//`.
 """
+from __future__ import annotations
+
 import os
+from typing import Any, Iterator, List, Sequence, Tuple
 
-from toolbox.ply_text import (IS_NOT_FINITE, IS_NUMBER, SCANNER_LIMIT, Property, Refusal, Writer, decimals, read_positions,
-                      whole_file)
+from toolbox.ply_text import IS_NOT_FINITE, IS_NUMBER, SCANNER_LIMIT, Refusal, decimals, read_positions
 from toolbox.point_files import has_rows, open_points
+from toolbox.sieve import Passage
+from toolbox.sources import Source, refuse_others, scan_columns
 from toolbox.text_lines import DECIMAL_COMMAS, Lines
-from toolbox.tool import left_out, number_of, run, said_of, three, yes
+from toolbox.tool import number_of, three, yes
+
+Point = Tuple[List[str], Tuple[str, int]]
 
 
-def row_points(path, open_end):
+def row_points(path: str, open_end: bool) -> Iterator[Point]:
     """The points of a file of rows, each with a word for its place."""
     reader = open_points(path, open_end)
     try:
@@ -43,11 +39,11 @@ def row_points(path, open_end):
         reader.close()
 
 
-def is_count(words):
+def is_count(words: Sequence[str]) -> bool:
     return len(words) == 1 and words[0].isdecimal()
 
 
-def pts_points(lines):
+def pts_points(lines: Lines) -> Iterator[Point]:
     """The points of a PTS file: blocks of a count and as many rows."""
     words = lines.next_words()
     while words is not None:
@@ -59,18 +55,18 @@ def pts_points(lines):
             if words is None:
                 raise Refusal(f'cut: the file ends in row {row} of {count}')
             if row == 0 and is_count(words):
-                raise Refusal('this is a PTX file: ptx_to_ply reads it')
+                raise Refusal('this is a PTX, which says itself where its stations stood: name it alone, without a position')
             if len(words) < 3:
                 raise Refusal(f'line {lines.number} is not a row X Y Z ...')
             yield words[:3], ('line', lines.number)
         words = lines.next_words()
 
 
-def is_value(word):
-    return IS_NUMBER(word) or IS_NOT_FINITE(word)
+def is_value(word: str) -> bool:
+    return bool(IS_NUMBER(word) or IS_NOT_FINITE(word))
 
 
-def list_points(lines, counts):
+def list_points(lines: Lines, counts: dict[str, int]) -> Iterator[Point]:
     """The points of a list of numbers. The first row decides what parts the numbers and how many there are."""
     sign, width, first = None, None, 0
     line = lines.next_line()
@@ -94,7 +90,7 @@ def list_points(lines, counts):
         line = lines.next_line()
 
 
-def points_of(path, open_end, counts):
+def points_of(path: str, open_end: bool, counts: dict[str, int]) -> Iterator[Point]:
     """The points of a file of any of the three kinds."""
     with open(path, 'rb') as file:
         start = file.readline(100)
@@ -110,13 +106,15 @@ def points_of(path, open_end, counts):
         lines.close()
 
 
-def station_of(name):
+def station_of(name: str) -> tuple[str, Sequence[str]]:
     """A file and its position: that of the words, or of the file itself."""
     path, equals, position = name.rpartition('=')
-    if equals and path:
+    if equals and path and not os.path.exists(name):
+        if ',' not in position and not os.path.exists(path):
+            raise Refusal(f'{name} is no option, and no file with its position, FILE=X,Y,Z')
         return path, three(position, f'the position of {path}')
     if not has_rows(name):
-        raise Refusal(f'a station is FILE=X,Y,Z, and {name} is not')
+        raise Refusal(f'{name} does not say where its scanner stood: {name}=X,Y,Z does')
     reader = open_points(name)
     try:
         scanner = reader.element('scanner')
@@ -127,16 +125,17 @@ def station_of(name):
         reader.close()
 
 
-def stations(names, options):
+def stations(names: Sequence[str], table: str | None) -> list[tuple[str, Sequence[str]]]:
     """The files and their positions."""
-    if options.table is not None:
+    found: list[tuple[str, Sequence[str]]]
+    if table is not None:
         if names:
             raise Refusal('the stations stand in the table or in the words, and not in both')
-        folder = os.path.dirname(options.table)
-        rows = read_positions(options.table)
+        folder = os.path.dirname(table)
+        rows = read_positions(table)
         if any(name is None for _, name in rows):
-            raise Refusal(f'a line of {options.table} names no file')
-        found = [(os.path.join(folder, name), position) for position, name in rows]
+            raise Refusal(f'a line of {table} names no file')
+        found = [(os.path.join(folder, name or ''), position) for position, name in rows]
     else:
         found = [station_of(name) for name in names]
     if not found or len(found) > SCANNER_LIMIT:
@@ -144,40 +143,32 @@ def stations(names, options):
     return found
 
 
-def pass_points(path, open_end, index, writer, counts):
-    """Writes the points of a file, and answers how many it has."""
-    read, at = 0, None
+class Stations(Source):
+    """Files of stations."""
 
-    def place():
-        return f'{at[0]} {at[1]}'
+    def __init__(self, names: Sequence[str], options: Any) -> None:
+        refuse_others(options, ('table', 'open_end'), 'files of stations')
+        self.files, self.open_end = stations(names, options.table), yes(options.open_end, 'open_end')
+        super().__init__(scan_columns(), self.files[0][0] if len(self.files) == 1 else number_of(len(self.files), 'file'))
+        self.positions = [position for _, position in self.files]
 
-    try:
-        for point, at in points_of(path, open_end, counts):
-            read += 1
-            if decimals(*point, place):
+    def run(self, receiver: Passage) -> None:
+        for index, (path, _) in enumerate(self.files):
+            try:
+                self.pass_file(path, str(index), receiver)
+            except Refusal as refusal:
+                raise Refusal(f'{path}: {refusal}') from None
+
+    def pass_file(self, path: str, index: str, receiver: Passage) -> None:
+        at = ('', 0)
+
+        def place() -> str:
+            return f'{at[0]} {at[1]}'
+
+        for point, at in points_of(path, self.open_end, self.counts):
+            self.count += 1
+            if decimals(point[0], point[1], point[2], place):
                 point.append(index)
-                writer.row(point)
+                receiver.row(point)
             else:
-                counts['not finite'] += 1
-    except Refusal as refusal:
-        raise Refusal(f'{path}: {refusal}') from None
-    return read
-
-
-def main(names, options):
-    if not names:
-        raise Refusal('the first word names the file to be written')
-    found, counts = stations(names[1:], options), {'not finite': 0}
-    columns = [Property(axis, 'double') for axis in 'xyz'] + [Property('scanner', 'int')]
-    with whole_file(names[0]) as file:
-        writer = Writer(file, columns, 'stations_to_ply')
-        writer.begin(True)
-        read = sum(pass_points(path, yes(options.open_end, 'open_end'), str(index), writer, counts)
-                   for index, (path, _) in enumerate(found))
-        writer.finish([position for _, position in found])
-    return said_of(writer, f'read {number_of(read, "point")} of {number_of(len(found), "file")}; left out {left_out(counts)}; '
-                   f'wrote {number_of(writer.count, "point")} and {number_of(len(found), "scanner")} to {names[0]}')
-
-
-if __name__ == '__main__':
-    run(main, __doc__, None, ('table', 'open_end'))
+                self.counts['not finite'] += 1

@@ -1,25 +1,23 @@
-#!/usr/bin/env python3
-"""COLMAP's dense points become a scan that `recon` reads: each point with the places of all pictures that it was found in.
+"""Points of COLMAP's dense models: each with the places of all pictures that it was found in.
 
-  colmap_to_ply.py FUSED IMAGES OUT
-
-  FUSED              fused.ply of `colmap stereo_fusion`, with fused.ply.vis beside it
-  IMAGES             images.bin or images.txt of the model that it was made with, mostly in dense/sparse; where both stand
-                     there COLMAP reads images.bin, and their orders may differ
-
-A list of scanners a point is what `recon build` reads as it stands; thin, clip and the other programs take no lists. Colors
-and normals are kept. The order of the pictures in IMAGES numbers them in fused.ply.vis.
+The order of the pictures in images.bin or images.txt numbers them in fused.ply.vis; where both stand there COLMAP reads
+images.bin, and their orders may differ.
 """
+from __future__ import annotations
+
 import os
 import struct
+from typing import Any, BinaryIO, Iterator, Sequence
 
-from toolbox.ply_text import IS_NUMBER, SCANNER_LIMIT, Property, Reader, Refusal, Writer, decimals, whole_file
+from toolbox.ply_text import IS_NUMBER, SCANNER_LIMIT, Property, Reader, Refusal, decimals
+from toolbox.sieve import Passage
+from toolbox.sources import Source, refuse_others
 from toolbox.text_lines import LONGEST
-from toolbox.tool import left_out, number_of, run, said_of
+from toolbox.tool import number_of, yes
 from toolbox.vectors import turn_of
 
 
-def place_of(turn, shift):
+def place_of(turn: Sequence[float], shift: Sequence[float]) -> list[float]:
     """Where a camera stands, of its turn (a quaternion, w first) and its shift, which bring the world into its frame."""
     rows = turn_of(*turn)
     if rows is None:
@@ -27,7 +25,7 @@ def place_of(turn, shift):
     return [-sum(rows[k][axis] * shift[k] for k in range(3)) for axis in range(3)]
 
 
-def text_places(file):
+def text_places(file: BinaryIO) -> list[list[float]]:
     """The places of a text: two lines a picture, of which the second, its points, may be empty."""
     places, is_picture = [], True
     for number, line in enumerate(file, 1):
@@ -45,7 +43,7 @@ def text_places(file):
     return places
 
 
-def binary_places(file):
+def binary_places(file: BinaryIO) -> list[list[float]]:
     """The places of a binary file."""
     places, length = [], os.fstat(file.fileno()).st_size
     try:
@@ -67,7 +65,7 @@ def binary_places(file):
     return places
 
 
-def read_places(path):
+def read_places(path: str) -> list[list[float]]:
     with open(path, 'rb') as file:
         places = binary_places(file) if path.endswith('.bin') else text_places(file)
     if not places or len(places) > SCANNER_LIMIT:
@@ -75,7 +73,7 @@ def read_places(path):
     return places
 
 
-def seen_by(file, count, limit):
+def seen_by(file: BinaryIO, count: int, limit: int) -> Iterator[tuple[int, ...]]:
     """For each point the numbers of its pictures."""
     head = file.read(8)
     if len(head) < 8 or struct.unpack('<Q', head)[0] != count:
@@ -92,32 +90,44 @@ def seen_by(file, count, limit):
         yield numbers
 
 
-def main(names, options):
-    places, counts, sights = read_places(names[1]), {'not finite': 0}, 0
-    reader = Reader(names[0])
-    try:
-        vertex = reader.element('vertex')
-        if vertex is None or reader.elements != [vertex] or vertex.has_lists():
-            raise Refusal(f'{names[0]} is no fused.ply')
-        x, y, z = vertex.point_columns()
-        columns = vertex.properties + [Property('scanner', 'ushort', 'ushort')]
-        with open(names[0] + '.vis', 'rb') as vis, whole_file(names[2]) as file:
-            writer = Writer(file, columns, 'colmap_to_ply')
-            writer.begin(True)
-            for row, (words, seen) in enumerate(zip(reader.rows(vertex), seen_by(vis, vertex.count, len(places)))):
-                if not decimals(words[x], words[y], words[z], lambda: f'point {row}'):
-                    counts['not finite'] += 1
-                    continue
-                writer.row(words + [str(len(seen)), *map(str, seen)])
-                sights += len(seen)
-            reader.finish()
-            writer.finish([list(map(repr, place)) for place in places])
-    finally:
-        reader.close()
-    return said_of(writer, f'read {number_of(vertex.count, "point")} of {names[0]} and {number_of(len(places), "picture")}; '
-                   f'left out {left_out(counts)}; wrote {number_of(writer.count, "point")} with '
-                   f'{number_of(sights, "sight")} and {number_of(len(places), "scanner")} to {names[2]}')
+class Colmap(Source):
+    """fused.ply of `colmap stereo_fusion`, with fused.ply.vis beside it. All properties are kept."""
+    has_lists = True
 
+    def __init__(self, path: str, options: Any) -> None:
+        refuse_others(options, ('images', 'open_end'), "COLMAP's points")
+        self.places, self.sights = read_places(options.images), 0
+        self.reader, self.path = Reader(path, yes(options.open_end, 'open_end')), path
+        vertex = self.reader.element('vertex')
+        if vertex is None or self.reader.elements != [vertex] or vertex.has_lists():
+            raise Refusal(f'{path} is no fused.ply')
+        self.vertex = vertex
+        super().__init__(self.vertex.properties + [Property('scanner', 'ushort', 'ushort')], path)
+        self.point, self.scanner, self.count = self.vertex.point_columns(), len(self.vertex.properties), self.vertex.count
+        self.positions = [list(map(repr, place)) for place in self.places]
 
-if __name__ == '__main__':
-    run(main, __doc__, 3, ())
+    def read(self) -> str:
+        return f'{super().read()} and {number_of(len(self.places), "picture")}'
+
+    def remark(self) -> str:
+        return f'; {number_of(self.sights, "sight")}'
+
+    def run(self, receiver: Passage) -> None:
+        x, y, z = self.point
+        row = 0
+
+        def place() -> str:
+            return f'point {row}'
+
+        try:
+            with open(self.path + '.vis', 'rb') as vis:
+                seen = seen_by(vis, self.count, len(self.places))
+                for row, (words, numbers) in enumerate(zip(self.reader.rows(self.vertex), seen)):
+                    if not decimals(words[x], words[y], words[z], place):
+                        self.counts['not finite'] += 1
+                    elif receiver.takes(words):
+                        receiver.put(words + [' '.join(map(str, [len(numbers), *numbers]))])
+                        self.sights += len(numbers)
+            self.reader.finish()
+        finally:
+            self.reader.close()
