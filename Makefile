@@ -42,7 +42,7 @@ bench: recon
 	python3 dev/bench.py ./recon bench_scans $(if $(BESIDE),beside=$(BESIDE))
 
 # Installs the program, its manual page and the programs of tools/ under PREFIX (a second, where the program is built; else it is
-# built first). finish.py becomes recon-finish, stations_to_ply.py recon-stations-to-ply, and so on; they want Python 3.8 or later.
+# built first). scan.py becomes recon-scan, mesh_to_floats.py recon-mesh-to-floats, and so on; they want Python 3.8 or later.
 install: recon
 	install -D -m 755 recon $(DESTDIR)$(PREFIX)/bin/recon
 	install -D -m 644 docs/recon.1 $(DESTDIR)$(PREFIX)/share/man/man1/recon.1

@@ -16,11 +16,14 @@
 Seconds are of the processor (user and system) and of the wall; the peak is the largest resident memory, in units of 2^20
 bytes. Needs Python 3.9.
 """
+from __future__ import annotations
+
 import os
 import resource
 import subprocess
 import sys
 import time
+from typing import Any, Sequence
 
 from tools_path import TOOLS
 from toolbox.ply_text import Refusal
@@ -34,7 +37,7 @@ WORST = (('tube', 20000), ('crowd', 1000000), ('paraboloid', 30000))
 class Run:
     """One run: what it said, its seconds and its peak."""
 
-    def __init__(self, words):
+    def __init__(self, words: list[str]) -> None:
         reading, writing = os.pipe()
         started = time.monotonic()
         child = subprocess.Popen(words, stdout=writing, stderr=subprocess.PIPE)
@@ -50,12 +53,12 @@ class Run:
             raise Refusal(f'{" ".join(words)} ended with {child.returncode}: {self.line.strip()}')
 
 
-def least(runs):
+def least(runs: list[Run]) -> tuple[float, float, int]:
     """The least processor and wall seconds of some runs and the largest peak."""
     return min(r.processor for r in runs), min(r.wall for r in runs), max(r.peak for r in runs)
 
 
-def scan_of(folder, shape, size):
+def scan_of(folder: str, shape: str, size: int) -> str:
     """The path of a scan, which is made where it is missing."""
     path = os.path.join(folder, f'{shape}.{size}.ply')
     if not os.path.exists(path):
@@ -64,13 +67,13 @@ def scan_of(folder, shape, size):
     return path
 
 
-def texts(program, folder, name):
+def texts(program: str, folder: str, name: str) -> list[str]:
     """Where a program writes its mesh and its certificate."""
     label = os.path.basename(program)
     return [os.path.join(folder, f'{name}.{label}.{kind}') for kind in ('ply', 'cert')]
 
 
-def same_bytes(one, other):
+def same_bytes(one: str, other: str) -> bool:
     with open(one, 'rb') as first, open(other, 'rb') as second:
         while True:
             a, b = first.read(1 << 20), second.read(1 << 20)
@@ -80,7 +83,7 @@ def same_bytes(one, other):
                 return True
 
 
-def compared(lines, meshes):
+def compared(lines: list[str], meshes: list[str]) -> None:
     """Refuses a line or a mesh that differs from that of the program beside."""
     if len(set(lines)) != 1:
         raise Refusal('the lines differ: ' + ' / '.join(line.strip() for line in lines))
@@ -88,7 +91,7 @@ def compared(lines, meshes):
         raise Refusal(f'the meshes differ: {meshes[0]} {meshes[1]}')
 
 
-def measured(programs, folder, shape, size, count):
+def measured(programs: list[str], folder: str, shape: str, size: int, count: int) -> list[str]:
     """A row of the table: each program's build, and the first one's check of its own files."""
     scan, name = scan_of(folder, shape, size), f'{shape}.{size}'
     built = {program: [] for program in programs}
@@ -107,7 +110,7 @@ def measured(programs, folder, shape, size, count):
     return cells + ratio + [f'{processor:.2f}', f'{wall:.2f}', str(peak)]
 
 
-def heading(programs):
+def heading(programs: list[str]) -> str:
     """The first two rows of the table."""
     cells = ['scan', 'build s', 'wall s', 'peak MB']
     if len(programs) == 2:
@@ -116,7 +119,7 @@ def heading(programs):
     return '| ' + ' | '.join(cells) + ' |\n|' + '---|' * len(cells)
 
 
-def main(names, options):
+def main(names: Sequence[str], options: Any) -> str:
     recon, folder = names
     sizes = [int(size) for size in (options.sizes or '10000,100000,1000000').split(',')]
     shapes = (options.shapes or 'cube,torus,room,statue').split(',')

@@ -1,60 +1,66 @@
 #!/usr/bin/env python3
 """Fails where the example of a crate's page (under `# Example` in the `//!` of its root file) is not, line by line, the body of
-the crate's test `example`, where one stands without the other, or where a crate that is a library for others has none.
+the crate's test `example`, where one stands without the other, or where a crate that is a library for others has none. The test
+may stand in a crate of tests alone, as `example_of_CRATE`.
 
 usage: dev/examples.py [CRATE..]      (no CRATE: all)
 """
+from __future__ import annotations
+
 import itertools
 import pathlib
 import re
 import sys
 
-from report import reported
+from report import begun, reported
 
 TOP = pathlib.Path(__file__).resolve().parent.parent
-LIBRARIES = ("geo_sign", "ply_rows", "max_flow", "delaunay")
-BLOCK = re.compile(r"(?ms)^# Example\n(?:(?!#|```)[^\n]*\n)*```\w*\n(.*?)^```$")
-TEST = re.compile(r"(?ms)^( *)#\[test\]\n(?:\1#[^\n]*\n)*\1fn example\(.*?\{\n(.*?)^\1\}$")
+LIBRARIES = ('geo_sign', 'ply_rows', 'max_flow', 'delaunay')
+BLOCK = re.compile(r'(?ms)^# Example\n(?:(?!#|```)[^\n]*\n)*```\w*\n(.*?)^```$')
+TEST = r'(?ms)^( *)#\[test\]\n(?:\1#[^\n]*\n)*\1fn %s\(.*?\{\n(.*?)^\1\}$'
 
 
-def block_of(crate):
+def block_of(crate: pathlib.Path) -> list[str] | None:
     """Returns the lines of the example on a crate's page, or None."""
-    roots = [path for path in (crate / "src/lib.rt", crate / "src/main.rt") if path.is_file()]
-    page = [line[3:].removeprefix(" ") for path in roots for line in path.read_text().splitlines() if line.startswith("//!")]
-    found = BLOCK.search("\n".join(page))
-    return found and found[1].splitlines()
+    roots = [path for path in (crate / 'src/lib.rt', crate / 'src/main.rt') if path.is_file()]
+    page = [line[3:].removeprefix(' ') for path in roots for line in path.read_text().splitlines() if line.startswith('//!')]
+    found = BLOCK.search('\n'.join(page))
+    return found[1].splitlines() if found else None
 
 
-def body_of(crate):
+def body_of(crate: pathlib.Path) -> list[str] | None:
     """Returns the lines of the body of a crate's test `example`, without its indentation, or None."""
-    for path in sorted(crate.glob("src/**/*.rt")):
-        if found := TEST.search(path.read_text()):
-            return [line.removeprefix(found[1] + "    ") for line in found[2].splitlines()]
+    places = [('example', path) for path in crate.glob('src/**/*.rt')]
+    places += [(f'example_of_{crate.name}', path) for path in TOP.glob('crates/*_tests/src/tests/*.rt')]
+    for name, path in sorted(places):
+        if found := re.search(TEST % name, path.read_text()):
+            return [line.removeprefix(found[1] + '    ') for line in found[2].splitlines()]
     return None
 
 
-def faults_of(crate):
+def faults_of(crate: pathlib.Path) -> list[str]:
     """Returns what is wrong with the example of the crate in a folder."""
     block, body = block_of(crate), body_of(crate)
     if block is None and body is None:
-        return [f"{crate.name} has none"] if crate.name in LIBRARIES else []
+        return [f'{crate.name} has none'] if crate.name in LIBRARIES else []
     if block is None:
-        return [f"{crate.name} has a test `example`, and none on its page"]
+        return [f'{crate.name} has a test `example`, and none on its page']
     if body is None:
-        return [f"{crate.name} has one on its page, and no test `example`"]
-    pairs = enumerate(itertools.zip_longest(block, body, fillvalue="no line"), 1)
+        return [f'{crate.name} has one on its page, and no test `example`']
+    pairs = enumerate(itertools.zip_longest(block, body, fillvalue='no line'), 1)
     differing = [(at, shown, tested) for at, (shown, tested) in pairs if shown != tested]
-    return [f"{crate.name}: line {at} is `{shown}` on the page, `{tested}` in the test" for at, shown, tested in differing[:1]]
+    return [f'{crate.name}: line {at} is `{shown}` on the page, `{tested}` in the test' for at, shown, tested in differing[:1]]
 
 
-def main():
-    folders = {path.name: path for path in sorted(TOP.glob("crates/*"))}
+def main() -> int:
+    folders = {path.name: path for path in sorted(TOP.glob('crates/*'))}
     names = sys.argv[1:] or list(folders)
-    faults = [f"there is no crate {name}" for name in names if name not in folders]
+    faults = [f'there is no crate {name}' for name in names if name not in folders]
     crates = [folders[name] for name in names if name in folders]
     faults += [fault for crate in crates for fault in faults_of(crate)]
-    return reported("examples", faults, f"{sum(block_of(crate) is not None for crate in crates)} in {len(crates)} crates")
+    return reported('examples', faults, f'{sum(block_of(crate) is not None for crate in crates)} in {len(crates)} crates')
 
 
-if __name__ == "__main__":
+if __name__ == '__main__':
+    begun(__doc__)
     sys.exit(main())

@@ -6,14 +6,19 @@ usage: dev/fail_alloc.py [PROGRAM [TESTS]]    (default ./recon; it needs a C com
 Behind an allocation that fails a command ends with status 5, says nothing and leaves all files as they were; or the call of the
 system that lacked memory failed, with status 4 and the files as they were or a front of what is written; or the command found
 another way and is done. In each case the same words with memory then do what they would have done at first. TESTS is the
-program of the tests of recon_cmd, where a run is tried again in the same process: it passes whichever allocation fails.
+program of the tests of run_tests, where a run is tried again in the same process: it passes whichever allocation fails.
 """
+from __future__ import annotations
+
 import collections
 import os
 import pathlib
 import subprocess
 import sys
 import tempfile
+from typing import Sequence, Tuple
+
+from report import begun
 
 TOP = pathlib.Path(__file__).resolve().parent.parent
 # Counts the allocations that the program itself asks for, lets the one of the number in FAIL_ALLOC fail, and tells so.
@@ -45,33 +50,35 @@ static int fails(void *caller) {
 void *malloc(size_t size) { return fails(__builtin_return_address(0)) ? 0 : __libc_malloc(size); }
 void *realloc(void *old, size_t size) { return fails(__builtin_return_address(0)) ? 0 : __libc_realloc(old, size); }
 """
-AGAINST = "against the promise"
-NAMES = ("in", "out", "mesh", "cert", "new", "points", "answers")
-COMMANDS = (("cells", "in", "out"), ("build", "in", "mesh", "cert"), ("check", "in", "mesh", "cert"),
-            ("upgrade", "in", "mesh", "cert", "new"), ("ask", "in", "points", "answers"),
-            ("demo", "7", "1"), ("slice", "mesh", "0", "out"),
-            ("export", "mesh", "out", "cert", "new"))
-TESTS = tuple("tests::memory::" + name for name in ("a_command_without_memory_leaves_all_as_it_was",
-              "an_export_without_memory_leaves_all_as_it_was", "a_text_without_memory_is_as_it_was"))
+Answer = Tuple[int, bytes]
+AGAINST = 'against the promise'
+NAMES = ('in', 'out', 'mesh', 'cert', 'new', 'points', 'answers', 'first', 'second')
+COMMANDS = (('cells', 'in', 'out'), ('build', 'in', 'mesh', 'cert'), ('check', 'in', 'mesh', 'cert'),
+            ('upgrade', 'in', 'mesh', 'cert', 'new'), ('ask', 'in', 'points', 'answers'),
+            ('sweep', 'in', '0', '1', '2', 'first', 'second', 'vote=1'),
+            ('demo', '7', '1'), ('slice', 'mesh', '0', 'out'),
+            ('export', 'mesh', 'out', 'cert', 'new'))
+TESTS = tuple('tests::memory::' + name for name in ('a_command_without_memory_leaves_all_as_it_was',
+              'an_export_without_memory_leaves_all_as_it_was', 'a_text_without_memory_is_as_it_was'))
 
 
-def ran(folder, program, words, number):
+def ran(folder: pathlib.Path, program: str, words: Sequence[str], number: int) -> tuple[Answer, bool]:
     """Status and output of a run whose allocation of this number fails, and whether there was one."""
     told, tell = os.pipe()
-    env = {"FAIL_ALLOC": str(number), "FAIL_TOLD": str(tell), "LD_PRELOAD": str(folder / "shim.so")}
+    env = {'FAIL_ALLOC': str(number), 'FAIL_TOLD': str(tell), 'LD_PRELOAD': str(folder / 'shim.so')}
     done = subprocess.run([program, *words], cwd=folder, env=env, pass_fds=[tell], capture_output=True, timeout=60)
     os.close(tell)
-    failed = os.read(told, 1) == b"x"
+    failed = os.read(told, 1) == b'x'
     os.close(told)
     return (done.returncode, done.stdout), failed
 
 
-def held(folder):
+def held(folder: pathlib.Path) -> dict[str, bytes]:
     """The bytes of each file."""
     return {name: (folder / name).read_bytes() for name in NAMES if (folder / name).exists()}
 
 
-def put(folder, files):
+def put(folder: pathlib.Path, files: dict[str, bytes]) -> None:
     """The folder has these files and no others."""
     for name in NAMES:
         (folder / name).unlink(missing_ok=True)
@@ -79,25 +86,26 @@ def put(folder, files):
         (folder / name).write_bytes(text)
 
 
-def ended(answer, files, before, done, whole):
+def ended(answer: Answer, files: dict[str, bytes], before: dict[str, bytes], done: Answer, whole: dict[str, bytes]) -> str:
     """How a run ended, or why that is not as promised."""
     if (answer, files) == (done, whole):
-        return "done"
-    if answer == (5, b"") and files == before:
-        return "status 5"
+        return 'done'
+    if answer == (5, b'') and files == before:
+        return 'status 5'
     fronts = all(files.get(name) == before.get(name) or whole[name].startswith(files[name]) for name in whole)
     if answer[0] == 4 and files.keys() <= whole.keys() and fronts and done[1].startswith(answer[1]):
-        return "status 4"
-    return f"{AGAINST}: {answer}"
+        return 'status 4'
+    return f'{AGAINST}: {answer}'
 
 
-def tried(folder, program, words, before):
+def tried(folder: pathlib.Path, program: str, words: Sequence[str],
+          before: dict[str, bytes]) -> tuple[collections.Counter[str], dict[str, bytes]]:
     """The ends of a command by their counts, and the files that it leaves with memory."""
     put(folder, before)
     done, _ = ran(folder, program, words, 0)
     whole, ends, number = held(folder), collections.Counter(), 0
     if done[0] != 0:
-        sys.exit(f"{words[0]} with memory: {done}")
+        sys.exit(f'{words[0]} with memory: {done}')
     while True:
         number += 1
         put(folder, before)
@@ -107,47 +115,48 @@ def tried(folder, program, words, before):
         end = ended(answer, held(folder), before, done, whole)
         again, _ = ran(folder, program, words, 0)
         if (again, held(folder)) != (done, whole):
-            end = f"{AGAINST}: another answer with memory: {again}"
+            end = f'{AGAINST}: another answer with memory: {again}'
         if end.startswith(AGAINST):
-            print(f"{words[0]}: allocation {number}: {end}")
-        ends[end.split(":")[0]] += 1
+            print(f'{words[0]}: allocation {number}: {end}')
+        ends[end.split(':')[0]] += 1
 
 
-def told_of_commands(folder, program):
+def told_of_commands(folder: pathlib.Path, program: str) -> int:
     """Tries each command on what those before it left and prints its ends. Returns how many were against the promise."""
-    files = {"in": (TOP / "examples" / "tetrahedron.ply").read_bytes(), "out": b"old", "mesh": b"old", "cert": b"old",
-             "points": b"0 0 0 1000 0 0"}
+    files = {'in': (TOP / 'examples' / 'tetrahedron.ply').read_bytes(), 'out': b'old', 'mesh': b'old', 'cert': b'old',
+             'points': b'0 0 0 1000 0 0'}
     against = 0
     for words in COMMANDS:
         ends, files = tried(folder, program, words, files)
         against += ends[AGAINST]
-        print(f"{words[0]}: {sum(ends.values())} allocations: " + ", ".join(f"{count} {end}" for end, count in sorted(ends.items())))
+        print(f'{words[0]}: {sum(ends.values())} allocations: ' + ', '.join(f'{count} {end}' for end, count in sorted(ends.items())))
     return against
 
 
-def told_of_test(folder, program, test):
+def told_of_test(folder: pathlib.Path, program: str, test: str) -> int:
     """Tries a test and prints how often it failed. Returns that."""
     number, bad = 0, 0
     while True:
         number += 1
         answer, failed = ran(folder, program, [test], number)
         if not failed:
-            print(f"{test}: {number - 1} allocations, {bad} failed runs")
+            print(f'{test}: {number - 1} allocations, {bad} failed runs')
             return bad
         bad += answer[0] != 0
 
 
-def main():
-    words = [os.path.abspath(word) for word in sys.argv[1:]] or [str(TOP / "recon")]
+def main() -> int:
+    words = [os.path.abspath(word) for word in sys.argv[1:]] or [str(TOP / 'recon')]
     with tempfile.TemporaryDirectory() as name:
         folder = pathlib.Path(name)
-        (folder / "shim.c").write_text(SHIM)
-        subprocess.run(["cc", "-O2", "-shared", "-fPIC", "-o", "shim.so", "shim.c"], cwd=folder, check=True)
+        (folder / 'shim.c').write_text(SHIM)
+        subprocess.run(['cc', '-O2', '-shared', '-fPIC', '-o', 'shim.so', 'shim.c'], cwd=folder, check=True)
         against = told_of_commands(folder, words[0])
         for program in words[1:]:
             against += sum(told_of_test(folder, program, test) for test in TESTS)
     return 1 if against else 0
 
 
-if __name__ == "__main__":
+if __name__ == '__main__':
+    begun(__doc__)
     sys.exit(main())

@@ -21,9 +21,15 @@ surface: distances from it to the object and from the object to it (mean, 95 of 
 edges are open, how many have more than two faces, where sheets touch; how many pieces hang together by edges; the mean angle
 between neighboring faces; and how many pairs of faces cross.
 """
-import zlib
+from __future__ import annotations
 
-import numpy as np
+import zlib
+from typing import Any, Sequence
+
+from report import begun
+if __name__ == '__main__':
+    begun(__doc__, 'numpy')
+import numpy as np  # noqa: E402
 
 from objects import Camera, Surface, draw_places, joined, read_object, vectors_across
 from make_scan import shape_of
@@ -35,21 +41,21 @@ DIAGONAL = 1000.0
 GRAZING = 0.08
 
 
-def number(text, key, otherwise, most):
+def number(text: str | None, key: str, otherwise: str, most: int) -> float:
     text = text or otherwise
     if not IS_NUMBER(text) or not 0 <= float(text) <= most:
         raise Refusal(f'{key}= is a number from 0 to {most}')
     return float(text)
 
 
-def placed(path):
+def placed(path: str) -> tuple[np.ndarray, np.ndarray]:
     """The object about the origin, with the diagonal 1000."""
     places, faces = joined(*read_object(path))
     low, high = places.min(axis=0), places.max(axis=0)
     return (places - (low + high) / 2) * (DIAGONAL / np.linalg.norm(high - low)), faces
 
 
-def scanners_around():
+def scanners_around() -> np.ndarray:
     """Twelve places, the corners of an icosahedron."""
     far, golden = 1.2 * DIAGONAL, (1 + 5 ** 0.5) / 2
     corners = [(0, one, two) for one in (-1, 1) for two in (-golden, golden)]
@@ -57,7 +63,8 @@ def scanners_around():
     return corners * (far / np.linalg.norm(corners[0]))
 
 
-def seen_points(draw, places, faces, count):
+def seen_points(draw: np.random.Generator, places: np.ndarray, faces: np.ndarray,
+                count: int) -> tuple[np.ndarray, np.ndarray, np.ndarray]:
     """Places on the object that one of the scanners sees, and that scanner's number."""
     scanners = scanners_around()
     cameras = [Camera(scanner, places, faces) for scanner in scanners]
@@ -76,7 +83,7 @@ def seen_points(draw, places, faces, count):
     return points[:count], indices[:count], scanners
 
 
-def make_scan(names, options):
+def make_scan(names: Sequence[str], options: Any) -> str:
     if len(names) != 2:
         raise Refusal('scan takes an object and the file to be written')
     count = int(number(options.points, 'points', '42000', 10 ** 7))
@@ -100,11 +107,11 @@ def make_scan(names, options):
     return f'wrote {count} points and {len(scanners)} scanners to {names[1]}'
 
 
-def told(values):
+def told(values: np.ndarray) -> str:
     return f'{values.mean():.3f} / {np.percentile(values, 95):.2f} / {values.max():.1f}'
 
 
-def edges_of(faces):
+def edges_of(faces: np.ndarray) -> tuple[int, int, np.ndarray, np.ndarray]:
     """How many edges are open, how many have more than two faces, and pairs of faces with a common edge of two."""
     corners = faces.ravel()
     keys = fast_mesh.edge_keys(corners, corners.max() + 1)
@@ -115,7 +122,7 @@ def edges_of(faces):
     return int((counts == 1).sum()), int((counts > 2).sum()), order[two] // 3, order[two + 1] // 3
 
 
-def piece_count(faces, one, other):
+def piece_count(faces: np.ndarray, one: np.ndarray, other: np.ndarray) -> int:
     """How many pieces hang together by edges of two faces."""
     piece = np.arange(len(faces))
     while True:
@@ -128,7 +135,7 @@ def piece_count(faces, one, other):
         piece = least
 
 
-def crossing_pairs(places, faces):
+def crossing_pairs(places: np.ndarray, faces: np.ndarray) -> int:
     """How many pairs of faces cross, of places rounded to a 2^36th of the box: coarser ones make neighbors cross."""
     scale = (1 << 36) / max(np.ptp(places, axis=0).max(), 1e-300)
     whole = np.round((places - places.min(axis=0)) * scale).astype(np.int64)
@@ -139,13 +146,13 @@ def crossing_pairs(places, faces):
     return int(fast_mesh.crossing(whole, faces[one], faces[other]).sum())
 
 
-def mean_angle(places, faces, one, other):
+def mean_angle(places: np.ndarray, faces: np.ndarray, one: np.ndarray, other: np.ndarray) -> float:
     normals = vectors_across(places, faces)
     normals /= np.maximum(np.linalg.norm(normals, axis=1), 1e-300)[:, None]
     return np.degrees(np.arccos(np.clip((normals[one] * normals[other]).sum(axis=1), -1, 1))).mean()
 
 
-def compare(names, options):
+def compare(names: Sequence[str], options: Any) -> str:
     if len(names) < 2:
         raise Refusal('compare takes an object and a surface or more')
     count = int(number(options.samples, 'samples', '50000', 10 ** 7))
@@ -163,7 +170,7 @@ def compare(names, options):
     return f'compared {len(names) - 1} with {names[0]}'
 
 
-def make_room(names, options):
+def make_room(names: Sequence[str], options: Any) -> str:
     """The sides of the room and of what stands in it, each of two triangles, seen from where its scanners are."""
     if len(names) != 1:
         raise Refusal('room takes the file to be written')
@@ -182,7 +189,7 @@ def make_room(names, options):
     return f'wrote {len(faces)} triangles to {names[0]}'
 
 
-def main(names, options):
+def main(names: Sequence[str], options: Any) -> str:
     commands = {'scan': make_scan, 'compare': compare, 'room': make_room}
     if not names or names[0] not in commands:
         raise Refusal('the first word is scan, compare or room')

@@ -9,6 +9,8 @@ with its tests and their runs, edits those of a copy of the crate for a wrong bo
 table is written anew every ten seconds, so a run that is cut off leaves one. Its last rows are what the sum of the crates leaves of the
 whole, as the system counts it: the work of `rt` itself, the programs of tools/, and what a process did after it was last seen.
 """
+from __future__ import annotations
+
 import collections
 import ctypes
 import os
@@ -17,11 +19,14 @@ import resource
 import subprocess
 import sys
 import time
+from typing import Any
+
+from report import begun
 
 PAUSE = 0.5
 WRITTEN_EVERY = 10
-TICKS = os.sysconf("SC_CLK_TCK")
-KINDS = ("proofs", "tests", "edits")
+TICKS = os.sysconf('SC_CLK_TCK')
+KINDS = ('proofs', 'tests', 'edits')
 # The call of the system by which a process becomes the parent of those of its children's children that lose theirs.
 SET_CHILD_SUBREAPER = 36
 
@@ -29,43 +34,43 @@ SET_CHILD_SUBREAPER = 36
 class Process:
     """What /proc says of a process: its parent, its seconds with those of the children that ended, and its work, a crate and a kind."""
 
-    def __init__(self, number):
-        with open(f"/proc/{number}/stat", encoding="utf-8", errors="replace") as it:
-            fields = it.read().rpartition(")")[2].split()
+    def __init__(self, number: int) -> None:
+        with open(f'/proc/{number}/stat', encoding='utf-8', errors='replace') as it:
+            fields = it.read().rpartition(')')[2].split()
         self.number, self.parent = number, int(fields[1])
         self.seconds = sum(map(int, fields[11:15])) / TICKS
         # (a number is given again, but not to one that began at the same time)
         self.key = number, fields[19]
 
-    def work(self):
+    def work(self) -> tuple[str, str] | None:
         """Returns the crate and the kind of work, or None where it is no work of a crate."""
         try:
-            with open(f"/proc/{self.number}/cmdline", "rb") as it:
-                words = it.read().decode(errors="replace").split("\0")
-            place = os.readlink(f"/proc/{self.number}/cwd")
+            with open(f'/proc/{self.number}/cmdline', 'rb') as it:
+                words = it.read().decode(errors='replace').split('\0')
+            place = os.readlink(f'/proc/{self.number}/cwd')
         except OSError:
             return None
         return work_of(words, place)
 
 
-def work_of(words, place):
+def work_of(words: list[str], place: str) -> tuple[str, str] | None:
     """Returns the crate and the kind of what a command line does in a folder, or None."""
-    if any(re.search(r"(^|/)rattle$", word) for word in words[:1]) and "--crate-name" in words:
-        name = words[words.index("--crate-name") + 1]
-        if os.path.basename(place).startswith("rt-edit"):
-            return name, "edits"
-        return name, "tests" if "--test" in words else "proofs"
+    if any(re.search(r'(^|/)rattle$', word) for word in words[:1]) and '--crate-name' in words:
+        name = words[words.index('--crate-name') + 1]
+        if os.path.basename(place).startswith('rt-edit'):
+            return name, 'edits'
+        return name, 'tests' if '--test' in words else 'proofs'
     for word in words:
-        found = re.search(r"/rt-run-[^/]*/bin/(\w+?)(_tests)?$", word)
+        found = re.search(r'/rt-run-[^/]*/bin/(\w+?)(_tests)?$', word)
         if found:
-            return found[1], "tests"
+            return found[1], 'tests'
     return None
 
 
-def processes():
+def processes() -> dict[int, Process]:
     """Returns the processes of the system by number."""
     found = {}
-    for name in os.listdir("/proc"):
+    for name in os.listdir('/proc'):
         if name.isdigit():
             try:
                 found[int(name)] = Process(int(name))
@@ -77,17 +82,17 @@ def processes():
 class Meter:
     """What was seen so far: for each process at the top of a crate's work the most seconds that it and what it started had."""
 
-    def __init__(self):
+    def __init__(self) -> None:
         self.seconds, self.works = {}, {}
 
-    def look(self, top):
+    def look(self, top: int) -> None:
         """Takes the seconds of all below a process."""
         found = processes()
         below = collections.defaultdict(list)
         for it in found.values():
             below[it.parent].append(it)
-        left = [(it, None) for it in below[top]]
-        sums = collections.Counter()
+        left: list[tuple[Process, tuple[int, str] | None]] = [(it, None) for it in below[top]]
+        sums: dict[tuple[int, str], float] = collections.defaultdict(float)
         while left:
             it, head = left.pop()
             if head is None and it.key not in self.works:
@@ -101,44 +106,44 @@ class Meter:
         for head, seconds in sums.items():
             self.seconds[head] = max(seconds, self.seconds.get(head, 0))
 
-    def by_crate(self):
+    def by_crate(self) -> dict[tuple[str, str], float]:
         """Returns the seconds of each crate and kind."""
-        total = collections.Counter()
+        total: dict[tuple[str, str], float] = collections.defaultdict(float)
         for head, seconds in self.seconds.items():
             total[self.works[head]] += seconds
         return total
 
 
-def row(name, numbers):
-    return f"| {name} | " + " | ".join(f"{number / 60:.1f}" for number in numbers) + " |"
+def row(name: str, numbers: list[float]) -> str:
+    return f'| {name} | ' + ' | '.join(f'{number / 60:.1f}' for number in numbers) + ' |'
 
 
-def table(by_crate, whole, began):
+def table(by_crate: dict[tuple[str, str], float], whole: float | None, began: float) -> str:
     """Returns the table, crates that took most first."""
     crates = {name for name, _ in by_crate}
     sums = {name: [by_crate[name, kind] for kind in KINDS] for name in crates}
-    lines = ["| Crate | Proofs | Tests | Edits | All |", "|---|---|---|---|---|"]
+    lines = ['| Crate | Proofs | Tests | Edits | All |', '|---|---|---|---|---|']
     for name in sorted(crates, key=lambda it: (-sum(sums[it]), it)):
-        lines.append(row(f"`{name}`", [*sums[name], sum(sums[name])]))
+        lines.append(row(f'`{name}`', [*sums[name], sum(sums[name])]))
     each = [sum(by_crate[name, kind] for name in crates) for kind in KINDS]
-    lines.append(row("All crates", [*each, sum(each)]))
+    lines.append(row('All crates', [*each, sum(each)]))
     if whole is not None:
-        lines.append(f"| The rest | | | | {(whole - sum(each)) / 60:.1f} |")
-        lines.append(f"| The whole run | | | | {whole / 60:.1f} |")
-    lines.append("")
-    lines.append(f"Processor minutes, user and system; {(time.monotonic() - began) / 60:.0f} minutes by the clock, {len(os.sched_getaffinity(0))} processors"
-                 + ("." if whole is not None else ", not at its end."))
-    return "\n".join(lines) + "\n"
+        lines.append(f'| The rest | | | | {(whole - sum(each)) / 60:.1f} |')
+        lines.append(f'| The whole run | | | | {whole / 60:.1f} |')
+    lines.append('')
+    lines.append(f'Processor minutes, user and system; {(time.monotonic() - began) / 60:.0f} minutes by the clock, {len(os.sched_getaffinity(0))} processors'
+                 + ('.' if whole is not None else ', not at its end.'))
+    return '\n'.join(lines) + '\n'
 
 
-def write(path, text):
-    with open(f"{path}.part", "w", encoding="utf-8") as it:
+def write(path: str, text: str) -> None:
+    with open(f'{path}.part', 'w', encoding='utf-8') as it:
         it.write(text)
-    os.replace(f"{path}.part", path)
+    os.replace(f'{path}.part', path)
 
 
-def main():
-    if len(sys.argv) < 3 or sys.argv[1] in ("-h", "--help"):
+def main() -> int:
+    if len(sys.argv) < 3:
         print(__doc__.strip(), file=sys.stderr)
         return 2
     path, began, meter = sys.argv[1], time.monotonic(), Meter()
@@ -156,5 +161,6 @@ def main():
     return command.returncode if command.returncode >= 0 else 128 - command.returncode
 
 
-if __name__ == "__main__":
+if __name__ == '__main__':
+    begun(__doc__)
     sys.exit(main())

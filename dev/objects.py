@@ -3,6 +3,8 @@
 Names: read_object (places and faces of an OFF or PLY file) · draw_places (drawn evenly on the surface) · distances (from
 places to the nearest triangle, exact) · depths_from, are_seen (what a scanner sees).
 """
+from __future__ import annotations
+
 import numpy as np
 
 import tools_path  # noqa: F401
@@ -13,14 +15,14 @@ FINE = 1 << 20
 VIEW = 1200
 
 
-def read_object(path):
+def read_object(path: str) -> tuple[np.ndarray, np.ndarray]:
     """Places and faces of an OFF or a PLY file of triangles."""
     with open(path, 'rb') as file:
         start = file.readline().strip()
     return read_off(path) if start == b'OFF' else read_ply(path)
 
 
-def read_off(path):
+def read_off(path: str) -> tuple[np.ndarray, np.ndarray]:
     with open(path, encoding='ascii') as file:
         words = [word for line in file for word in line.partition('#')[0].split()][1:]
     count, faces = int(words[0]), int(words[1])
@@ -29,7 +31,7 @@ def read_off(path):
     return places, rows[:, 1:]
 
 
-def read_ply(path):
+def read_ply(path: str) -> tuple[np.ndarray, np.ndarray]:
     reader = Reader(path)
     try:
         places = faces = None
@@ -49,7 +51,7 @@ def read_ply(path):
     return places, faces.reshape(-1, 3)
 
 
-def joined(places, faces):
+def joined(places: np.ndarray, faces: np.ndarray) -> tuple[np.ndarray, np.ndarray]:
     """The same mesh with equal places as one, without faces that have two corners at one place."""
     places, number = np.unique(places, axis=0, return_inverse=True)
     faces = number.reshape(-1)[faces]
@@ -57,12 +59,12 @@ def joined(places, faces):
     return places, faces[whole]
 
 
-def vectors_across(places, faces):
+def vectors_across(places: np.ndarray, faces: np.ndarray) -> np.ndarray:
     a, b, c = (places[faces[:, k]] for k in range(3))
     return np.cross(b - a, c - a)
 
 
-def draw_places(draw, places, faces, count):
+def draw_places(draw: np.random.Generator, places: np.ndarray, faces: np.ndarray, count: int) -> tuple[np.ndarray, np.ndarray]:
     """Places drawn evenly on the surface, and their faces."""
     areas = np.linalg.norm(vectors_across(places, faces), axis=1)
     chosen = draw.choice(len(faces), count, p=areas / areas.sum())
@@ -75,7 +77,7 @@ def draw_places(draw, places, faces, count):
 class Surface:
     """A mesh that distances are taken to."""
 
-    def __init__(self, places, faces):
+    def __init__(self, places: np.ndarray, faces: np.ndarray) -> None:
         low = places.min(axis=0)
         self.scale = FINE / max(np.ptp(places, axis=0).max(), 1e-300)
         self.low, self.corners = low, [places[faces[:, k]] for k in range(3)]
@@ -83,7 +85,7 @@ class Surface:
         least, most = boxes_of(whole, faces)
         self.grid = Grid(least - 1, most + 1, np.arange(len(faces)))
 
-    def distances(self, places):
+    def distances(self, places: np.ndarray) -> tuple[np.ndarray, np.ndarray]:
         """The distance of each place to the nearest triangle, and that triangle's number."""
         found, nearest = np.full(len(places), np.inf), np.zeros(len(places), int)
         whole = np.round((places - self.low) * self.scale).astype(np.int64)
@@ -105,7 +107,7 @@ class Surface:
         return found, nearest
 
 
-def to_triangles(p, a, b, c):
+def to_triangles(p: np.ndarray, a: np.ndarray, b: np.ndarray, c: np.ndarray) -> np.ndarray:
     """The distance of each place to its triangle."""
     across = np.cross(b - a, c - a)
     area = np.maximum((across ** 2).sum(axis=1), 1e-300)
@@ -124,7 +126,7 @@ def to_triangles(p, a, b, c):
 class Camera:
     """What a scanner sees of a mesh: depths in a square of pixels about the middle of the mesh."""
 
-    def __init__(self, place, places, faces):
+    def __init__(self, place: np.ndarray, places: np.ndarray, faces: np.ndarray) -> None:
         self.place = place
         self.toward = places.mean(axis=0) - place
         self.toward /= np.linalg.norm(self.toward)
@@ -140,12 +142,12 @@ class Camera:
         for size in np.unique(sizes):
             self.draw(columns, faces[sizes == size], 2 ** max(int(size), 0) + 1)
 
-    def pixels(self, places, reach):
+    def pixels(self, places: np.ndarray, reach: float) -> tuple[np.ndarray, np.ndarray, np.ndarray]:
         far = places - self.place
         depth = far @ self.toward
         return far @ self.right / depth / reach, far @ self.up / depth / reach, depth
 
-    def draw(self, columns, faces, side):
+    def draw(self, columns: tuple[np.ndarray, np.ndarray, np.ndarray], faces: np.ndarray, side: int) -> None:
         """Keeps the least depth of the faces at each pixel, by places spread over them, so many along a side."""
         x, y, depth = (column[faces] for column in columns)
         i, j = (part.ravel() for part in np.mgrid[0:side + 1, 0:side + 1])
@@ -157,7 +159,7 @@ class Camera:
         deepest[at[order]] = depth[order]
         self.depths = np.minimum(self.depths, deepest)
 
-    def are_seen(self, places, slack):
+    def are_seen(self, places: np.ndarray, slack: float) -> np.ndarray:
         x, y, depth = self.pixels(places, self.reach)
         at = ((y + 1) / 2 * VIEW).astype(int) * VIEW + ((x + 1) / 2 * VIEW).astype(int)
         return depth <= self.depths[at] + slack

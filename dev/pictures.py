@@ -11,14 +11,20 @@
 Scans are made by make_scan.py, and drawn by render.py: points on white, surfaces with their outer side warm and their
 inner side blue. `finish` and `kitten` are of objects that Debian's package libcgal-demo has. Some minutes.
 """
+from __future__ import annotations
+
 import os
 import re
+import shutil
 import subprocess
 import sys
 import tarfile
 import tempfile
 
-import matplotlib
+from report import begun
+if __name__ == '__main__':
+    begun(__doc__, 'numpy', 'matplotlib', 'PIL')
+import matplotlib  # noqa: E402
 matplotlib.use('Agg')
 import matplotlib.pyplot as plt  # noqa: E402
 import numpy as np  # noqa: E402
@@ -37,7 +43,7 @@ TORUS, STATUE, ROOM = (0.3, 1, -0.7), (0.2, 1, -0.15), (0.4, 1, -0.8)
 WARM, INK, SIGHT = '#f2cfa2', '#333333', '#c0392b'
 
 
-def blob():
+def blob() -> np.ndarray:
     """Points on a closed curve, all coordinates uneven so that no four are on one circle."""
     turn = np.linspace(0, 2 * np.pi, 19)[:-1]
     far = 1 + 0.22 * np.cos(2 * turn + 0.4) + 0.03 * np.sin(7 * turn)
@@ -47,7 +53,7 @@ def blob():
 SCANNERS = np.array([[-2.6, 1.5], [2.5, 1.75], [2.3, -1.6], [-2.3, -1.7]])
 
 
-def sketch(points):
+def sketch(points: np.ndarray) -> tuple[Triangulation, np.ndarray]:
     """The plane cut into triangles between the points and four corners, and which of them are within the curve."""
     corners = np.array([[-3.4, -2.3], [3.4, -2.3], [3.4, 2.3], [-3.4, 2.3]])
     places = np.concatenate([points, corners])
@@ -55,7 +61,7 @@ def sketch(points):
     return cut, Path(points).contains_points(places[cut.triangles].mean(axis=1))
 
 
-def empty_axes(width, height):
+def empty_axes(width: float, height: float) -> tuple[plt.Figure, plt.Axes]:
     figure, axes = plt.subplots(figsize=(width, height), dpi=100)
     axes.set_aspect('equal')
     axes.axis('off')
@@ -63,12 +69,12 @@ def empty_axes(width, height):
     return figure, axes
 
 
-def nearest_scanner(points):
+def nearest_scanner(points: np.ndarray) -> np.ndarray:
     """The scanner that each point is seen from: the one that it faces."""
     return np.argmin(((points[:, None] - SCANNERS) ** 2).sum(axis=2), axis=1)
 
 
-def draw_cut(axes, cut, inside):
+def draw_cut(axes: plt.Axes, cut: Triangulation, inside: np.ndarray) -> None:
     axes.tripcolor(cut, facecolors=inside.astype(float), cmap=matplotlib.colors.ListedColormap(['#ffffff', WARM]), vmin=0, vmax=1)
     axes.triplot(cut, color='#bbbbbb', linewidth=0.6)
     edges = {}
@@ -81,7 +87,7 @@ def draw_cut(axes, cut, inside):
             axes.plot(cut.x[ends], cut.y[ends], color=INK, linewidth=2.2)
 
 
-def inside(folder, recon, work):
+def inside(folder: str, recon: str, work: str) -> None:
     """What inside means, in the plane."""
     points = blob()
     cut, is_in = sketch(points)
@@ -99,7 +105,7 @@ def inside(folder, recon, work):
     save_figure(figure, folder, 'inside')
 
 
-def sight(folder, recon, work):
+def sight(folder: str, recon: str, work: str) -> None:
     """A sight on its way: the facets that it crosses, and what is behind its point."""
     places = np.array([[0.3, 1.3], [1.7, -1.2], [2.7, 1.1], [3.9, -1.0], [5.4, 1.2], [5.2, 0.0], [6.6, -1.0], [7.0, 1.0]])
     air = [(0, 1, 2), (1, 3, 2), (2, 3, 5), (2, 5, 4)]
@@ -128,26 +134,26 @@ def sight(folder, recon, work):
     save_figure(figure, folder, 'sight')
 
 
-def save_figure(figure, folder, name):
+def save_figure(figure: plt.Figure, folder: str, name: str) -> None:
     figure.canvas.draw()
     save(np.asarray(figure.canvas.buffer_rgba())[:, :, :3] / 255.0, folder, name)
     plt.close(figure)
 
 
-def save(image, folder, name):
+def save(image: np.ndarray, folder: str, name: str) -> None:
     """Writes a small PNG of 64 colours."""
     picture = Image.fromarray((np.clip(image, 0, 1) * 255 + 0.5).astype(np.uint8))
     picture.quantize(64, dither=Image.Dither.NONE).save(os.path.join(folder, name + '.png'), optimize=True)
     print(f'{name}.png {os.path.getsize(os.path.join(folder, name + ".png")) // 1024} KiB', flush=True)
 
 
-def half(image):
+def half(image: np.ndarray) -> np.ndarray:
     """The image at half its size, so that edges are soft."""
     rows, columns, _ = image.shape
     return image.reshape(rows // 2, 2, columns // 2, 2, 3).mean(axis=(1, 3))
 
 
-def title(image, text):
+def title(image: np.ndarray, text: str) -> np.ndarray:
     """The image with a line of text over it."""
     figure = plt.figure(figsize=(image.shape[1] / 100, 0.26), dpi=100)
     figure.text(0.5, 0.5, text, ha='center', va='center', fontsize=10)
@@ -157,13 +163,13 @@ def title(image, text):
     return np.concatenate([line[:, :image.shape[1]], image])
 
 
-def trimmed(image):
+def trimmed(image: np.ndarray) -> np.ndarray:
     """The image without the white rows above and below."""
     rows = np.flatnonzero((image < 0.999).any(axis=(1, 2)))
     return image[max(rows[0] - 8, 0):rows[-1] + 9] if len(rows) else image
 
 
-def side_by_side(images, titles, folder, name):
+def side_by_side(images: list[np.ndarray], titles: list[str], folder: str, name: str) -> None:
     """Images in a row, each under its title."""
     width = images[0].shape[1]
     strip = trimmed(np.concatenate(images, axis=1))
@@ -171,17 +177,17 @@ def side_by_side(images, titles, folder, name):
     save(np.concatenate(parts, axis=1), folder, name)
 
 
-def tool(program, *words):
+def tool(program: str, *words: str) -> None:
     subprocess.run([sys.executable, os.path.join(TOOLS, program + '.py'), *words], check=True, stdout=subprocess.DEVNULL)
 
 
-def scan(work, shape, *options):
+def scan(work: str, shape: str, *options: str) -> str:
     path = os.path.join(work, 'scan.ply')
     tool('make_scan', shape, POINTS, '1', path, *options)
     return path
 
 
-def surface(recon, path, *options):
+def surface(recon: str, path: str, *options: str) -> tuple[np.ndarray, np.ndarray]:
     """Places and faces of the surface that `recon` builds."""
     mesh = path + '.mesh'
     done = subprocess.run([recon, 'build', path, mesh, path + '.cert', *options], check=True, capture_output=True, text=True)
@@ -189,49 +195,50 @@ def surface(recon, path, *options):
     return render.read_mesh(mesh)
 
 
-def beside(view, path, mesh, folder, name):
+def beside(view: render.View, path: str, mesh: tuple[np.ndarray, np.ndarray], folder: str, name: str) -> None:
     """Points and surface, side by side."""
     images = [half(render.points_image(view, render.read_points(path)[0])), half(render.mesh_image(view, *mesh))]
     side_by_side(images, ['100,000 points', 'surface'], folder, name)
 
 
-def torus(folder, recon, work):
+def torus(folder: str, recon: str, work: str) -> None:
     path = scan(work, 'torus', 'stray=0')
     beside(render.View(TORUS, (0, 0, 0), 520000, 720), path, surface(recon, path), folder, 'torus')
 
 
-def statue(folder, recon, work):
+def statue(folder: str, recon: str, work: str) -> None:
     path = scan(work, 'statue', 'stray=0')
     beside(render.View(STATUE, (30000, 0, -75000), 600000, 800), path, surface(recon, path), folder, 'statue')
 
 
-def is_near(middles):
+def is_near(middles: np.ndarray) -> np.ndarray:
     """What is left of a room without its ceiling and the wall that one looks from."""
     return (middles[:, 2] < 235000) & (middles[:, 1] > -385000)
 
 
-def room(folder, recon, work):
+def room(folder: str, recon: str, work: str) -> None:
     """A room, its walls without and with the eight points around it."""
     path = scan(work, 'room', 'stray=0')
     view, around = render.View(ROOM, (0, 0, -30000), 620000, 760), path + '.around'
-    tool('surround', path, around, 'by=60000')
+    tool('scan', path, around, 'surround=60000')
     points = render.read_points(path)[0]
     images = [half(render.points_image(view, points[is_near(points)]))]
     images += [half(render.mesh_image(view, *surface(recon, file), is_near)) for file in (path, around)]
-    side_by_side(images, ['100,000 points', 'surface', 'surface after surround.py'], folder, 'room')
+    side_by_side(images, ['100,000 points', 'surface', 'surface after surround='], folder, 'room')
 
 
-def smooth(folder, recon, work):
-    """One scan with stray points at several options."""
-    path = scan(work, 'statue', 'stray=0.02')
-    view, images, titles = render.View(STATUE, (30000, 0, -75000), 600000, 560), [], []
-    for vote, weight in ((8, 0), (8, 1), (8, 2), (8, 3), (8, 4)):
-        images.append(half(render.mesh_image(view, *surface(recon, path, f'vote={vote}', f'smooth={weight}'))))
-        titles.append(f'vote={vote} smooth={weight}')
-    side_by_side(images, titles, folder, 'smooth')
+def smooth(folder: str, recon: str, work: str) -> None:
+    """One scan with stray points at several weights, by one sweep."""
+    path, count = scan(work, 'statue', 'stray=0.02'), 5
+    meshes = [f'{path}.{weight}' for weight in range(count)]
+    done = subprocess.run([recon, 'sweep', path, '0', '1', str(count), *meshes], check=True, capture_output=True, text=True)
+    print(done.stdout, end='', flush=True)
+    view = render.View(STATUE, (30000, 0, -75000), 600000, 560)
+    images = [half(render.mesh_image(view, *render.read_mesh(mesh))) for mesh in meshes]
+    side_by_side(images, [f'vote=8 smooth={weight}' for weight in range(count)], folder, 'smooth')
 
 
-def unit(folder, recon, work):
+def unit(folder: str, recon: str, work: str) -> None:
     """A scan in metres at several units."""
     path, images, titles = scan(work, 'torus', 'stray=0'), [], []
     with open(path, encoding='ascii') as file:
@@ -247,7 +254,7 @@ def unit(folder, recon, work):
     side_by_side(images, titles, folder, 'unit')
 
 
-def scanner(folder, recon, work):
+def scanner(folder: str, recon: str, work: str) -> None:
     """What wrong scanner positions do."""
     path = scan(work, 'torus', 'stray=0')
     view, images = render.View(TORUS, (0, 0, 0), 520000, 640), []
@@ -261,14 +268,14 @@ def scanner(folder, recon, work):
     side_by_side(images, titles, folder, 'scanner')
 
 
-def sliced(folder, recon, work):
+def sliced(folder: str, recon: str, work: str) -> None:
     """A torus cut by a level plane, drawn with four decimals."""
     path, mesh, loops = (os.path.join(work, name) for name in ('scan.ply', 'mesh.ply', 'slice.txt'))
     tool('make_scan', 'torus', '4000', '1', path, 'stray=0')
     subprocess.run([recon, 'build', path, mesh, path + '.cert'], check=True)
     subprocess.run([recon, 'slice', mesh, '40000', loops], check=True)
     picture = os.path.join(folder, 'slice.svg')
-    tool('slice_to_svg', loops, picture, 'unit=500000')
+    tool('contours', loops, picture, 'unit=500000')
     with open(picture, encoding='ascii') as file:
         drawing = re.sub(r'-?[0-9]+\.[0-9]+', lambda number: f'{float(number[0]):.4f}', file.read())
     with open(picture, 'w', encoding='ascii') as file:
@@ -276,36 +283,37 @@ def sliced(folder, recon, work):
     print(f'slice.svg {len(drawing) // 1024} KiB', flush=True)
 
 
-def debian(work, name):
+def debian(work: str, name: str) -> str:
     """A file of the data of CGAL, as Debian packs them."""
     with tarfile.open(CGAL) as archive:
         path = os.path.join(work, os.path.basename(name))
         with open(path, 'wb') as file:
-            file.write(archive.extractfile('data/' + name).read())
+            shutil.copyfileobj(archive.extractfile('data/' + name), file)  # type: ignore[arg-type]
     return path
 
 
-def finished(mesh, out, *options):
+def finished(mesh: str, out: str, *options: str) -> tuple[np.ndarray, np.ndarray]:
     """Places and faces of a mesh that is finished."""
     tool('finish', mesh, out, *options)
     return objects.read_object(out)
 
 
-def finish(folder, recon, work):
+def finish(folder: str, recon: str, work: str) -> None:
     """A surface as it is built, smooth shading over it, after flips, and after smoothing."""
     scan, mesh, out = (os.path.join(work, name) for name in ('scan.ply', 'mesh.ply', 'out.ply'))
     bunny = debian(work, 'meshes/bunny00.off')
     subprocess.run([sys.executable, os.path.join(DEV, 'measure_surface.py'), 'scan', bunny, scan], check=True)
     subprocess.run([recon, 'build', scan, mesh, mesh + '.cert', 'unit=1000', 'smooth=3'], check=True)
     view, images = upright(render.View((0.25, -0.25, -1), (0, 0, 0), 400, 760)), []
-    for words, is_flat in ((['flips=no'], False), (['flips=no'], True), ([], True), (['smooth=3', 'within=1'], True)):
+    runs: list[tuple[list[str], bool]] = [(['flips=no'], False), (['flips=no'], True), ([], True), (['smooth=3', 'within=1'], True)]
+    for words, is_flat in runs:
         surface_now = finished(mesh, out, 'unit=1000', 'pieces=1', *words)
         images.append(half(render.mesh_image(view, *surface_now, is_flat=is_flat)))
     titles = ['as built, smooth shading', 'as built, flat shading', 'after flips', 'after smooth=3 within=1']
     side_by_side(images, titles, folder, 'finish')
 
 
-def upright(view):
+def upright(view: render.View) -> render.View:
     """The view with y up."""
     view.right = np.cross(view.toward, [0.0, 1.0, 0.0])
     view.right /= np.linalg.norm(view.right)
@@ -315,11 +323,11 @@ def upright(view):
     return view
 
 
-def kitten(folder, recon, work):
+def kitten(folder: str, recon: str, work: str) -> None:
     """Points with normals, their surface as built, and after flips alone."""
     points = debian(work, 'points_3/kitten.xyz')
     scan, mesh, out = (os.path.join(work, name) for name in ('scan.ply', 'mesh.ply', 'out.ply'))
-    tool('normals_to_ply', points, scan)
+    tool('scan', points, scan, 'normals=yes')
     subprocess.run([recon, 'build', scan, mesh, mesh + '.cert', 'unit=1000000'], check=True)
     before, after = (finished(mesh, out, 'unit=1000000', words) for words in ('flips=no', 'flips=yes'))
     low, high = before[0].min(axis=0), before[0].max(axis=0)
@@ -333,11 +341,11 @@ PICTURES = {'inside': inside, 'sight': sight, 'torus': torus, 'statue': statue, 
             'scanner': scanner, 'slice': sliced, 'finish': finish, 'kitten': kitten}
 
 
-def main():
+def main() -> None:
     words = sys.argv[1:]
-    if '--help' in words or len(words) < 2 or any(word not in PICTURES for word in words[2:]):
-        print(__doc__.strip())
-        sys.exit(0 if '--help' in words else 2)
+    if len(words) < 2 or any(word not in PICTURES for word in words[2:]):
+        print(__doc__.strip(), file=sys.stderr)
+        sys.exit(2)
     recon, folder = os.path.abspath(words[0]), words[1]
     os.makedirs(folder, exist_ok=True)
     for name in words[2:] or PICTURES:

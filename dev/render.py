@@ -3,6 +3,10 @@
 Names: View (where one looks from) · points_image, mesh_image (arrays of colours) · read_points, read_mesh (text PLY files
 of `recon` as arrays).
 """
+from __future__ import annotations
+
+from typing import Callable, Sequence
+
 import numpy as np
 
 WHITE = np.array([1.0, 1.0, 1.0])
@@ -12,7 +16,7 @@ FRONT, BACK = np.array([0.95, 0.80, 0.62]), np.array([0.45, 0.60, 0.80])
 class View:
     """A parallel view along `toward`, with z up: a square of the half side `reach` about `centre`, of `size` pixels."""
 
-    def __init__(self, toward, centre, reach, size):
+    def __init__(self, toward: Sequence[float], centre: Sequence[float], reach: float, size: int) -> None:
         self.toward = np.array(toward, float) / np.linalg.norm(toward)
         self.right = np.cross(self.toward, [0.0, 0.0, 1.0])
         self.right /= np.linalg.norm(self.right)
@@ -21,25 +25,24 @@ class View:
         self.light = -self.toward * 0.7 + self.up * 0.5 - self.right * 0.5
         self.light /= np.linalg.norm(self.light)
 
-    def pixels(self, places):
+    def pixels(self, places: np.ndarray) -> tuple[np.ndarray, np.ndarray, np.ndarray]:
         """Columns, rows and depths."""
         q = np.asarray(places, float) - self.centre
         half = self.size / 2
         return half + q @ self.right * half / self.reach, half - q @ self.up * half / self.reach, q @ self.toward
 
 
-def body_lines(path):
+def body_lines(path: str) -> tuple[dict[str, int], list[str]]:
+    counts = {}
     with open(path, encoding='ascii') as file:
-        counts = {}
-        for line in file:
+        for line in iter(file.readline, 'end_header\n'):
             words = line.split()
             if words[0] == 'element':
                 counts[words[1]] = int(words[2])
-            elif words[0] == 'end_header':
-                return counts, file.read().splitlines()
+        return counts, file.read().splitlines()
 
 
-def read_points(path):
+def read_points(path: str) -> tuple[np.ndarray, np.ndarray, np.ndarray]:
     """Coordinates and scanners' numbers of a scan whose columns are x y z scanner, and the scanners' places."""
     counts, lines = body_lines(path)
     count = counts['vertex']
@@ -48,7 +51,7 @@ def read_points(path):
     return rows[:, :3], rows[:, 3].astype(int), places
 
 
-def read_mesh(path):
+def read_mesh(path: str) -> tuple[np.ndarray, np.ndarray]:
     """Coordinates and faces of a mesh."""
     counts, lines = body_lines(path)
     count = counts['vertex']
@@ -57,7 +60,7 @@ def read_mesh(path):
     return places, faces
 
 
-def points_image(view, places, tint=(0.25, 0.3, 0.4)):
+def points_image(view: View, places: np.ndarray, tint: tuple[float, float, float] = (0.25, 0.3, 0.4)) -> np.ndarray:
     """Points as dots of one pixel each, the nearer ones darker."""
     image = np.ones((view.size, view.size, 3))
     column, row, depth = view.pixels(places)
@@ -70,7 +73,7 @@ def points_image(view, places, tint=(0.25, 0.3, 0.4)):
     return image
 
 
-def corner_normals(places, faces):
+def corner_normals(places: np.ndarray, faces: np.ndarray) -> np.ndarray:
     """Normals at the vertices, as the sum of their faces' normals, so that noise of one point does not decide a shade."""
     a, b, c = (places[faces[:, k]] for k in range(3))
     across = np.cross(b - a, c - a)
@@ -80,7 +83,8 @@ def corner_normals(places, faces):
     return normals / np.maximum(np.linalg.norm(normals, axis=1), 1e-12)[:, None]
 
 
-def mesh_image(view, places, faces, keep=None, is_flat=False):
+def mesh_image(view: View, places: np.ndarray, faces: np.ndarray, keep: Callable[[np.ndarray], np.ndarray] | None = None,
+               is_flat: bool = False) -> np.ndarray:
     """A mesh, its front sides warm and its back sides cold. `keep` tells by the middle of a face whether it is drawn. Flat, each
     face has the shade of its own direction, as printers, and viewers at their defaults, show it."""
     if is_flat:
@@ -101,7 +105,7 @@ def mesh_image(view, places, faces, keep=None, is_flat=False):
     return image
 
 
-def draw_faces(image, deepest, corners, side):
+def draw_faces(image: np.ndarray, deepest: np.ndarray, corners: np.ndarray, side: int) -> None:
     """Triangles that each fit in a square of so many pixels. Of all that meet a pixel the nearest is kept."""
     x, y, z, light = (corners[k][:, :, None] for k in range(4))
     offset = np.arange(side * side)

@@ -6,7 +6,7 @@
 
   RECON              the built program
   FOLDER             where scans are kept and tiles and meshes are written; what is there is not made again
-  shapes=NAME,..     torus, room, statue, or walls (a room with the eight points of surround.py); without it all four
+  shapes=NAME,..     torus, room, statue, or walls (a room with the eight points of surround=); without it all four
   count=N            points of a scan; without it 100000
   points=N           the most points of a tile; without it 45000
   spacings=K,..      overlaps in mean spacings; without it 5,10,20,50
@@ -18,42 +18,48 @@ A face is near a seam where its middle is within 20 mean spacings of the core of
 points, in their order, are no face of the other mesh. Distances are of the middles of faces from the object, in mean spacings;
 a face is off where that is over five times the scanner's error. Needs numpy.
 """
+from __future__ import annotations
+
 import json
 import os
 import subprocess
 import sys
+from typing import Any, Sequence
 
-import numpy
+from report import begun
+if __name__ == '__main__':
+    begun(__doc__, 'numpy')
+import numpy  # noqa: E402
 
-import tools_path
+import tools_path  # noqa: E402
 from make_scan import FIGURE, FURNITURE, ROOM
-from toolbox.tile_join import read_mesh, read_tiles
+from toolbox.tile_join import Tile, read_mesh, read_tiles
 from toolbox.tool import run
 
 TOOLS = tools_path.TOOLS
 SCALE, NOISE, NEAR = 500000, 0.0015, 20
 
 
-def lengths(rows):
+def lengths(rows: numpy.ndarray) -> numpy.ndarray:
     return numpy.sqrt((rows * rows).sum(axis=1))
 
 
-def to_torus(places):
+def to_torus(places: numpy.ndarray) -> numpy.ndarray:
     return numpy.abs(numpy.hypot(numpy.hypot(places[:, 0], places[:, 1]) - 0.7, places[:, 2]) - 0.28)
 
 
-def to_balls(places):
+def to_balls(places: numpy.ndarray) -> numpy.ndarray:
     return numpy.abs(numpy.min([lengths(places - centre) - radius for centre, radius in FIGURE], axis=0))
 
 
-def to_box(low, high, places):
+def to_box(low: tuple[float, float, float], high: tuple[float, float, float], places: numpy.ndarray) -> numpy.ndarray:
     """The distance from the surface of a box."""
     beyond = numpy.maximum(numpy.array(low) - places, places - numpy.array(high))
     outside = lengths(numpy.maximum(beyond, 0))
     return numpy.where(outside > 0, outside, -beyond.max(axis=1))
 
 
-def to_room(places):
+def to_room(places: numpy.ndarray) -> numpy.ndarray:
     return numpy.min([to_box(*box, places) for box in [ROOM] + FURNITURE], axis=0)
 
 
@@ -63,7 +69,7 @@ DISTANCES = {'torus': to_torus, 'statue': to_balls, 'room': to_room, 'walls': to
 class Faces:
     """The faces of a mesh: a key of its three places each, and three times its middle."""
 
-    def __init__(self, path):
+    def __init__(self, path: str) -> None:
         mesh = read_mesh(path)
         places = numpy.stack([numpy.array(axis, dtype=numpy.int64) for axis in (mesh.x, mesh.y, mesh.z)], axis=1)
         corners = numpy.stack([numpy.array(corner, dtype=numpy.int64) for corner in (mesh.a, mesh.b, mesh.c)], axis=1)
@@ -75,7 +81,7 @@ class Faces:
         self.middles = places[corners].sum(axis=1)
 
 
-def near_seams(tiles, faces, far):
+def near_seams(tiles: list[Tile], faces: Faces, far: float) -> numpy.ndarray:
     """Which faces have their middle within so many thirds of a core that it is not in."""
     found = numpy.zeros(len(faces.middles), dtype=numpy.int64)
     for tile in tiles:
@@ -85,7 +91,7 @@ def near_seams(tiles, faces, far):
     return found > 1
 
 
-def summary(shape, faces, others, near, spacing):
+def summary(shape: str, faces: Faces, others: Faces | None, near: numpy.ndarray, spacing: float) -> list[str]:
     """Of the faces near seams and elsewhere: how many, how many differ, their mean distance, and how many are off."""
     far, parts = DISTANCES[shape](faces.middles / (3 * SCALE)), []
     differ = ~numpy.isin(faces.keys, others.keys) if others else numpy.zeros(len(far), dtype=bool)
@@ -95,16 +101,16 @@ def summary(shape, faces, others, near, spacing):
     return parts
 
 
-def called(words):
+def called(words: list[str]) -> str:
     """Runs a program and answers what it said."""
     return subprocess.run(words, stdout=subprocess.PIPE, text=True, check=True).stdout
 
 
-def tool(name, *words):
+def tool(name: str, *words: str) -> str:
     return called([sys.executable, os.path.join(TOOLS, name + '.py'), *words])
 
 
-def scan_of(folder, shape, count):
+def scan_of(folder: str, shape: str, count: str) -> str:
     """The path of a scan, which is made where it is missing."""
     scan = os.path.join(folder, f'{shape}.{count}.ply')
     if os.path.exists(scan):
@@ -112,11 +118,11 @@ def scan_of(folder, shape, count):
     if shape != 'walls':
         tool('make_scan', shape, count, '7', scan)
         return scan
-    tool('surround', scan_of(folder, 'room', count), scan, f'by={SCALE // 5}')
+    tool('scan', scan_of(folder, 'room', count), scan, f'surround={SCALE // 5}')
     return scan
 
 
-def tiled(recon, folder, scan, spacings, options):
+def tiled(recon: str, folder: str, scan: str, spacings: str, options: Any) -> tuple[str, list[str]]:
     """The folder of the tiles of a scan, whose surfaces are built and joined, and what the join said."""
     tiles = f'{scan[:-4]}.{spacings}.{options.through}'
     if not os.path.exists(tiles):
@@ -126,7 +132,7 @@ def tiled(recon, folder, scan, spacings, options):
     return tiles, tool('tiles', 'join', tiles, tiles + '.ply', f'report={tiles}.txt').splitlines()
 
 
-def row(shape, whole, spacings, tiles, said):
+def row(shape: str, whole: Faces | None, spacings: str, tiles: str, said: list[str]) -> str:
     """A row of the table."""
     with open(os.path.join(tiles, 'tiles.json'), encoding='ascii') as file:
         about = json.load(file)
@@ -140,7 +146,7 @@ def row(shape, whole, spacings, tiles, said):
     return '| ' + ' | '.join(cells) + ' |'
 
 
-def measured(recon, folder, shape, options):
+def measured(recon: str, folder: str, shape: str, options: Any) -> None:
     """Prints the rows of a shape, one for each overlap."""
     scan = scan_of(folder, shape, options.count or '100000')
     mesh = scan[:-4] + '.mesh.ply'
@@ -151,7 +157,7 @@ def measured(recon, folder, shape, options):
         print(row(shape, whole, spacings, *tiled(recon, folder, scan, spacings, options)), flush=True)
 
 
-def main(names, options):
+def main(names: Sequence[str], options: Any) -> str:
     recon, folder = os.path.abspath(names[0]), names[1]
     os.makedirs(folder, exist_ok=True)
     shapes = (options.shapes or 'torus,room,walls,statue').split(',')

@@ -1,0 +1,224 @@
+#!/usr/bin/env python3
+"""Fails where docs/definitions.md is not what its source and the heads of specs/ come to, or where its source names what is not there.
+
+usage: dev/definitions.py           (compares, as the gate does)
+       dev/definitions.py write     (writes the page)
+       dev/definitions.py bare      (prints the definitions that neither a head nor a line over them says anything of)
+
+The source is docs/definitions.in.md: text, and tables of words by theme. Each word of a table has to be defined in a crate that the
+heading over it names, or that its own cell names. The files are printed into each row. Where a second cell is empty, it becomes what the
+heads of these files say of the words, or the line over a definition that a head does not name, and words that stand there alone get the
+arguments that they have in the heads. {shared} becomes the words that more than one crate defines, and {others} what is said of the
+words that no table has, by crate. What stands in marks above {shared} has to be such a word, a crate or a file, and there may be no more
+such words than the text there says.
+"""
+from __future__ import annotations
+
+import dataclasses
+import difflib
+import pathlib
+import re
+import sys
+
+from levels import uses_of
+from report import begun, reported
+
+TOP = pathlib.Path(__file__).resolve().parent.parent
+DEFINED = re.compile(r'(?:(?:abbrev|unfoldable|pub|record|data) )+(?!mod )([^\s:(]+)')
+DECLARED = re.compile(r'(?m)^ *pub (?:struct|enum|const|trait|type) (\w+)')
+CALLED = re.compile(r'(?m)^ *pub fn (\w+)')
+ROW = re.compile(r' *(\S.*?)(?:  +(\S.*))?')
+MARKED = re.compile(r'`([^`]+)`')
+PRINTED = '<!-- Printed by dev/definitions.py from definitions.in.md and the heads of specs/: change those, and write it anew. -->'
+
+
+@dataclasses.dataclass
+class Row:
+    """Words with their arguments, and what is said of them together."""
+    words: list[str]
+    said: str
+
+    def names(self) -> list[str]:
+        return [word.split()[0] for word in self.words]
+
+
+@dataclasses.dataclass
+class File:
+    """A file that defines words: of specs/, with what it says of them, or of src/, with none of it."""
+    crate: str
+    name: str
+    names: set[str]
+    rows: list[Row]
+    functions: set[str] = dataclasses.field(default_factory=set)
+
+
+def over_definitions(lines: list[str]) -> dict[str, str]:
+    """Returns each name that these lines define, with the comment over its definition."""
+    over: dict[str, str] = {}
+    comment: list[str] = []
+    for line in lines:
+        if line.startswith('-- '):
+            comment.append(line[3:].strip())
+            continue
+        if found := DEFINED.match(line):
+            over.setdefault(found[1].strip('◌'), ' '.join(comment))
+        comment = []
+    return over
+
+
+def rows_of(head: list[str], defined: dict[str, str]) -> list[Row]:
+    """Returns the rows of a file's head."""
+    rows: list[Row] = []
+    for line in head:
+        found = ROW.fullmatch(line[2:])
+        row = Row(found[1].split(', '), found[2] or '') if found else None
+        if row and all(name in defined for name in row.names()):
+            rows.append(row)
+        elif rows and line.startswith('--      '):
+            rows[-1].said = f'{rows[-1].said} {line[2:].strip()}'.strip()
+    return rows
+
+
+def file_of(crate: str, name: str, text: str) -> File:
+    """Returns what a file of specs/ defines and says: the rows of its head, and then the other words, each with the comment over it."""
+    lines = text.splitlines()
+    size = next((at for at, line in enumerate(lines) if not line.startswith('--')), len(lines))
+    over = over_definitions(lines[size:])
+    rows = rows_of(lines[:size], over)
+    told = {name for row in rows if row.said for name in row.names()}
+    return File(crate, name, set(over), [row for row in rows if row.said] + [Row([name], said) for name, said in over.items() if name not in told])
+
+
+def code_of(crate: str, name: str, text: str) -> File:
+    """Returns what a file of src/ declares: types and constants, and functions."""
+    return File(crate, name, set(DECLARED.findall(text)), [], set(CALLED.findall(text)))
+
+
+def defining(name: str, files: list[File]) -> list[File]:
+    """Returns those of some files that define a word: those of specs/, or where there are none those of the code."""
+    found = [file for file in files if name in file.names]
+    return [file for file in found if file.rows] or found
+
+
+def row_with(cells: list[str]) -> str:
+    """Returns a row of a table."""
+    if cells[0] == '---':
+        return f'|{"|".join(cells)}|'
+    return '|' + '|'.join(f' {cell.replace("|", chr(92) + "|")} ' if cell else ' ' for cell in cells) + '|'
+
+
+class Words:
+    """All files of specs/, and those of src/ that declare types and constants."""
+
+    def __init__(self, top: pathlib.Path) -> None:
+        self.crates = list(uses_of((top / 'crates.txt').read_text()))
+        paths = [path for crate in self.crates for path in sorted((top / 'crates' / crate / 'specs').glob('*.antt'))]
+        self.files = [file_of(path.parts[-3], path.stem, path.read_text()) for path in paths]
+        self.code = [code_of(crate, str(path.relative_to(top / 'crates' / crate)), path.read_text())
+                     for crate in self.crates for path in sorted((top / 'crates' / crate / 'src').rglob('*.rt'))]
+
+    def shared(self) -> dict[str, list[str]]:
+        """Returns the words that more than one crate defines, each with its crates."""
+        by_name: dict[str, dict[str, None]] = {}
+        for file in self.files:
+            for name in file.names:
+                by_name.setdefault(name, {})[file.crate] = None
+        return {name: list(crates) for name, crates in sorted(by_name.items()) if len(crates) > 1}
+
+    def files_in(self, text: str) -> list[File]:
+        """Returns the files that a heading or a cell has in marks: as `crates/votes/specs`, one file of it, or `votes`."""
+        marked = [re.fullmatch(r'(?:crates/)?(\w+)(?:/specs)?(?:/(\w+)\.antt)?', word) for word in MARKED.findall(text)]
+        places = [(found[1], found[2]) for found in marked if found and found[1] in self.crates]
+        return [it for crate, name in places for it in self.files + self.code if it.crate == crate and name in (None, it.name)]
+
+
+class Page:
+    """The page as it is printed from its source, and what is wrong with the source."""
+
+    def __init__(self, words: Words, source: str) -> None:
+        self.words, self.faults, self.lines = words, [], []
+        self.tabled: set[tuple[str, str, str]] = set()
+        above = source.split('{shared}')[0]
+        known = set(words.shared()) | set(words.crates) | {file.name for file in words.files} | {'specs/'}
+        self.faults += [f'{name} stands above {{shared}}, and no two crates define it' for name in MARKED.findall(above) if name not in known]
+        most = re.search(r'at most (\d+) words', above)
+        if most and len(words.shared()) > int(most[1]):
+            self.faults.append(f'{len(words.shared())} words stand in more than one crate, above {most[1]}')
+        heading, header = '', ''
+        for line in source.splitlines():
+            heading = line if line.startswith('#') else heading
+            header = (header or line) if line.startswith('|') else ''
+            self.lines += [self.row(line, heading)] if header.startswith('| Word |') else self.put(line)
+            if header.startswith('| Crate |') and '`' in line:
+                self.laws(line)
+
+    def row(self, line: str, heading: str) -> str:
+        """Returns a row of a table with its files, and with what they say where its second cell is empty."""
+        cells = [cell.strip() for cell in line[1:-1].split('|')]
+        if line.startswith(('| Word', '|---')):
+            return row_with([*cells[:2], cells[0].replace('Word', 'File'), *cells[2:]])
+        files = self.words.files_in(cells[0]) or self.words.files_in(heading)
+        names = [word.split()[0] for word in MARKED.findall(cells[0]) if not self.words.files_in(f'`{word}`')]
+        found = {name: defining(name, files) for name in names}
+        self.faults += [f'{name} is defined nowhere in what its row or its heading names: {heading}' for name, of in found.items() if not of]
+        self.tabled |= {(file.crate, file.name, name) for name, of in found.items() for file in of}
+        rows = [row for name, of in found.items() for file in of for row in file.rows if name in row.names() and row.said]
+        if not cells[1]:
+            written = {word.split()[0]: word for row in rows for word in row.words}
+            self.faults += [f'nothing is said of {name}' for name in names if name not in written]
+            cells[0] = MARKED.sub(lambda old: f'`{written.get(old[1], old[1])}`', cells[0])
+            cells[1] = '; '.join(dict.fromkeys(row.said for row in rows))
+        many = len({file.crate for file in files}) > 1
+        where = [f'`{file.crate}/{file.name}`' if many else f'`{file.name}`' for of in found.values() for file in of]
+        return row_with([*cells[:2], ', '.join(dict.fromkeys(where)), *cells[2:]])
+
+    def laws(self, line: str) -> None:
+        """Tests that a crate has the functions of a row, and the statements behind each."""
+        crate, functions = (cell.strip(' `') for cell in line[1:-1].split('|'))
+        for name in re.findall(r'`(\w+)', functions):
+            if not any(name in file.names | file.functions for file in self.words.files + self.words.code if file.crate == crate):
+                self.faults.append(f'{crate} has no {name}, which the laws by name have')
+
+    def put(self, line: str) -> list[str]:
+        """Returns the lines that are printed for one of the source."""
+        if line == '{shared}':
+            by_crates: dict[str, list[str]] = {}
+            for name, crates in self.words.shared().items():
+                by_crates.setdefault(', '.join(f'`{it}`' for it in crates), []).append(f'`{name}`')
+            return [f'- {crates}: {", ".join(names)}' for crates, names in by_crates.items()]
+        if line == '{others}':
+            return [it for crate in self.words.crates for it in self.others(crate)]
+        return [line]
+
+    def others(self, crate: str) -> list[str]:
+        """Returns a table of the words of a crate that no other table has, with what is said of them."""
+        rows = [row_with([', '.join(f'`{word}`' for word in row.words), row.said, f'`{file.name}`'])
+                for file in self.words.files if file.crate == crate
+                for row in file.rows if row.said and any((crate, file.name, name) not in self.tabled for name in row.names())]
+        return [f'### `{crate}`', '', '| Word | In plain words | File |', '|---|---|---|', *rows, ''] if rows else []
+
+    def text(self) -> str:
+        """Returns the page."""
+        return '\n'.join([PRINTED, *self.lines]).rstrip('\n') + '\n'
+
+
+def main(words: list[str]) -> int:
+    known = Words(TOP)
+    page = Page(known, (TOP / 'docs/definitions.in.md').read_text())
+    path = TOP / 'docs/definitions.md'
+    if words == ['write']:
+        path.write_text(page.text())
+    bare = [f'{file.crate} {file.name} {name}' for file in known.files for row in file.rows if not row.said for name in row.names()]
+    if words == ['bare']:
+        print('\n'.join(bare))
+    there, printed = path.read_text().splitlines(), page.text().splitlines()
+    differ = difflib.unified_diff(there, printed, 'docs/definitions.md', 'what `dev/definitions.py write` prints', lineterm='', n=0)
+    faults = page.faults + [line for line in differ if not line.startswith('@@')]
+    count = sum(len(file.names) for file in known.files)
+    return reported('definitions', faults, f'{count} in {len(known.files)} files, {len(page.tabled)} in tables by theme, '
+                    f'{len(bare)} with nothing said of them, {len(known.shared())} words in more than one crate')
+
+
+if __name__ == '__main__':
+    begun(__doc__)
+    sys.exit(main(sys.argv[1:]))
