@@ -24,7 +24,7 @@ from levels import uses_of
 from report import begun, reported
 
 TOP = pathlib.Path(__file__).resolve().parent.parent
-DEFINED = re.compile(r'(?:(?:abbrev|unfoldable|pub|record|data) )+(?!mod )([^\s:(]+)')
+DEFINED = re.compile(r'(?:(?:abbrev|unfoldable|pub|record|data) )+(?!mod |use )([^\s:(]+)')
 DECLARED = re.compile(r'(?m)^ *pub (?:struct|enum|const|trait|type) (\w+)')
 CALLED = re.compile(r'(?m)^ *pub fn (\w+)')
 ROW = re.compile(r' *(\S.*?)(?:  +(\S.*))?')
@@ -57,6 +57,8 @@ def over_definitions(lines: list[str]) -> dict[str, str]:
     over: dict[str, str] = {}
     comment: list[str] = []
     for line in lines:
+        if line.startswith(('infix', '-- ----')):
+            continue
         if line.startswith('-- '):
             comment.append(line[3:].strip())
             continue

@@ -18,6 +18,7 @@ use Rattle.cell_laws.specs.Lists.{IsIn, IsFull, IsListing, IsClosed, IsReplaced}
 use Rattle.geo_sign.specs.Edges.{edge_start, edge_end, over}
 use Rattle.cell_laws.specs.Edges.{IsFanList, AreEdges, HaveEdge}
 
+-- the facets between the cells in conflict with p and all else, over which the cells with p will stand
 pub record IsFanOf (v : Vertices) (p : ℕ) : Type 0 where
   -- p is before each facet
   pub before : (a b c : ℕ) → IsFan v p a b c → pos 0 <ℤ orientation_of v a b c p

@@ -76,6 +76,7 @@ CavityLaw =
     ((x : ℕ) → IsIn live x → marked x ≡ true → IsInConflict v p (cell x)) → (x : ℕ) → IsIn live x → marked x ≡ true →
     AreConflicts v p live cell marked
 
+-- the fan of the definitions, which speaks of all cells, is what links show at the rim of the cells in conflict
 pub record IsRimLaw (v : Vertices) (p : ℕ) (live : List ℕ) (cell : ℕ → Tetrahedron) (next : ℕ → ℕ → Option ℕ) : Type 0 where
   pub fan :
       (x k : ℕ) → IsIn live x → k < 4 → IsInConflict v p (cell x) → IsRim v p cell next x k →
@@ -152,9 +153,11 @@ RenewLaw =
     IsReplacement p live cell next removed n fan outer fresh live' cell' next' → AreAllCells (with_vertex v p) live' cell' next'
 
 -- ---- the corners alone
+-- the names under which the six cells of the box stand
 abbrev pub six_names : List ℕ
 six_names = 0 ∷ 1 ∷ 2 ∷ 3 ∷ 4 ∷ 5 ∷ []
 
+-- one tetrahedron at corner 0, one at corner 7, and between them four round the diagonal from 3 to 4; all written positively
 abbrev pub six_cell : ℕ → Tetrahedron
 six_cell zero = tetrahedron 0 1 2 4
 six_cell (suc zero) = tetrahedron 1 2 4 3
@@ -163,12 +166,14 @@ six_cell (suc (suc (suc zero))) = tetrahedron 2 3 6 4
 six_cell (suc (suc (suc (suc zero)))) = tetrahedron 3 4 5 6
 six_cell (suc (suc (suc (suc (suc x))))) = tetrahedron 3 5 7 6
 
+-- what is across side k, of the four that are named; any number above 3 is read as 3
 abbrev pub four_links : (a b c d : Option ℕ) → ℕ → Option ℕ
 four_links a b c d zero = a
 four_links a b c d (suc zero) = b
 four_links a b c d (suc (suc zero)) = c
 four_links a b c d (suc (suc (suc k))) = d
 
+-- which of the six is across each side; none is across a wall
 abbrev pub six_next : ℕ → ℕ → Option ℕ
 six_next zero = four_links (Some 1) None None None
 six_next (suc zero) = four_links (Some 3) (Some 2) None (Some 0)

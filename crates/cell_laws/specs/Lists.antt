@@ -59,6 +59,7 @@ pub record IsReplaced {X : Type 0} (v : Vertices) (p : ℕ) (live : List X) (cel
   pub stay : (x : X) → IsIn live x → IsClearOf v p (cell x) → (y : X) × IsIn live' y × IsRewritten (cell' y) (cell x)
   pub come : (a b c : ℕ) → IsFan v p a b c → (y : X) × IsIn live' y × IsRewritten (cell' y) (tetrahedron a b c p)
 
+-- what one name adds to a count
 abbrev pub one_if : Bool → ℕ
 one_if true = 1
 one_if false = 0

@@ -26,6 +26,8 @@ abbrev pub AllLaw : Type 0
 AllLaw =
     (points : List Point) → All (IsWithin DATA_LIMIT) points → AllPairs (λ p q. p ≢ q) points → IsBoxed (vertices_of points)
 
+-- points with a flag each, corners first, are the vertices of the box that an insertion speaks of, at its start, after each
+-- vertex more, and with all of them in
 pub record AreStored (points : List Point) (flags : List Bool) : Type 0 where
   pub boxed :
       All (IsWithin DATA_LIMIT) points → AllPairs (λ p q. p ≢ q) points → ((k : ℕ) → k < 8 → get_or flags k false ≡ true) →

@@ -44,6 +44,8 @@ StepLaw =
     IsLinked v live cell next → AreCells v live cell → (q : RationalPoint) → IsInBox q → IsWalk v live cell next q
 
 -- ---- places near a data point
+-- p is moved a little towards the displaced scanner, or away from it: the side of any facet on which it then lies is the one on
+-- which p lies, and where p is in the facet's plane the scanner's, or the one opposite to the scanner's
 pub record AreNear (p s : Point) : Type 0 where
   pub towards_in_box : IsInBox (towards_place p s)
   pub behind_in_box : IsInBox (behind_place p s)
@@ -99,6 +101,7 @@ abbrev pub VertexSightLaw : Type 0
 VertexSightLaw = (v : Vertices) → IsBoxed v → (p : ℕ) → Has v p → (s : Point) → IsWithin DATA_LIMIT s → HasSightCells v p s
 
 -- ---- along a sight
+-- a cell on a sight has one way out, which is a crossed facet, or has the scanner in it; and it has one way in at most
 pub record IsPassed (v : Vertices) (p : ℕ) (s : RationalPoint) (t : Tetrahedron) : Type 0 where
   pub exit_or_end :
       IsOnSight v p s t → ((k : ℕ) × (k < 4) × (is_crossed v p s (turned (facet_of t k)) ≡ true)) ⊎ (is_cell_of v s t ≡ true)
@@ -114,6 +117,8 @@ SightLaw =
     (v : Vertices) → IsBoxed v → (p : ℕ) → Has v p → (s : Point) → IsWithin DATA_LIMIT s → (t : Tetrahedron) →
     IsCell v t.a t.b t.c t.d → IsPassed v p (displaced s) t
 
+-- from each cell on a sight one way leads on, over crossed facets, each nearer to p than the next; from the cell at p towards the
+-- scanner it has them all
 pub record HasPaths (v : Vertices) (live : List ℕ) (cell : ℕ → Tetrahedron) (next : ℕ → ℕ → Option ℕ) (p : ℕ)
     (s : RationalPoint) : Type 0 where
   pub some : (x : ℕ) → IsIn live x → IsOnSight v p s (cell x) → (cs : List Side) × IsPath v live cell next p s x cs

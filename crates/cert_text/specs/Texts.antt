@@ -21,51 +21,67 @@ use Rattle.cert_text.specs.declared.certificate.SinkRow.{SinkRow}
 use Rattle.cert_text.specs.Stamps.{StampView}
 use Rattle.cert_text.specs.Certificates.{Counts, Claim}
 
+-- the first version says nothing of which scan it belongs to
 unfoldable pub title : List ℕ
 title = codes "recon certificate 1\n"
 
+-- the second version has a stamp behind this line
 unfoldable pub stamped_title : List ℕ
 stamped_title = codes "recon certificate 2\n"
 
+-- the digest of the scan's file follows
 unfoldable pub scan_word : List ℕ
 scan_word = codes "scan "
 
+-- by how much the scan's numbers were multiplied
 unfoldable pub unit_word : List ℕ
 unit_word = codes "unit "
 
+-- the place follows from which all points were seen, if the words of the command gave one
 unfoldable pub scanner_word : List ℕ
 scanner_word = codes "scanner "
 
+-- they gave none
 unfoldable pub none_line : List ℕ
 none_line = codes "none\n"
 
+-- how many distinct points the scan has
 unfoldable pub points_word : List ℕ
 points_word = codes "points "
 
+-- how many scanners
 unfoldable pub scanners_word : List ℕ
 scanners_word = codes "scanners "
 
+-- how many sights, whatever they weigh
 unfoldable pub sights_word : List ℕ
 sights_word = codes "sights "
 
+-- the weight of a vote
 unfoldable pub vote_word : List ℕ
 vote_word = codes "vote "
 
+-- the weight of smoothing
 unfoldable pub smooth_word : List ℕ
 smooth_word = codes "smooth "
 
+-- what the labels cost, which the flow is worth
 unfoldable pub cost_word : List ℕ
 cost_word = codes "cost "
 
+-- how many cells are inside; their lines follow
 unfoldable pub inside_word : List ℕ
 inside_word = codes "inside "
 
+-- how many facets something flows over; their lines follow
 unfoldable pub flow_word : List ℕ
 flow_word = codes "flow "
 
+-- from how many cells something flows into their sinks; their lines follow
 unfoldable pub sink_word : List ℕ
 sink_word = codes "sink "
 
+-- by which a text that was cut is told from a whole one
 unfoldable pub end_line : List ℕ
 end_line = codes "end\n"
 

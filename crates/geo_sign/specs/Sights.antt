@@ -14,9 +14,11 @@ use Rattle.geo_sign.specs.Vertices.{Vertices}
 abbrev pub side_of : Vertices → DirectedFacet → RationalPoint → ℤ
 side_of v f s = side (v.at f.a) (v.at f.b) (v.at f.c) s
 
+-- of the side of a facet: a place lies strictly on that from which the facet turns counterclockwise, its own cell's
 abbrev pub is_positive : ℤ → Bool
 is_positive z = int_lt (pos 0) z
 
+-- it lies strictly on the other side; in the facet's plane it is on neither
 abbrev pub is_negative : ℤ → Bool
 is_negative z = int_lt z (pos 0)
 
@@ -33,11 +35,13 @@ is_crossed v p s f =
 abbrev pub all_facets : Tetrahedron → (DirectedFacet → Bool) → Bool
 all_facets t test = test (facet_of t 0) && test (facet_of t 1) && test (facet_of t 2) && test (facet_of t 3)
 
+-- the three facets that have p: of the four only that opposite to p is passed over
 abbrev pub all_facets_at : ℕ → Tetrahedron → (DirectedFacet → Bool) → Bool
 all_facets_at p t test =
     ((t.a == p) || test (facet_of t 0)) && ((t.b == p) || test (facet_of t 1)) && ((t.c == p) || test (facet_of t 2))
     && ((t.d == p) || test (facet_of t 3))
 
+-- one of the four vertices is this number
 abbrev pub has_vertex : Tetrahedron → ℕ → Bool
 has_vertex t p = (t.a == p) || (t.b == p) || (t.c == p) || (t.d == p)
 

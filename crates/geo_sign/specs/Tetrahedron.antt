@@ -22,9 +22,11 @@ pub record DirectedFacet : Type 0 where
   pub b : ℕ
   pub c : ℕ
 
+-- four vertex numbers in the order in which they are written; whether that is a positive one is told by an orientation
 abbrev pub tetrahedron : (a b c d : ℕ) → Tetrahedron
 tetrahedron a b c d = record { a = a; b = b; c = c; d = d }
 
+-- three vertex numbers in the order in which they turn
 abbrev pub facet : (a b c : ℕ) → DirectedFacet
 facet a b c = record { a = a; b = b; c = c }
 

@@ -15,30 +15,39 @@ use Rattle.line_text.specs.Facets.{facet_fields}
 use Rattle.mesh_ply.specs.Meshes.{IsMesh}
 use Rattle.geo_sign.specs.declared.point.TheConstants.{BOX_LIMIT}
 
+-- by which a file is told to be PLY
 unfoldable pub ply_line : List ℕ
 ply_line = codes "ply\n"
 
+-- numbers stand as decimal text
 unfoldable pub format_line : List ℕ
 format_line = codes "format ascii 1.0\n"
 
+-- the number of points follows
 unfoldable pub vertex_word : List ℕ
 vertex_word = codes "element vertex "
 
+-- a coordinate is a whole number that fits 32 bits, in scaled units; x is the first of a point's line
 unfoldable pub x_line : List ℕ
 x_line = codes "property int x\n"
 
+-- its second
 unfoldable pub y_line : List ℕ
 y_line = codes "property int y\n"
 
+-- its third
 unfoldable pub z_line : List ℕ
 z_line = codes "property int z\n"
 
+-- the number of faces follows
 unfoldable pub face_word : List ℕ
 face_word = codes "element face "
 
+-- a face's line is the count of its vertices, which fits a byte, and their numbers, the first point being 0
 unfoldable pub list_line : List ℕ
 list_line = codes "property list uchar int vertex_indices\n"
 
+-- the points follow in the next line
 unfoldable pub header_end : List ℕ
 header_end = codes "end_header\n"
 

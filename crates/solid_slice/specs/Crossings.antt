@@ -33,10 +33,11 @@ crossings_at (Some edge) f = record { edge = edge; face = f } ∷ []
 abbrev pub listed : ℕ → List Crossing → List ℕ
 listed k crossings = map the_crossed (filter (λ c. key_of_crossing c == k) crossings)
 
--- whether face f goes up on the edge from u to v, and whether it goes down on that from v to u
+-- face f goes up through the height on the edge from u to v
 abbrev pub is_upward : List Point → List (List ℕ) → ℤ → (u v f : ℕ) → Bool
 is_upward points faces h u v f = goes_up points h u v && has_edge u v (face_at faces f)
 
+-- it goes down through the height on the same edge, which it has from v to u
 abbrev pub is_downward : List Point → List (List ℕ) → ℤ → (u v f : ℕ) → Bool
 is_downward points faces h u v f = goes_up points h u v && has_edge v u (face_at faces f)
 

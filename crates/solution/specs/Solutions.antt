@@ -43,12 +43,14 @@ abbrev pub listed : {Row : Type 0} → (List ℕ → ℕ → Row) → List (List
 listed make keys amounts =
     map (λ (key : List ℕ). make key (amounts key)) (filter (λ (key : List ℕ). not (amounts key == 0)) keys)
 
+-- a row of what flows over a facet
 abbrev pub flow_row : List ℕ → ℕ → FlowRow
 flow_row facet amount = record { facet = facet; amount = amount }
 
 abbrev pub flow_rows : List (List ℕ) → (List ℕ → ℕ) → List FlowRow
 flow_rows facets amounts = listed flow_row facets amounts
 
+-- a row of what flows from a cell into its sink
 abbrev pub sink_row : List ℕ → ℕ → SinkRow
 sink_row cell amount = record { cell = cell; amount = amount }
 

@@ -21,15 +21,19 @@ high x y = if nat_lt y x then x else y
 abbrev pub order_ab : Tetrahedron → Tetrahedron
 order_ab t = tetrahedron (low t.a t.b) (high t.a t.b) t.c t.d
 
+-- the same of the other pair
 abbrev pub order_cd : Tetrahedron → Tetrahedron
 order_cd t = tetrahedron t.a t.b (low t.c t.d) (high t.c t.d)
 
+-- the lesser of the two pairs, behind which a is the least of all
 abbrev pub order_ac : Tetrahedron → Tetrahedron
 order_ac t = tetrahedron (low t.a t.c) t.b (high t.a t.c) t.d
 
+-- the greater of the two pairs, behind which d is the greatest of all
 abbrev pub order_bd : Tetrahedron → Tetrahedron
 order_bd t = tetrahedron t.a (low t.b t.d) t.c (high t.b t.d)
 
+-- the two that are left
 abbrev pub order_bc : Tetrahedron → Tetrahedron
 order_bc t = tetrahedron t.a (low t.b t.c) (high t.b t.c) t.d
 
