@@ -1,5 +1,12 @@
--- Where a sight crosses the facets of a cell. The sight begins at a vertex p and ends at the place s. A cell's facet k has the
--- side p k of the vertex and s k of the place; the sides of the edges are the minors of these.
+-- Where a sight crosses the facets of a cell. The sight begins at a vertex p and ends at the place s. A cell's facet k has
+-- the side p k of the vertex and s k of the place; the sides of the edges are the minors of these.
+--
+-- Each edge of facet l is shared with one other facet k, and the cell's orientation times the side of that edge is p k * s l
+-- - p l * s k: twelve identities by multiplying out (edge_ab, edge_bc, edge_ca). So that the sight passes the three edges of
+-- facet l on their inner sides says that it is on the inner side of the three other planes where it passes that of l, on its
+-- way in (IsEntry, entry_of) or on its way out (IsExit, exit_left and left_exit), in the numbers that Firsts speaks of.
+-- Turned round, an exit of one cell is a crossed facet of the next (left_turned).
+--
 -- Stands on: Sides, and Firsts (the minors).
 use Rattle.std.proofs.Common.{ℕ, zero, suc, ◌<◌, ◌≡◌, ◌≢◌, refl, sym, subst, inl, inr, ⊎_elim, ◌⊎◌, arith, ℤ, pos, ◌*ℤ◌, ◌<ℤ◌}
 use Rattle.std.proofs.Common.{List, [], ◌∷◌}

@@ -1,4 +1,12 @@
 -- The laws of walks, of the cells of scanners and sights, and of a cell on a sight, as specs/WalkLaws states them.
+--
+-- A facet with a place of the box behind it is on no wall, so there is a cell across (met_behind), and fewer cells are
+-- higher at the place than that one (walk_falls): step_law. A displaced scanner is in the plane of no facet, so the cell in
+-- which it lies has it strictly in it, and no other has (scanner_law); the place near a vertex is of the one cell towards
+-- the scanner, and the cell behind is the same of the reversed direction (vertex_sight_law). In a cell on the sight it comes
+-- in at the vertex or through a facet, and moving on it passes a first of the planes that have the scanner behind them, or
+-- no plane has (sight_law, by exit_or_end of Firsts, whose two cases here are how it comes in).
+--
 -- Stands on: Walk, Near, Scanners, SightSteps and SightTests.
 use Rattle.std.proofs.Common.{ℕ, zero, suc, ◌<◌, ◌≡◌, refl, sym, ◌∙◌, ◌⊎◌, inl, inr, ⊎_elim, arith, true, ℤ, pos, neg_ℤ, ◌≤ℤ◌}
 use Rattle.std.proofs.Common.{◌<ℤ◌, Option, Some, None, List}

@@ -1,4 +1,11 @@
 -- The way of a sight over linked cells, as specs/WalkLaws states it.
+--
+-- A cell on the sight has the scanner in it or an exit, across which a cell is entered and so is on the sight too. Fewer
+-- cells are higher at the scanner than that one, so the way ends (path_from, by that count). It has one exit and one entry,
+-- so there is no other way (one_path). Each step is a passage through cells (way_of); from the cell towards the scanner on,
+-- every crossed facet is met by them (path_all, by Complete), and the nearer come first (path_nearing). No facet is nearer
+-- than itself, so each stands in the way once or not at all (path_counted).
+--
 -- Stands on: SightLaws, SightSteps (the order) and Complete (each crossed facet is met).
 use Rattle.std.proofs.Common.{ℕ, zero, suc, ◌<◌, ◌≡◌, refl, ap, ap₂, sym, subst, ◌∙◌, ◌+◌, inl, inr, ⊎_elim, arith, Bool, true}
 use Rattle.std.proofs.Common.{false, true≢false, ◌&&◌, eqb, Option, List, [], ◌∷◌}

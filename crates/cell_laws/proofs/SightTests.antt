@@ -1,4 +1,5 @@
--- The tests of sights in geo_tie, against what they say.
+-- The tests of sights that geo_sign defines, against what they say.
+--
 -- Stands on: Sides, Near and Crossings (what they say).
 use Rattle.std.proofs.Common.{ℕ, zero, suc, ◌≡◌, refl, ap, ap₂, sym, ◌∙◌, ◌⊎◌, inl, inr, ⊎_elim, arith, Bool, true, false}
 use Rattle.std.proofs.Common.{true≢false, ◌&&◌, ◌||◌, eqb, int_lt, ℤ, pos, neg_ℤ, ◌<ℤ◌}

@@ -1,4 +1,11 @@
 -- That a polynomial multiplied out keeps its value, and the identities that follow by computation.
+--
+-- `expand e k` hands each product of e on to k, which puts it into a form, at once or after more factors. So what is asked
+-- of k is that it adds its product to the form's value, times a number v that stands for what k still multiplies by (Adds).
+-- add_term does so for v = 1 (value-add_term, by cases on where the product belongs among the sorted ones), and where k does
+-- for v, expand e k does for the value of e times v (adds-expand, by the structure of e; a product of two is that step
+-- twice). Begun with add_term at the form 0 this gives the value of e - f; where no product is left in that form it is zero
+-- (null_is_zero), so e and f are one number (ring).
 use Rattle.std.proofs.Common.{ℕ, zero, suc, ◌≡◌, refl, sym, ap, ◌∙◌, subst, ℤ, pos, negsuc, ◌+ℤ◌, ◌-ℤ◌, ◌*ℤ◌, neg_ℤ, arith}
 use Rattle.std.proofs.Common.{List, [], ◌∷◌, Bool, true, false, ◌&&◌, T, eqb, ltb, eqb→eq}
 use Rattle.std.proofs.lemmas.Int.{ints}

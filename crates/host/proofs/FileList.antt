@@ -1,4 +1,10 @@
 -- A file of a list of files, by its place, and the list with one file replaced.
+--
+-- A host in memory keeps a list, and what a host tells is a function from names to bytes (files_of), which takes the first
+-- file of a name. No two files have one name, so under the name of a place stands the file there (files_of-at), and the list
+-- with another file of the same name at a place is another function at this name alone (files_of-set, by induction: the
+-- place is the first one or later). From this follow a file made empty (empties), bytes added to one (adds), and what stands
+-- under a name that is at a place, at none, or at one whose file is not there yet (found_file).
 use Rattle.std.proofs.Common.{◌≡◌, ◌≢◌, ℕ, zero, suc, ◌<◌, ◌-◌, List, [], ◌∷◌, ◌++◌, length, get_or, set, Contains, Option}
 use Rattle.std.proofs.Common.{Some, None, Bool, true, false, cond, refl, sym, ap, ◌∙◌, arith, string_bytes, unwrap_or}
 use mathlib.Core.Path.{fun_ext}

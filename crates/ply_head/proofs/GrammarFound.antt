@@ -1,4 +1,11 @@
 -- The reader and the grammar agree: where a header is read, the lines lead to it.
+--
+-- Reading is a chain of answers, each of which may refuse. It gave a header, so each of them gave a value (guarded,
+-- bind_ok): the line is short, its words are a statement, and the statement made a step. What a step makes of the header so
+-- far is what the grammar says that its statement adds (is_step, by cases on the statement and on whether there is a header
+-- yet). lines_found goes on to the line that ends the header, and keeps all that was read as IsFound. The parts of a text at
+-- its LFs have no LF, and joined again they are the text (parts_clean, text_of_parts), so text_has finds the lines of the
+-- grammar in the bytes. At the top are two cases, `ply` with a CR and without.
 use Rattle.std.proofs.Common.{◌≡◌, ℕ, zero, suc, ◌+◌, ◌<◌, ◌≤◌, Bool, true, false, cond, ltb, List, [], ◌∷◌, ◌++◌, length}
 use Rattle.std.proofs.Common.{get_or, drop, Option, Some, None, Err, refl, sym, ap, subst, ◌∙◌, arith, All, codes, append_assoc}
 use Rattle.std.proofs.Common.{nat_eq, inl, inr, ◌⊎◌}

@@ -1,4 +1,10 @@
 -- What holds of each header that lines lead to.
+--
+-- What the words of a line say has names of visible bytes, counts that fit 32 bits, and lists that are counted in whole
+-- numbers (told, by the first word of the line). Each line adds one element or one property at most, under a name that is
+-- new where it is added (added, by the statement). So after k lines a header has at most k elements and each element at most
+-- k properties, whose names differ in pairs (SoFar); lines_keep carries that from line to line, and readable_has ends it
+-- with the most lines that a header has.
 use Rattle.std.proofs.Common.{◌≡◌, ◌≢◌, ℕ, suc, ◌+◌, ◌<◌, ◌≤◌, Bool, true, false, cond, leb, ◌&&◌, List, [], ◌∷◌, ◌++◌, length}
 use Rattle.std.proofs.Common.{get_or, Option, Some, None, refl, sym, ap, subst, arith, All, codes, inl, inr, ◌⊎◌, length-append}
 use Rattle.std.specs.Prelude.{AllPairs, filter}

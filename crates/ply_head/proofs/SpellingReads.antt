@@ -1,4 +1,9 @@
--- The printed lines of a header lead to it.
+-- What each printed line of a header says: the statement that it was printed for.
+--
+-- Printed lines are plain, that is of visible bytes and spaces, so they have no LF and no CR to be dropped (line_plain,
+-- text_same), and are cut into words at their spaces (next_word, last_word). The words are read as what they were printed
+-- from: a kind, a type, a name, a count (kind_read, scalar_read, name_read, count_read). Both together give what `format`,
+-- `element`, `property` and `end_header` lines say.
 use Rattle.std.proofs.Common.{◌≡◌, ℕ, zero, suc, ◌<◌, ◌≤◌, Bool, true, false, leb, eqb, ◌&&◌, List, [], ◌∷◌, ◌++◌, length, Some}
 use Rattle.std.proofs.Common.{refl, ap, ◌∙◌, arith, All, codes, decimal, append_assoc}
 use Rattle.std.specs.Prelude.{nat_le}

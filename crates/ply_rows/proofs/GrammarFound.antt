@@ -1,4 +1,10 @@
 -- The reader and the grammar agree: what is read of a property is what the body begins with.
+--
+-- Reading a field is a chain of answers. It gave a field, so each gave a value: a list's count is whole and fits 32 bits,
+-- and the tokens or bytes that it announces are there. The piece that the grammar asks for is then what was taken, and what
+-- is left is what was dropped; the two are the body (take-append-drop). The cases are text or binary, one value or a list;
+-- in a binary list the count and the items are taken one after the other and are one piece. property_found says it of either
+-- kind of body, fields_found of the properties of a row.
 use Rattle.std.proofs.Common.{◌≡◌, ℕ, ◌+◌, ◌*◌, ◌≤◌, ltb, ℤ, pos, negsuc, List, [], ◌∷◌, ◌++◌, length, take, drop, Result, Ok}
 use Rattle.std.proofs.Common.{Err, refl, sym, ap, subst, ◌∙◌, arith}
 use Rattle.std.proofs.lemmas.Bool.{ltb-false}

@@ -1,4 +1,11 @@
 -- Verdicts by number, said over cells and facets.
+--
+-- The labels and the flow are tested by number, in the network of the scan; a reason speaks of cells and facets. Node k is
+-- the k-th cell of the list and arc k the k-th facet, and each fault is one of a network over anything, so it stands at a
+-- number where it stands at the cell or the facet (the `_stands`, by the correspondences of flow_net): so the first fault is
+-- the first there too, and a fault that is nowhere by number is nowhere. verdict_reason then takes the verdicts one by one,
+-- Yes by what the two networks agree on of labels and flows. reason_is is the same of labels and amounts that are equal to
+-- those that the certificate states.
 use Rattle.std.proofs.Common.{ℕ, ◌≡◌, ◌<◌, sym, subst, ◌∙◌, false, List, length, Option, MatchOption}
 use Rattle.std.proofs.lemmas.Bool.{false_from_ne_true}
 use Rattle.cert_text.specs.Certificates.{Claim}

@@ -1,4 +1,14 @@
 -- A mesh and a certificate have one answer.
+--
+-- The reasons about cells, facets, flow, cost and mesh have a level, the place of their kind in the order of telling.
+-- `Passes` says what holds where there is no fault of a kind. A reason excludes that of its own kind (fails), and brings it
+-- for each kind of a lower level (passes_before, up the `by_` lemmas, each of which knows one kind more). So two reasons are
+-- of one level, and as each is the first of its list they are equal (same_kind, one_reason).
+--
+-- Around this: a scan has one complex (one_over); the counts are compared first, in one order (one_count, one_fault); a
+-- solution passes at every level, so Yes excludes each reason (shown_no_fault); a fault of the stamp comes before all
+-- (one_holds); and a text that is refused is that of no certificate, while one that is not states one claim (one_claim,
+-- one_answer).
 use Rattle.std.proofs.Common.{ℕ, ◌≡◌, ◌<◌, ◌≤◌, ◌⊎◌, inl, inr, ⊎_elim, refl, ap, sym, subst, ◌∙◌, arith, Bool, true, false}
 use Rattle.std.proofs.Common.{cond, List, [], ◌++◌, length, slice_get, All, Contains}
 use Rattle.std.specs.Bool.{⊤}

@@ -1,4 +1,11 @@
 -- One walk along keys and the rows about them, both rising.
+--
+-- At each key the walk looks at the next row. If it is about the key the walk notes what the row says and goes on to the
+-- next row (walk_found), else it notes that nothing is said (walk_missed). Keys rise, so no row that was found earlier is
+-- about this key (none_here), and a row found later is about none of the earlier ones: what was noted is what all the rows
+-- so far say of the keys so far (IsWalked). Behind the last key either every row was found, and then each is about a key
+-- (walked_there), or the next row is the first that is about none (walked_stray). All that is used of what rows say is Says;
+-- among_says has it for cells that are listed, stated_says for amounts.
 use Rattle.std.proofs.Common.{ℕ, suc, ◌≡◌, ◌≢◌, ◌+◌, ◌<◌, ◌≤◌, ◌⊎◌, inl, inr, ⊎_elim, refl, ap, sym, subst, ◌∙◌, arith, Bool}
 use Rattle.std.proofs.Common.{true, false, cond, ◌||◌, List, [], ◌∷◌, ◌++◌, length, map, get_or, take, AllPairs, All, Contains}
 use Rattle.std.proofs.lemmas.Bool.{cases_lt, false_from_ne_true}

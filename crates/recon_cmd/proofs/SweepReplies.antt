@@ -1,4 +1,11 @@
 -- What `sweep` does: its outcome from that of its steps.
+--
+-- A run reads one file and then ends in one of four ways, each the last lemma of its own: a call failed (swept_failed),
+-- there was no memory for the scan (swept_starved), the scan is refused (swept_refused), or its surfaces were handed to the
+-- forms (swept). In the first three the forms are as they were. In the last they hold the meshes of their entries and the
+-- texts are carried out (handed), or a call fails on that way, or memory ends before all of them are handed out, and the
+-- forms hold fronts. What is true of files, faults and what was said comes from the lemmas for any run (failed_by,
+-- starved_by, obeyed_by).
 use Rattle.std.proofs.Common.{◌≡◌, inl, inr, ℕ, ◌+◌, ◌≤◌, ◌-◌, List, [], length, Option, Some, None, IfSome, Ok, false}
 use Rattle.std.proofs.Common.{refl, sym, ap, subst, ◌∙◌, arith, map, string_bytes}
 use Rattle.std.proofs.lemmas.List.{length-map}

@@ -1,5 +1,11 @@
 -- The lines of a scan's points, printed one after another: the sights of a row stand side by side among all sights, since
 -- these stand in the order of their points.
+--
+-- The code keeps a place among the sights: all before it are of rows before this one, and no other is (IsCut). The sights
+-- from there that are of this row (IsRun) lead to the place of the next row (next_cut), and are all sights of the row
+-- (row_between, as a filter that passes one stretch alone is that stretch: kept_between). So one line more is printed
+-- (one_more_line), and one row more has one sight of weight 1 or is the first that has not, which decides the form
+-- (once_more, not_once). parts_printed puts header, points and scanners together.
 use Rattle.std.proofs.Common.{◌≡◌, ◌≢◌, ℕ, zero, suc, ◌+◌, ◌-◌, ◌<◌, ◌≤◌, ◌==◌, Bool, true, false, ◌&&◌, not, cond, List, []}
 use Rattle.std.proofs.Common.{◌∷◌, ◌++◌, length, filter, take, drop, get_or, AllPairs, inl, inr, refl, sym, ap, subst, ◌∙◌}
 use Rattle.std.proofs.Common.{arith, append_assoc}

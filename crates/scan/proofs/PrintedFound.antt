@@ -1,4 +1,11 @@
 -- What the rows of a printed scan say: the rows that were printed.
+--
+-- The text is cut where each word stands: the bytes in front of it, the word, and the rest (word_at). So the three
+-- coordinates of a line are read at their places (point_said, from StandAt), and so are the numbers behind them (NumbersAt,
+-- one number less at each step). A decimal that was printed is read as its number, and all are within the limits that
+-- reading tests. once_read puts that together for a row of the plain form, wide_read for one of the wide form with its list,
+-- place_read for a scanner. vertices_found and scanners_found go through the lines, each with the text in front longer by
+-- the line before, and printed_found is both, from the first byte on.
 use Rattle.std.proofs.Common.{◌≡◌, ℕ, ◌+◌, ◌<◌, ◌≤◌, ◌==◌, Bool, true, false, ◌||◌, cond, ltb, List, [], ◌∷◌, ◌++◌, length, map}
 use Rattle.std.proofs.Common.{take, drop, All, decimal, ℤ, pos, unsigned_abs, Result, Ok, Err, refl, sym, ap, subst, ◌∙◌, arith}
 use Rattle.std.proofs.Common.{append_assoc, length-append}

@@ -1,5 +1,10 @@
 -- What the rows of a scan show: each sight is of a point and a scanner that are there, and sights stand in the order of
 -- their points. Rows one behind another show their sights one behind another.
+--
+-- The sights of rows are those of the first row and then those of later rows. Of the first row all have its number and its
+-- weight (of_row), and those behind have greater numbers (AreSeen), so pairs are in order, and alike in weight where they
+-- are of one row (pairs_append with its three cases: both in front, both behind, one of each): rows_seen, by the list.
+-- seen_from-append and both_shown say that rows that come later are numbered on from those before.
 use Rattle.std.proofs.Common.{◌≡◌, ℕ, suc, ◌+◌, ◌<◌, ◌≤◌, List, [], ◌∷◌, ◌++◌, length, map, get_or, All, AllPairs, refl, sym}
 use Rattle.std.proofs.Common.{ap, ◌∙◌, arith, append_assoc, length-append}
 use Rattle.std.proofs.lemmas.List.{append-nil, map-append, length-map}

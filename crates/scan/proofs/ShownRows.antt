@@ -1,5 +1,10 @@
 -- What a scan shows, as rows again: those rows show just this, and are those of a scan. The sights of rows from a number on
 -- are cut into those of the first row and those of the rows behind it.
+--
+-- Sights stand in the order of their rows, so those of the first row are in front of the others (parted), and they are of
+-- one weight, so one row with its list of scanners shows them again (same_sights, weigh_alike). The others are of later rows
+-- (others_later), whose rows do not see what was cut off (same_vertices). seen_again goes on so by the points; rows_show and
+-- rows_are_scan are about the whole.
 use Rattle.std.proofs.Common.{◌≡◌, ◌≢◌, ℕ, suc, ◌+◌, ◌<◌, ◌≤◌, ◌==◌, Bool, true, false, cond, List, [], ◌∷◌, ◌++◌, length, map}
 use Rattle.std.proofs.Common.{filter, All, AllPairs, refl, sym, ap, ◌∙◌, arith}
 use Rattle.std.proofs.lemmas.Bool.{ne_eqb, eqb-true, eqb-false}

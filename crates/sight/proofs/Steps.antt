@@ -1,5 +1,11 @@
--- A walk along a sight, step by step: the facets to come are those of the path from the cell reached, a step takes the first of
--- them, and what is kept of a walk is kept.
+-- A walk along a sight, step by step: the facets to come are those of the path from the cell reached, a step takes the first
+-- of them, and what is kept of a walk is kept.
+--
+-- From each cell on the sight there is one path, and `sides_from` is it (sides_are). In a cell with an exit the path is not
+-- empty and begins with the facet of the exit (taken), and there is a cell across, since the scanner is beyond it (goes_on);
+-- in the scanner's cell the path is empty (none_left). The cell across is on the sight again, entered through the facet
+-- turned round (walks_on, front_on). Where the walk is told its end and is not there yet, the one facet that may be the exit
+-- is it (ahead_there).
 use Rattle.std.proofs.Common.{ℕ, ◌<◌, ◌≡◌, inl, ⊎_elim, refl, sym, ap, subst, ◌∙◌, Bool, true, false, Some, None, List, [], ◌∷◌}
 use Rattle.std.proofs.Common.{slice_index, get_or, length}
 use Rattle.geo_sign.specs.Point.{Point, origin}

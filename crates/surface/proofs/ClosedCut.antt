@@ -1,5 +1,9 @@
--- The mesh is closed. The sides between cells outside and inside, each once, are even (`EvenSides`), since no cell inside has a
--- corner. A facet has the same edges from its least number on. Renumbering keeps it.
+-- The mesh is closed. The sides between cells outside and inside, each once, are even (`EvenSides`), since no cell inside
+-- has a corner. A facet has the same edges from its least number on. Renumbering keeps it.
+--
+-- EvenSides sums over all sides that pass a test, the code has a list of those that do: each is in the other, once (is_cut,
+-- in_list), so both sums are one (listed_total), and the facets of the list have the edges of the cells' facets (counted).
+-- mesh_closed is the same of the faces, whose vertices are numbered anew.
 use Rattle.std.proofs.Common.{ℕ, ◌+◌, ◌<◌, ◌≤◌, ◌≡◌, ◌≢◌, refl, sym, ap, ap₂, subst, ◌∙◌, inl, inr, arith, Bool, true, false}
 use Rattle.std.proofs.Common.{true≢false, ◌||◌, nat_lt, not, zero, suc, Option, Some, None, List, [], ◌∷◌, length, get_or, map}
 use Rattle.std.proofs.Common.{AllPairs, Contains}

@@ -1,4 +1,9 @@
 -- The six cells of the box are linked cells over its corners.
+--
+-- What must hold of the six is a test of small numbers for each cell, side and pair of sides, so it is computed for all at
+-- once and read off for one (box_below to box_keeps, by every_at); box_backs has the side that names back, and box_walled
+-- that none is across exactly on a wall. The rest carries that over: each live cell is one of the six with its corners
+-- (each), and the corners stand at their places.
 use Rattle.std.proofs.Common.{ℕ, zero, suc, ◌≡◌, ◌<◌, Bool, true, false, not, ◌&&◌, ◌||◌, ◌==◌, nat_lt, ℤ, pos, ◌<ℤ◌, int_lt}
 use Rattle.std.proofs.Common.{if◌then◌else◌, List, [], ◌∷◌, Option, Some, None, refl, sym, ap, ◌∙◌, ◌⊎◌, inl, inr, subst, arith}
 use Rattle.std.proofs.Common.{slice_index, slice_index_or}

@@ -1,4 +1,9 @@
 -- Directed facets, turned and written from another vertex on.
+--
+-- A cell has four vertices and a facet three edges, so each lemma goes through the few indices. Of distinct vertices the one
+-- opposite to a facet is not in it and the others are (opposite_out, others_in), so a facet is that of one side (same_side).
+-- Side e of the new cell over f has f's edge e in the other direction and p (side_over): so two new cells have a facet in
+-- common, one turned round, where their edges are each other's reverse (edges_turned, same_edge).
 use Rattle.std.proofs.Common.{ℕ, zero, suc, ◌≡◌, ◌≢◌, ◌<◌, refl, sym, ap, ◌⊎◌, inl, inr, subst, arith}
 use Rattle.geo_sign.specs.Tetrahedron.{Tetrahedron, DirectedFacet, facet, vertex_of, facet_of, IsRotated, IsTurned}
 use Rattle.geo_sign.specs.Writings.{IsVertexOf}

@@ -1,4 +1,10 @@
 -- The network of a scene is valid.
+--
+-- An arc goes from the cell of a facet to the one across. Of two of the four facets of a cell none is the other turned round
+-- (not_both, sixteen pairs), so these are two cells (cells_differ). Facets are listed once, so a listed facet is found where
+-- it stands (facet_index_at). If the cell itself is fixed, the facet turned round has no capacity and the arc no reverse;
+-- else that facet is listed too, and its arc is the reverse of this one (paired, turned_back): the two cases of valid_with.
+-- Capacities and sinks fit because the sights are few and light.
 use Rattle.std.proofs.Common.{ℕ, ◌<◌, ◌≤◌, ◌^◌, ◌≡◌, ◌≢◌, refl, ap, sym, subst, ◌∙◌, arith, Bool, true, false, cond, ◌&&◌, ◌||◌}
 use Rattle.std.proofs.Common.{◌⊎◌, inl, inr, ⊎_elim, List, [], ◌∷◌, length, get_or, map, eqb, Some, None, Option, Contains, pos}
 use Rattle.std.proofs.Common.{int_lt}

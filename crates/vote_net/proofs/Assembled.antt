@@ -1,4 +1,11 @@
--- What the lists and tables of the code are together: the network of the scene, which is valid as all networks of scenes are.
+-- What the lists and tables of the code are together: the network of the scene, which is valid as all networks of scenes
+-- are.
+--
+-- Rows and sides are the store's in any order, and sorted they are the rising lists, so they are a listing of the scene's
+-- cells and facets (listing_is): each facet's own cell is the same in both. Flags and sinks are then what the definitions
+-- have of each row (by_rows), and arcs what they have of each side (arcs_are). IsMade is what the calls have left of it,
+-- from which network_is, valid and ids_are follow; network_rises is for lists that were sorted.
+--
 -- Stands on: Nodes.
 use Rattle.std.proofs.Common.{ℕ, ◌*◌, ◌<◌, ◌^◌, ◌≡◌, sym, ap, subst, ◌∙◌, arith, Bool, is_some, Option, List, [], length}
 use Rattle.std.proofs.Common.{get_or, map, Contains, unwrap_or}

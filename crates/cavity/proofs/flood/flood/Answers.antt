@@ -1,3 +1,9 @@
+-- The flood over neighbors from one cell in conflict.
+--
+-- The invariant is `IsFlooding`: the cells that were found are live, in conflict and apart, and the sides of the first
+-- `done` of them lead to found cells or are in the fan, once each; and the found cells are the marked ones. A visit does the
+-- four sides of one cell more. There are no more cells than slots, so it ends (few), and with all of them done the list is
+-- closed and the fan is its rim (full).
 use Rattle.std.proofs.Common.{ℕ, ◌≡◌, ◌<◌, ◌*◌, ◌+◌, List, [], ◌∷◌, ◌++◌, length, slice_index, slice_index_or, sym, ap, ◌∙◌}
 use Rattle.std.proofs.Common.{subst, arith}
 use Rattle.std.proofs.lemmas.List.{get_or_default}

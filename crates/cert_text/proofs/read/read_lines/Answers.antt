@@ -1,3 +1,8 @@
+-- A certificate is read part after part: heading, three lists, last line.
+--
+-- A refusal in a part is the certificate's, as the parts before it were read: at_counts, at_inside, at_flow, at_sink and
+-- at_end each put one part in front of what is refused behind it, so each goal is such a chain, longer by one than the goal
+-- before. Where nothing is refused the parts are the whole text of the claim (whole).
 use Rattle.std.proofs.Common.{◌+◌, inl}
 use Rattle.line_text.specs.Lists.{WithMemory, RefusedList}
 use Rattle.line_text.proofs.Rows.{IfErr-holds, WithMemory-holds, WithMemory-weaker, some_left, none_left}

@@ -1,3 +1,8 @@
+-- The set of points seen so far is the list of distinct points of the rows so far.
+--
+-- The set compares by the derived equality, which is that of the definitions (equals_is), so what it looks up and what it
+-- adds are theirs too (any_is, index_is). Each row then adds its point where it is new and its index in any case
+-- (points_more, indices_more), and an index that was given stays.
 use Rattle.std.proofs.Common.{ℕ, ◌≡◌, ◌<◌, ◌+◌, ◌++◌, ◌||◌, not, Bool, true, false, cond, refl, subst, rules, [], ◌∷◌, List}
 use Rattle.std.proofs.Common.{map, length, get_or, take, ap, sym, ◌∙◌, arith}
 use Rattle.std.specs.List.{list_any, position_or_len}

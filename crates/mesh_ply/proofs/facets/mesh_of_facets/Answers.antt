@@ -1,3 +1,9 @@
+-- The mesh of the definitions, from three steps: marks of the points that facets use, their new numbers, and the faces in
+-- these.
+--
+-- Each step's list is a map over all indices, and the next step reads it by index, so points and faces are those of
+-- `mesh_of` (points_are, faces_are). That the mesh is valid and its faces rise is shown of the definitions' mesh
+-- (mesh_valid, faces_rise), and so of this one.
 use Rattle.std.proofs.Common.{ℕ, ◌≡◌, ◌<◌, ◌^◌, ◌∙◌, ap, sym, subst, arith, List, Bool, length, map, get_or}
 use Rattle.std.specs.List.{All, AllPairs}
 use Rattle.std.proofs.lemmas.List.{length-map}

@@ -1,3 +1,9 @@
+-- The value of the digits before and behind the point as one number, which fits 128 bits.
+--
+-- Leading zeros do not count for the length, so at most 30 digits matter. If all digits before the point are zeros, the
+-- value is that of the others without their leading zeros (value_of_second); else it is that of the first, carried on
+-- through all of the second (value_of_both). In each case the room for the digits still to come follows from how many there
+-- are in the two together (none_short, some_short).
 use Rattle.std.proofs.Common.{◌≡◌, ◌++◌, ◌+◌, ◌*◌, ◌^◌, ◌≤◌, ℕ, ◌<◌, length, arith, ap, sym, ◌∙◌, subst}
 use Rattle.std.specs.Str.Parse.{digits_value_after}
 use Rattle.num_text.specs.WholeNumbers.{significant}

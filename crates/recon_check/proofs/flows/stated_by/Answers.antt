@@ -1,3 +1,8 @@
+-- What a certificate states of cells and facets, or the first row that is about none.
+--
+-- Three walks, along cells for the inside rows, facets for the flow, cells for the sinks. A walk that ends well has found
+-- each row and the amounts that the rows state for each key, which make the flow and `AreThere`. A walk that stops tells the
+-- first stray row; as those before it ended well, that is a reason in the order of reasons (stray_facet, stray_sink).
 use Rattle.std.proofs.Common.{ℕ, ◌≡◌, ap, ◌∙◌, List, map}
 use Rattle.cert_text.specs.Certificates.{Claim, claim_of}
 use Rattle.cert_text.specs.declared.certificate.FlowRow.{FlowRow}

@@ -1,3 +1,8 @@
+-- The flags of points, found in an order along a curve and put where each point stands.
+--
+-- The order has each index once, so a flag that was put is not written over (one_flagged_along), and behind the last all
+-- points have theirs (all_flagged_along). Each goal first reads the point: its index is the k-th of the order, which is
+-- below the number of points.
 use Rattle.std.proofs.Common.{ℕ, ◌≡◌, ◌<◌, ap, subst, sym, ◌∙◌, arith, Bool, length, get_or, set, ◌+◌}
 use Rattle.std.proofs.lemmas.List.{get_or_default, length-set}
 use Rattle.std.proofs.lemmas.List.Elements.{All-get_or}

@@ -1,3 +1,9 @@
+-- The point of a step, in words of 64 bits: nothing wraps, so it is the fraction of the definition.
+--
+-- `Held m t z` says that the word t holds the whole number z, and that z is at most m in absolute value. Coordinates of the
+-- box are held (held_x, held_y, held_z), and so is the height, since it lies between the heights of the edge's ends
+-- (held_height). So the rise and the climb are held (held_rise, held_climb), which is what along_edge asks for, and what it
+-- gives is `along` of the numbers that they hold (along_is).
 use Rattle.std.proofs.Common.{◌≡◌, ◌∙◌, arith, to_z, of_z}
 use Rattle.std.proofs.lemmas.Int.{ints}
 use mir.Syntax.{w64}

@@ -1,3 +1,10 @@
+-- One loop, from a face that was not visited back to it.
+--
+-- The invariant is `IsFollowed`: the steps so far are the faces from the first one on, each the next of the one before, and
+-- all of them were visited on the way. It begins (begins), is kept by a step (goes_on), gets smaller as fewer faces are left
+-- (fewer_left), and where the next face is the first the steps are a loop (closes), with as many visits more as it has faces
+-- (taken_count). All of these are lemmas of Following; here the height, read from 32 bits, is put in for the number that it
+-- is (stored), and a pushed step for its face (faces_more).
 use Rattle.std.proofs.Common.{ℕ, ◌≡◌, ◌+◌, ◌==◌, ◌++◌, ◌∙◌, ap, sym, subst, arith, List, [], ◌∷◌, get_or, set, true, length}
 use Rattle.std.proofs.Common.{map, ℤ, to_z, of_z}
 use mir.Syntax.{w32}

@@ -1,3 +1,9 @@
+-- The loops of all cut faces, each begun at its smallest face.
+--
+-- The invariant is `AreRings`: behind face number n the loops so far are rising by their first faces and have exactly the
+-- cut faces that are visited, each once. An unvisited face begins a loop more (rings_more), a visited one is passed over
+-- (rings_skip); behind the last face every cut face is in a loop (rings_all). The two branches differ in what they say of
+-- the lists that were pushed to, or were not.
 use Rattle.std.proofs.Common.{ℕ, ◌≡◌, ◌+◌, ◌∙◌, ◌++◌, ap, sym, subst, ◌<◌, arith, true, false, Bool, List, [], ◌∷◌, get_or}
 use Rattle.std.proofs.Common.{length, map, ℤ, to_z, of_z, Vec, Global}
 use mir.Syntax.{w32}

@@ -1,3 +1,9 @@
+-- The next face of each cut face.
+--
+-- Upward and downward crossings are sorted by edge and match, so the two at one place are on one edge, and the face that
+-- goes up through it follows the face that goes down (next_here). Each cut face goes down through one edge, so it stands in
+-- the list. Each write puts a next face at its place, also where there was one already (written), so behind the last
+-- crossing each cut face has its next one.
 use Rattle.std.proofs.Common.{ℕ, ◌≡◌, ◌<◌, ◌∙◌, ap, sym, subst, arith, List, get_or, length, map, ℤ, to_z, of_z}
 use Rattle.geo_sign.specs.Point.{Point}
 use mir.Syntax.{w32}

@@ -1,3 +1,8 @@
+-- The network in the store's order, without a list of its sides.
+--
+-- Nodes are numbered by the rows of live cells, arcs by sides, as the store has them. That these numbers are apart, fit and
+-- can be joined is asked of the store alone (the `stored_` lemmas), so no side has to be listed to be known. The parts that
+-- were made are then those of the scene's network (AreParts, stored_network), which is valid (stored_valid).
 use Rattle.std.proofs.Common.{◌*◌, refl, ap, sym, subst, ◌∙◌, arith, Bool, Contains, List, Option, ℕ, get_or, map}
 use Rattle.flow_net.specs.Nets.{flag_at, IsValidNet}
 use Rattle.visibility.specs.SceneViews.{view_of}

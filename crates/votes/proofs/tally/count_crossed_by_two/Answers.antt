@@ -1,3 +1,9 @@
+-- Two walks by turns, a step of the one and then a step of the other, until both have ended.
+--
+-- Whatever the order of steps, each counter with what both walks will still add to it stays the same: the `total`, which
+-- fits 32 bits (total_fits). A step of one walk moves its share from what is to come into the counter (kept), with the
+-- other's share held fixed (in_turn puts the other in its place), so the invariant holds behind both. Where a walk has
+-- ended, nothing of it is to come. Each round takes a facet from one of the two ways at least (loop-along_one-smaller).
 use Rattle.std.proofs.Common.{◌≡◌, ◌<◌, ◌≤◌, ◌+◌, ◌*◌, ◌^◌, ℕ, refl, ◌∙◌, arith, List, ap, length, slice_index}
 use Rattle.sight.specs.Walks.{Walk, IsSight}
 use Rattle.tetra_store.specs.Store.{Store}

@@ -1,3 +1,10 @@
+-- The counters, after two sights at a time and perhaps one more.
+--
+-- The invariant is `IsTally`: they hold the sums over the first k sights. All sights together weigh less than 2^32, so the
+-- next ones can be added without wrapping (facet_room, cell_room with line_weight). Two sights, or one, add to each facet
+-- and cell what they cross and are behind of (two_more, one_more); where all are counted the tally is the answer
+-- (all_counted). Counters are written through borrowed lists, so each goal first says that these are as long as before and
+-- are read as they were written (same_crossed, read_crossed and the like).
 use Rattle.std.proofs.Common.{ℕ, ◌≡◌, ◌<◌, ◌+◌, ◌*◌, ◌^◌, ◌++◌, ◌∙◌, sym, ap, subst, arith, List, length, take, drop}
 use Rattle.std.proofs.Common.{slice_index}
 use Rattle.std.proofs.lemmas.List.{take_at}

@@ -1,3 +1,9 @@
+-- The next row, or the end, or the first refusal, for a reader that keeps where it is.
+--
+-- First come the elements without rows left, which change nothing of what is still to come (`same` of next_element). Behind
+-- the last element there is only the end, whole or with bytes left over. Else the row is the first of what is left
+-- (is_next): its fields were read, and what is left is behind them (row_read), or one of them was refused, and then that is
+-- the row's refusal, at its place (row_refused).
 use Rattle.std.proofs.Common.{◌∙◌, sym, ap, refl, arith, length, Option, subst}
 use Rattle.ply_rows.specs.Rests.{rest_at}
 use Rattle.ply_rows.specs.Readers.{Reader, IsRowOf}

@@ -1,3 +1,10 @@
+-- The four steps of `replace` are together what it promises.
+--
+-- The cells over the fan are put in and joined (grow), they become the kept cells of their vertices (keep_new), kept cells
+-- that were among the old ones become others (mend), and the old cells are taken out. What each has left is read off its
+-- contract: kept1 and kept2 are the kept cells behind the second and the third step, which were written through a borrowed
+-- list (items_written). The rest are lemmas on stores: can_grow and can_mend for what the steps ask for, store_again for the
+-- invariant, replaced_now and first_new for the clauses, and the room by arithmetic (spare_left).
 use Rattle.std.proofs.Common.{ℕ, ◌≡◌, ◌<◌, ◌≤◌, ◌+◌, List, ◌++◌, take, drop, length, ap, sym, ◌∙◌, subst, arith, slice_index}
 use Rattle.std.proofs.Common.{vec_capacity, true}
 use Rattle.std.proofs.Math.ListN.{set}
