@@ -5,6 +5,9 @@
 //! connected across facets, so a flood from any one of them finds all. Here a tie on a sphere is decided by the tie rule, so the
 //! cells in conflict are never ambiguous. The flood looks once at each facet of each cell that it reaches, and tells the cells that
 //! it has reached by marks: its time is linear in the cavity, whatever its size. What one flood leaves of its memory the next one uses.
+//!
+//! The cells stay as they are: to take them out and put others in is the store's. The crate stands on `tetra_store` (linked cells),
+//! `geo_tie` (the test for conflict), the laws of `cell_laws`, and the kit's `smallvec`.
 #![tactic(auto)]
 
 mod cavity;

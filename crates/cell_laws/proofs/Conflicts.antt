@@ -1,4 +1,4 @@
--- What the three terms say of a cell in conflict, its neighbour, and the cell that takes its place.
+-- What the three terms say of a cell in conflict, its neighbor, and the cell that takes its place.
 -- Stands on: Identities and Order alone; it speaks of points and heights.
 use Rattle.std.proofs.Common.{◌≡◌, ap, ◌∙◌, arith, ℤ, pos, ◌*ℤ◌, neg_ℤ, ◌≤ℤ◌, ◌<ℤ◌}
 use Rattle.std.proofs.lemmas.Int.{ints, by_lt_z}

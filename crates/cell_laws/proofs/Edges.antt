@@ -1,4 +1,4 @@
--- New cells over facets: a reversed edge makes them neighbours, and a common side makes a common edge. The side e of the cell
+-- New cells over facets: a reversed edge makes them neighbors, and a common side makes a common edge. The side e of the cell
 -- over f with apex p is the edge e of f with p, so two such sides are turned facets of each other exactly where the edges are
 -- reversed. In a list of the fan's facets, each once, the facet with the reversed edge is there since the fan's edges meet,
 -- and it is the only one.
@@ -37,7 +37,7 @@ turn_of f x y z (inr (inr e)) = inr (inr (parts (facet x y z) (facet f.c f.a f.b
 abbrev base : Tetrahedron → DirectedFacet
 base q = facet q.a q.b q.c
 
--- two cells over p whose facets have an edge and its reverse are neighbours across those sides
+-- two cells over p whose facets have an edge and its reverse are neighbors across those sides
 pub edges_turned :
     (f g : DirectedFacet) (p : ℕ) (i j : ℕ) → i < 3 → j < 3 → edge_start f i ≡ edge_end g j → edge_end f i ≡ edge_start g j →
     IsTurned (facet_of (over f p) i) (facet_of (over g p) j)

@@ -91,7 +91,7 @@ conflicts = record {
   kept = λ x i e. absurd (true≢false e);
 }
 
--- a side with a neighbour is not at the rim, since all are taken out
+-- a side with a neighbor is not at the rim, since all are taken out
 none_of : (o : Option ℕ) (y : ℕ) → o ≡ Some y → ((o ≡ None) ⊎ ((z : ℕ) × (o ≡ Some z) × (true ≡ false))) → ⊥
 none_of o y e (inl f) = none-some y (sym f ∙ e)
 none_of o y e (inr z) = true≢false z.2

@@ -1,7 +1,7 @@
 -- Linked cells that are cells of the vertices are all its cells, a flood over the links finds all cells in conflict, and the
 -- fan is what lies at the rim. All three go from sides to writings: the ways to write a cell are its four facets with the
 -- vertices opposite, each in three rotations, so what is said of each side of each name is said of each way to write its cell.
--- Across a facet without a neighbour there is no cell, since it is on a wall; across one with a neighbour there is one cell at
+-- Across a facet without a neighbor there is no cell, since it is on a wall; across one with a neighbor there is one cell at
 -- most. So the list is closed under steps, and Closed says that it has all cells.
 -- Stands on: Facets, Closed, Rim and Goal.
 use Rattle.std.proofs.Common.{ℕ, zero, suc, ◌≡◌, ◌<◌, refl, ap, sym, ◌∙◌, ◌⊎◌, inl, inr, arith, Bool, true, false, Option, Some}
@@ -172,7 +172,7 @@ flooded_closed {X} v box p live cell next l cells marked flooded x y a b c d e i
         flooded x k y i m cx h (e ∙ ap Some (sym same)) cy
 
 -- ---- the fan over the links
--- a facet of a cell in conflict with no neighbour in conflict is a fan facet
+-- a facet of a cell in conflict with no neighbor in conflict is a fan facet
 pub link_fan :
     {X : Type 0} (v : Vertices) → IsBoxed v → IsGeneric v
     → (p : ℕ) (live : List X) (cell : X → Tetrahedron) (next : X → ℕ → Option X) → IsLinked v live cell next

@@ -1,5 +1,5 @@
--- Neighbours name each other across the same facet.
--- Stands on: LinkedCells and Laws (no neighbour exactly across a wall).
+-- Neighbors name each other across the same facet.
+-- Stands on: LinkedCells and Laws (no neighbor exactly across a wall).
 use Rattle.std.proofs.Common.{ℕ, ◌≡◌, refl, ap, sym, ◌∙◌, Option, Some, None}
 use Rattle.geo_sign.specs.Tetrahedron.{tetrahedron, facet_of, IsRotated}
 use Rattle.cell_laws.specs.LinkLaws.{BackLaw}

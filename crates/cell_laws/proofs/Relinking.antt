@@ -77,7 +77,7 @@ module _ (v : Vertices) (p : ℕ) (live : List ℕ) (cell : ℕ → Tetrahedron)
   old_cell : (x : ℕ) → IsKept x → cell' x ≡ cell x
   old_cell x h = r.names.kept_cell x h.0 h.1
 
-  -- ---- neighbours
+  -- ---- neighbors
   kept_back : (x k y : ℕ) → IsKept x → k < 4 → next' x k ≡ Some y → IsBackAt live' cell' (facet_of (cell' x) k) y
   kept_back x k y h m e = by (next x k) refl
     where

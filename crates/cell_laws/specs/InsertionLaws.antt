@@ -65,7 +65,7 @@ InsertLaw =
 abbrev pub EdgeLaw : Type 0
 EdgeLaw = (v : Vertices) → IsBoxed v → (p : ℕ) → IsNew v p → (n : ℕ) (f : ℕ → DirectedFacet) → IsFanList v p n f → AreEdges n f
 
--- Two new cells over p: where their facets have an edge and its reverse they are neighbours across those sides, and where
+-- Two new cells over p: where their facets have an edge and its reverse they are neighbors across those sides, and where
 -- they have a side in common their facets have an edge in common. This needs nothing of the vertices.
 pub record IsSideLaw (f g : DirectedFacet) (p : ℕ) : Type 0 where
   pub turned :

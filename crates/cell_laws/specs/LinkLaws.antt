@@ -1,8 +1,8 @@
--- Laws of linked cells, in the words of any store: a list of live names, the cell of each, and the neighbour at each side.
+-- Laws of linked cells, in the words of any store: a list of live names, the cell of each, and the neighbor at each side.
 --
 --   BoxLaw        the six cells over the corners, and how they are linked
---   WallLaw       a linked cell has no neighbour exactly across a wall
---   BackLaw       neighbours name each other across the same facet
+--   WallLaw       a linked cell has no neighbor exactly across a wall
+--   BackLaw       neighbors name each other across the same facet
 --   LinkedLaw     linked cells that are cells are all cells, each once
 --   FloodedLaw    a flood over their links from one cell in conflict finds all
 --   FoundLaw      the cell in which a new vertex lies is in conflict with it

@@ -1,9 +1,9 @@
 -- Linked cells: x stands for the cell cell x, and next x k is the cell across its facet k.
 --
 --   Side                                  a name and a side of its cell
---   IsLinked v live cell next             neighbours have the facet turned, None stands on walls only, no facet stands twice
---   IsFlooded v p live cell next marked   a neighbour in conflict of a marked cell in conflict is marked
---   IsRim v p cell next x k               across facet k no neighbour is in conflict
+--   IsLinked v live cell next             neighbors have the facet turned, None stands on walls only, no facet stands twice
+--   IsFlooded v p live cell next marked   a neighbor in conflict of a marked cell in conflict is marked
+--   IsRim v p cell next x k               across facet k no neighbor is in conflict
 --   IsFanAt v p live cell next a b c      the facet a b c is that of a cell in conflict at a rim
 use Rattle.std.specs.Prelude.{ℕ, ◌<◌, ◌≡◌, ◌⊎◌, Bool, true, Option, Some, None, List}
 use Rattle.geo_sign.specs.Tetrahedron.{Tetrahedron, DirectedFacet, facet, facet_of, IsTurned, IsRotated}

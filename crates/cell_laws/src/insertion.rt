@@ -36,7 +36,7 @@ pub fn edge_law()
     ensures { EdgeLaw }
 {}
 
-/// Two new cells over facets with an edge and its reverse are neighbours across these sides, and new cells with a side in common
+/// Two new cells over facets with an edge and its reverse are neighbors across these sides, and new cells with a side in common
 /// stand over facets with a directed edge in common. This needs nothing of the vertices.
 pub fn side_law()
     ensures { SideLaw }

@@ -9,10 +9,12 @@
 //! |---|---|
 //! | `cells` | cells cover the box, do not overlap, meet in facets, and are joined; the sign of a power is settled |
 //! | `insertion` | one vertex more: which cells go, which come, and that the fan is closed |
-//! | `links` | linked cells: a list of names, the vertices of each, and its neighbour at each side; closed facets between labels |
+//! | `links` | linked cells: a list of names, the vertices of each, and its neighbor at each side; closed facets between labels |
 //! | `walks` | walks to a place end; one cell is a scanner's, one towards it, one behind a sight; what a sight crosses, in order |
 //! | `stores` | the points, names and rows of a store |
 //! | `examples` | the hypotheses can be met |
+//!
+//! The crate stands on `geo_sign` alone.
 #![tactic(auto)]
 
 mod cells;

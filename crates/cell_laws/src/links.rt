@@ -1,5 +1,5 @@
-//! Laws of linked cells, in the words of any store: a list of live names, the vertices of each name, and its neighbour at each side.
-//! They suppose that neighbours have the facet turned, that None stands on walls alone and that no directed facet stands twice
+//! Laws of linked cells, in the words of any store: a list of live names, the vertices of each name, and its neighbor at each side.
+//! They suppose that neighbors have the facet turned, that None stands on walls alone and that no directed facet stands twice
 //! (`IsLinked`), and most of them that each name stands for a cell (`AreCells`).
 
 ghost use Rattle.cell_laws.specs.ClosedLaws.{ClosedLaw};
@@ -10,12 +10,12 @@ pub fn box_law()
     ensures { BoxLaw }
 {}
 
-/// A linked cell has no neighbour at a side exactly where the facet is on a wall of the box.
+/// A linked cell has no neighbor at a side exactly where the facet is on a wall of the box.
 pub fn wall_law()
     ensures { WallLaw }
 {}
 
-/// Neighbours name each other across the same facet.
+/// Neighbors name each other across the same facet.
 pub fn back_law()
     ensures { BackLaw }
 {}
@@ -25,7 +25,7 @@ pub fn linked_law()
     ensures { LinkedLaw }
 {}
 
-/// A flood over the links from one cell in conflict, which goes on at each neighbour in conflict, finds all cells in conflict.
+/// A flood over the links from one cell in conflict, which goes on at each neighbor in conflict, finds all cells in conflict.
 pub fn flooded_law()
     ensures { FloodedLaw }
 {}

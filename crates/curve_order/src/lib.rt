@@ -7,6 +7,9 @@
 //! Along the curve alone, an insertion of all points makes many cells that do not last, where the points lie in the plane or in the
 //! space: each new point is at the border of those before it. Rounds mend that, as in the biased randomized insertion order of Amenta,
 //! Choi and Rote (2003): each round has about fifteen times as many points as all rounds before it, from everywhere, along the curve.
+//!
+//! Nothing but speed hangs on an order: what is promised is that each number comes once, along the curve by rising key. The crate stands
+//! on `geo_sign` (points) alone.
 #![tactic(auto)]
 
 mod curve;

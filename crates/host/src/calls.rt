@@ -101,7 +101,6 @@ pub fn read_all<H: Host>(
 ) -> Result<Vec<u8>, ReadRefusal>
     requires { (H.state host.old).writing ≡ false }
 
-    // The answer is the file.
     ensures bytes { IfOk result (λ bytes. IfSome (H.state host.old).told (λ told. told.files name.now ≡ Some bytes.items)) }
     ensures within { IfOk result (λ bytes. length bytes.items ≤ limit) }
     ensures read { OnOk result (H.state host.new ≡ reads_whole name.now (H.state host.old)) }
@@ -113,7 +112,6 @@ pub fn read_all<H: Host>(
     ensures failed { result ≡ Err ReadRefusal.Failed → ReadFails limit name.now (H.state host.old) (H.state host.new) }
     ensures no_memory { result ≡ Err ReadRefusal.NoMemory → TakesFront limit name.now (H.state host.old) (H.state host.new) }
 
-    // Whatever the answer.
     ensures only_reads { OnlyReads (H.state host.old) (H.state host.new) }
     ensures cause { HasCause result (H.state host.old).faults (H.state host.new).faults }
 {

@@ -3,6 +3,8 @@
 //! `Host` is the outside as a trait that counts its faults, `MemHost` a host in memory for tests, which tells all its
 //! bytes and fails exactly where it was told to. `read_all`, `append_all`, `say_all` and `write_file` work over any
 //! host. Failures of a host are `Failed`; want of memory is `NoMemory`.
+//!
+//! The system's files are no matter of this crate: whoever reaches them implements the trait. It stands on `thiserror` alone.
 #![tactic(auto)]
 
 mod calls;

@@ -1,7 +1,8 @@
 //! A host in memory, for tests: it tells all its bytes, and fails exactly where it was told to.
 //!
 //! It keeps a list of named files with memory for their bytes (`files`, `store`), the plan of its failures (`plan`),
-//! and which file is open. All its memory is taken when it is made.
+//! and which file is open. All its memory is taken when it is made. A call has the clauses of the trait, and others
+//! behind them that say exactly how far it moves, where it fails, and what it counts.
 ghost use Rattle.std.specs.Prelude.{◌≡◌, Some, IfSome, min, IsTrue, ◌+◌, ◌%◌, ◌≤◌, ◌<◌, ◌↔◌, ◌⊎◌, ℕ, true, false, None, IsErr, IfOk, OnOk, OnErr, All, Contains, length, take};
 ghost use Rattle.std.specs.Option.{option_map};
 ghost use Rattle.host.specs.State.{HasFile, IsFront, IsNext, FailedFrom, opens_file, opens_none, takes, creates, stops_reading, appends, finishes, says};
@@ -75,7 +76,6 @@ impl Host for MemHost {
         ensures opened { OnOk result (state_of self.new ≡ opens_file name.now (state_of self.old)) }
         ensures failed { OnErr result (FailedFrom (opens_none (state_of self.old)) (state_of self.new)) }
 
-        // Exactly where it fails, and what it counts.
         ensures fails { IsErr result ↔ (IsListed self.old Open ⊎ ((told_of self.old).files name.now ≡ None)) }
         ensures one_fault { OnErr result ((state_of self.new).faults ≡ next (state_of self.old).faults) }
         ensures counted { CountsCall self.old self.new Open }
@@ -102,7 +102,6 @@ impl Host for MemHost {
         ensures taken { IfOk result (λ count. state_of self.new ≡ takes count (state_of self.old)) }
         ensures failed { OnErr result (FailedFrom (state_of self.old) (state_of self.new)) }
 
-        // Exactly how far it moves, where it fails, and what it counts.
         ensures moved { IfOk result (λ count. count ≡ min (piece_of self.old) (min (length buffer.old) (length (told_of self.old).left))) }
         ensures fails { IsErr result ↔ IsListed self.old Read }
         ensures one_fault { OnErr result ((state_of self.new).faults ≡ next (state_of self.old).faults) }
@@ -127,7 +126,6 @@ impl Host for MemHost {
         ensures created { OnOk result (state_of self.new ≡ creates name.now (state_of self.old)) }
         ensures failed { OnErr result (FailedFrom (stops_reading (state_of self.old)) (state_of self.new)) }
 
-        // Exactly where it fails, and what it counts.
         ensures fails { IsErr result ↔ (IsListed self.old Create ⊎ (¬ Contains (names_of self.old) name.now)) }
         ensures one_fault { OnErr result ((state_of self.new).faults ≡ next (state_of self.old).faults) }
         ensures counted { CountsCall self.old self.new Create }
@@ -154,7 +152,6 @@ impl Host for MemHost {
         ensures added { IfOk result (λ count. state_of self.new ≡ appends (take count bytes.now) (state_of self.old)) }
         ensures failed { OnErr result (FailedFrom (state_of self.old) (state_of self.new)) }
 
-        // Exactly how far it moves, where it fails, and what it counts.
         ensures moved { IfOk result (λ count. count ≡ min (piece_of self.old) (min (length bytes.now) (room_in_file self.old))) }
         ensures fails { IsErr result ↔ (IsListed self.old Append ⊎ ((0 < length bytes.now) × (room_in_file self.old ≡ 0))) }
         ensures one_fault { OnErr result ((state_of self.new).faults ≡ next (state_of self.old).faults) }
@@ -181,7 +178,6 @@ impl Host for MemHost {
         ensures finished { OnOk result (state_of self.new ≡ finishes (state_of self.old)) }
         ensures failed { OnErr result (FailedFrom (finishes (state_of self.old)) (state_of self.new)) }
 
-        // Exactly where it fails, and what it counts.
         ensures fails { IsErr result ↔ IsListed self.old Finish }
         ensures one_fault { OnErr result ((state_of self.new).faults ≡ next (state_of self.old).faults) }
         ensures counted { CountsCall self.old self.new Finish }
@@ -199,7 +195,6 @@ impl Host for MemHost {
         ensures said { IfOk result (λ count. state_of self.new ≡ says (take count bytes.now) (state_of self.old)) }
         ensures failed { OnErr result (FailedFrom (state_of self.old) (state_of self.new)) }
 
-        // Exactly how far it moves, where it fails, and what it counts.
         ensures moved { IfOk result (λ count. count ≡ min (piece_of self.old) (min (length bytes.now) (room_in_said self.old))) }
         ensures fails { IsErr result ↔ (IsListed self.old Say ⊎ ((0 < length bytes.now) × (room_in_said self.old ≡ 0))) }
         ensures one_fault { OnErr result ((state_of self.new).faults ≡ next (state_of self.old).faults) }

@@ -5,7 +5,7 @@
 //! A text is read line by line, and refused for the first line that is cut, not of its form
 //! or out of order, with that line's number ([`LineRefusal`]).
 //!
-//! The crate stands on `num_text`, which prints the numbers.
+//! The crate stands on `num_text`, which prints the numbers, and on `geo_sign` for the order of rows.
 #![tactic(auto)]
 
 mod facet;

@@ -6,6 +6,8 @@
 //! shows. Whoever makes a solution and whoever checks one stand on it, and neither on the other.
 //!
 //! Of code it has what both need: the points and sights of a scan, and the cost of its least-inside labels.
+//! The crate stands on `scan` and `merge` (what a scan shows, each point once), `visibility` and `flow_net` (cost and flows), `mesh_ply`
+//! and `cert_text` (what a mesh and a certificate are), and the laws of `cell_laws`.
 #![tactic(auto)]
 
 mod cost;

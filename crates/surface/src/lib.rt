@@ -1,6 +1,9 @@
 //! The surface between outside and inside cells: the facets of outside cells with an inside cell across, as a mesh, and that it is closed.
 //!
 //! `cut` finds the facets by going through the cells once, and sorts them alone. `mesh` makes the mesh of them.
+//!
+//! It finds no labels: which cells are inside is handed in. The crate stands on `tetra_store` (linked cells), `vote_net` (their sides),
+//! `mesh_ply` (the mesh of a list of facets), and the laws of `cell_laws` by which the facets are closed.
 #![tactic(auto)]
 
 mod cut;

@@ -1,4 +1,4 @@
--- A store in the words of the laws of cells: its live numbers are the names, its links the neighbours. What the store keeps of
+-- A store in the words of the laws of cells: its live numbers are the names, its links the neighbors. What the store keeps of
 -- its links then says what the laws ask of linked cells, name by name, and linked cells that are Delaunay are all cells, each
 -- once.
 use Rattle.std.proofs.Common.{ℕ, arith}

@@ -34,7 +34,7 @@ use Rattle.tetra_walk.specs.Walks.{IsBehindSide, HasNamed}
 use Rattle.tetra_walk.proofs.Backs.{one_back}
 use Rattle.tetra_walk.proofs.Bridge.{listed, linked, cells, listing}
 
--- ---- a loaded cell: its vertices, its neighbours, that it is live, and that its vertices are vertices of the store
+-- ---- a loaded cell: its vertices, its neighbors, that it is live, and that its vertices are vertices of the store
 pub at_is : (slots : List (Option Cell)) (id : ℕ) (c : Cell) → slot_at slots id ≡ Some c
     → (links_of slots).at id ≡ tetrahedron_from c.v
 at_is slots id c e = ap vertices_in e

@@ -4,6 +4,8 @@
 //! its height by the tie rule: at the goal, the plane of the next cell's lifted vertices is above that of the last one's. So no cell
 //! comes back, and the walk ends, whichever facet is taken. The goal is a point, a displaced scanner, or a place as near to a vertex
 //! as is wanted, towards a scanner or away from it. One loop serves all four. No walk takes memory, and none refuses.
+//!
+//! The crate stands on `tetra_store` (linked cells), `geo_sign` (signs), and the laws of `cell_laws` by which a walk goes on and ends.
 #![tactic(auto)]
 
 mod goal;

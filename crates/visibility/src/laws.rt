@@ -7,9 +7,9 @@ ghost use Rattle.visibility.specs.Listings.{IsListingOf};
 ghost use Rattle.visibility.specs.ListingLaws.{RisingIsListed, EachOnce, ListingsAgree};
 ghost use Rattle.visibility.specs.AgreementLaws.{ComplexesAgree, ScenesAgree};
 
-/// What holds of the network by numbers holds of cells and directed facets, in whatever order they are listed, and back: labels and the test of cells that says the
-/// same cost the same, and are admissible, of the least cost and the least inside together. A flow and the amounts on facets and
-/// cells that it has are worth the same and valid together. All labels and all flows are reached so.
+/// What holds of the network by numbers holds of cells and directed facets, in whatever order they are listed, and back: labels and
+/// the test of cells that says the same cost the same, and are admissible, of the least cost and the least inside together. A flow
+/// and the amounts on facets and cells that it has are worth the same and valid together. All labels and all flows are reached so.
 pub fn network_is_over_cells()
     ensures labels { LabelsAgree }
     ensures flows { FlowsAgree }

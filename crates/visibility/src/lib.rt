@@ -4,6 +4,8 @@
 //! all over lists of cells and of directed facets, and under them the network by numbers (Labatut, Pons and Keriven 2007 and
 //! 2009, with whole numbers and a constant smoothing term). Of code the crate has the type of scenes, which calls take, and laws: they
 //! lead from the one to the other, say that amounts fit and lists are one, and that vertices that are not in decide nothing.
+//!
+//! It makes no cell and no network: that is for the crates above. It stands on `geo_sign` (cells and sights) and `flow_net` (networks).
 #![tactic(auto)]
 
 mod laws;

@@ -1,10 +1,13 @@
 //! The network of linked Delaunay cells: a node for each cell, an arc for each directed facet with a free cell across.
 //!
-//! What sights vote for is counted elsewhere, by the numbers that cells have in the store. Here the nodes and arcs are
-//! listed and numbered, in the store's order or in the rising one: `rows` lists the cells, `sides` the facets, `tables` finds their
-//! indices, `arcs` makes the arcs, `numbering` and `passes` number and make those of the store's order without a list of sides, and
-//! `network` the whole.
-//! `cells` is the list of all cells, and `laws` says what the counts are however a cell is written.
+//! What sights vote for is counted elsewhere, by the numbers that cells have in the store. Here the nodes and arcs are listed and
+//! numbered, in the store's order or in the rising one: `rows` lists the cells, `sides` the facets, by the numbers of `keys` where they
+//! are to rise, `tables` finds their indices, `arcs` makes the arcs, `numbering` and `passes` number and make those of the store's
+//! order without a list of sides, and `network` the whole. `cells` is the list of all cells, and `laws` says what the counts are
+//! however a cell is written.
+//!
+//! No sight and no point is looked at. The crate stands on `tetra_store` (linked cells), `visibility` (scenes, and what their network
+//! is), `flow_net` (networks) and the laws of `cell_laws`.
 #![tactic(auto)]
 
 mod arcs;
