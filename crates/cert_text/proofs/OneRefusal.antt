@@ -1,4 +1,9 @@
 -- A text is refused as no certificate in one way, and no printed text is refused.
+--
+-- A text is refused in its first part that is wrong, and what begins with a good part begins with no other (the codes of
+-- CertCodes). So two refusals are in one part, and each part is refused in one way (the `_once` of line_text); that is shown
+-- from the last part to the first: the `_same` lemmas, counts_once, certificate_once. In the same order a good certificate
+-- passes each part, and nothing is left to refuse (the `_passed` lemmas, good_not_refused).
 use Rattle.std.proofs.Common.{ℕ, ◌≡◌, ◌+◌, ◌-◌, ◌^◌, refl, ap, sym, subst, ◌∙◌, arith, List, [], ◌++◌, length, append_assoc}
 use Rattle.std.specs.List.{AllPairs, flat_map}
 use Rattle.std.proofs.lemmas.List.{map-id, append-nil}

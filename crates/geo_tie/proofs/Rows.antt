@@ -1,4 +1,10 @@
 -- Rising lists of rows, and the rows between two keys.
+--
+-- Four loops, one in another, go through a < b < c < d. Where they stand is a key, and the list has exactly the cells before
+-- it (IsCellListBefore). To enter an inner loop, or to leave it for the next number of the outer one, changes the key but
+-- not which cells come before it (Same: enter_one to leave_three), as a cell has four numbers that rise, below the number of
+-- vertices. A step of the innermost loop adds its row where it is a cell (pushed, passed), as it is the only row between the
+-- keys (or_this). The last key has all cells before it (all_before).
 use Rattle.std.proofs.Common.{ℕ, ◌+◌, ◌<◌, ◌≤◌, ◌≡◌, ◌↔◌, ◌⊎◌, inl, inr, ⊎_elim, refl, sym, subst, arith}
 use Rattle.std.proofs.Common.{List, [], ◌∷◌, ◌++◌, get_or, Contains, Bool, true, false, ltb}
 use Rattle.std.proofs.lemmas.Bool.{ltb-true, ltb-false}

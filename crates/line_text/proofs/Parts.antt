@@ -1,4 +1,9 @@
 -- Parts of a text, one behind the other: the whole is refused in one way, and not where all parts are good.
+--
+-- A part is either refused, or good and followed by something (AtPart). If its text is a code, the two exclude each other,
+-- and where it is good both what it is and what follows are one. So two refusals are both of this part or both behind it
+-- (part_once), and a text with a good part here can only be refused behind it (part_passed). A fixed word, a word and a
+-- number, rows and a list are such parts (word_, number_, rows_, list_).
 use Rattle.std.proofs.Common.{ℕ, ◌≡◌, ◌+◌, ◌-◌, ◌<◌, ◌^◌, inl, inr, refl, ap, sym, subst, ◌∙◌, arith, Option, List, [], ◌++◌}
 use Rattle.std.proofs.Common.{length, append_assoc}
 use Rattle.std.specs.List.{flat_map}

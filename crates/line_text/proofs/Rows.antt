@@ -1,4 +1,9 @@
 -- Rows that are read one after another.
+--
+-- IsReadSoFar is what reading rows keeps: how many there are, that they are good and rise, that the text is theirs and then
+-- the rest, and the line's number. A row that is good and rises above the last one goes to them (one_more_read: in a rising
+-- list what is above the last is above all, below_last). A row that is not good, or does not rise, is the first such, so it
+-- is the refusal of the whole (bad_row, row_out_of_order).
 use Rattle.std.proofs.Common.{ℕ, ◌≡◌, ◌+◌, ◌-◌, ◌<◌, ◌≤◌, ◌^◌, ◌⊎◌, inl, inr, refl, ap, sym, subst, ◌∙◌, arith, Option, Some}
 use Rattle.std.proofs.Common.{None, List, [], ◌∷◌, ◌++◌, length, map, get_or, take, min, append_assoc, length-append, Bool}
 use Rattle.std.proofs.Common.{true, false, cond, ◌==◌, Result, Ok, Err, is_ok, is_err, IfErr, IsErrAnd}

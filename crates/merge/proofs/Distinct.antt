@@ -1,4 +1,9 @@
 -- The distinct points of rows, and a row more.
+--
+-- The distinct points are the first row's point and then those of the other rows, without that point. So a place is among
+-- them exactly where it is a row's (any_distinct: what is left out is the first point alone), they differ in pairs
+-- (distinct), and hold what all rows hold (keep). A row more, behind the others, adds its point where it is none of them and
+-- changes nothing else (distinct_push, by whether it is the first row's point).
 use Rattle.std.proofs.Common.{ℤ, ◌≡◌, ◌≢◌, ◌≤◌, ◌&&◌, ◌||◌, not, Bool, true, false, cond, refl, ap, sym, subst, ◌∙◌, arith}
 use Rattle.std.proofs.Common.{List, [], ◌∷◌, ◌++◌, length, filter, All, AllPairs, Contains, ℕ, ◌<◌, ⊎_elim, get_or}
 use Rattle.std.specs.Cmp.{IsEquivalence}

@@ -1,4 +1,9 @@
 -- A text is refused as no mesh in one way, and no printed text is refused.
+--
+-- The parts are nine lines of the header, of which two have numbers, and then the points, the faces and the end. A text that
+-- begins with a good part begins with no other, so two refusals are in one part, where there is one: from the last part to
+-- the first (faces_once, points_once, once_9 to once_2, mesh_once). A printed mesh passes them all in turn
+-- (header_not_refused, rows_not_refused). The last lemmas say it of what reading answers.
 use Rattle.std.proofs.Common.{ℕ, ◌≡◌, ◌-◌, ◌<◌, ◌^◌, ◌⊎◌, inl, inr, refl, ap, sym, subst, ◌∙◌, arith, None, List, [], ◌++◌}
 use Rattle.std.proofs.Common.{length}
 use Rattle.std.specs.List.{flat_map}

@@ -1,4 +1,9 @@
 -- What is printed is read again.
+--
+-- A printed number is a token of digits behind a sign or none (IsSigned, printed_pos and printed_neg): decimal digits, some
+-- and at most 18, which are worth the number. Such a token is read as a whole number of that value (whole_of_signed). As a
+-- decimal it has no point and no exponent, since no digit is one, so its parts are its digits alone (parts_are), and at the
+-- unit 1 it scales to itself (scaled_plain).
 use Rattle.std.proofs.Common.{◌≡◌, ℕ, suc, ◌+◌, ◌*◌, ◌/◌, ◌^◌, ◌<◌, ◌≤◌, Bool, true, false, cond, eqb, ltb, List, [], ◌∷◌, ◌++◌}
 use Rattle.std.proofs.Common.{length, take, drop, refl, sym, ap, ◌∙◌, arith, ℤ, pos, negsuc, Result, Ok, decimal}
 use Rattle.std.specs.Prelude.{unsigned_abs}

@@ -1,4 +1,11 @@
 -- The nearest number of units.
+--
+-- Digits in two runs, before and behind the point, are one number: if the first has zeros alone, the digits that matter are
+-- those of the second, else those of the first and all of the second (none_significant, some_significant); from this follow
+-- values, how many digits matter, and that each step has room (value_of_second to second_room, many_second to some_short). A
+-- decimal is its digits times 10^up over 10^down: the common power goes out, and the nearest number is that with one power
+-- left, above or below (nearest_up, nearest_down). A power that is too large gives 0, or is out of range (few_none,
+-- far_out).
 use Rattle.std.proofs.Common.{◌≡◌, ℕ, ◌+◌, ◌-◌, ◌*◌, ◌/◌, ◌^◌, ◌<◌, ◌≤◌, Bool, true, false, not, cond, eqb, ltb, leb, ◌||◌}
 use Rattle.std.proofs.Common.{List, [], ◌∷◌, ◌++◌, length, refl, sym, ap, ◌∙◌, arith, inl, inr, None}
 use Rattle.std.specs.List.{list_all}

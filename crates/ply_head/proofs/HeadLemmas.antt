@@ -1,4 +1,9 @@
 -- Lines, and the elements of a header.
+--
+-- A text is cut at its LFs into parts, of which there is a first (some_part). Where no LF is found among enough bytes the
+-- first part is too long to be a line, ended or not (long_line); among all bytes, the line is cut off (cut_line); and where
+-- one is found the bytes before it are the first part, which is a line or too long (line_is). Its text is without one CR at
+-- the end (return_cut, no_return). with_property_last puts a property to the last element.
 use Rattle.std.proofs.Common.{◌≡◌, ℕ, zero, suc, ◌+◌, ◌-◌, ◌<◌, ◌≤◌, Bool, true, false, cond, eqb, ltb, List, [], ◌∷◌, ◌++◌}
 use Rattle.std.proofs.Common.{length, get_or, take, drop, Result, Ok, Err, refl, sym, ap, ◌∙◌, arith, All}
 use Rattle.std.proofs.lemmas.List.{drop_more, take-append-drop, take_rest}

@@ -1,4 +1,9 @@
 -- Lists of rows: what is among them, what a test keeps, and rows that state amounts of rising keys.
+--
+-- Two rising lists with the same members are one list. So rising rows that are among rising keys are the keys that are among
+-- them (among_kept). And rising rows of amounts that are not 0 are the rows of what they state: of the key of a row they
+-- state its amount (stated_row), of any other key 0 (about_one), so the keys with an amount are those of the rows
+-- (rows_listed).
 use Rattle.std.proofs.Common.{ℕ, zero, suc, ◌≡◌, ◌≢◌, ◌<◌, ◌≤◌, not, refl, ap, sym, subst, ◌∙◌, arith, Bool, true, false, cond}
 use Rattle.std.proofs.Common.{eqb, List, [], ◌∷◌, length, map, filter, get_or, All, AllPairs, Contains}
 use Rattle.std.proofs.lemmas.Bool.{eq-eqb, ne_eqb, false_from_ne_true}

@@ -1,4 +1,10 @@
--- A command that reads a scan first and then other files: its reply, and what it reads, from what is answered behind the scan.
+-- A command that reads a scan first and then other files: its reply, and what it reads, from what is answered behind the
+-- scan.
+--
+-- Once the scan is there and understood, what is answered to the whole is what is answered behind it, in both directions
+-- (others_to_scan, scan_to_others). Reading the scan has changed no file, so what is answered behind it holds from the
+-- beginning (reply_behind), and the files that are read behind it are one fewer than in all (reads_behind). The scan's own
+-- refusal, and a file that is too long, are answers of the whole (refused_first, too_long).
 use Rattle.std.proofs.Common.{◌≡◌, inl, inr, ℕ, ◌+◌, ◌≤◌, ◌<◌, List, [], length, Option, Some, None, IfSome, Result, Ok, Err, IfOk}
 use Rattle.std.proofs.Common.{refl, sym, ap, subst, ◌∙◌, arith, unwrap_or}
 use Rattle.host.specs.State.{State, Told, Files, file_bytes}

@@ -1,4 +1,8 @@
 -- What words of `sweep` ask for, step by step, and that they are not words of `export`.
+--
+-- Both commands are told by the first word, so words of one are none of the other (no_sweep, no_export). The code looks at
+-- the words from the first on, and each step is a lemma: too few (too_few), the command and its three numbers (sweep_at),
+-- and behind them the outputs' names, of which all must be right (behind_none, behind_some), with the options at the end.
 use Rattle.std.proofs.Common.{◌≡◌, ℕ, ◌-◌, ◌<◌, ◌≤◌, ◌==◌, Bool, true, false, cond, List, [], ◌∷◌, Option, Some, None, IfSome}
 use Rattle.std.proofs.Common.{codes, length, map, take, drop, get_or, refl, sym, ap, subst, ◌∙◌, arith, eq-eqb, le-leb}
 use Rattle.std.specs.Option.{option_map}

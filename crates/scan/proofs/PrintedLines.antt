@@ -1,4 +1,9 @@
 -- The lines of a printed scan, cut into tokens.
+--
+-- A decimal, with its sign, is some bytes of which none is white space (number_word), and behind it stands a space or the
+-- line feed. So a token is cut off there, and the next begins one byte further on (word_token). Three such cuts are the
+-- coordinates (point_cut), and one for each number are the rest of the line (numbers_cut); line_cut is both. The places are
+-- sums of lengths, and where the line ends is its length further on (line_length).
 use Rattle.std.proofs.Common.{◌≡◌, ℕ, zero, suc, ◌+◌, ◌<◌, ◌≤◌, ◌^◌, true, false, List, [], ◌∷◌, ◌++◌, length, get_or, All}
 use Rattle.std.proofs.Common.{decimal, ℤ, pos, negsuc, unsigned_abs, refl, ap, ◌∙◌, arith, append_assoc, length-append}
 use Rattle.std.specs.Fmt.{signed_decimal}

@@ -1,4 +1,10 @@
 -- The rings of all cut faces, loop by loop.
+--
+-- AreRings is what holds behind the faces below some number: these were visited, the loops so far are in the order of their
+-- first faces, and of each face they have what was visited since the start (count). At the start that is what is not cut
+-- (rings_none). A visited face changes nothing (rings_skip); another begins a loop, of which it is the first, behind all
+-- first ones so far (rings_more). In the end all were visited, so each cut face stands once in all loops together, and no
+-- other (rings_all).
 use Rattle.std.proofs.Common.{ℕ, ◌≡◌, ◌+◌, ◌<◌, ◌≤◌, ◌==◌, refl, ap, sym, ◌∙◌, arith, Bool, true, false, not, List, [], ◌∷◌}
 use Rattle.std.proofs.Common.{◌++◌, length, get_or, map, ℤ, inl, inr}
 use Rattle.std.specs.List.{All, count_by, concat}

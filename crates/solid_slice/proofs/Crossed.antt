@@ -1,4 +1,9 @@
 -- Crossings in face order, and that their lists have the faces of each edge.
+--
+-- A face that is cut goes up on one of its edges, and no other edge of it goes up (same_edge), so it stands in the list of
+-- an edge exactly where it goes up on that edge (up_key), and so of down edges (down_key). So one face more adds itself to
+-- the list of its edge and to no other: up_more and down_more, by whether the face is cut, for each edge; crossings_more is
+-- both, over the mesh as the code has it.
 use Rattle.std.proofs.Common.{ℕ, ◌≡◌, ◌+◌, ◌<◌, ◌^◌, ◌==◌, ◌&&◌, refl, ap, sym, ◌∙◌, subst, Bool, true, false, not, cond, List}
 use Rattle.std.proofs.Common.{[], ◌∷◌, ◌++◌, length, get_or, map, filter, Option, Some, None, ℤ, inl, inr}
 use Rattle.std.specs.Prelude.{IfSome, IfNone}

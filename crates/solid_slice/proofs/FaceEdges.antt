@@ -1,4 +1,8 @@
 -- The edges of one face: which one goes up and which down, by any test of its vertices.
+--
+-- A face has three vertices and three edges round it. By cases on them: of two edges that lead from a vertex which fails the
+-- test to one that passes, both are one (same_edge); and where some vertex passes and some fails, an edge leads from one
+-- that passes to one that fails (down_edge_of, by the eight outcomes, of which two have no such vertices).
 use Rattle.std.proofs.Common.{ℕ, ◌≡◌, ◌<◌, ◌≤◌, ◌^◌, ◌==◌, ◌&&◌, ◌||◌, ◌⊎◌, refl, ap, sym, ◌∙◌, arith, Bool, true, false, not}
 use Rattle.std.proofs.Common.{List, [], ◌∷◌, inl, inr}
 use Rattle.std.specs.List.{list_any}

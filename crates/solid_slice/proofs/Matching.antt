@@ -1,4 +1,10 @@
 -- The next face of a face, read off the two lists of crossings.
+--
+-- In a balanced mesh each edge is gone up as often as down, so both lists, sorted by edge, have the same edges in the same
+-- places (matched). The crossing at a place is that of the face with as many faces of its edge before it as there are
+-- crossings of the edge before the place (at_place). So the faces at one place have the same rank on their edge, one in
+-- going down and one in going up: the one is the other's next (next_at). A cut face has an edge on which it goes down, so it
+-- stands in that list (cut_is_listed).
 use Rattle.std.proofs.Common.{ℕ, ◌≡◌, ◌+◌, ◌/◌, ◌%◌, ◌<◌, ◌≤◌, ◌^◌, ◌==◌, ◌&&◌, refl, ap, sym, ◌∙◌, subst, arith, Bool, true}
 use Rattle.std.proofs.Common.{false, not, List, [], length, get_or, set, take, map, filter, ℤ, inl, inr}
 use Rattle.std.specs.List.{All, count_by}

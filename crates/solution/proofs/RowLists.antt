@@ -1,4 +1,9 @@
 -- Rows of a certificate: those of amounts that are not 0, and what rows state.
+--
+-- The code goes through keys and amounts in pairs, which is the same as through keys with a function of them (filtered_zip,
+-- listed_zip). What rows state about a key is the amount in the first row about it. The rows of rising keys are each about
+-- another key, so of each key they state its amount, also where it is 0 and has no row (stated_at, by induction: the first
+-- key, or one behind it): map_stated.
 use Rattle.std.proofs.Common.{ℕ, zero, suc, ◌≡◌, ◌<◌, not, refl, ap, sym, subst, ◌∙◌, arith, Bool, true, false}
 use Rattle.std.proofs.Common.{cond, List, [], ◌∷◌, Some, None, ◌==◌, if◌then◌else◌, length, get_or, map, filter, eqb, AllPairs}
 use Rattle.std.specs.List.{cons_option, filter_map, zip}

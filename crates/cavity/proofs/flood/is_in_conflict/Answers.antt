@@ -1,3 +1,8 @@
+-- The test for conflict of geo_tie, over a cell of the store.
+--
+-- The four vertices of a live cell and one that is not in are five points, distinct and below the number of vertices
+-- (beside, apart, all_below), as `conflict` asks. The power of the points is that of the vertices (power_same), so where the
+-- test says yes the cell is in conflict, and where it says no it is clear of the vertex (outside).
 use Rattle.std.proofs.Common.{◌↔◌, IsTrue, IsFalse, sym, ap, subst, arith, length, ℤ, pos, ◌<ℤ◌, ◌≤ℤ◌}
 use Rattle.geo_sign.specs.Tetrahedron.{Tetrahedron}
 use Rattle.tetra_store.specs.Links.{vertices_in, tetrahedron_from}

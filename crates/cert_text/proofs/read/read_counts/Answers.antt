@@ -1,3 +1,8 @@
+-- Six lines of a word and a number each, the last of which alone may be of 64 bits.
+--
+-- A refusal in a line is that of the whole, as the lines before it were read: number_good puts a read line in front of what
+-- is refused behind it, so each goal is such a chain, longer by one than the goal before. Where nothing is refused, the six
+-- texts are those of the counts (counts_are).
 use Rattle.std.proofs.Common.{arith}
 use Rattle.line_text.proofs.Rows.{IfErr-holds}
 use Rattle.line_text.proofs.Parts.{number_refused, number_good, behind_number}

@@ -1,3 +1,9 @@
+-- The power of a point at four others, in words of 128 bits: nothing wraps, so its sign is that of the polynomial.
+--
+-- It is a sum of four terms, each a squared length times a determinant (lifted), of at most 9 * 2^121. So the sums of two,
+-- three and four of them are held, as 36 * 2^121 is below 2^127 (two, three, four). The terms are of the vectors that were
+-- computed, which are the differences of the points (lifted_is, same_sum), and the sum over these is the power
+-- (power_by_differences).
 use Rattle.std.proofs.Common.{◌≡◌, ap, ap₂, ◌^◌, ◌*◌, ℤ, ◌*ℤ◌, ◌-ℤ◌, ◌+ℤ◌, ◌∙◌, ◌≤◌, unsigned_abs}
 use mir.Syntax.{w128}
 use Rattle.geo_sign.specs.Point.{Point, dot, cross, square}

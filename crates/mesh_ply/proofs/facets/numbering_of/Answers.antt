@@ -1,3 +1,8 @@
+-- The points of marked places, and of each place how many marked ones stand before it.
+--
+-- Behind v places the points are those of the marked ones among them, and the numbers those of all v. One place more adds
+-- its point where it is marked (points_more) and its number in any case, which is how many points there are already
+-- (numbers_more). So a number fits 32 bits, as there are no more points than places.
 use Rattle.std.proofs.Common.{ℕ, ◌≡◌, ◌+◌, ◌++◌, ◌∙◌, refl, ap, sym, arith, false, true, Bool, List, [], ◌∷◌, cond, get_or}
 use Rattle.std.proofs.Common.{length, map}
 use Rattle.std.proofs.lemmas.List.{length-map, map-append, append-nil, get_or_read}

@@ -1,3 +1,8 @@
+-- The header of a mesh from behind its first count on, line after line.
+--
+-- A refusal in a line is that of the text, as the lines before it were read: word_good and number_good put a line that was
+-- read in front of what is refused behind it, so each goal is such a chain, longer by one than the goal before. The last is
+-- for what the rows behind the header refuse.
 use Rattle.line_text.specs.Lists.{WithMemory}
 use Rattle.line_text.proofs.Rows.{IfErr-holds, IfErr-weaker, WithMemory-holds, WithMemory-weaker}
 use Rattle.line_text.proofs.Parts.{word_refused, word_good, number_refused, number_good}

@@ -1,3 +1,8 @@
+-- A whole number of at most 18 digits that matter, with its sign, as 64 bits hold it.
+--
+-- The digits behind the sign are digits, and so are those without leading zeros (taken_digits). At most 18 of them are below
+-- 10^18 (value_small), so neither the sum of digits nor the number with its sign wraps, and the number is that of the token
+-- (whole_is).
 use Rattle.std.proofs.Common.{unsigned_abs, ◌≡◌, ℕ, length, arith, sym, ap, ◌∙◌, List, Bool}
 use Rattle.std.specs.Str.Parse.{digits_value_after}
 use Rattle.num_text.specs.WholeNumbers.{significant, are_digits, signed}

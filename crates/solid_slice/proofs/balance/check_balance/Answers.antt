@@ -1,3 +1,9 @@
+-- Whether each edge occurs as often as its reverse, by two sorted lists.
+--
+-- Each edge stands in the one list as a pair of rising numbers, and each reverse in the other, as often as faces have them
+-- (IsPairOf). Where the lists have every pair equally often the mesh is balanced (balanced); else the first pair that the
+-- one has more often, or the other, is the smallest edge that is not, with both counts (unbalanced). A face has an edge
+-- once, so counts fit 32 bits (few).
 use Rattle.std.proofs.Common.{ℕ, ◌<◌, ◌^◌, List, length, arith, subst, sym, ap, ◌∙◌}
 use Rattle.solid_slice.specs.Pairs.{key_of_pair, key_count, IsPairOf, IsFirstDifference}
 use Rattle.solid_slice.specs.declared.pair.Pair.{Pair}

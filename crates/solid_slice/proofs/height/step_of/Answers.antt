@@ -1,3 +1,8 @@
+-- The step of a cut face is on the edge on which the face goes up.
+--
+-- A cut face has such an edge, so there is one to unwrap (up_edge_at), its ends are points of the mesh (edge_within), below
+-- and above the height: what step_on asks for. What that gives is the step, once the height, read from 32 bits, is put in
+-- for the number that it is (stored).
 use Rattle.std.proofs.Common.{ℕ, ◌≡◌, ◌∙◌, ap, sym, subst, arith, List, [], length, ℤ, to_z, of_z}
 use mir.Syntax.{w32}
 use Rattle.std.specs.List.{All}

@@ -1,3 +1,7 @@
+-- The sights of a scan, each with the vertex of its point.
+--
+-- A sight's row is one of the rows (row_here), so the index of its point among the distinct ones is there and, with the
+-- eight corners before it, fits 32 bits. Each turn adds the sight of the definitions to those so far (sights_more).
 use Rattle.std.proofs.Common.{ℕ, ◌≡◌, ◌+◌, ◌<◌, [], ◌∷◌, ◌++◌, ap, arith, subst, sym, ◌∙◌, get_or, length, List, map, take}
 use Rattle.flow_net.specs.declared.votes.Sight.{Sight}
 use Rattle.scan.proofs.ShownLemmas.{scan_is_shown}

@@ -1,3 +1,9 @@
+-- The network over lists of rows and sides, in whatever order they stand.
+--
+-- That ids are below the tables' lengths, numbers are apart and sides can be joined follows from how rows and sides were
+-- gathered (ids_below, numbers_below, rows_apart, sides_apart, can_join). The flags, sinks and arcs that were made of them
+-- are then those of the scene's network, which is valid (valid, network_is), and the numbers of its cells are these
+-- (ids_are). All are lemmas of Assembled.
 use Rattle.std.proofs.Common.{ℕ, refl, ◌∙◌, Contains, subst, sym, arith, List, Bool}
 use Rattle.flow_net.specs.Nets.{IsValidNet}
 use Rattle.visibility.specs.SceneViews.{view_of}
