@@ -3,14 +3,13 @@
 
 usage: dev/definitions.py           (compares, as the gate does)
        dev/definitions.py write     (writes the page)
-       dev/definitions.py bare      (prints the definitions that neither a head nor a line over them says anything of)
 
 The source is docs/definitions.in.md: text, and tables of words by theme. Each word of a table has to be defined in a crate that the
 heading over it names, or that its own cell names. The files are printed into each row. Where a second cell is empty, it becomes what the
 heads of these files say of the words, or the line over a definition that a head does not name, and words that stand there alone get the
 arguments that they have in the heads. {shared} becomes the words that more than one crate defines, and {others} what is said of the
 words that no table has, by crate. What stands in marks above {shared} has to be such a word, a crate or a file, and there may be no more
-such words than the text there says.
+such words than the text there says. Of each definition a head or a line over it has to say something.
 """
 from __future__ import annotations
 
@@ -127,6 +126,10 @@ class Words:
                 by_name.setdefault(name, {})[file.crate] = None
         return {name: list(crates) for name, crates in sorted(by_name.items()) if len(crates) > 1}
 
+    def bare(self) -> list[str]:
+        """Returns the words that neither a head nor a line over them says anything of, each behind its crate and its file."""
+        return [f'{file.crate} {file.name} {name}' for file in self.files for row in file.rows if not row.said for name in row.names()]
+
     def files_in(self, text: str) -> list[File]:
         """Returns the files that a heading or a cell has in marks: as `crates/votes/specs`, one file of it, or `votes`."""
         marked = [re.fullmatch(r'(?:crates/)?(\w+)(?:/specs)?(?:/(\w+)\.antt)?', word) for word in MARKED.findall(text)]
@@ -210,15 +213,12 @@ def main(words: list[str]) -> int:
     path = TOP / 'docs/definitions.md'
     if words == ['write']:
         path.write_text(page.text())
-    bare = [f'{file.crate} {file.name} {name}' for file in known.files for row in file.rows if not row.said for name in row.names()]
-    if words == ['bare']:
-        print('\n'.join(bare))
     there, printed = path.read_text().splitlines(), page.text().splitlines()
     differ = difflib.unified_diff(there, printed, 'docs/definitions.md', 'what `dev/definitions.py write` prints', lineterm='', n=0)
-    faults = page.faults + [line for line in differ if not line.startswith('@@')]
+    faults = page.faults + [f'nothing is said of {word}' for word in known.bare()] + [line for line in differ if not line.startswith('@@')]
     count = sum(len(file.names) for file in known.files)
     return reported('definitions', faults, f'{count} in {len(known.files)} files, {len(page.tabled)} in tables by theme, '
-                    f'{len(bare)} with nothing said of them, {len(known.shared())} words in more than one crate')
+                    f'{len(known.shared())} words in more than one crate')
 
 
 if __name__ == '__main__':

@@ -22,8 +22,12 @@ abbrev pub IsSmall : Bool
 abbrev pub first : Bool
 abbrev pub last : Bool
 
+-- ---- sizes
 -- how large | it is
-abbrev pub size {A : Type 0} : Bool
+infixl 10 ◌#◌
+abbrev pub ◌#◌ {A : Type 0} : Bool
+-- ---- the rest
+pub use Rattle.mid.specs.Ends.{last}
 unfoldable bare : Bool
 """
 MID = '-- Ends.\n\n-- where it ends\npub record last (p : Bool) : Type 0 where\n'
@@ -66,7 +70,7 @@ Of `low` and of `mid`: `last`. All, at most 1 words:
 
 | Word | In plain words | File |
 |---|---|---|
-| `size` | how large \\| it is | `Numbers` |
+| `#` | how large \\| it is | `Numbers` |
 """
 
 
@@ -88,6 +92,9 @@ class Definitions(InFolder):
     def test_the_page_is_printed(self) -> None:
         page = definitions.Page(self.words, SOURCE)
         equal((page.text(), page.faults), (PAGE, []))
+
+    def test_what_has_no_words_is_told(self) -> None:
+        equal(self.words.bare(), ['low Numbers bare'])
 
     def test_what_is_not_there_is_told(self) -> None:
         equal(self.faults(SOURCE.replace('`first`, `last` |', '`frist` | the ends |')),

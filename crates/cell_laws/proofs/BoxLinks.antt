@@ -4,7 +4,7 @@
 -- across has the facet turned (back), and a facet that has none across lies on a wall, three corners that agree in a
 -- coordinate (walls). Two cells with one directed facet are the same cell, and the six are told apart by the sums of their
 -- numbers (name_of), so no two of them have a facet in common (apart). Linked cells are all cells, which gives box_law, and
--- corner_law with it. The tables were made by a script.
+-- corner_law with it.
 --
 -- Stands on: Corners (they are cells) and LinkedCells (linked cells are all cells).
 use Rattle.std.proofs.Common.{ℕ, zero, suc, ◌+◌, ◌<◌, ◌≡◌, refl, ap, sym, subst, ◌∙◌, inl, inr, arith, eqb, cond, Some, None}

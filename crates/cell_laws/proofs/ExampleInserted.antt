@@ -1,5 +1,5 @@
--- All cells after the middle of the box has been put in, by the law of renewal: twelve cells over the facets of the walls. The
--- tables were made by a script. Names are used again.
+-- All cells after the middle of the box has been put in, by the law of renewal: twelve cells over the facets of the walls, under
+-- names of which six are used again. The tables have a line for each facet or cell, and each claim about them is tried for all.
 -- Stands on: Example, BoxLinks and Renewal.
 use Rattle.std.proofs.Common.{ℕ, zero, suc, ◌<◌, ◌≡◌, refl, ap, sym, subst, ◌∙◌, ◌⊎◌, inl, inr, arith, Bool, true, false}
 use Rattle.std.proofs.Common.{true≢false, int_lt, pos, Option, Some, None, List, [], ◌∷◌, get_or}

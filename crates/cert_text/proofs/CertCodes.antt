@@ -1,7 +1,7 @@
 -- The text of a certificate says which certificate it is.
 --
--- A code is a text that ends where it ends: of two texts that begin with such parts, whatever follows, the parts and the
--- rests are the same (IsCode). A number with the byte behind it is one, since no digit is that byte; so are four of them
+-- A part is a code if two texts that begin with such parts and go on in any way are the same only where the parts are, and
+-- what follows them (IsCode). A number with the byte behind it is one, since no digit is that byte; so are four of them
 -- (four_code, cell_code), a row (flow_code, sink_code), a list behind its length (list_code) and the counts (counts_code).
 -- cert_code puts the parts of a certificate together, one after the other.
 use Rattle.std.proofs.Common.{ℕ, Option, ◌≡◌, ◌<◌, ◌^◌, refl, ap, sym, ◌∙◌, arith, List, [], ◌∷◌, ◌++◌, length, append_assoc}

@@ -3,7 +3,8 @@
 -- One answer: by cases on what two answers say of the points' file, too long, refused or labelled. Different ones exclude
 -- each other, and equal ones agree, labels because a scan has one set of them (labels_one, asked_one). How it ends: an
 -- answer of the status Refused contradicts a scan and points that are accepted (points_not_refused), one of Done contradicts
--- what is refused (points_not_done); Failed contradicts that no fault was counted, and the other statuses are not for `ask`.
+-- what is refused (points_not_done); Failed contradicts that no fault was counted, No and BadWords are not for `ask`, and
+-- want of memory stays.
 use Rattle.std.proofs.Common.{◌≡◌, ◌⊎◌, inl, inr, ℕ, ◌≤◌, List, length, Some, Ok, Err, refl, sym, ap, subst, ◌∙◌, arith}
 use Rattle.flow_net.specs.declared.votes.Settings.{Settings}
 use Rattle.geo_sign.specs.Point.{Point}
