@@ -21,15 +21,19 @@ box_across =
     (1 ∷ 6 ∷ 6 ∷ 6 ∷ []) ∷ (3 ∷ 2 ∷ 6 ∷ 0 ∷ []) ∷ (4 ∷ 6 ∷ 6 ∷ 1 ∷ []) ∷ (4 ∷ 6 ∷ 1 ∷ 6 ∷ []) ∷ (6 ∷ 5 ∷ 3 ∷ 2 ∷ [])
     ∷ (6 ∷ 6 ∷ 4 ∷ 6 ∷ []) ∷ []
 
+-- of each corner one of the six that has it
 abbrev pub box_keepers : List ℕ
 box_keepers = 0 ∷ 0 ∷ 0 ∷ 1 ∷ 0 ∷ 2 ∷ 3 ∷ 5 ∷ []
 
+-- the corners of one of the six, written positively
 abbrev pub box_row : ℕ → List ℕ
 box_row i = slice_index_or box_rows i []
 
+-- the same as a tetrahedron
 abbrev pub box_tetrahedron : ℕ → Tetrahedron
 box_tetrahedron i = tetrahedron_from (box_row i)
 
+-- which of the six is across side k of one of them, 6 on a wall
 abbrev pub box_number : (i k : ℕ) → ℕ
 box_number i k = slice_index (slice_index_or box_across i []) k
 

@@ -28,10 +28,12 @@ slot_at slots id = slice_index_or slots id None
 abbrev pub tetrahedron_from : List ℕ → Tetrahedron
 tetrahedron_from v = tetrahedron (slice_index v 0) (slice_index v 1) (slice_index v 2) (slice_index v 3)
 
+-- a free slot is read as one vertex four times, which is no cell
 abbrev pub vertices_in : Option Cell → Tetrahedron
 vertices_in None = tetrahedron 0 0 0 0
 vertices_in (Some c) = tetrahedron_from c.v
 
+-- a free slot has no neighbors
 abbrev pub next_in : Option Cell → ℕ → Option ℕ
 next_in None k = None
 next_in (Some c) k = slice_index_or c.next k None

@@ -45,6 +45,7 @@ moved places c = record {
       ∷ across_by places (slice_index_or c.next 2 None) ∷ across_by places (slice_index_or c.next 3 None) ∷ [];
 }
 
+-- a free slot stays free
 abbrev pub moved_slot : List (Option ℕ) → Option Cell → Option Cell
 moved_slot places None = None
 moved_slot places (Some c) = Some (moved places c)

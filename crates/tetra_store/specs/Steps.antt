@@ -93,6 +93,7 @@ pub record AreFacing (a : Links) (fan : List Facet) : Type 0 where
 
 -- ---- edges
 
+-- an edge of the cell over a fan facet: that side of the new cell, opposite to vertex 0, 1 or 2, which another new cell will share
 pub record IsFanEdge (fan : List Facet) (ids : List ℕ) (x : Edge) : Type 0 where
   pub facet : ℕ
   pub opposite : ℕ
@@ -103,6 +104,7 @@ pub record IsFanEdge (fan : List Facet) (ids : List ℕ) (x : Edge) : Type 0 whe
   pub cell_is : x.cell ≡ slice_index ids facet
   pub side_is : x.side ≡ opposite
 
+-- the edge of fan facet i that is opposite to its vertex e, with the side of the new cell over it
 abbrev pub edge_of : List Facet → List ℕ → (i e : ℕ) → Edge
 edge_of fan ids i e =
     record { start = edge_start (fan_facet fan i) e; end = edge_end (fan_facet fan i) e; cell = slice_index ids i; side = e }
@@ -152,6 +154,7 @@ pub record CanGrow (a : Links) (fan : List Facet) : Type 0 where
       → e ≡ d
   pub ends : (i e : ℕ) → i < length fan → edge_start (fan_facet fan i) e ≢ edge_end (fan_facet fan i) e
 
+-- side e of the new cell over fan facet i names the new cell over that fan facet which has the edge in the other direction
 pub record IsMated (b : Links) (fan : List Facet) (ids : List ℕ) (i e : ℕ) : Type 0 where
   pub mate : ℕ
   pub side : ℕ
