@@ -2,7 +2,7 @@
 --
 -- At each key the walk looks at the next row. If it is about the key the walk notes what the row says and goes on to the
 -- next row (walk_found), else it notes that nothing is said (walk_missed). Keys rise, so no row that was found earlier is
--- about this key (none_here), and a row found later is about none of the earlier ones: what was noted is what all the rows
+-- about this key (none_here), and a row found later is about none of the earlier keys: what was noted is what all the rows
 -- so far say of the keys so far (IsWalked). Behind the last key either every row was found, and then each is about a key
 -- (walked_there), or the next row is the first that is about none (walked_stray). All that is used of what rows say is Says;
 -- among_says has it for cells that are listed, stated_says for amounts.
