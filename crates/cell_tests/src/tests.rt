@@ -8,5 +8,6 @@ mod points;
 mod sides;
 mod signs;
 mod stores;
+mod surfaces;
 mod ties;
 mod walks;

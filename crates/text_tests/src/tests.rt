@@ -11,3 +11,4 @@ mod numbers;
 mod rows;
 mod scans;
 mod slices;
+mod texts;

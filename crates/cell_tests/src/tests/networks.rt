@@ -28,7 +28,7 @@ fn is_in_range(scene: &Scene<'_>, sight: Sight) -> bool
 }
 
 /// Whether all sights are.
-fn are_in_range(scene: &Scene<'_>) -> bool
+pub fn are_in_range(scene: &Scene<'_>) -> bool
     ensures { IsTrue result → All (IsSightOf scene.now.points.now scene.now.scanners.now) scene.now.sights.now }
 {
     scene.sights.iter().all(|sight| is_in_range(scene, *sight))

@@ -1,5 +1,6 @@
 //! What no contract says: the text of an outside example, and that memory is enough.
 
+use super::texts::spoiled;
 use cert_text::{CertRefusal, Certificate, FlowRow, SinkRow, push_cert, read_cert};
 use std::alloc::Global;
 use std::test::Fail;
@@ -87,15 +88,6 @@ fn the_printed_tetrahedron_is_read_back(rt: HostRuntime) -> Result<(), Fail> {
     Ok(())
 }
 
-/// The tetrahedron's text with one part replaced.
-fn spoiled(alloc: Global, part: &str, other: &str) -> Result<String, Fail> {
-    let (front, back) = TETRAHEDRON.split_once(part).ok_or("no such part")?;
-    let mut text = String::from_str(alloc, front)?;
-    text.push_str(other)?;
-    text.push_str(back)?;
-    Ok(text)
-}
-
 #[test]
 fn spoiled_texts_are_refused_at_their_line(rt: HostRuntime) -> Result<(), Fail> {
     let cases = [
@@ -139,7 +131,7 @@ fn spoiled_texts_are_refused_at_their_line(rt: HostRuntime) -> Result<(), Fail> 
         ("certificate 1", "certificate 3", CertRefusal::BadLine(1)),
     ];
     for (part, other, expected) in cases {
-        let text = spoiled(rt.alloc(), part, other)?;
+        let text = spoiled(rt.alloc(), TETRAHEDRON, part, other)?;
         let refusal = read_cert(rt.alloc(), text.as_bytes()).err();
         assert_eq!(rt; refusal, Some(expected), "{other}");
     }
@@ -148,7 +140,12 @@ fn spoiled_texts_are_refused_at_their_line(rt: HostRuntime) -> Result<(), Fail> 
 
 #[test]
 fn amounts_use_all_their_bits(rt: HostRuntime) -> Result<(), Fail> {
-    let text = spoiled(rt.alloc(), "11 4\n", "11 18446744073709551615\n")?;
+    let text = spoiled(
+        rt.alloc(),
+        TETRAHEDRON,
+        "11 4\n",
+        "11 18446744073709551615\n",
+    )?;
     let cert = read_cert(rt.alloc(), text.as_bytes())?;
     assert_eq!(rt;
         cert.sink.as_slice(),

@@ -1,5 +1,6 @@
 //! What no contract says: the texts of an outside example, a form of a caller's own, and that memory is enough.
 
+use super::texts::TETRAHEDRON;
 use geo_sign::Point;
 use line_text::push_number;
 use mesh_form::{Form, NoMemory, ObjForm, OffForm, PlyForm, Receipt, drive};
@@ -7,27 +8,7 @@ use mesh_ply::read_mesh;
 use std::alloc::Global;
 use std::test::Fail;
 
-/// Four points, all faces seen from outside.
-const TETRAHEDRON: &str = "ply
-format ascii 1.0
-element vertex 4
-property int x
-property int y
-property int z
-element face 4
-property list uchar int vertex_indices
-end_header
-100 100 100
-100 -100 -100
--100 100 -100
--100 -100 100
-3 0 1 2
-3 0 2 3
-3 0 3 1
-3 1 3 2
-";
-
-/// The same in OFF.
+/// The tetrahedron in OFF.
 const OFF: &str = "OFF
 4 4 0
 100 100 100

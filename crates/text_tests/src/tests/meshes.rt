@@ -1,29 +1,9 @@
 //! What no contract says: the text of an outside example, what spoils it, and that memory is enough.
 
+use super::texts::{TETRAHEDRON, spoiled};
 use geo_sign::{Point, corner};
 use mesh_ply::{MeshRefusal, mesh_of_facets, push_mesh, read_mesh};
-use std::alloc::Global;
 use std::test::Fail;
-
-/// Four points, all faces seen from outside.
-const TETRAHEDRON: &str = "ply
-format ascii 1.0
-element vertex 4
-property int x
-property int y
-property int z
-element face 4
-property list uchar int vertex_indices
-end_header
-100 100 100
-100 -100 -100
--100 100 -100
--100 -100 100
-3 0 1 2
-3 0 2 3
-3 0 3 1
-3 1 3 2
-";
 
 #[test]
 fn the_tetrahedron_among_the_box_corners_prints_byte_for_byte(rt: HostRuntime) -> Result<(), Fail> {
@@ -62,15 +42,6 @@ fn the_printed_tetrahedron_is_read_back(rt: HostRuntime) -> Result<(), Fail> {
     push_mesh(&mut out, &mesh)?;
     assert_eq!(rt; out.as_slice(), TETRAHEDRON.as_bytes());
     Ok(())
-}
-
-/// The tetrahedron's text with one part replaced.
-fn spoiled(alloc: Global, part: &str, other: &str) -> Result<String, Fail> {
-    let (front, back) = TETRAHEDRON.split_once(part).ok_or("no such part")?;
-    let mut text = String::from_str(alloc, front)?;
-    text.push_str(other)?;
-    text.push_str(back)?;
-    Ok(text)
 }
 
 #[test]
@@ -114,7 +85,7 @@ fn spoiled_texts_are_refused_at_their_line(rt: HostRuntime) -> Result<(), Fail> 
         ("end_header", "end_head", MeshRefusal::BadLine(9)),
     ];
     for (part, other, expected) in cases {
-        let text = spoiled(rt.alloc(), part, other)?;
+        let text = spoiled(rt.alloc(), TETRAHEDRON, part, other)?;
         let refusal = read_mesh(rt.alloc(), text.as_bytes()).err();
         assert_eq!(rt; refusal, Some(expected), "{other}");
     }
@@ -133,7 +104,7 @@ fn no_front_of_a_mesh_is_a_mesh(rt: HostRuntime) -> Result<(), Fail> {
 #[test]
 fn points_reach_the_walls_of_the_box(rt: HostRuntime) -> Result<(), Fail> {
     for other in ["100 100 8388608", "-8388608 0 100"] {
-        let text = spoiled(rt.alloc(), "100 100 100", other)?;
+        let text = spoiled(rt.alloc(), TETRAHEDRON, "100 100 100", other)?;
         let mesh = read_mesh(rt.alloc(), text.as_bytes())?;
         let mut out = Vec::new(rt.alloc());
         push_mesh(&mut out, &mesh)?;

@@ -1,31 +1,12 @@
 //! What no contract says: that memory is enough, and the numbers of outside examples.
 
+use super::texts::TETRAHEDRON;
 use mesh_ply::read_mesh;
 use solid_slice::{Ring, SliceRefusal, push_slice, slice};
 use std::alloc::{AllocError, Global};
 use std::test::Fail;
 
-/// Four points, all faces seen from outside.
-const TETRAHEDRON: &str = "ply
-format ascii 1.0
-element vertex 4
-property int x
-property int y
-property int z
-element face 4
-property list uchar int vertex_indices
-end_header
-100 100 100
-100 -100 -100
--100 100 -100
--100 -100 100
-3 0 1 2
-3 0 2 3
-3 0 3 1
-3 1 3 2
-";
-
-/// The same without its last face, so that three edges have no reverse.
+/// The tetrahedron without its last face, so that three edges have no reverse.
 const OPEN: &str = "ply
 format ascii 1.0
 element vertex 4
@@ -44,7 +25,7 @@ end_header
 3 0 3 1
 ";
 
-/// Each face of the first twice, so that each edge occurs twice in each direction.
+/// Each face of the tetrahedron twice, so that each edge occurs twice in each direction.
 const DOUBLE: &str = "ply
 format ascii 1.0
 element vertex 4
@@ -68,7 +49,7 @@ end_header
 3 1 3 2
 ";
 
-/// The slice of the first at height 0.
+/// The slice of the tetrahedron at height 0.
 const SLICE: &str = "loops 1
 loop 4
 0 200 40000 400
