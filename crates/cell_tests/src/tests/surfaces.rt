@@ -33,8 +33,8 @@ fn mesh_of(
     requires network { IsNetworkInAnyOrder (view_of scene.now) counted.now.voted }
     requires ids { AreIdsOf t.now.slots counted.now.voted.cells counted.now.ids.items }
 {
-    let (_flow, labels) = minimum_cut(alloc, &counted.voted.net)?;
-    facets(alloc, t, &counted.ids, &labels)
+    let cut = minimum_cut(alloc, &counted.voted.net)?;
+    facets(alloc, t, &counted.ids, &cut.1)
 }
 
 /// The mesh by labels in the store's order and by labels in the rising one. None where points are not distinct data points or too many, or
@@ -50,6 +50,7 @@ fn meshes(alloc: Global, scene: &Scene<'_>) -> Result<Option<(Mesh, Mesh)>, Allo
         return Ok(None);
     }
     let t = build(alloc, scene.points)?;
+    t.facts();
     let stored = count_votes_as_stored(alloc, &t, scene)?;
     let rising = count_votes(alloc, &t, scene)?;
     Ok(Some((
@@ -107,7 +108,10 @@ fn the_faces_of_a_tetrahedron_begin_at_their_least_number(rt: HostRuntime) -> Re
     let sights = five_sights(4, 1);
     let mesh = surface_of(rt.alloc(), &scene_of(&points, &scanners, &sights[..4])?)?;
     assert_eq!(rt; mesh.points.as_slice(), points.as_slice());
-    assert_eq!(rt; mesh.faces.as_slice(), [[0, 1, 2], [0, 2, 3], [0, 3, 1], [1, 3, 2]].as_slice());
+    assert_eq!(rt;
+        mesh.faces.as_slice(),
+        [[0, 1, 2], [0, 2, 3], [0, 3, 1], [1, 3, 2]].as_slice()
+    );
     Ok(())
 }
 
