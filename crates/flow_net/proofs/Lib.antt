@@ -5,3 +5,4 @@ pub mod Duality
 pub mod Meets
 pub mod WeightLemmas
 pub mod SmoothingLemmas
+pub mod PaddingLemmas

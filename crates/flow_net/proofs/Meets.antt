@@ -8,17 +8,17 @@
 -- best one's, so it has no fewer nodes inside, though each of them is inside by the best labels: it has them all, and these
 -- lie within the others (`ranked_least`).
 use Rattle.std.proofs.Common.{ℕ, zero, suc, ◌≡◌, ◌<◌, ◌≤◌, ◌+◌, ◌*◌, Bool, true, false, cond, not, ◌&&◌, List, [], ◌∷◌, length}
-use Rattle.std.proofs.Common.{get_or, map, refl, ap, ap₂, sym, ◌∙◌, inl, inr, arith}
+use Rattle.std.proofs.Common.{map, refl, ap, ap₂, sym, ◌∙◌, inl, inr, arith}
 use Rattle.std.specs.List.{range_with_len}
 use Rattle.std.proofs.Math.Nat.{mul-le-mul_left}
 use Rattle.std.proofs.lemmas.Bool.{false≢true, cases_lt, and_left}
 use Rattle.std.proofs.lemmas.Bool.Decides.{same_from_decides}
 use Rattle.std.proofs.lemmas.List.FromFn.{length-map-range_with_len, get_or-map-range_with_len}
 use Rattle.flow_net.specs.Sums.{sum_below}
-use Rattle.flow_net.specs.Nets.{arc_at, flag_at}
+use Rattle.flow_net.specs.Nets.{flag_at}
 use Rattle.flow_net.specs.Networks.{IsAdmissible, IsLeastCost, arc_cost, node_cost, cost}
-use Rattle.flow_net.specs.Flows.{network_of, IsLeastInside}
-use Rattle.flow_net.specs.declared.Net.{Net}
+use Rattle.flow_net.specs.Numbered.{NumberedNetwork, network_by}
+use Rattle.flow_net.specs.NumberedFlows.{IsLeastInside}
 use Rattle.flow_net.specs.declared.Labels.{Labels}
 use Rattle.flow_net.proofs.SumLemmas.{sum_below-cong, sum_below-le, sum_below-add, sum_below-le_const, sum_below-tight}
 
@@ -39,7 +39,7 @@ same_labels : (a b : Labels) → a.inside ≡ b.inside → a ≡ b
 same_labels a b e = let made : List Bool → Labels = λ xs. record { inside = xs } in ap made e
 
 -- two least insides are the same
-pub least_inside_unique : (net : Net) (a b : Labels) → IsLeastInside net a → IsLeastInside net b → a ≡ b
+pub least_inside_unique : (net : NumberedNetwork) (a b : Labels) → IsLeastInside net a → IsLeastInside net b → a ≡ b
 least_inside_unique net a b p q =
     same_labels a b (same_flags a.inside b.inside (p.count ∙ sym q.count)
     (λ v l h. p.within (flag_at b.inside) q.least_cost v (omega (arith, p.count)) h)
@@ -88,27 +88,27 @@ or_false true y e f = absurd (false≢true (sym e))
 or_false false true e f = absurd (false≢true (sym f))
 or_false false false e f = refl
 
-admissible_both : (net : Net) (a b : ℕ → Bool) → IsAdmissible (network_of net) a → IsAdmissible (network_of net) (both a b)
+admissible_both : (net : NumberedNetwork) (a b : ℕ → Bool) → IsAdmissible (network_by net) a → IsAdmissible (network_by net) (both a b)
 admissible_both net a b p = record { none_fixed = λ v l h. and_left (a v) (b v) (p.none_fixed v l h) }
 
-admissible_one : (net : Net) (a b : ℕ → Bool) → IsAdmissible (network_of net) a → IsAdmissible (network_of net) b
-    → IsAdmissible (network_of net) (one_of a b)
+admissible_one : (net : NumberedNetwork) (a b : ℕ → Bool) → IsAdmissible (network_by net) a → IsAdmissible (network_by net) b
+    → IsAdmissible (network_by net) (one_of a b)
 admissible_one net a b p q =
     record { none_fixed = λ v l h. or_false (a v) (b v) (p.none_fixed v l h) (q.none_fixed v l h) }
 
 -- inside by both and inside by one of two cost no more than the two: the cost is submodular
-submodular : (net : Net) (a b : ℕ → Bool) → cost (network_of net) (both a b) + cost (network_of net) (one_of a b)
-    ≤ cost (network_of net) a + cost (network_of net) b
+submodular : (net : NumberedNetwork) (a b : ℕ → Bool) → cost (network_by net) (both a b) + cost (network_by net) (one_of a b)
+    ≤ cost (network_by net) a + cost (network_by net) b
 submodular net a b =
-    let m : ℕ = length net.arcs in
-    let n : ℕ = length net.fixed in
-    let arc : (ℕ → Bool) → ℕ → ℕ = arc_cost (network_of net) in
-    let node : (ℕ → Bool) → ℕ → ℕ = node_cost (network_of net) in
+    let m : ℕ = net.arc_count in
+    let n : ℕ = net.node_count in
+    let arc : (ℕ → Bool) → ℕ → ℕ = arc_cost (network_by net) in
+    let node : (ℕ → Bool) → ℕ → ℕ = node_cost (network_by net) in
     let arcs = sum_below-le m (λ j. arc (both a b) j + arc (one_of a b) j) (λ j. arc a j + arc b j)
-    (λ j l. arc_meets (a (arc_at net.arcs j).from) (a (arc_at net.arcs j).to) (b (arc_at net.arcs j).from)
-    (b (arc_at net.arcs j).to) (arc_at net.arcs j).cap) in
+    (λ j l. arc_meets (a (net.from j)) (a (net.to j)) (b (net.from j))
+    (b (net.to j)) (net.capacity j)) in
     let nodes = sum_below-le n (λ v. node (both a b) v + node (one_of a b) v) (λ v. node a v + node b v)
-    (λ v l. node_meets (a v) (b v) (get_or net.sink v 0)) in
+    (λ v l. node_meets (a v) (b v) (net.sink v)) in
     let arcs_left = sum_below-add m (arc (both a b)) (arc (one_of a b)) in
     let arcs_right = sum_below-add m (arc a) (arc b) in
     let nodes_left = sum_below-add n (node (both a b)) (node (one_of a b)) in
@@ -210,20 +210,20 @@ both_if_same true false e h = absurd (omega (arith, e))
 both_if_same false y e h = absurd (false≢true h)
 
 -- labels are ordered by cost, and by how many nodes are inside where they cost the same
-abbrev pub rank_of : Net → (ℕ → Bool) → ℕ
-rank_of net inside = cost (network_of net) inside * (length net.fixed + 1) + inside_count (length net.fixed) inside
+abbrev pub rank_of : NumberedNetwork → (ℕ → Bool) → ℕ
+rank_of net inside = cost (network_by net) inside * (net.node_count + 1) + inside_count net.node_count inside
 
 -- labels that say the same of each node have one rank
-same_rank : (net : Net) (a b : ℕ → Bool) → ((v : ℕ) → v < length net.fixed → a v ≡ b v) → rank_of net a ≡ rank_of net b
+same_rank : (net : NumberedNetwork) (a b : ℕ → Bool) → ((v : ℕ) → v < net.node_count → a v ≡ b v) → rank_of net a ≡ rank_of net b
 same_rank net a b h =
-    let m : ℕ = length net.arcs in
-    let n : ℕ = length net.fixed in
-    let arcs = sum_below-cong m (arc_cost (network_of net) a) (arc_cost (network_of net) b)
-    (λ j l. ap₂ (λ x y. cond (not x && y) (arc_at net.arcs j).cap 0)
-    (h (arc_at net.arcs j).from (net.valid.valid_arcs j l).from_in)
-    (h (arc_at net.arcs j).to (net.valid.valid_arcs j l).to_in)) in
-    let nodes = sum_below-cong n (node_cost (network_of net) a) (node_cost (network_of net) b)
-    (λ v l. ap (λ x. cond x 0 (get_or net.sink v 0)) (h v l)) in
+    let m : ℕ = net.arc_count in
+    let n : ℕ = net.node_count in
+    let arcs = sum_below-cong m (arc_cost (network_by net) a) (arc_cost (network_by net) b)
+    (λ j l. ap₂ (λ x y. cond (not x && y) (net.capacity j) 0)
+    (h (net.from j) (net.from_in j l))
+    (h (net.to j) (net.to_in j l))) in
+    let nodes = sum_below-cong n (node_cost (network_by net) a) (node_cost (network_by net) b)
+    (λ v l. ap (λ x. cond x 0 (net.sink v)) (h v l)) in
     let counts = sum_below-cong n (λ v. one_if (a v)) (λ v. one_if (b v)) (λ v l. ap one_if (h v l)) in
     ap₂ (λ k c. k * (n + 1) + c) (ap₂ (λ k c. k + c) arcs nodes) counts
 
@@ -241,35 +241,49 @@ cost_from_rank n a b k l small le =
       | inr more ↦ more
     ]
 
+-- which nodes are fixed, as a list
+abbrev fixed_flags : NumberedNetwork → List Bool
+fixed_flags net = map net.is_fixed (range_with_len 0 net.node_count)
+
+flag_count : (net : NumberedNetwork) → length (fixed_flags net) ≡ net.node_count
+flag_count net = length-map-range_with_len net.is_fixed 0 net.node_count
+
+flag_is : (net : NumberedNetwork) (v : ℕ) → v < net.node_count → flag_at (fixed_flags net) v ≡ net.is_fixed v
+flag_is net v l = get_or-map-range_with_len net.is_fixed 0 net.node_count v v false l (omega arith)
+
 -- flags of the least rank have a rank that no labels are below
-least_rank : (net : Net) (found : HasLeast net.fixed (λ xs. rank_of net (flag_at xs))) (other : ℕ → Bool)
-    → IsAdmissible (network_of net) other → rank_of net (flag_at found.best) ≤ rank_of net other
+least_rank : (net : NumberedNetwork) (found : HasLeast (fixed_flags net) (λ xs. rank_of net (flag_at xs))) (other : ℕ → Bool)
+    → IsAdmissible (network_by net) other → rank_of net (flag_at found.best) ≤ rank_of net other
 least_rank net found other p =
-    let n : ℕ = length net.fixed in
+    let n : ℕ = net.node_count in
     let flags : List Bool = map other (range_with_len 0 n) in
     let same : (v : ℕ) → v < n → flag_at flags v ≡ other v =
     λ v l. get_or-map-range_with_len other 0 n v v false l (omega arith) in
-    let fit : IsFit net.fixed flags = record {
-      count = length-map-range_with_len other 0 n;
-      none_fixed = λ v l h. same v l ∙ p.none_fixed v l h;
+    let fit : IsFit (fixed_flags net) flags = record {
+      count = length-map-range_with_len other 0 n ∙ sym (flag_count net);
+      none_fixed = λ v l h.
+          let in_range : v < n = omega (arith, flag_count net) in
+          same v in_range ∙ p.none_fixed v in_range (sym (flag_is net v in_range) ∙ h);
     } in
     omega (arith, found.least flags fit, same_rank net (flag_at flags) other same)
 
 -- labels of the least rank are least-inside
-ranked_least : (net : Net) (found : HasLeast net.fixed (λ xs. rank_of net (flag_at xs)))
+ranked_least : (net : NumberedNetwork) (found : HasLeast (fixed_flags net) (λ xs. rank_of net (flag_at xs)))
     → IsLeastInside net (record { inside = found.best })
 ranked_least net found =
-    let n : ℕ = length net.fixed in
+    let n : ℕ = net.node_count in
     let best : ℕ → Bool = flag_at found.best in
-    let admissible : IsAdmissible (network_of net) best = record { none_fixed = found.fits.none_fixed } in
-    let is_least : IsLeastCost (network_of net) best = record {
+    let admissible : IsAdmissible (network_by net) best = record {
+      none_fixed = λ v l h. found.fits.none_fixed v (omega (arith, flag_count net)) (flag_is net v l ∙ h);
+    } in
+    let is_least : IsLeastCost (network_by net) best = record {
       admissible = admissible;
       least = λ other p.
-          cost_from_rank n (cost (network_of net) best) (cost (network_of net) other) (inside_count n best)
+          cost_from_rank n (cost (network_by net) best) (cost (network_by net) other) (inside_count n best)
           (inside_count n other) (count_le n other) (least_rank net found other p);
     } in
     record {
-      count = found.fits.count;
+      count = found.fits.count ∙ flag_count net;
       labelled = record {
         least_cost = is_least;
         within = λ other other_least.
@@ -278,7 +292,7 @@ ranked_least net found =
             let low = is_least.least meet fit_meet in
             let high =
             other_least.least (one_of best other) (admissible_one net best other admissible other_least.admissible) in
-            let cost_is : cost (network_of net) meet ≡ cost (network_of net) best =
+            let cost_is : cost (network_by net) meet ≡ cost (network_by net) best =
             omega (arith, submodular net best other, low, high) in
             let fewer : (v : ℕ) → v < n → one_if (meet v) ≤ one_if (best v) = λ v l. one_or_fewer (best v) (other v) in
             let no_fewer : inside_count n best ≤ inside_count n meet =
@@ -289,7 +303,7 @@ ranked_least net found =
     }
 
 -- there are least-inside labels
-pub least_inside_exists : (net : Net) → (labels : Labels) × IsLeastInside net labels
+pub least_inside_exists : (net : NumberedNetwork) → (labels : Labels) × IsLeastInside net labels
 least_inside_exists net =
-    let found = has_least net.fixed (λ xs. rank_of net (flag_at xs)) in
+    let found = has_least (fixed_flags net) (λ xs. rank_of net (flag_at xs)) in
     (record { inside = found.best }, ranked_least net found)

@@ -4,7 +4,7 @@
 -- those at another smoothing (`valid_at`). A list that has at each place what a map gives there is the mapped list (`mapped`). Arcs
 -- of few bits that have all risen or fallen by the same are the arcs at another smoothing, since what is kept apart is added to each
 -- (`all_changed`).
-use Rattle.std.proofs.Common.{ℕ, ◌≡◌, ◌<◌, ◌≤◌, ◌+◌, ◌-◌, ◌^◌, ◌++◌, Bool, List, length, get_or, map, refl, ap, ap₂, sym, subst, ◌∙◌, arith}
+use Rattle.std.proofs.Common.{ℕ, ◌≡◌, ◌<◌, ◌≤◌, ◌+◌, ◌-◌, ◌^◌, ◌++◌, Bool, List, length, get_or, map, refl, ap, sym, subst, ◌∙◌, arith}
 use Rattle.std.proofs.lemmas.List.{get_or-map, get_or_default, get_or_append_left, get_or-append-add, length-append, length-map, map-append, same_lists}
 use Rattle.flow_net.specs.Compact.{all_arcs, lowered, narrow_at, no_narrow, widened}
 use Rattle.flow_net.specs.Nets.{no_arc, arc_at, IsValidNet}

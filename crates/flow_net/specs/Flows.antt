@@ -1,7 +1,8 @@
--- The network by numbers: labels, what they cost, flows, what they are worth, and which of them are best, all as of any
--- network (`Networks`). Node v and arc j are numbers, and labels and flows are lists, with an entry a node or an arc.
+-- The network of a Net: labels, what they cost, flows, what they are worth, and which of them are best, all as of any network
+-- by numbers (`NumberedFlows`).
 --
 --   network_with    the network of these flags, sinks and arcs
+--   numbered_of     a Net as a network by numbers
 --   network_of      the network of a Net
 --   arcs_alone      arcs, whatever their nodes are
 --   arc_cost        what an arc adds to the cost of labels
@@ -16,7 +17,8 @@
 --   IsAdmissible    labels with no fixed node inside
 --   IsLeastCost     admissible labels that cost no more than any
 --   IsLeastInside   labels of the least cost that are contained in all labels of that cost
-use Rattle.std.specs.Prelude.{ℕ, ◌≡◌, ◌<◌, ◌≤◌, ◌==◌, Bool, List, [], length, slice_index}
+use Rattle.std.specs.Prelude.{ℕ, ◌<◌, ◌==◌, Bool, List, [], length, slice_index}
+use Rattle.std.proofs.Common.{sym, subst}
 use Rattle.flow_net.specs.declared.Arc.{Arc}
 use Rattle.flow_net.specs.declared.Net.{Net}
 use Rattle.flow_net.specs.declared.Labels.{Labels}
@@ -24,6 +26,8 @@ use Rattle.flow_net.specs.declared.Flow.{Flow}
 use Rattle.flow_net.specs.Nets.{arc_at, flag_at}
 use Rattle.flow_net.specs.Networks as networks
 use Rattle.flow_net.specs.Networks.{Network}
+use Rattle.flow_net.specs.Numbered.{NumberedNetwork, network_by}
+use Rattle.flow_net.specs.NumberedFlows as numbered
 use Rattle.flow_net.specs.Sums.{sum_below}
 
 -- the network of these flags, sinks and arcs
@@ -42,9 +46,31 @@ network_with fixed sink arcs =
       sink = slice_index sink;
     }
 
+-- there is a sink at each node
+pub sink_there : (net : Net) (v : ℕ) → v < length net.fixed → v < length net.sink
+sink_there net v l = subst (λ (n : ℕ). v < n) (sym net.valid.sink_count) l
+
+-- a Net as a network by numbers
+abbrev pub numbered_of : Net → NumberedNetwork
+numbered_of net =
+    record {
+      node_count = length net.fixed;
+      arc_count = length net.arcs;
+      from = λ j. (arc_at net.arcs j).from;
+      to = λ j. (arc_at net.arcs j).to;
+      capacity = λ j. (arc_at net.arcs j).cap;
+      is_fixed = flag_at net.fixed;
+      sink = slice_index net.sink;
+      from_in = λ j l. (net.valid.valid_arcs j l).from_in;
+      to_in = λ j l. (net.valid.valid_arcs j l).to_in;
+      distinct = λ j l _. (net.valid.valid_arcs j l).distinct;
+      capacity_fits = λ j l. (net.valid.valid_arcs j l).cap_fits;
+      sink_fits = λ v l. net.valid.sinks_fit v (sink_there net v l);
+    }
+
 -- the network of a Net
 abbrev pub network_of : Net → Network ℕ ℕ
-network_of net = network_with net.fixed net.sink net.arcs
+network_of net = network_by (numbered_of net)
 
 -- arcs, whatever their nodes are
 abbrev pub arcs_alone : List Arc → Network ℕ ℕ
@@ -79,31 +105,21 @@ abbrev pub value_of : Net → Flow → ℕ
 value_of net flow = networks.value (network_of net) (slice_index flow.on_sink)
 
 -- amounts, one an arc and one a node, that are a valid flow
-pub record IsValidFlow (net : Net) (flow : Flow) : Type 0 where
-  pub arc_count : length flow.on_arc ≡ length net.arcs
-  pub node_count : length flow.on_sink ≡ length net.fixed
-  pub amounts : networks.IsValidFlow (network_of net) (slice_index flow.on_arc) (slice_index flow.on_sink)
-  pub open amounts use *
+abbrev pub IsValidFlow : Net → Flow → Type 0
+IsValidFlow net = numbered.IsValidFlow (numbered_of net)
 
 -- a valid flow whose value no valid flow passes
-pub record IsLargest (net : Net) (flow : Flow) : Type 0 where
-  pub valid : IsValidFlow net flow
-  pub largest : (other : Flow) → IsValidFlow net other → value_of net other ≤ value_of net flow
+abbrev pub IsLargest : Net → Flow → Type 0
+IsLargest net = numbered.IsLargest (numbered_of net)
 
 -- labels, one a node, with no fixed node inside
-pub record IsAdmissible (net : Net) (labels : Labels) : Type 0 where
-  pub count : length labels.inside ≡ length net.fixed
-  pub labelled : networks.IsAdmissible (network_of net) (flag_at labels.inside)
-  pub open labelled use *
+abbrev pub IsAdmissible : Net → Labels → Type 0
+IsAdmissible net = numbered.IsAdmissible (numbered_of net)
 
 -- admissible labels that cost no more than any admissible labels
-pub record IsLeastCost (net : Net) (labels : Labels) : Type 0 where
-  pub count : length labels.inside ≡ length net.fixed
-  pub labelled : networks.IsLeastCost (network_of net) (flag_at labels.inside)
-  pub open labelled use *
+abbrev pub IsLeastCost : Net → Labels → Type 0
+IsLeastCost net = numbered.IsLeastCost (numbered_of net)
 
 -- labels of the least cost that are contained in all labels of that cost
-pub record IsLeastInside (net : Net) (labels : Labels) : Type 0 where
-  pub count : length labels.inside ≡ length net.fixed
-  pub labelled : networks.IsLeastInside (network_of net) (flag_at labels.inside)
-  pub open labelled use *
+abbrev pub IsLeastInside : Net → Labels → Type 0
+IsLeastInside net = numbered.IsLeastInside (numbered_of net)

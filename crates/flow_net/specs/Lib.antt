@@ -6,5 +6,8 @@ pub mod Laws
 pub mod Nets
 pub mod Networks
 pub mod Smoothing
+pub mod Numbered
+pub mod NumberedFlows
 pub mod Sums
 pub mod Weights
+pub mod Paddings

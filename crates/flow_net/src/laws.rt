@@ -1,6 +1,7 @@
 //! What holds between the costs of labels and the values of flows in every network, as contracts of calls that do
 //! nothing. It stands on the definitions alone.
 
+ghost use Rattle.flow_net.specs.Paddings.{PaddingLaw};
 ghost use Rattle.flow_net.specs.Laws.{ValueIsAtMostCost, EqualIsBest, HasLeastInside, LeastInsideIsUnique};
 
 /// The value of a valid flow is at most the cost of any admissible labels.
@@ -19,4 +20,10 @@ pub fn equal_value_and_cost_are_best()
 pub fn exactly_one_is_least_inside()
     ensures exists { HasLeastInside }
     ensures unique { LeastInsideIsUnique }
+{}
+
+/// Numbers of a network by numbers that stand for no node or no arc decide nothing: without them least-inside labels and valid flows are
+/// the same, at the same cost and value.
+pub fn numbers_may_stand_for_nothing()
+    ensures { PaddingLaw }
 {}

@@ -4,7 +4,8 @@
 //! cell is a node, and each directed facet towards a free cell is an arc. The crate stands on the standard library
 //! and `thiserror` alone, and knows nothing of geometry.
 //!
-//! This file holds the types. `lists` and `compact` hold the lists that stand in their fields, `builder` makes a network node by node
+//! This file holds the types. `lists` and `compact` hold the lists that stand in their fields, `network` says what a network by
+//! numbers is, of which `Net` is one and over which all sums and searches go, `builder` makes a `Net` node by node
 //! and join by join, `votes` holds the settings and sights, `sums` the cost of labels and the value of a flow, `laws` what
 //! holds between the two, and `validity` the test that `Net::is_valid` makes.
 #![tactic(auto)]
@@ -17,14 +18,19 @@ mod builder;
 mod compact;
 mod laws;
 mod lists;
+mod network;
 mod sums;
 mod validity;
 mod votes;
 
 pub use builder::{NetBuilder, NetRefusal};
 pub use compact::Arcs;
-pub use laws::{equal_value_and_cost_are_best, exactly_one_is_least_inside, value_is_at_most_cost};
+pub use laws::{
+    equal_value_and_cost_are_best, exactly_one_is_least_inside, numbers_may_stand_for_nothing,
+    value_is_at_most_cost,
+};
 pub use lists::Sequence;
+pub use network::FlowNetwork;
 pub use sums::{cost, value};
 pub use votes::{SIGHT_LIMIT, SIGHT_WEIGHT_LIMIT, Settings, Sight, WEIGHT_LIMIT, are_sights};
 

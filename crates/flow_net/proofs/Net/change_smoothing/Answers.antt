@@ -1,4 +1,4 @@
-use Rattle.std.proofs.Common.{◌≡◌, List, sym, subst}
+use Rattle.std.proofs.Common.{List, sym, subst}
 use Rattle.flow_net.specs.Nets.{IsValidNet}
 use Rattle.flow_net.specs.declared.Arc.{Arc}
 use Rattle.flow_net.proofs.SmoothingLemmas.{valid_at}

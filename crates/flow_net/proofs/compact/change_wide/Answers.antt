@@ -1,4 +1,4 @@
-use Rattle.std.proofs.Common.{arith, ap, length}
+use Rattle.std.proofs.Common.{arith}
 use Rattle.flow_net.specs.Nets.{no_arc}
 use Rattle.flow_net.specs.Smoothing.{at_smoothing}
 use Rattle.flow_net.proofs.SmoothingLemmas.{mapped}

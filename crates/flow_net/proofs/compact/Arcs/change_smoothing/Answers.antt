@@ -1,10 +1,8 @@
-use Rattle.std.proofs.Common.{ℕ, ◌≡◌, ◌<◌, ◌≤◌, ◌+◌, ◌-◌, ◌^◌, ◌∙◌, List, length, map, ap, sym, subst, arith}
+use Rattle.std.proofs.Common.{ℕ, ◌≡◌, ◌<◌, ◌≤◌, ◌+◌, ◌-◌, ◌^◌, ◌∙◌, length, map, ap, sym, arith}
 use Rattle.std.proofs.lemmas.Bool.Decides.{nat_tests}
 use Rattle.std.proofs.lemmas.List.{length-map, with_items_is}
 use Rattle.flow_net.specs.Compact.{lowered}
-use Rattle.flow_net.specs.Nets.{arc_at}
 use Rattle.flow_net.specs.Smoothing.{at_smoothing}
-use Rattle.flow_net.specs.declared.Arc.{Arc}
 use Rattle.flow_net.proofs.SmoothingLemmas.{all_lowered, all_raised, narrow_cap, wide_cap}
 use Rattle.flow_net.proofs.compact.Arcs.change_smoothing.Goals as goal
 

@@ -1,0 +1,117 @@
+//! Networks by numbers, as the calls that look for flows and labels see them. It stands on `Net` alone.
+
+ghost use Rattle.std.specs.Prelude.{◌≡◌, ◌<◌, ◌≤◌, ◌^◌, IfSome};
+ghost use Rattle.flow_net.specs.Numbered.{NumberedNetwork};
+
+use crate::Net;
+
+/// A network whose nodes and arcs have numbers: nodes from 0 to below [`node_count`](FlowNetwork::node_count), arcs from 0 to below
+/// [`arc_count`](FlowNetwork::arc_count).
+///
+/// Whoever has a network in a form of its own need not make a [`Net`] of it. An arc on which nothing can flow may begin and end at
+/// one node, so numbers may stand for no arc. A number stands for no node where it is fixed, takes nothing and has no arc on which
+/// something can flow.
+pub trait FlowNetwork {
+    ghost numbered: { Self → NumberedNetwork };
+
+    /// How many nodes there are.
+    fn node_count(&self) -> usize
+        ensures value { result ≡ (numbered self.now).node_count }
+        ensures small { result < 2 ^ 63 };
+
+    /// How many arcs there are.
+    fn arc_count(&self) -> usize
+        ensures { result ≡ (numbered self.now).arc_count };
+
+    /// The node that an arc leaves.
+    fn tail(&self, arc: usize) -> usize
+        requires { arc < (numbered self.now).arc_count }
+        ensures value { result ≡ (numbered self.now).from arc }
+        ensures within { result < (numbered self.now).node_count };
+
+    /// The node that an arc enters.
+    fn head(&self, arc: usize) -> usize
+        requires { arc < (numbered self.now).arc_count }
+        ensures value { result ≡ (numbered self.now).to arc }
+        ensures within { result < (numbered self.now).node_count };
+
+    /// The arc back from the node that an arc enters to the one that it leaves. None where there is none: the arc leaves a fixed
+    /// node, or nothing can flow on it.
+    fn reverse(&self, arc: usize) -> Option<usize>
+        requires { arc < (numbered self.now).arc_count }
+        ensures within { IfSome result (λ back. back < (numbered self.now).arc_count) }
+        ensures from { IfSome result (λ back. (numbered self.now).from back ≡ (numbered self.now).to arc) }
+        ensures to { IfSome result (λ back. (numbered self.now).to back ≡ (numbered self.now).from arc) };
+
+    /// Whether an arc has a reverse, which may be known without a search for it.
+    fn is_paired(&self, arc: usize) -> bool
+        requires { arc < (numbered self.now).arc_count };
+
+    /// The capacity of an arc: the most that can flow along it, and what it costs to cut it.
+    fn capacity(&self, arc: usize) -> u64
+        requires { arc < (numbered self.now).arc_count }
+        ensures value { result ≡ (numbered self.now).capacity arc }
+        ensures fits { result ≤ 2 ^ 60 };
+
+    /// Whether a node is fixed: it stays outside.
+    fn is_fixed(&self, node: usize) -> bool
+        requires { node < (numbered self.now).node_count }
+        ensures { result ≡ (numbered self.now).is_fixed node };
+
+    /// The sink of a node: the most that can leave the network there, and what it costs to have the node outside.
+    fn sink(&self, node: usize) -> u64
+        requires { node < (numbered self.now).node_count }
+        ensures value { result ≡ (numbered self.now).sink node }
+        ensures fits { result ≤ 2 ^ 60 };
+}
+
+impl FlowNetwork for Net {
+    ghost use Rattle.flow_net.specs.Flows.{numbered_of};
+
+    ghost numbered = { numbered_of };
+
+    #[inline]
+    fn node_count(&self) -> usize {
+        self.fixed.as_slice().len()
+    }
+
+    #[inline]
+    fn arc_count(&self) -> usize {
+        self.arcs.len()
+    }
+
+    #[inline]
+    fn tail(&self, arc: usize) -> usize {
+        self.arcs.at(arc).from
+    }
+
+    #[inline]
+    fn head(&self, arc: usize) -> usize {
+        self.arcs.at(arc).to
+    }
+
+    #[inline]
+    fn reverse(&self, arc: usize) -> Option<usize> {
+        self.arcs.at(arc).pair
+    }
+
+    #[inline]
+    fn is_paired(&self, arc: usize) -> bool {
+        self.arcs.at(arc).pair.is_some()
+    }
+
+    #[inline]
+    fn capacity(&self, arc: usize) -> u64 {
+        self.arcs.at(arc).cap
+    }
+
+    #[inline]
+    fn is_fixed(&self, node: usize) -> bool {
+        self.fixed.as_slice()[node]
+    }
+
+    #[inline]
+    fn sink(&self, node: usize) -> u64 {
+        self.sink.as_slice()[node]
+    }
+}
