@@ -6,7 +6,7 @@ ghost use Rattle.std.specs.Prelude.{◌≡◌, length, IfOk};
 ghost use Rattle.flow_valid.specs.Totals.{AreTotals};
 
 use crate::NoMemory;
-use flow_net::{Flow, Net};
+use flow_net::{Flow, FlowNetwork};
 use std::alloc::Global;
 
 /// What enters each node over arcs, and what leaves it over arcs.
@@ -19,19 +19,20 @@ pub struct Totals {
 }
 
 /// Adds up what enters and what leaves each node over arcs, in one pass over the arcs.
-pub fn add_up(alloc: Global, net: &Net, flow: &Flow) -> Result<Totals, NoMemory>
-    requires { length flow.now.on_arc ≡ length net.now.arcs }
-    ensures { IfOk result (AreTotals net.now flow.now) }
+pub fn add_up<N: FlowNetwork>(alloc: Global, net: &N, flow: &Flow) -> Result<Totals, NoMemory>
+    requires { length flow.now.on_arc ≡ (N.numbered net.now).arc_count }
+    ensures { IfOk result (AreTotals (N.numbered net.now) flow.now) }
 {
     let amounts = flow.on_arc.as_slice();
-    let nodes = net.fixed.as_slice().len();
+    let nodes = net.node_count();
     let mut entering = vec![in alloc; 0u128; nodes]?;
     let mut leaving = vec![in alloc; 0u128; nodes]?;
-    for place in 0..net.arcs.len() {
-        let arc = net.arcs.at(place);
-        let amount = u128::from(amounts[place]);
-        entering[arc.to] += amount;
-        leaving[arc.from] += amount;
+    for (arc, flowing) in amounts.iter().enumerate() {
+        let amount = u128::from(*flowing);
+        let head = net.head(arc);
+        let tail = net.tail(arc);
+        entering[head] += amount;
+        leaving[tail] += amount;
     }
     Ok(Totals { entering, leaving })
 }
