@@ -10,6 +10,7 @@ ghost use Rattle.std.specs.Prelude.{◌≡◌, ◌<◌, length, slice_index, Eac
 use crate::NoMemory;
 use crate::preflow::Preflow;
 use crate::wiring::Ends;
+use flow_net::FlowNetwork;
 use std::alloc::Global;
 
 /// The parent of a node outside the forest.
@@ -35,9 +36,9 @@ struct Branch {
 
 /// A preflow, and a forest over its nodes.
 #[derive(Debug, Drop)]
-pub struct Forest<'a> {
+pub struct Forest<'a, N: FlowNetwork> {
     /// The amounts.
-    pub preflow: Preflow<'a>,
+    pub preflow: Preflow<'a, N>,
     /// The branch of each node.
     branch: Vec<Branch>,
     /// Whether each node is outside the forest, beside its branch, since a node asks that of each head: a byte a node.
@@ -73,9 +74,9 @@ impl Branch {
     }
 }
 
-impl<'a> Forest<'a> {
+impl<'a, N: FlowNetwork> Forest<'a, N> {
     /// No node is in the forest.
-    pub fn new(alloc: Global, preflow: Preflow<'a>) -> Result<Forest<'a>, NoMemory>
+    pub fn new(alloc: Global, preflow: Preflow<'a, N>) -> Result<Forest<'a, N>, NoMemory>
         ensures { IfOk result (λ forest. forest.preflow ≡ preflow.entry) }
     {
         let nodes = preflow.wiring.nodes;

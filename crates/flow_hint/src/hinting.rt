@@ -10,7 +10,7 @@ use crate::preflow::{Preflow, Start};
 use crate::rounds::Rounds;
 use crate::sweep::Sweep;
 use crate::walk::Walk;
-use flow_net::{Flow, Net};
+use flow_net::{Flow, FlowNetwork};
 use std::alloc::Global;
 
 /// Amounts that mostly are a largest flow, and levels of nodes in its residual network, which mostly show it. Whoever asks tests
@@ -25,7 +25,10 @@ pub struct Hint {
 }
 
 /// The amounts after those that can have come to sinks, and the levels of the nodes from which a sink could still be reached.
-fn sent<'a>(alloc: Global, preflow: Preflow<'a>) -> Result<(Preflow<'a>, Levels), NoMemory>
+fn sent<'a, N: FlowNetwork>(
+    alloc: Global,
+    preflow: Preflow<'a, N>,
+) -> Result<(Preflow<'a, N>, Levels), NoMemory>
     ensures { IfOk result (λ made. made.0.wiring ≡ preflow.entry.wiring) }
 {
     if !preflow.has_room() {
@@ -41,11 +44,11 @@ fn sent<'a>(alloc: Global, preflow: Preflow<'a>) -> Result<(Preflow<'a>, Levels)
 }
 
 /// The amounts after sinks have taken what is listed, as far as it can come, with the sinks open to their whole size.
-fn filled_first<'a>(
+fn filled_first<'a, N: FlowNetwork>(
     alloc: Global,
-    preflow: Preflow<'a>,
+    preflow: Preflow<'a, N>,
     first: &[u64],
-) -> Result<Preflow<'a>, NoMemory>
+) -> Result<Preflow<'a, N>, NoMemory>
     ensures { IfOk result (λ filled. filled.wiring ≡ preflow.entry.wiring) }
 {
     if first.is_empty() {
@@ -57,7 +60,10 @@ fn filled_first<'a>(
 }
 
 /// The amounts after those that have come to no sink have gone back.
-fn given_back<'a>(alloc: Global, preflow: Preflow<'a>) -> Result<Preflow<'a>, NoMemory>
+fn given_back<'a, N: FlowNetwork>(
+    alloc: Global,
+    preflow: Preflow<'a, N>,
+) -> Result<Preflow<'a, N>, NoMemory>
     ensures { IfOk result (λ settled. settled.wiring ≡ preflow.entry.wiring) }
 {
     let mut sweep = Sweep::new(alloc, preflow)?;
@@ -75,12 +81,12 @@ fn given_back<'a>(alloc: Global, preflow: Preflow<'a>) -> Result<Preflow<'a>, No
 /// The amounts by one way to start, after those that can have come to sinks, and the levels. None where there is no hint.
 ///
 /// Where amounts are listed, sinks first take no more than these, so that mostly no less comes to any.
-fn sent_from<'a>(
+fn sent_from<'a, N: FlowNetwork>(
     alloc: Global,
-    net: &'a Net,
+    net: &'a N,
     start: Start,
     first: &[u64],
-) -> Result<Option<(Preflow<'a>, Levels)>, NoMemory>
+) -> Result<Option<(Preflow<'a, N>, Levels)>, NoMemory>
     ensures { IfOk result (λ found. IfSome found (λ made. made.0.wiring.net.now ≡ net.now)) }
 {
     let Some(preflow) = Preflow::new(alloc, net, start, first)? else {
@@ -91,9 +97,13 @@ fn sent_from<'a>(
 }
 
 /// The hint that amounts are after what has come to no sink has gone back, or None where not all of it has.
-fn settled(alloc: Global, preflow: Preflow<'_>, levels: Levels) -> Result<Option<Hint>, NoMemory>
-    ensures arcs { IfOk result (λ found. IfSome found (λ hint. length hint.flow.on_arc ≡ length preflow.entry.wiring.net.now.arcs)) }
-    ensures sinks { IfOk result (λ found. IfSome found (λ hint. length hint.flow.on_sink ≡ length preflow.entry.wiring.net.now.fixed)) }
+fn settled<N: FlowNetwork>(
+    alloc: Global,
+    preflow: Preflow<'_, N>,
+    levels: Levels,
+) -> Result<Option<Hint>, NoMemory>
+    ensures arcs { IfOk result (λ found. IfSome found (λ hint. length hint.flow.on_arc ≡ (N.numbered preflow.entry.wiring.net.now).arc_count)) }
+    ensures sinks { IfOk result (λ found. IfSome found (λ hint. length hint.flow.on_sink ≡ (N.numbered preflow.entry.wiring.net.now).node_count)) }
 {
     let mut preflow = preflow;
     preflow.give_beside();
@@ -106,13 +116,13 @@ fn settled(alloc: Global, preflow: Preflow<'_>, levels: Levels) -> Result<Option
 }
 
 /// That hint, and the amounts as they were before.
-fn settled_and_kept(
+fn settled_and_kept<N: FlowNetwork>(
     alloc: Global,
-    preflow: Preflow<'_>,
+    preflow: Preflow<'_, N>,
     levels: Levels,
 ) -> Result<Option<(Hint, KeptPreflow)>, NoMemory>
-    ensures arcs { IfOk result (λ found. IfSome found (λ pair. length pair.0.flow.on_arc ≡ length preflow.entry.wiring.net.now.arcs)) }
-    ensures sinks { IfOk result (λ found. IfSome found (λ pair. length pair.0.flow.on_sink ≡ length preflow.entry.wiring.net.now.fixed)) }
+    ensures arcs { IfOk result (λ found. IfSome found (λ pair. length pair.0.flow.on_arc ≡ (N.numbered preflow.entry.wiring.net.now).arc_count)) }
+    ensures sinks { IfOk result (λ found. IfSome found (λ pair. length pair.0.flow.on_sink ≡ (N.numbered preflow.entry.wiring.net.now).node_count)) }
 {
     let kept = KeptPreflow::of(alloc, &preflow)?;
     match settled(alloc, preflow, levels)? {
@@ -127,9 +137,9 @@ fn settled_and_kept(
 /// Nothing is promised of its time, which on the networks of scans is about linear in the network. Beside its answer it
 /// takes 4 bytes an arc, or 8 where capacities are large, 4 more where the arcs of a node do not stand side by side in the
 /// network, and at most 48 a node.
-pub fn find_hint(alloc: Global, net: &Net) -> Result<Option<Hint>, NoMemory>
-    ensures arcs { IfOk result (λ found. IfSome found (λ hint. length hint.flow.on_arc ≡ length net.now.arcs)) }
-    ensures sinks { IfOk result (λ found. IfSome found (λ hint. length hint.flow.on_sink ≡ length net.now.fixed)) }
+pub fn find_hint<N: FlowNetwork>(alloc: Global, net: &N) -> Result<Option<Hint>, NoMemory>
+    ensures arcs { IfOk result (λ found. IfSome found (λ hint. length hint.flow.on_arc ≡ (N.numbered net.now).arc_count)) }
+    ensures sinks { IfOk result (λ found. IfSome found (λ hint. length hint.flow.on_sink ≡ (N.numbered net.now).node_count)) }
 {
     for start in [Start::Full, Start::Plain] {
         if let Some((preflow, levels)) = sent_from(alloc, net, start, &[])? {
@@ -146,13 +156,13 @@ pub fn find_hint(alloc: Global, net: &Net) -> Result<Option<Hint>, NoMemory>
 /// that it was made of. Nothing is listed past the end of the list.
 ///
 /// The preflow takes 4 bytes an arc, or 8 where capacities are large, and 24 a node.
-pub fn find_hint_above(
+pub fn find_hint_above<N: FlowNetwork>(
     alloc: Global,
-    net: &Net,
+    net: &N,
     first: &[u64],
 ) -> Result<Option<(Hint, KeptPreflow)>, NoMemory>
-    ensures arcs { IfOk result (λ found. IfSome found (λ pair. length pair.0.flow.on_arc ≡ length net.now.arcs)) }
-    ensures sinks { IfOk result (λ found. IfSome found (λ pair. length pair.0.flow.on_sink ≡ length net.now.fixed)) }
+    ensures arcs { IfOk result (λ found. IfSome found (λ pair. length pair.0.flow.on_arc ≡ (N.numbered net.now).arc_count)) }
+    ensures sinks { IfOk result (λ found. IfSome found (λ pair. length pair.0.flow.on_sink ≡ (N.numbered net.now).node_count)) }
 {
     for start in [Start::Full, Start::Plain] {
         if let Some((preflow, levels)) = sent_from(alloc, net, start, first)? {
@@ -170,13 +180,13 @@ pub fn find_hint_above(
 /// Mostly it is a flow where the network is the earlier one at capacities that are larger, by the same for both arcs of a
 /// pair, and no less comes to any sink than by the earlier hint. There is none where the network has not as many nodes and
 /// arcs.
-pub fn find_hint_on(
+pub fn find_hint_on<N: FlowNetwork>(
     alloc: Global,
-    net: &Net,
+    net: &N,
     kept: KeptPreflow,
 ) -> Result<Option<(Hint, KeptPreflow)>, NoMemory>
-    ensures arcs { IfOk result (λ found. IfSome found (λ pair. length pair.0.flow.on_arc ≡ length net.now.arcs)) }
-    ensures sinks { IfOk result (λ found. IfSome found (λ pair. length pair.0.flow.on_sink ≡ length net.now.fixed)) }
+    ensures arcs { IfOk result (λ found. IfSome found (λ pair. length pair.0.flow.on_arc ≡ (N.numbered net.now).arc_count)) }
+    ensures sinks { IfOk result (λ found. IfSome found (λ pair. length pair.0.flow.on_sink ≡ (N.numbered net.now).node_count)) }
 {
     let Some(preflow) = Preflow::on(alloc, net, kept)? else {
         return Ok(None);

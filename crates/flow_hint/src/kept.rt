@@ -7,7 +7,7 @@ use crate::amounts::Amounts;
 use crate::preflow::Preflow;
 use crate::survey::Survey;
 use crate::wiring::Wiring;
-use flow_net::Net;
+use flow_net::FlowNetwork;
 use std::alloc::Global;
 
 /// The amounts that a hint was made of, before what had come to no sink went back: it stays where it got stuck, so that a later
@@ -28,7 +28,10 @@ pub struct KeptPreflow {
 
 impl KeptPreflow {
     /// The amounts of a preflow.
-    pub fn of(alloc: Global, preflow: &Preflow<'_>) -> Result<KeptPreflow, NoMemory> {
+    pub fn of<N: FlowNetwork>(
+        alloc: Global,
+        preflow: &Preflow<'_, N>,
+    ) -> Result<KeptPreflow, NoMemory> {
         Ok(KeptPreflow {
             rooms: preflow.rooms.copied(alloc)?,
             excess: Vec::from_slice(alloc, preflow.excess.as_slice())?,
@@ -50,14 +53,14 @@ impl KeptPreflow {
     }
 }
 
-impl<'a> Preflow<'a> {
+impl<'a, N: FlowNetwork> Preflow<'a, N> {
     /// The amounts of a kept preflow, and what more comes from fixed nodes where capacities have risen. None where the preflow
     /// is not of so many nodes and arcs, the sums of capacities are too large or there are no arcs between free nodes.
     pub fn on(
         alloc: Global,
-        net: &'a Net,
+        net: &'a N,
         kept: KeptPreflow,
-    ) -> Result<Option<Preflow<'a>>, NoMemory>
+    ) -> Result<Option<Preflow<'a, N>>, NoMemory>
         ensures { IfOk result (λ found. IfSome found (λ preflow. preflow.wiring.net.now ≡ net.now)) }
     {
         let survey = Survey::new(alloc, net)?;

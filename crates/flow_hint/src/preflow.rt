@@ -8,7 +8,7 @@ use crate::NoMemory;
 use crate::amounts::Amounts;
 use crate::survey::Survey;
 use crate::wiring::Wiring;
-use flow_net::Net;
+use flow_net::FlowNetwork;
 use std::alloc::Global;
 
 /// How a hint starts.
@@ -22,9 +22,9 @@ pub enum Start {
 
 /// Amounts on the arcs of a network, and what has entered each node and not left it.
 #[derive(Debug, Drop)]
-pub struct Preflow<'a> {
+pub struct Preflow<'a, N: FlowNetwork> {
     /// The arcs.
-    pub wiring: Wiring<'a>,
+    pub wiring: Wiring<'a, N>,
     /// How much more can flow along each arc between free nodes: what is left of its capacity, and what flows on its reverse.
     pub rooms: Amounts,
     /// What has entered each node and not left it.
@@ -39,48 +39,53 @@ pub struct Preflow<'a> {
 }
 
 /// How much can leave at each node at first: as much as is listed, its sink where nothing is listed, and nothing where it is fixed.
-fn free_sinks(alloc: Global, net: &Net, first: &[u64]) -> Result<Vec<u64>, NoMemory>
-    ensures { IfOk result (λ sinks. length sinks.items ≡ length net.now.fixed) }
+fn free_sinks<N: FlowNetwork>(alloc: Global, net: &N, first: &[u64]) -> Result<Vec<u64>, NoMemory>
+    ensures { IfOk result (λ sinks. length sinks.items ≡ (N.numbered net.now).node_count) }
 {
-    let mut sinks = Vec::from_slice(alloc, net.sink.as_slice())?;
+    let mut sinks = vec![in alloc; 0u64; net.node_count()]?;
     for node in 0..sinks.len() {
-        if net.fixed.as_slice()[node] {
-            sinks[node] = 0;
-        } else if node < first.len() {
-            sinks[node] = sinks[node].min(first[node]);
+        if !net.is_fixed(node) {
+            sinks[node] = net.sink(node);
+            if node < first.len() {
+                sinks[node] = sinks[node].min(first[node]);
+            }
         }
     }
     Ok(sinks)
 }
 
 /// How much more can flow along an arc between free nodes, where every arc is full or all are empty.
-fn room(net: &Net, number: usize, is_full: bool) -> u64
-    requires { number < length net.now.arcs }
+fn room<N: FlowNetwork>(net: &N, number: usize, is_full: bool) -> u64
+    requires { number < (N.numbered net.now).arc_count }
 {
-    let arc = net.arcs.at(number);
-    match arc.pair {
-        // A pair of full arcs is the pair with its two rooms exchanged.
-        Some(reverse) if is_full && reverse < net.arcs.len() => net.arcs.at(reverse).cap,
-        Some(_) => arc.cap,
+    if !net.is_paired(number) {
+        return 0;
+    }
+    if !is_full {
+        return net.capacity(number);
+    }
+    // A pair of full arcs is the pair with its two rooms exchanged.
+    match net.reverse(number) {
+        Some(reverse) => net.capacity(reverse),
         None => 0,
     }
 }
 
 /// How much more can flow along each arc.
-fn all_rooms(
+fn all_rooms<N: FlowNetwork>(
     alloc: Global,
-    net: &Net,
+    net: &N,
     is_full: bool,
     is_narrow: bool,
 ) -> Result<Amounts, NoMemory> {
-    let mut rooms = Amounts::new(alloc, net.arcs.len(), is_narrow)?;
-    for number in 0..net.arcs.len() {
+    let mut rooms = Amounts::new(alloc, net.arc_count(), is_narrow)?;
+    for number in 0..net.arc_count() {
         rooms.set(number, room(net, number, is_full));
     }
     Ok(rooms)
 }
 
-impl<'a> Preflow<'a> {
+impl<'a, N: FlowNetwork> Preflow<'a, N> {
     /// The amounts at the start: fixed nodes send all that they can, other arcs are full or empty, and sinks have taken
     /// what they can, but no more than is listed. None where the sums of capacities are too large or there are no arcs between free
     /// nodes.
@@ -88,10 +93,10 @@ impl<'a> Preflow<'a> {
     /// Where a node would owe an amount if every arc were full, these arcs are empty.
     pub fn new(
         alloc: Global,
-        net: &'a Net,
+        net: &'a N,
         start: Start,
         first: &[u64],
-    ) -> Result<Option<Preflow<'a>>, NoMemory>
+    ) -> Result<Option<Preflow<'a, N>>, NoMemory>
         ensures { IfOk result (λ found. IfSome found (λ preflow. preflow.wiring.net.now ≡ net.now)) }
     {
         let survey = Survey::new(alloc, net)?;
@@ -131,11 +136,9 @@ impl<'a> Preflow<'a> {
         ensures { self.new.wiring ≡ self.old.wiring }
     {
         let net = self.wiring.net;
-        let fixed = net.fixed.as_slice();
-        let whole = net.sink.as_slice();
         for node in 0..self.wiring.nodes {
-            if node < first.len() && node < fixed.len() && node < whole.len() && !fixed[node] {
-                let more = whole[node].saturating_sub(first[node]);
+            if node < first.len() && !net.is_fixed(node) {
+                let more = net.sink(node).saturating_sub(first[node]);
                 self.sink[node] = self.sink[node].saturating_add(more);
             }
         }

@@ -4,10 +4,10 @@ ghost use Rattle.std.specs.Prelude.{◌≡◌, ◌<◌, length, IfOk};
 
 use crate::NoMemory;
 use crate::preflow::Preflow;
-use flow_net::{Arc, Flow, Sequence};
+use flow_net::{Flow, FlowNetwork, Sequence};
 use std::alloc::Global;
 
-impl<'a> Preflow<'a> {
+impl<'a, N: FlowNetwork> Preflow<'a, N> {
     /// Gives what is at each node back to the fixed nodes beside it, as far as it came from there.
     pub fn give_beside(&mut self)
         ensures { self.new.wiring ≡ self.old.wiring }
@@ -48,53 +48,51 @@ impl<'a> Preflow<'a> {
     }
 
     /// The amount on an arc. From a fixed node goes what came to the free node, by one arc after the other.
-    fn on_arc(&mut self, arc: &Arc, number: usize) -> u64
+    fn on_arc(&mut self, arc: usize) -> u64
+        requires { arc < self.old.wiring.arcs }
         ensures { self.new.wiring ≡ self.old.wiring }
     {
-        if arc.pair.is_some() {
-            return arc.cap.saturating_sub(self.rooms.get(number));
+        let net = self.wiring.net;
+        let capacity = net.capacity(arc);
+        if net.is_paired(arc) {
+            return capacity.saturating_sub(self.rooms.get(arc));
         }
-        if arc.to >= self.source.len() {
-            return 0;
-        }
-        let amount = arc.cap.min(self.source[arc.to]);
-        self.source[arc.to] -= amount;
+        let head = net.head(arc);
+        let amount = capacity.min(self.source[head]);
+        self.source[head] -= amount;
         amount
     }
 
     /// The amount on each arc.
     fn on_arcs(&mut self, alloc: Global) -> Result<Vec<u64>, NoMemory>
-        ensures amounts { IfOk result (λ amounts. length amounts.items ≡ length self.old.wiring.net.now.arcs) }
+        ensures amounts { IfOk result (λ amounts. length amounts.items ≡ (N.numbered self.old.wiring.net.now).arc_count) }
         ensures wiring { self.new.wiring ≡ self.old.wiring }
     {
-        let net = self.wiring.net;
-        let mut amounts = vec![in alloc; 0u64; net.arcs.len()]?;
-        for number in 0..net.arcs.len() {
-            amounts[number] = self.on_arc(&net.arcs.at(number), number);
+        let mut amounts = vec![in alloc; 0u64; self.wiring.arcs]?;
+        for arc in 0..self.wiring.arcs {
+            amounts[arc] = self.on_arc(arc);
         }
         Ok(amounts)
     }
 
     /// The amount at each sink: its capacity less what it still takes, and nothing where the node is fixed.
     fn on_sinks(&self, alloc: Global) -> Result<Vec<u64>, NoMemory>
-        ensures { IfOk result (λ amounts. length amounts.items ≡ length self.now.wiring.net.now.fixed) }
+        ensures { IfOk result (λ amounts. length amounts.items ≡ (N.numbered self.now.wiring.net.now).node_count) }
     {
         let net = self.wiring.net;
-        let mut amounts = Vec::from_slice(alloc, net.sink.as_slice())?;
+        let mut amounts = vec![in alloc; 0u64; net.node_count()]?;
         for node in 0..amounts.len() {
-            amounts[node] = if net.fixed.as_slice()[node] {
-                0
-            } else {
-                amounts[node].saturating_sub(self.sink[node])
-            };
+            if !net.is_fixed(node) {
+                amounts[node] = net.sink(node).saturating_sub(self.sink[node]);
+            }
         }
         Ok(amounts)
     }
 
     /// The amounts as a flow.
     pub fn into_flow(self, alloc: Global) -> Result<Flow, NoMemory>
-        ensures arcs { IfOk result (λ flow. length flow.on_arc ≡ length self.entry.wiring.net.now.arcs) }
-        ensures sinks { IfOk result (λ flow. length flow.on_sink ≡ length self.entry.wiring.net.now.fixed) }
+        ensures arcs { IfOk result (λ flow. length flow.on_arc ≡ (N.numbered self.entry.wiring.net.now).arc_count) }
+        ensures sinks { IfOk result (λ flow. length flow.on_sink ≡ (N.numbered self.entry.wiring.net.now).node_count) }
     {
         let mut preflow = self;
         let on_sink = preflow.on_sinks(alloc)?;

@@ -9,6 +9,7 @@ use crate::NoMemory;
 use crate::levels::Levels;
 use crate::preflow::Preflow;
 use crate::wiring::Ends;
+use flow_net::FlowNetwork;
 use std::alloc::Global;
 
 /// The level of a node from which no sink is known to be reached, and the end of a list of nodes.
@@ -25,9 +26,9 @@ const MOST_ROUNDS: usize = 100;
 
 /// A preflow, with the levels of its nodes and lists of nodes with excess.
 #[derive(Debug, Drop)]
-pub struct Rounds<'a> {
+pub struct Rounds<'a, N: FlowNetwork> {
     /// The amounts.
-    pub preflow: Preflow<'a>,
+    pub preflow: Preflow<'a, N>,
     /// The level of each node.
     level: Vec<u32>,
     /// The nodes in the order in which they got their levels.
@@ -51,9 +52,9 @@ pub struct Rounds<'a> {
     ghost queue_in: { EachIndex queue.items (λ k. slice_index queue.items k < preflow.wiring.nodes) },
 }
 
-impl<'a> Rounds<'a> {
+impl<'a, N: FlowNetwork> Rounds<'a, N> {
     /// No node has a level yet.
-    pub fn new(alloc: Global, preflow: Preflow<'a>) -> Result<Rounds<'a>, NoMemory>
+    pub fn new(alloc: Global, preflow: Preflow<'a, N>) -> Result<Rounds<'a, N>, NoMemory>
         ensures { IfOk result (λ rounds. rounds.preflow ≡ preflow.entry) }
     {
         let nodes = preflow.wiring.nodes;
@@ -284,7 +285,7 @@ impl<'a> Rounds<'a> {
 
     /// The amounts, and which nodes reached a sink with room when levels were last found, with their levels. Where no excess was
     /// among them, they are the inside of labels that cost what the flow is worth.
-    pub fn into_levels(self, alloc: Global) -> Result<(Preflow<'a>, Levels), NoMemory>
+    pub fn into_levels(self, alloc: Global) -> Result<(Preflow<'a, N>, Levels), NoMemory>
         ensures { IfOk result (λ made. made.0.wiring ≡ self.entry.preflow.wiring) }
     {
         let Rounds { preflow, level, .. } = self;

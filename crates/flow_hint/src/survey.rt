@@ -3,7 +3,7 @@
 ghost use Rattle.std.specs.Prelude.{◌≡◌, ◌+◌, length, IfOk};
 
 use crate::NoMemory;
-use flow_net::Net;
+use flow_net::FlowNetwork;
 use std::alloc::Global;
 
 /// The most that all capacities come to where sums of them are right: 2^62.
@@ -36,12 +36,12 @@ pub struct Survey {
 
 impl Survey {
     /// The sums over the arcs of a network.
-    pub fn new(alloc: Global, net: &Net) -> Result<Survey, NoMemory>
-        ensures degrees { IfOk result (λ survey. length survey.degree.items ≡ length net.now.fixed + 1) }
-        ensures sources { IfOk result (λ survey. length survey.source.items ≡ length net.now.fixed) }
-        ensures balances { IfOk result (λ survey. length survey.balance.items ≡ length net.now.fixed) }
+    pub fn new<N: FlowNetwork>(alloc: Global, net: &N) -> Result<Survey, NoMemory>
+        ensures degrees { IfOk result (λ survey. length survey.degree.items ≡ (N.numbered net.now).node_count + 1) }
+        ensures sources { IfOk result (λ survey. length survey.source.items ≡ (N.numbered net.now).node_count) }
+        ensures balances { IfOk result (λ survey. length survey.balance.items ≡ (N.numbered net.now).node_count) }
     {
-        let nodes = net.fixed.as_slice().len();
+        let nodes = net.node_count();
         let mut source = vec![in alloc; 0u64; nodes]?;
         let mut balance = vec![in alloc; 0u64; nodes]?;
         let mut degree = vec![in alloc; 0u32; nodes + 1]?;
@@ -50,19 +50,21 @@ impl Survey {
         let mut has_pairs = false;
         let mut total: u64 = 0;
         let mut most: u64 = 0;
-        for number in 0..net.arcs.len() {
-            let arc = net.arcs.at(number);
-            is_by_node = is_by_node && last <= arc.from;
-            last = arc.from;
-            degree[arc.from + 1] = degree[arc.from + 1].saturating_add(1);
-            total = total.saturating_add(arc.cap);
-            most = most.max(arc.cap);
-            balance[arc.to] = balance[arc.to].wrapping_add(arc.cap);
-            if arc.pair.is_some() {
-                balance[arc.from] = balance[arc.from].wrapping_sub(arc.cap);
+        for arc in 0..net.arc_count() {
+            let (tail, head) = (net.tail(arc), net.head(arc));
+            let capacity = net.capacity(arc);
+            let is_paired = net.is_paired(arc);
+            is_by_node = is_by_node && last <= tail;
+            last = tail;
+            degree[tail + 1] = degree[tail + 1].saturating_add(1);
+            total = total.saturating_add(capacity);
+            most = most.max(capacity);
+            balance[head] = balance[head].wrapping_add(capacity);
+            if is_paired {
+                balance[tail] = balance[tail].wrapping_sub(capacity);
                 has_pairs = true;
             } else {
-                source[arc.to] = source[arc.to].saturating_add(arc.cap);
+                source[head] = source[head].saturating_add(capacity);
             }
         }
         Ok(Survey {

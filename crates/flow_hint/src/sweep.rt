@@ -7,6 +7,7 @@ ghost use Rattle.std.specs.Prelude.{◌≡◌, ◌<◌, length, slice_index, Eac
 
 use crate::NoMemory;
 use crate::preflow::Preflow;
+use flow_net::FlowNetwork;
 use std::alloc::Global;
 
 /// The cursor of a node that has given back, and the end of the list of nodes that the search is at.
@@ -14,9 +15,9 @@ const NONE: u32 = u32::MAX;
 
 /// Amounts, and a search in depth along arcs on which something can go back.
 #[derive(Debug, Drop)]
-pub struct Sweep<'a> {
+pub struct Sweep<'a, N: FlowNetwork> {
     /// The amounts.
-    pub preflow: Preflow<'a>,
+    pub preflow: Preflow<'a, N>,
     /// For each node the place of the arc that is tried next.
     cursor: Vec<u32>,
     /// Whether the search has come to each node.
@@ -34,9 +35,9 @@ pub struct Sweep<'a> {
     ghost order_in: { EachIndex order.items (λ k. slice_index order.items k < preflow.wiring.nodes) },
 }
 
-impl<'a> Sweep<'a> {
+impl<'a, N: FlowNetwork> Sweep<'a, N> {
     /// The search has come to no node.
-    pub fn new(alloc: Global, preflow: Preflow<'a>) -> Result<Sweep<'a>, NoMemory>
+    pub fn new(alloc: Global, preflow: Preflow<'a, N>) -> Result<Sweep<'a, N>, NoMemory>
         ensures { IfOk result (λ sweep. sweep.preflow ≡ preflow.entry) }
     {
         let nodes = preflow.wiring.nodes;

@@ -9,6 +9,7 @@ ghost use Rattle.std.specs.Prelude.{◌≡◌, ◌+◌, ◌<◌, ◌≤◌, leng
 
 use crate::NoMemory;
 use crate::preflow::Preflow;
+use flow_net::FlowNetwork;
 use std::alloc::Global;
 
 /// The depth of a node that is not on the path.
@@ -19,9 +20,9 @@ const FUEL: usize = 6;
 
 /// Amounts, and a path along arcs on which something can go back.
 #[derive(Debug, Drop)]
-pub struct Walk<'a> {
+pub struct Walk<'a, N: FlowNetwork> {
     /// The amounts.
-    pub preflow: Preflow<'a>,
+    pub preflow: Preflow<'a, N>,
     /// For each node the place of the arc that is tried next. No arc before it can take anything back.
     cursor: Vec<u32>,
     /// For each node on the path how many arcs lead there.
@@ -38,9 +39,9 @@ pub struct Walk<'a> {
     ghost steps_in: { steps ≤ length path.items },
 }
 
-impl<'a> Walk<'a> {
+impl<'a, N: FlowNetwork> Walk<'a, N> {
     /// No node is on the path.
-    pub fn new(alloc: Global, preflow: Preflow<'a>) -> Result<Walk<'a>, NoMemory>
+    pub fn new(alloc: Global, preflow: Preflow<'a, N>) -> Result<Walk<'a, N>, NoMemory>
         ensures { IfOk result (λ walk. walk.preflow ≡ preflow.entry) }
     {
         let nodes = preflow.wiring.nodes;

@@ -2,4 +2,4 @@ use Rattle.std.proofs.Common.{◌≡◌}
 use Rattle.flow_hint.proofs.forest.Forest.adopt_cut.Given as goal
 
 abbrev pub invariant-loop-done : goal.invariant-loop-done
-invariant-loop-done l = l.self.preflow ≡ l.initial.self.preflow
+invariant-loop-done g l = l.self.preflow ≡ l.initial.self.preflow

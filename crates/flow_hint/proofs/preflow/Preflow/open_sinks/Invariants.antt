@@ -2,4 +2,4 @@ use Rattle.std.proofs.Common.{◌≡◌}
 use Rattle.flow_hint.proofs.preflow.Preflow.open_sinks.Given as goal
 
 abbrev pub invariant-loop-node : goal.invariant-loop-node
-invariant-loop-node l = l.self.wiring ≡ l.initial.self.wiring
+invariant-loop-node g l = l.self.wiring ≡ l.initial.self.wiring

@@ -2,4 +2,4 @@ use Rattle.std.proofs.Common.{◌≡◌, length}
 use Rattle.flow_hint.proofs.rounds.Rounds.send_down.Given as goal
 
 abbrev pub invariant-loop-place : goal.invariant-loop-place
-invariant-loop-place l = l.self.preflow.wiring ≡ l.initial.self.preflow.wiring
+invariant-loop-place g l = l.self.preflow.wiring ≡ l.initial.self.preflow.wiring

@@ -2,4 +2,4 @@ use Rattle.std.proofs.Common.{◌≡◌, length}
 use Rattle.flow_hint.proofs.sweep.Sweep.run.Given as goal
 
 abbrev pub invariant-loop-done : goal.invariant-loop-done
-invariant-loop-done l = l.self.preflow.wiring ≡ l.initial.self.preflow.wiring
+invariant-loop-done g l = l.self.preflow.wiring ≡ l.initial.self.preflow.wiring

@@ -2,4 +2,4 @@ use Rattle.std.proofs.Common.{◌≡◌, length}
 use Rattle.flow_hint.proofs.walk.Walk.give_from.Given as goal
 
 abbrev pub invariant-loop-at : goal.invariant-loop-at
-invariant-loop-at l = l.self.preflow.wiring ≡ l.initial.self.preflow.wiring
+invariant-loop-at g l = l.self.preflow.wiring ≡ l.initial.self.preflow.wiring

@@ -2,4 +2,4 @@ use Rattle.std.proofs.Common.{◌≡◌, length}
 use Rattle.flow_hint.proofs.walk.Walk.run.Given as goal
 
 abbrev pub invariant-loop-node : goal.invariant-loop-node
-invariant-loop-node l = l.self.preflow.wiring ≡ l.initial.self.preflow.wiring
+invariant-loop-node g l = l.self.preflow.wiring ≡ l.initial.self.preflow.wiring

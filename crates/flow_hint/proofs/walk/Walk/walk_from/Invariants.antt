@@ -2,4 +2,4 @@ use Rattle.std.proofs.Common.{◌≡◌, length}
 use Rattle.flow_hint.proofs.walk.Walk.walk_from.Given as goal
 
 abbrev pub invariant-loop : goal.invariant-loop
-invariant-loop l = l.self.preflow.wiring ≡ l.initial.self.preflow.wiring
+invariant-loop g l = l.self.preflow.wiring ≡ l.initial.self.preflow.wiring
