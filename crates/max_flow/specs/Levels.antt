@@ -7,7 +7,7 @@
 --   IsClosedBelow   those of arcs below a bound do
 --   AreLevels       the found nodes are those from which a sink with room can be reached
 use Rattle.std.specs.Prelude.{ℕ, ◌≡◌, ◌<◌, ◌≤◌, ◌⊎◌, Bool, true, false, List, length, slice_index}
-use Rattle.flow_net.specs.declared.Net.{Net}
+use Rattle.flow_net.specs.Numbered.{NumberedNetwork}
 use Rattle.flow_net.specs.declared.Flow.{Flow}
 use Rattle.flow_net.specs.Nets.{flag_at}
 use Rattle.max_flow.specs.declared.residual.ResidualArc.{ResidualArc}
@@ -15,35 +15,35 @@ use Rattle.max_flow.specs.Residual.{tail_of, head_of, room_of}
 use Rattle.max_flow.specs.Paths.{HasRoom}
 
 -- a residual arc with room, from node v to a found node of a lower level
-pub record LeadsLower (net : Net) (flow : Flow) (marked : List Bool) (level : List ℕ) (v : ℕ) : Type 0 where
+pub record LeadsLower (net : NumberedNetwork) (flow : Flow) (marked : List Bool) (level : List ℕ) (v : ℕ) : Type 0 where
   pub along : ResidualArc
-  pub in_range : along.arc < length net.arcs
+  pub in_range : along.arc < net.arc_count
   pub begins : tail_of net along ≡ v
   pub room : 1 ≤ room_of net flow along
   pub goes : flag_at marked (head_of net along) ≡ true
   pub lower : slice_index level (head_of net along) < slice_index level v
 
 -- from each node that is written to have one, such an arc leads
-pub record AreLeading (net : Net) (flow : Flow) (marked : List Bool) (level : List ℕ) (leads : List Bool) : Type 0 where
-  pub count : length leads ≡ length net.fixed
-  pub lead : (v : ℕ) → v < length net.fixed → flag_at leads v ≡ true → LeadsLower net flow marked level v
+pub record AreLeading (net : NumberedNetwork) (flow : Flow) (marked : List Bool) (level : List ℕ) (leads : List Bool) : Type 0 where
+  pub count : length leads ≡ net.node_count
+  pub lead : (v : ℕ) → v < net.node_count → flag_at leads v ≡ true → LeadsLower net flow marked level v
 
 -- a free node with room at its sink, or one from which such an arc leads
-abbrev pub IsOnward : Net → Flow → List Bool → List ℕ → ℕ → Type 0
+abbrev pub IsOnward : NumberedNetwork → Flow → List Bool → List ℕ → ℕ → Type 0
 IsOnward net flow marked level v = HasRoom net flow v ⊎ LeadsLower net flow marked level v
 
 -- a residual arc that enters a found node leaves a found one, or has no room
-abbrev pub IsClosed : Net → Flow → List Bool → ResidualArc → Type 0
+abbrev pub IsClosed : NumberedNetwork → Flow → List Bool → ResidualArc → Type 0
 IsClosed net flow marked r =
     flag_at marked (head_of net r) ≡ true → flag_at marked (tail_of net r) ≡ false → room_of net flow r ≡ 0
 
 -- the residual arcs of arcs below a bound do
-abbrev pub IsClosedBelow : Net → Flow → List Bool → ℕ → Type 0
+abbrev pub IsClosedBelow : NumberedNetwork → Flow → List Bool → ℕ → Type 0
 IsClosedBelow net flow marked bound = (r : ResidualArc) → r.arc < bound → IsClosed net flow marked r
 
 -- the found nodes are those from which a sink with room can be reached
-pub record AreLevels (net : Net) (flow : Flow) (marked : List Bool) (level : List ℕ) : Type 0 where
-  pub marked_count : length marked ≡ length net.fixed
-  pub all_ends : (v : ℕ) → v < length net.fixed → HasRoom net flow v → flag_at marked v ≡ true
-  pub closed : IsClosedBelow net flow marked (length net.arcs)
-  pub onward : (v : ℕ) → v < length net.fixed → flag_at marked v ≡ true → IsOnward net flow marked level v
+pub record AreLevels (net : NumberedNetwork) (flow : Flow) (marked : List Bool) (level : List ℕ) : Type 0 where
+  pub marked_count : length marked ≡ net.node_count
+  pub all_ends : (v : ℕ) → v < net.node_count → HasRoom net flow v → flag_at marked v ≡ true
+  pub closed : IsClosedBelow net flow marked net.arc_count
+  pub onward : (v : ℕ) → v < net.node_count → flag_at marked v ≡ true → IsOnward net flow marked level v

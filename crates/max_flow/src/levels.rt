@@ -5,7 +5,7 @@
 
 ghost use Rattle.std.specs.Prelude.{◌≡◌, ◌≤◌, ◌<◌, ◌^◌, length, true, false, IfOk, IfSome};
 ghost use Rattle.flow_net.specs.Nets.{flag_at};
-ghost use Rattle.flow_net.specs.Flows.{IsValidFlow};
+ghost use Rattle.flow_net.specs.NumberedFlows.{IsValidFlow};
 ghost use Rattle.max_flow.specs.Residual.{tail_of, head_of, room_of};
 ghost use Rattle.max_flow.specs.Paths.{HasRoom};
 ghost use Rattle.max_flow.specs.Levels.{IsOnward, AreLeading, IsClosed, IsClosedBelow, AreLevels};
@@ -13,38 +13,38 @@ ghost use Rattle.max_flow.specs.Levels.{IsOnward, AreLeading, IsClosed, IsClosed
 use crate::NoMemory;
 use crate::paths::has_room;
 use crate::residual::ResidualArc;
-use flow_net::{Flow, Net};
+use flow_net::{Flow, FlowNetwork};
 use std::alloc::Global;
 
 /// Whether a residual arc has room and enters a found node.
-fn can_lead(net: &Net, flow: &Flow, marked: &[bool], residual: ResidualArc) -> bool
-    requires valid { IsValidFlow net.now flow.now }
-    requires marked { length marked.now ≡ length net.now.fixed }
-    requires arc { residual.arc < length net.now.arcs }
-    ensures goes { result ≡ true → flag_at marked.now (head_of net.now residual) ≡ true }
-    ensures room { result ≡ true → 1 ≤ room_of net.now flow.now residual }
-    ensures others { result ≡ false → flag_at marked.now (head_of net.now residual) ≡ true → room_of net.now flow.now residual ≡ 0 }
+fn can_lead<N: FlowNetwork>(net: &N, flow: &Flow, marked: &[bool], residual: ResidualArc) -> bool
+    requires valid { IsValidFlow (N.numbered net.now) flow.now }
+    requires marked { length marked.now ≡ (N.numbered net.now).node_count }
+    requires arc { residual.arc < (N.numbered net.now).arc_count }
+    ensures goes { result ≡ true → flag_at marked.now (head_of (N.numbered net.now) residual) ≡ true }
+    ensures room { result ≡ true → 1 ≤ room_of (N.numbered net.now) flow.now residual }
+    ensures others { result ≡ false → flag_at marked.now (head_of (N.numbered net.now) residual) ≡ true → room_of (N.numbered net.now) flow.now residual ≡ 0 }
 {
     marked[residual.head(net)] && residual.room(net, flow) > 0
 }
 
 /// Looks at a residual arc: answers false where it has room and leaves a node that is not found for one that is. Where it
 /// leads from a found node to one of a lower level, it is written that something does.
-fn look(
-    net: &Net,
+fn look<N: FlowNetwork>(
+    net: &N,
     flow: &Flow,
     marked: &[bool],
     level: &[u32],
     residual: ResidualArc,
     leads: &mut Vec<bool>,
 ) -> bool
-    requires valid { IsValidFlow net.now flow.now }
-    requires marked { length marked.now ≡ length net.now.fixed }
-    requires levels { length level.now ≡ length net.now.fixed }
-    requires arc { residual.arc < length net.now.arcs }
-    requires leads { AreLeading net.now flow.now marked.now level.now leads.old.items }
-    ensures leads { AreLeading net.now flow.now marked.now level.now leads.new.items }
-    ensures closed { result ≡ true → IsClosed net.now flow.now marked.now residual }
+    requires valid { IsValidFlow (N.numbered net.now) flow.now }
+    requires marked { length marked.now ≡ (N.numbered net.now).node_count }
+    requires levels { length level.now ≡ (N.numbered net.now).node_count }
+    requires arc { residual.arc < (N.numbered net.now).arc_count }
+    requires leads { AreLeading (N.numbered net.now) flow.now marked.now level.now leads.old.items }
+    ensures leads { AreLeading (N.numbered net.now) flow.now marked.now level.now leads.new.items }
+    ensures closed { result ≡ true → IsClosed (N.numbered net.now) flow.now marked.now residual }
 {
     if !can_lead(net, flow, marked, residual) {
         return true;
@@ -61,22 +61,22 @@ fn look(
 
 /// Looks at the residual arcs of all arcs. Answers from which nodes one leads to a found node of a lower level, or None
 /// where one with room leaves a node that is not found for one that is.
-fn look_at_all(
+fn look_at_all<N: FlowNetwork>(
     alloc: Global,
-    net: &Net,
+    net: &N,
     flow: &Flow,
     marked: &[bool],
     level: &[u32],
 ) -> Result<Option<Vec<bool>>, NoMemory>
-    requires valid { IsValidFlow net.now flow.now }
-    requires marked { length marked.now ≡ length net.now.fixed }
-    requires levels { length level.now ≡ length net.now.fixed }
-    requires few { length net.now.arcs < 2 ^ 32 }
-    ensures leads { IfOk result (λ found. IfSome found (λ leads. AreLeading net.now flow.now marked.now level.now leads.items)) }
-    ensures closed { IfOk result (λ found. IfSome found (λ _. IsClosedBelow net.now flow.now marked.now (length net.now.arcs))) }
+    requires valid { IsValidFlow (N.numbered net.now) flow.now }
+    requires marked { length marked.now ≡ (N.numbered net.now).node_count }
+    requires levels { length level.now ≡ (N.numbered net.now).node_count }
+    requires few { (N.numbered net.now).arc_count < 2 ^ 32 }
+    ensures leads { IfOk result (λ found. IfSome found (λ leads. AreLeading (N.numbered net.now) flow.now marked.now level.now leads.items)) }
+    ensures closed { IfOk result (λ found. IfSome found (λ _. IsClosedBelow (N.numbered net.now) flow.now marked.now (N.numbered net.now).arc_count)) }
 {
-    let mut leads = vec![in alloc; false; net.fixed.as_slice().len()]?;
-    for number in 0..net.arcs.len() {
+    let mut leads = vec![in alloc; false; net.node_count()]?;
+    for number in 0..net.arc_count() {
         let arc = number as u32;
         let way = ResidualArc { arc, forward: true };
         let back = ResidualArc {
@@ -93,20 +93,20 @@ fn look_at_all(
 }
 
 /// Whether a node is found where its sink has room, and else only where something leads on from it.
-fn is_onward(
-    net: &Net,
+fn is_onward<N: FlowNetwork>(
+    net: &N,
     flow: &Flow,
     marked: &[bool],
     level: &[u32],
     leads: &[bool],
     node: usize,
 ) -> bool
-    requires valid { IsValidFlow net.now flow.now }
-    requires marked { length marked.now ≡ length net.now.fixed }
-    requires leads { AreLeading net.now flow.now marked.now level.now leads.now }
-    requires node { node < length net.now.fixed }
-    ensures ends { result ≡ true → HasRoom net.now flow.now node → flag_at marked.now node ≡ true }
-    ensures onward { result ≡ true → flag_at marked.now node ≡ true → IsOnward net.now flow.now marked.now level.now node }
+    requires valid { IsValidFlow (N.numbered net.now) flow.now }
+    requires marked { length marked.now ≡ (N.numbered net.now).node_count }
+    requires leads { AreLeading (N.numbered net.now) flow.now marked.now level.now leads.now }
+    requires node { node < (N.numbered net.now).node_count }
+    ensures ends { result ≡ true → HasRoom (N.numbered net.now) flow.now node → flag_at marked.now node ≡ true }
+    ensures onward { result ≡ true → flag_at marked.now node ≡ true → IsOnward (N.numbered net.now) flow.now marked.now level.now node }
 {
     if has_room(net, flow, node) {
         return marked[node];
@@ -115,25 +115,25 @@ fn is_onward(
 }
 
 /// Whether the found nodes with their levels are those from which a sink with room can be reached.
-pub fn are_levels(
+pub fn are_levels<N: FlowNetwork>(
     alloc: Global,
-    net: &Net,
+    net: &N,
     flow: &Flow,
     marked: &[bool],
     level: &[u32],
 ) -> Result<bool, NoMemory>
-    requires valid { IsValidFlow net.now flow.now }
-    requires marked { length marked.now ≡ length net.now.fixed }
-    requires levels { length level.now ≡ length net.now.fixed }
-    ensures { IfOk result (λ answer. answer ≡ true → AreLevels net.now flow.now marked.now level.now) }
+    requires valid { IsValidFlow (N.numbered net.now) flow.now }
+    requires marked { length marked.now ≡ (N.numbered net.now).node_count }
+    requires levels { length level.now ≡ (N.numbered net.now).node_count }
+    ensures { IfOk result (λ answer. answer ≡ true → AreLevels (N.numbered net.now) flow.now marked.now level.now) }
 {
-    if net.arcs.len() > u32::MAX as usize {
+    if net.arc_count() > u32::MAX as usize {
         return Ok(false);
     }
     let Some(leads) = look_at_all(alloc, net, flow, marked, level)? else {
         return Ok(false);
     };
-    for node in 0..net.fixed.as_slice().len() {
+    for node in 0..net.node_count() {
         if !is_onward(net, flow, marked, level, &leads, node) {
             return Ok(false);
         }

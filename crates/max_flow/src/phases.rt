@@ -5,8 +5,7 @@
 //! during a phase, so a cursor never goes back.
 
 ghost use Rattle.std.specs.Prelude.{◌≡◌, ◌<◌, ◌≤◌, length, true, IfOk, IfSome};
-ghost use Rattle.flow_net.specs.Nets.{flag_at};
-ghost use Rattle.flow_net.specs.Flows.{IsValidFlow, value_of};
+ghost use Rattle.flow_net.specs.NumberedFlows.{IsValidFlow, value_of};
 ghost use Rattle.max_flow.specs.Paths.{IsAugmenting, KeepsSinks, end_of};
 ghost use Rattle.max_flow.specs.Phases.{LeadsDown};
 
@@ -15,7 +14,7 @@ use crate::incidence::Incidence;
 use crate::paths::{augment, bottleneck, has_room};
 use crate::residual::ResidualArc;
 use crate::searches::Search;
-use flow_net::{Flow, Net};
+use flow_net::{Flow, FlowNetwork};
 use std::alloc::Global;
 
 /// The state of a phase.
@@ -67,14 +66,20 @@ fn next_from(incidence: &Incidence, node: usize, residual: ResidualArc) -> Optio
 }
 
 /// Whether a residual arc leads from a node to a found node of a lower level, and has room.
-fn leads_down(net: &Net, flow: &Flow, search: &Search, node: usize, residual: ResidualArc) -> bool
-    requires valid { IsValidFlow net.now flow.now }
-    requires levels { length search.now.level.items ≡ length net.now.fixed }
-    requires marked { length search.now.marked.items ≡ length net.now.fixed }
-    requires node { node < length net.now.fixed }
-    ensures { result ≡ true → LeadsDown net.now flow.now search.now.level.items node residual }
+fn leads_down<N: FlowNetwork>(
+    net: &N,
+    flow: &Flow,
+    search: &Search,
+    node: usize,
+    residual: ResidualArc,
+) -> bool
+    requires valid { IsValidFlow (N.numbered net.now) flow.now }
+    requires levels { length search.now.level.items ≡ (N.numbered net.now).node_count }
+    requires marked { length search.now.marked.items ≡ (N.numbered net.now).node_count }
+    requires node { node < (N.numbered net.now).node_count }
+    ensures { result ≡ true → LeadsDown (N.numbered net.now) flow.now search.now.level.items node residual }
 {
-    if residual.arc as usize >= net.arcs.len() || residual.tail(net) != node {
+    if residual.arc as usize >= net.arc_count() || residual.tail(net) != node {
         return false;
     }
     let head = residual.head(net);
@@ -83,10 +88,14 @@ fn leads_down(net: &Net, flow: &Flow, search: &Search, node: usize, residual: Re
 
 impl Phase {
     /// The beginning of a phase.
-    pub fn new(alloc: Global, net: &Net, incidence: &Incidence) -> Result<Phase, NoMemory>
-        ensures { IfOk result (λ phase. length phase.cursor.items ≡ length net.now.fixed) }
+    pub fn new<N: FlowNetwork>(
+        alloc: Global,
+        net: &N,
+        incidence: &Incidence,
+    ) -> Result<Phase, NoMemory>
+        ensures { IfOk result (λ phase. length phase.cursor.items ≡ (N.numbered net.now).node_count) }
     {
-        let nodes = net.fixed.as_slice().len();
+        let nodes = net.node_count();
         let mut cursor = vec![in alloc; None; nodes]?;
         for node in 0..nodes {
             cursor[node] = first_from(incidence, node);
@@ -98,24 +107,24 @@ impl Phase {
     }
 
     /// The first residual arc from the cursor of a node on that leads down. The cursor moves there.
-    fn lead(
+    fn lead<N: FlowNetwork>(
         &mut self,
-        net: &Net,
+        net: &N,
         incidence: &Incidence,
         search: &Search,
         flow: &Flow,
         node: usize,
     ) -> Option<ResidualArc>
-        requires valid { IsValidFlow net.now flow.now }
-        requires levels { length search.now.level.items ≡ length net.now.fixed }
-        requires marked { length search.now.marked.items ≡ length net.now.fixed }
-        requires cursors { length self.old.cursor.items ≡ length net.now.fixed }
-        requires node { node < length net.now.fixed }
-        ensures cursors { length self.new.cursor.items ≡ length net.now.fixed }
+        requires valid { IsValidFlow (N.numbered net.now) flow.now }
+        requires levels { length search.now.level.items ≡ (N.numbered net.now).node_count }
+        requires marked { length search.now.marked.items ≡ (N.numbered net.now).node_count }
+        requires cursors { length self.old.cursor.items ≡ (N.numbered net.now).node_count }
+        requires node { node < (N.numbered net.now).node_count }
+        ensures cursors { length self.new.cursor.items ≡ (N.numbered net.now).node_count }
         ensures path { self.new.path ≡ self.old.path }
-        ensures leads { IfSome result (λ residual. LeadsDown net.now flow.now search.now.level.items node residual) }
+        ensures leads { IfSome result (λ residual. LeadsDown (N.numbered net.now) flow.now search.now.level.items node residual) }
     {
-        for _ in 0..net.arcs.len().saturating_mul(2) {
+        for _ in 0..net.arc_count().saturating_mul(2) {
             let Some(residual) = self.cursor[node] else {
                 return None;
             };
@@ -129,27 +138,27 @@ impl Phase {
 
     /// Walks down from a fixed node. Answers the node at the end of the path where its sink has room, or None where
     /// nothing leads down from there.
-    fn walk(
+    fn walk<N: FlowNetwork>(
         &mut self,
-        net: &Net,
+        net: &N,
         incidence: &Incidence,
         search: &Search,
         flow: &Flow,
         start: usize,
     ) -> Option<usize>
-        requires valid { IsValidFlow net.now flow.now }
-        requires levels { length search.now.level.items ≡ length net.now.fixed }
-        requires marked { length search.now.marked.items ≡ length net.now.fixed }
-        requires cursors { length self.old.cursor.items ≡ length net.now.fixed }
-        requires node { start < length net.now.fixed }
-        requires fixed { flag_at net.now.fixed start ≡ true }
-        ensures cursors { length self.new.cursor.items ≡ length net.now.fixed }
-        ensures path { IfSome result (λ end. IsAugmenting net.now flow.now start self.new.path.items 1) }
-        ensures end { IfSome result (λ end. end_of net.now start self.new.path.items ≡ end) }
+        requires valid { IsValidFlow (N.numbered net.now) flow.now }
+        requires levels { length search.now.level.items ≡ (N.numbered net.now).node_count }
+        requires marked { length search.now.marked.items ≡ (N.numbered net.now).node_count }
+        requires cursors { length self.old.cursor.items ≡ (N.numbered net.now).node_count }
+        requires node { start < (N.numbered net.now).node_count }
+        requires fixed { (N.numbered net.now).is_fixed start ≡ true }
+        ensures cursors { length self.new.cursor.items ≡ (N.numbered net.now).node_count }
+        ensures path { IfSome result (λ end. IsAugmenting (N.numbered net.now) flow.now start self.new.path.items 1) }
+        ensures end { IfSome result (λ end. end_of (N.numbered net.now) start self.new.path.items ≡ end) }
     {
         self.path.clear();
         let mut node = start;
-        for _ in 0..net.fixed.as_slice().len() {
+        for _ in 0..net.node_count() {
             if has_room(net, flow, node) {
                 return Some(node);
             }
@@ -165,14 +174,14 @@ impl Phase {
     }
 
     /// Passes over the last residual arc of the path, and says whether there was one.
-    fn pass_over(&mut self, net: &Net, incidence: &Incidence) -> bool
-        requires { length self.old.cursor.items ≡ length net.now.fixed }
-        ensures { length self.new.cursor.items ≡ length net.now.fixed }
+    fn pass_over<N: FlowNetwork>(&mut self, net: &N, incidence: &Incidence) -> bool
+        requires { length self.old.cursor.items ≡ (N.numbered net.now).node_count }
+        ensures { length self.new.cursor.items ≡ (N.numbered net.now).node_count }
     {
         let Some(residual) = self.path.last().copied() else {
             return false;
         };
-        if (residual.arc as usize) < net.arcs.len() {
+        if (residual.arc as usize) < net.arc_count() {
             let tail = residual.tail(net);
             self.cursor[tail] = next_from(incidence, tail, residual);
         }
@@ -180,27 +189,27 @@ impl Phase {
     }
 
     /// Sends more from a fixed node, until nothing leads down from it.
-    fn send_from(
+    fn send_from<N: FlowNetwork>(
         &mut self,
-        net: &Net,
+        net: &N,
         incidence: &Incidence,
         search: &Search,
         flow: &mut Flow,
         start: usize,
     )
-        requires valid { IsValidFlow net.now flow.old }
-        requires levels { length search.now.level.items ≡ length net.now.fixed }
-        requires marked { length search.now.marked.items ≡ length net.now.fixed }
-        requires cursors { length self.old.cursor.items ≡ length net.now.fixed }
-        requires node { start < length net.now.fixed }
-        requires fixed { flag_at net.now.fixed start ≡ true }
-        ensures cursors { length self.new.cursor.items ≡ length net.now.fixed }
-        ensures valid { IsValidFlow net.now flow.new }
-        ensures rises { value_of net.now flow.old ≤ value_of net.now flow.new }
+        requires valid { IsValidFlow (N.numbered net.now) flow.old }
+        requires levels { length search.now.level.items ≡ (N.numbered net.now).node_count }
+        requires marked { length search.now.marked.items ≡ (N.numbered net.now).node_count }
+        requires cursors { length self.old.cursor.items ≡ (N.numbered net.now).node_count }
+        requires node { start < (N.numbered net.now).node_count }
+        requires fixed { (N.numbered net.now).is_fixed start ≡ true }
+        ensures cursors { length self.new.cursor.items ≡ (N.numbered net.now).node_count }
+        ensures valid { IsValidFlow (N.numbered net.now) flow.new }
+        ensures rises { value_of (N.numbered net.now) flow.old ≤ value_of (N.numbered net.now) flow.new }
         ensures sinks { KeepsSinks flow.old flow.new }
     {
-        let steps = net.arcs.len().saturating_mul(4);
-        for _ in 0..steps.saturating_add(net.fixed.as_slice().len()) {
+        let steps = net.arc_count().saturating_mul(4);
+        for _ in 0..steps.saturating_add(net.node_count()) {
             if let Some(end) = self.walk(net, incidence, search, flow, start) {
                 let amount = bottleneck(net, flow, start, &self.path, end);
                 augment(net, flow, start, &self.path, amount);
@@ -211,17 +220,23 @@ impl Phase {
     }
 
     /// Sends more from each found fixed node, until no path down the levels is left.
-    pub fn block(&mut self, net: &Net, incidence: &Incidence, search: &Search, flow: &mut Flow)
-        requires valid { IsValidFlow net.now flow.old }
-        requires levels { length search.now.level.items ≡ length net.now.fixed }
-        requires marked { length search.now.marked.items ≡ length net.now.fixed }
-        requires cursors { length self.old.cursor.items ≡ length net.now.fixed }
-        ensures valid { IsValidFlow net.now flow.new }
-        ensures rises { value_of net.now flow.old ≤ value_of net.now flow.new }
+    pub fn block<N: FlowNetwork>(
+        &mut self,
+        net: &N,
+        incidence: &Incidence,
+        search: &Search,
+        flow: &mut Flow,
+    )
+        requires valid { IsValidFlow (N.numbered net.now) flow.old }
+        requires levels { length search.now.level.items ≡ (N.numbered net.now).node_count }
+        requires marked { length search.now.marked.items ≡ (N.numbered net.now).node_count }
+        requires cursors { length self.old.cursor.items ≡ (N.numbered net.now).node_count }
+        ensures valid { IsValidFlow (N.numbered net.now) flow.new }
+        ensures rises { value_of (N.numbered net.now) flow.old ≤ value_of (N.numbered net.now) flow.new }
         ensures sinks { KeepsSinks flow.old flow.new }
     {
-        for node in 0..net.fixed.as_slice().len() {
-            if net.fixed.as_slice()[node] && search.marked[node] {
+        for node in 0..net.node_count() {
+            if net.is_fixed(node) && search.marked[node] {
                 self.send_from(net, incidence, search, flow, node);
             }
         }

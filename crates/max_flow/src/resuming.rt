@@ -5,14 +5,14 @@
 //! where there is none, or its hint fails the test, one is made in which the sinks first fill to what leaves there.
 
 ghost use Rattle.std.specs.Prelude.{◌≡◌, ◌≤◌, length, true, IfOk, IfSome, OnOk};
-ghost use Rattle.flow_net.specs.Flows.{IsValidFlow, IsLargest, IsLeastInside, value_of, cost_of};
+ghost use Rattle.flow_net.specs.NumberedFlows.{IsValidFlow, IsLargest, IsLeastInside, value_of, cost_of};
 ghost use Rattle.max_flow.specs.Paths.{KeepsSinks};
 
 use crate::NoMemory;
 use crate::paths::has_room;
 use crate::solving::{finish, least_inside, shown_by, shown_inside};
 use flow_hint::{Hint, KeptPreflow, find_hint_above, find_hint_on};
-use flow_net::{Flow, Labels, Net, Sequence};
+use flow_net::{Flow, FlowNetwork, Labels, Sequence};
 use flow_valid::is_valid_flow;
 use std::alloc::Global;
 
@@ -27,10 +27,10 @@ fn copied(alloc: Global, flow: &Flow) -> Result<Flow, NoMemory>
 }
 
 /// Whether any sink has room.
-fn any_has_room(net: &Net, flow: &Flow) -> bool
-    requires { IsValidFlow net.now flow.now }
+fn any_has_room<N: FlowNetwork>(net: &N, flow: &Flow) -> bool
+    requires { IsValidFlow (N.numbered net.now) flow.now }
 {
-    for node in 0..net.fixed.as_slice().len() {
+    for node in 0..net.node_count() {
         if has_room(net, flow, node) {
             return true;
         }
@@ -55,18 +55,18 @@ fn keeps_sinks(before: &Flow, after: &Flow) -> bool
 
 /// The flow of a hint, and the least-inside labels where it is known to be a largest one. None where it is not valid, or less leaves
 /// at a sink than of a valid flow. Else its preflow is kept.
-fn tested(
+fn tested<N: FlowNetwork>(
     alloc: Global,
-    net: &Net,
+    net: &N,
     flow: &Flow,
     found: Option<(Hint, KeptPreflow)>,
     kept: &mut Option<KeptPreflow>,
 ) -> Result<Option<(Flow, Option<Labels>)>, NoMemory>
-    requires { IsValidFlow net.now flow.now }
-    ensures valid { IfOk result (λ found. IfSome found (λ more. IsValidFlow net.now more.0)) }
+    requires { IsValidFlow (N.numbered net.now) flow.now }
+    ensures valid { IfOk result (λ found. IfSome found (λ more. IsValidFlow (N.numbered net.now) more.0)) }
     ensures sinks { IfOk result (λ found. IfSome found (λ more. KeepsSinks flow.now more.0)) }
-    ensures least { IfOk result (λ found. IfSome found (λ more. IfSome more.1 (λ labels. IsLeastInside net.now labels))) }
-    ensures cost { IfOk result (λ found. IfSome found (λ more. IfSome more.1 (λ labels. cost_of net.now labels ≡ value_of net.now more.0))) }
+    ensures least { IfOk result (λ found. IfSome found (λ more. IfSome more.1 (λ labels. IsLeastInside (N.numbered net.now) labels))) }
+    ensures cost { IfOk result (λ found. IfSome found (λ more. IfSome more.1 (λ labels. cost_of (N.numbered net.now) labels ≡ value_of (N.numbered net.now) more.0))) }
 {
     let Some((Hint { flow: more, levels }, preflow)) = found else {
         return Ok(None);
@@ -81,17 +81,17 @@ fn tested(
 
 /// A valid flow at which no less leaves at any sink than of another, and the least-inside labels where it is known to be a largest
 /// one: that of a hint, or the same flow where no hint passes the test.
-fn more_above(
+fn more_above<N: FlowNetwork>(
     alloc: Global,
-    net: &Net,
+    net: &N,
     flow: &Flow,
     kept: &mut Option<KeptPreflow>,
 ) -> Result<(Flow, Option<Labels>), NoMemory>
-    requires { IsValidFlow net.now flow.now }
-    ensures valid { IfOk result (λ more. IsValidFlow net.now more.0) }
+    requires { IsValidFlow (N.numbered net.now) flow.now }
+    ensures valid { IfOk result (λ more. IsValidFlow (N.numbered net.now) more.0) }
     ensures sinks { IfOk result (λ more. KeepsSinks flow.now more.0) }
-    ensures least { IfOk result (λ more. IfSome more.1 (λ labels. IsLeastInside net.now labels)) }
-    ensures cost { IfOk result (λ more. IfSome more.1 (λ labels. cost_of net.now labels ≡ value_of net.now more.0)) }
+    ensures least { IfOk result (λ more. IfSome more.1 (λ labels. IsLeastInside (N.numbered net.now) labels)) }
+    ensures cost { IfOk result (λ more. IfSome more.1 (λ labels. cost_of (N.numbered net.now) labels ≡ value_of (N.numbered net.now) more.0)) }
 {
     if let Some(preflow) = kept.take() {
         let found = find_hint_on(alloc, net, preflow)?;
@@ -113,18 +113,18 @@ fn more_above(
 /// how long it takes, and nothing else: it takes longer where there is none, as there may be after want of memory, or that of
 /// another network.
 #[tactic(auto, using(crate::proofs::Cuts::shown_largest))]
-pub fn minimum_cut_above(
+pub fn minimum_cut_above<N: FlowNetwork>(
     alloc: Global,
-    net: &Net,
+    net: &N,
     flow: &Flow,
     kept: &mut Option<KeptPreflow>,
 ) -> Result<(Flow, Labels), NoMemory>
-    requires { IsValidFlow net.now flow.now }
-    ensures valid { IfOk result (λ cut. IsValidFlow net.now cut.0) }
-    ensures largest { IfOk result (λ cut. IsLargest net.now cut.0) }
+    requires { IsValidFlow (N.numbered net.now) flow.now }
+    ensures valid { IfOk result (λ cut. IsValidFlow (N.numbered net.now) cut.0) }
+    ensures largest { IfOk result (λ cut. IsLargest (N.numbered net.now) cut.0) }
     ensures sinks { IfOk result (λ cut. KeepsSinks flow.now cut.0) }
-    ensures least { IfOk result (λ cut. IsLeastInside net.now cut.1) }
-    ensures cost { IfOk result (λ cut. cost_of net.now cut.1 ≡ value_of net.now cut.0) }
+    ensures least { IfOk result (λ cut. IsLeastInside (N.numbered net.now) cut.1) }
+    ensures cost { IfOk result (λ cut. cost_of (N.numbered net.now) cut.1 ≡ value_of (N.numbered net.now) cut.0) }
 {
     if !any_has_room(net, flow) {
         if let Some(labels) = shown_inside(alloc, net, flow)? {
@@ -144,11 +144,11 @@ pub fn minimum_cut_above(
 /// sink than before: what has come to a sink stays there, and only more is sent.
 ///
 /// Without memory the flow is valid, its value is no smaller than before, and no less leaves at any sink.
-pub fn resume(alloc: Global, net: &Net, flow: &mut Flow) -> Result<(), NoMemory>
-    requires { IsValidFlow net.now flow.old }
-    ensures largest { OnOk result (IsLargest net.now flow.new) }
-    ensures valid { IsValidFlow net.now flow.new }
-    ensures rises { value_of net.now flow.old ≤ value_of net.now flow.new }
+pub fn resume<N: FlowNetwork>(alloc: Global, net: &N, flow: &mut Flow) -> Result<(), NoMemory>
+    requires { IsValidFlow (N.numbered net.now) flow.old }
+    ensures largest { OnOk result (IsLargest (N.numbered net.now) flow.new) }
+    ensures valid { IsValidFlow (N.numbered net.now) flow.new }
+    ensures rises { value_of (N.numbered net.now) flow.old ≤ value_of (N.numbered net.now) flow.new }
     ensures sinks { KeepsSinks flow.old flow.new }
 {
     let (more, _labels) = minimum_cut_above(alloc, net, flow, &mut None)?;

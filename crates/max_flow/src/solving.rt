@@ -3,7 +3,7 @@
 
 ghost use Rattle.std.specs.Prelude.{◌≡◌, ◌<◌, ◌≤◌, length, true, false, ℕ, IfOk, IfSome, IfNone, OnOk, OnErr};
 ghost use Rattle.flow_net.specs.Nets.{flag_at};
-ghost use Rattle.flow_net.specs.Flows.{IsValidFlow, IsLargest, IsLeastInside, value_of, cost_of};
+ghost use Rattle.flow_net.specs.NumberedFlows.{IsValidFlow, IsLargest, IsLeastInside, value_of, cost_of};
 ghost use Rattle.max_flow.specs.Paths.{IsAugmenting, KeepsSinks, end_of};
 ghost use Rattle.max_flow.specs.Incidence.{AreChains};
 ghost use Rattle.max_flow.specs.Searches.{IsComplete};
@@ -16,7 +16,7 @@ use crate::phases::Phase;
 use crate::residual::ResidualArc;
 use crate::searches::{Search, search_back};
 use flow_hint::{Hint, KeptPreflow, Levels, find_hint, find_hint_above, find_levels};
-use flow_net::{Flow, Labels, Net, Sequence};
+use flow_net::{Flow, FlowNetwork, Labels, Sequence};
 use flow_valid::is_valid_flow;
 use std::alloc::Global;
 
@@ -28,16 +28,15 @@ pub struct Augmenting {
 }
 
 /// A fixed node from which a sink with room can be reached, if there is one.
-pub fn found_fixed(net: &Net, marked: &[bool]) -> Option<usize>
-    requires { length marked.now ≡ length net.now.fixed }
-    ensures node { IfSome result (λ v. v < length net.now.fixed) }
-    ensures fixed { IfSome result (λ v. flag_at net.now.fixed v ≡ true) }
+pub fn found_fixed<N: FlowNetwork>(net: &N, marked: &[bool]) -> Option<usize>
+    requires { length marked.now ≡ (N.numbered net.now).node_count }
+    ensures node { IfSome result (λ v. v < (N.numbered net.now).node_count) }
+    ensures fixed { IfSome result (λ v. (N.numbered net.now).is_fixed v ≡ true) }
     ensures found { IfSome result (λ v. flag_at marked.now v ≡ true) }
-    ensures none { IfNone result ((v : ℕ) → v < length net.now.fixed → flag_at net.now.fixed v ≡ true → flag_at marked.now v ≡ false) }
+    ensures none { IfNone result ((v : ℕ) → v < (N.numbered net.now).node_count → (N.numbered net.now).is_fixed v ≡ true → flag_at marked.now v ≡ false) }
 {
-    let fixed = net.fixed.as_slice();
-    for node in 0..fixed.len() {
-        if fixed[node] && marked[node] {
+    for node in 0..net.node_count() {
+        if net.is_fixed(node) && marked[node] {
             return Some(node);
         }
     }
@@ -45,19 +44,19 @@ pub fn found_fixed(net: &Net, marked: &[bool]) -> Option<usize>
 }
 
 /// The path from a found fixed node to a sink with room.
-pub fn path_from(
+pub fn path_from<N: FlowNetwork>(
     alloc: Global,
-    net: &Net,
+    net: &N,
     flow: &Flow,
     search: &Search,
     start: usize,
 ) -> Result<Augmenting, NoMemory>
-    requires complete { IsComplete net.now flow.now search.now }
-    requires node { start < length net.now.fixed }
-    requires fixed { flag_at net.now.fixed start ≡ true }
+    requires complete { IsComplete (N.numbered net.now) flow.now search.now }
+    requires node { start < (N.numbered net.now).node_count }
+    requires fixed { (N.numbered net.now).is_fixed start ≡ true }
     requires found { flag_at search.now.marked.items start ≡ true }
-    ensures path { IfOk result (λ found. IsAugmenting net.now flow.now start found.path.items 1) }
-    ensures end { IfOk result (λ found. end_of net.now start found.path.items ≡ found.end) }
+    ensures path { IfOk result (λ found. IsAugmenting (N.numbered net.now) flow.now start found.path.items 1) }
+    ensures end { IfOk result (λ found. end_of (N.numbered net.now) start found.path.items ≡ found.end) }
 {
     let mut path = Vec::with_capacity(alloc, search.level[start] as usize)?;
     let mut node = start;
@@ -71,18 +70,18 @@ pub fn path_from(
 /// Makes one round: raises the value of a flow and answers true, or answers false where no flow has a larger one.
 ///
 /// Without memory the flow stays as it was.
-fn improve(
+fn improve<N: FlowNetwork>(
     alloc: Global,
-    net: &Net,
+    net: &N,
     incidence: &Incidence,
     flow: &mut Flow,
 ) -> Result<bool, NoMemory>
-    requires valid { IsValidFlow net.now flow.old }
-    requires forward { AreChains net.now true incidence.now.forward }
-    requires backward { AreChains net.now false incidence.now.backward }
-    ensures valid { IfOk result (λ _. IsValidFlow net.now flow.new) }
-    ensures rises { IfOk result (λ more. more ≡ true → value_of net.now flow.old < value_of net.now flow.new) }
-    ensures largest { IfOk result (λ more. more ≡ false → IsLargest net.now flow.new) }
+    requires valid { IsValidFlow (N.numbered net.now) flow.old }
+    requires forward { AreChains (N.numbered net.now) true incidence.now.forward }
+    requires backward { AreChains (N.numbered net.now) false incidence.now.backward }
+    ensures valid { IfOk result (λ _. IsValidFlow (N.numbered net.now) flow.new) }
+    ensures rises { IfOk result (λ more. more ≡ true → value_of (N.numbered net.now) flow.old < value_of (N.numbered net.now) flow.new) }
+    ensures largest { IfOk result (λ more. more ≡ false → IsLargest (N.numbered net.now) flow.new) }
     ensures sinks { KeepsSinks flow.old flow.new }
     ensures unchanged { OnErr result (flow.new ≡ flow.old) }
 {
@@ -101,11 +100,11 @@ fn improve(
 /// Goes on from a valid flow to a largest one, by rounds. No less leaves at any sink than before.
 ///
 /// Without memory the flow is valid, and its value is no smaller than before.
-pub fn finish(alloc: Global, net: &Net, flow: &mut Flow) -> Result<(), NoMemory>
-    requires { IsValidFlow net.now flow.old }
-    ensures largest { OnOk result (IsLargest net.now flow.new) }
-    ensures valid { IsValidFlow net.now flow.new }
-    ensures rises { value_of net.now flow.old ≤ value_of net.now flow.new }
+pub fn finish<N: FlowNetwork>(alloc: Global, net: &N, flow: &mut Flow) -> Result<(), NoMemory>
+    requires { IsValidFlow (N.numbered net.now) flow.old }
+    ensures largest { OnOk result (IsLargest (N.numbered net.now) flow.new) }
+    ensures valid { IsValidFlow (N.numbered net.now) flow.new }
+    ensures rises { value_of (N.numbered net.now) flow.old ≤ value_of (N.numbered net.now) flow.new }
     ensures sinks { KeepsSinks flow.old flow.new }
 {
     let incidence = Incidence::new(alloc, net)?;
@@ -114,29 +113,29 @@ pub fn finish(alloc: Global, net: &Net, flow: &mut Flow) -> Result<(), NoMemory>
 }
 
 /// The flow of nothing.
-pub fn zero_flow(alloc: Global, net: &Net) -> Result<Flow, NoMemory>
-    ensures { IfOk result (λ flow. IsValidFlow net.now flow) }
+pub fn zero_flow<N: FlowNetwork>(alloc: Global, net: &N) -> Result<Flow, NoMemory>
+    ensures { IfOk result (λ flow. IsValidFlow (N.numbered net.now) flow) }
 {
     Ok(Flow {
-        on_arc: Sequence::from(vec![in alloc; 0u64; net.arcs.len()]?),
-        on_sink: Sequence::from(vec![in alloc; 0u64; net.fixed.as_slice().len()]?),
+        on_arc: Sequence::from(vec![in alloc; 0u64; net.arc_count()]?),
+        on_sink: Sequence::from(vec![in alloc; 0u64; net.node_count()]?),
     })
 }
 
 /// The least-inside labels that levels show beside a valid flow, or None where they show none. Where they show some, the flow is a
 /// largest one.
-pub fn shown_by(
+pub fn shown_by<N: FlowNetwork>(
     alloc: Global,
-    net: &Net,
+    net: &N,
     flow: &Flow,
     levels: Levels,
 ) -> Result<Option<Labels>, NoMemory>
-    requires { IsValidFlow net.now flow.now }
-    ensures least { IfOk result (λ found. IfSome found (λ labels. IsLeastInside net.now labels)) }
-    ensures cost { IfOk result (λ found. IfSome found (λ labels. cost_of net.now labels ≡ value_of net.now flow.now)) }
+    requires { IsValidFlow (N.numbered net.now) flow.now }
+    ensures least { IfOk result (λ found. IfSome found (λ labels. IsLeastInside (N.numbered net.now) labels)) }
+    ensures cost { IfOk result (λ found. IfSome found (λ labels. cost_of (N.numbered net.now) labels ≡ value_of (N.numbered net.now) flow.now)) }
 {
     let Levels { is_found, level } = levels;
-    let nodes = net.fixed.as_slice().len();
+    let nodes = net.node_count();
     if is_found.len() != nodes || level.len() != nodes {
         return Ok(None);
     }
@@ -153,14 +152,14 @@ pub fn shown_by(
 
 /// A valid flow to start from, and the least-inside labels where it is known to be a largest one: that of a hint, which mostly is,
 /// or the flow of nothing where the hint's is not valid.
-fn first_flow(
+fn first_flow<N: FlowNetwork>(
     alloc: Global,
-    net: &Net,
+    net: &N,
     hint: Option<Hint>,
 ) -> Result<(Flow, Option<Labels>), NoMemory>
-    ensures valid { IfOk result (λ found. IsValidFlow net.now found.0) }
-    ensures least { IfOk result (λ found. IfSome found.1 (λ labels. IsLeastInside net.now labels)) }
-    ensures cost { IfOk result (λ found. IfSome found.1 (λ labels. cost_of net.now labels ≡ value_of net.now found.0)) }
+    ensures valid { IfOk result (λ found. IsValidFlow (N.numbered net.now) found.0) }
+    ensures least { IfOk result (λ found. IfSome found.1 (λ labels. IsLeastInside (N.numbered net.now) labels)) }
+    ensures cost { IfOk result (λ found. IfSome found.1 (λ labels. cost_of (N.numbered net.now) labels ≡ value_of (N.numbered net.now) found.0)) }
 {
     if let Some(Hint { flow, levels }) = hint {
         if is_valid_flow(alloc, net, &flow)? {
@@ -173,15 +172,15 @@ fn first_flow(
 
 /// A flow of the largest value, and the least-inside labels where a hint shows them.
 #[tactic(auto, using(crate::proofs::Cuts::shown_largest))]
-fn largest_flow(
+fn largest_flow<N: FlowNetwork>(
     alloc: Global,
-    net: &Net,
+    net: &N,
     hint: Option<Hint>,
 ) -> Result<(Flow, Option<Labels>), NoMemory>
-    ensures valid { IfOk result (λ found. IsValidFlow net.now found.0) }
-    ensures largest { IfOk result (λ found. IsLargest net.now found.0) }
-    ensures least { IfOk result (λ found. IfSome found.1 (λ labels. IsLeastInside net.now labels)) }
-    ensures cost { IfOk result (λ found. IfSome found.1 (λ labels. cost_of net.now labels ≡ value_of net.now found.0)) }
+    ensures valid { IfOk result (λ found. IsValidFlow (N.numbered net.now) found.0) }
+    ensures largest { IfOk result (λ found. IsLargest (N.numbered net.now) found.0) }
+    ensures least { IfOk result (λ found. IfSome found.1 (λ labels. IsLeastInside (N.numbered net.now) labels)) }
+    ensures cost { IfOk result (λ found. IfSome found.1 (λ labels. cost_of (N.numbered net.now) labels ≡ value_of (N.numbered net.now) found.0)) }
 {
     let (mut flow, found) = first_flow(alloc, net, hint)?;
     if let Some(labels) = found {
@@ -192,9 +191,9 @@ fn largest_flow(
 }
 
 /// A flow of the largest value: it is valid, so 0 at the sinks of fixed nodes, and no valid flow has a larger value.
-pub fn solve(alloc: Global, net: &Net) -> Result<Flow, NoMemory>
-    ensures valid { IfOk result (λ flow. IsValidFlow net.now flow) }
-    ensures largest { IfOk result (λ flow. IsLargest net.now flow) }
+pub fn solve<N: FlowNetwork>(alloc: Global, net: &N) -> Result<Flow, NoMemory>
+    ensures valid { IfOk result (λ flow. IsValidFlow (N.numbered net.now) flow) }
+    ensures largest { IfOk result (λ flow. IsLargest (N.numbered net.now) flow) }
 {
     let hint = find_hint(alloc, net)?;
     let (flow, _labels) = largest_flow(alloc, net, hint)?;
@@ -202,10 +201,14 @@ pub fn solve(alloc: Global, net: &Net) -> Result<Flow, NoMemory>
 }
 
 /// The least-inside labels that levels show, or None where they show none.
-pub fn shown_inside(alloc: Global, net: &Net, flow: &Flow) -> Result<Option<Labels>, NoMemory>
-    requires { IsValidFlow net.now flow.now }
-    ensures least { IfOk result (λ found. IfSome found (λ labels. IsLeastInside net.now labels)) }
-    ensures cost { IfOk result (λ found. IfSome found (λ labels. cost_of net.now labels ≡ value_of net.now flow.now)) }
+pub fn shown_inside<N: FlowNetwork>(
+    alloc: Global,
+    net: &N,
+    flow: &Flow,
+) -> Result<Option<Labels>, NoMemory>
+    requires { IsValidFlow (N.numbered net.now) flow.now }
+    ensures least { IfOk result (λ found. IfSome found (λ labels. IsLeastInside (N.numbered net.now) labels)) }
+    ensures cost { IfOk result (λ found. IfSome found (λ labels. cost_of (N.numbered net.now) labels ≡ value_of (N.numbered net.now) flow.now)) }
 {
     match find_levels(alloc, net, flow)? {
         Some(levels) => shown_by(alloc, net, flow, levels),
@@ -214,10 +217,10 @@ pub fn shown_inside(alloc: Global, net: &Net, flow: &Flow) -> Result<Option<Labe
 }
 
 /// The least-inside labels by a search.
-fn searched_inside(alloc: Global, net: &Net, flow: &Flow) -> Result<Labels, NoMemory>
-    requires { IsLargest net.now flow.now }
-    ensures least { IfOk result (λ labels. IsLeastInside net.now labels) }
-    ensures cost { IfOk result (λ labels. cost_of net.now labels ≡ value_of net.now flow.now) }
+fn searched_inside<N: FlowNetwork>(alloc: Global, net: &N, flow: &Flow) -> Result<Labels, NoMemory>
+    requires { IsLargest (N.numbered net.now) flow.now }
+    ensures least { IfOk result (λ labels. IsLeastInside (N.numbered net.now) labels) }
+    ensures cost { IfOk result (λ labels. cost_of (N.numbered net.now) labels ≡ value_of (N.numbered net.now) flow.now) }
 {
     let incidence = Incidence::new(alloc, net)?;
     let search = search_back(alloc, net, &incidence, flow)?;
@@ -231,10 +234,10 @@ fn searched_inside(alloc: Global, net: &Net, flow: &Flow) -> Result<Labels, NoMe
 ///
 /// They cost the value of the flow. A node is inside where a sink with room can be reached from it in the residual
 /// network, so each labels of the least cost have it inside.
-pub fn least_inside(alloc: Global, net: &Net, flow: &Flow) -> Result<Labels, NoMemory>
-    requires { IsLargest net.now flow.now }
-    ensures least { IfOk result (λ labels. IsLeastInside net.now labels) }
-    ensures cost { IfOk result (λ labels. cost_of net.now labels ≡ value_of net.now flow.now) }
+pub fn least_inside<N: FlowNetwork>(alloc: Global, net: &N, flow: &Flow) -> Result<Labels, NoMemory>
+    requires { IsLargest (N.numbered net.now) flow.now }
+    ensures least { IfOk result (λ labels. IsLeastInside (N.numbered net.now) labels) }
+    ensures cost { IfOk result (λ labels. cost_of (N.numbered net.now) labels ≡ value_of (N.numbered net.now) flow.now) }
 {
     if let Some(labels) = shown_inside(alloc, net, flow)? {
         return Ok(labels);
@@ -243,11 +246,15 @@ pub fn least_inside(alloc: Global, net: &Net, flow: &Flow) -> Result<Labels, NoM
 }
 
 /// A flow of the largest value from a hint, and the least-inside labels, which cost as much.
-fn cut_by(alloc: Global, net: &Net, hint: Option<Hint>) -> Result<(Flow, Labels), NoMemory>
-    ensures valid { IfOk result (λ cut. IsValidFlow net.now cut.0) }
-    ensures largest { IfOk result (λ cut. IsLargest net.now cut.0) }
-    ensures least { IfOk result (λ cut. IsLeastInside net.now cut.1) }
-    ensures cost { IfOk result (λ cut. cost_of net.now cut.1 ≡ value_of net.now cut.0) }
+fn cut_by<N: FlowNetwork>(
+    alloc: Global,
+    net: &N,
+    hint: Option<Hint>,
+) -> Result<(Flow, Labels), NoMemory>
+    ensures valid { IfOk result (λ cut. IsValidFlow (N.numbered net.now) cut.0) }
+    ensures largest { IfOk result (λ cut. IsLargest (N.numbered net.now) cut.0) }
+    ensures least { IfOk result (λ cut. IsLeastInside (N.numbered net.now) cut.1) }
+    ensures cost { IfOk result (λ cut. cost_of (N.numbered net.now) cut.1 ≡ value_of (N.numbered net.now) cut.0) }
 {
     let (flow, found) = largest_flow(alloc, net, hint)?;
     if let Some(labels) = found {
@@ -259,25 +266,25 @@ fn cut_by(alloc: Global, net: &Net, hint: Option<Hint>) -> Result<(Flow, Labels)
 
 /// A flow of the largest value, and the least-inside labels, which cost as much. It takes less time than `solve` and
 /// `least_inside` one after the other.
-pub fn minimum_cut(alloc: Global, net: &Net) -> Result<(Flow, Labels), NoMemory>
-    ensures valid { IfOk result (λ cut. IsValidFlow net.now cut.0) }
-    ensures largest { IfOk result (λ cut. IsLargest net.now cut.0) }
-    ensures least { IfOk result (λ cut. IsLeastInside net.now cut.1) }
-    ensures cost { IfOk result (λ cut. cost_of net.now cut.1 ≡ value_of net.now cut.0) }
+pub fn minimum_cut<N: FlowNetwork>(alloc: Global, net: &N) -> Result<(Flow, Labels), NoMemory>
+    ensures valid { IfOk result (λ cut. IsValidFlow (N.numbered net.now) cut.0) }
+    ensures largest { IfOk result (λ cut. IsLargest (N.numbered net.now) cut.0) }
+    ensures least { IfOk result (λ cut. IsLeastInside (N.numbered net.now) cut.1) }
+    ensures cost { IfOk result (λ cut. cost_of (N.numbered net.now) cut.1 ≡ value_of (N.numbered net.now) cut.0) }
 {
     let hint = find_hint(alloc, net)?;
     cut_by(alloc, net, hint)
 }
 
 /// What `minimum_cut` answers, and the preflow of its hint, if there is one, for `minimum_cut_above` to go on from.
-pub fn minimum_cut_and_preflow(
+pub fn minimum_cut_and_preflow<N: FlowNetwork>(
     alloc: Global,
-    net: &Net,
+    net: &N,
 ) -> Result<(Flow, Labels, Option<KeptPreflow>), NoMemory>
-    ensures valid { IfOk result (λ cut. IsValidFlow net.now cut.0) }
-    ensures largest { IfOk result (λ cut. IsLargest net.now cut.0) }
-    ensures least { IfOk result (λ cut. IsLeastInside net.now cut.1) }
-    ensures cost { IfOk result (λ cut. cost_of net.now cut.1 ≡ value_of net.now cut.0) }
+    ensures valid { IfOk result (λ cut. IsValidFlow (N.numbered net.now) cut.0) }
+    ensures largest { IfOk result (λ cut. IsLargest (N.numbered net.now) cut.0) }
+    ensures least { IfOk result (λ cut. IsLeastInside (N.numbered net.now) cut.1) }
+    ensures cost { IfOk result (λ cut. cost_of (N.numbered net.now) cut.1 ≡ value_of (N.numbered net.now) cut.0) }
 {
     let (hint, kept) = match find_hint_above(alloc, net, &[])? {
         Some((hint, kept)) => (Some(hint), Some(kept)),

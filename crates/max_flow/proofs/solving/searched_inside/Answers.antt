@@ -4,20 +4,20 @@ use Rattle.max_flow.proofs.Raising.{none_fixed_at_largest}
 use Rattle.max_flow.proofs.solving.searched_inside.Goals as goal
 
 pub returns-clause-least : goal.returns-clause-least
-returns-clause-least c =
+returns-clause-least g c =
     let search = c.in_ok-search.search in
     let complete = c.in_ok-search.ensures in
-    let are = levels_of c.args.net.now c.args.flow.now search complete in
-    let none = none_fixed_at_largest c.args.net.now c.args.flow.now search c.requires complete.tree in
-    rw c.from.ensures (levels_least c.args.net.now c.args.flow.now search.marked.items search.level.items c.requires.valid are
-    (levels_admissible c.args.net.now c.args.flow.now search.marked.items search.level.items are none))
+    let are = levels_of (g.N.FlowNetwork.numbered c.args.net.now) c.args.flow.now search complete in
+    let none = none_fixed_at_largest (g.N.FlowNetwork.numbered c.args.net.now) c.args.flow.now search c.requires complete.tree in
+    rw c.from.ensures (levels_least (g.N.FlowNetwork.numbered c.args.net.now) c.args.flow.now search.marked.items search.level.items c.requires.valid are
+    (levels_admissible (g.N.FlowNetwork.numbered c.args.net.now) c.args.flow.now search.marked.items search.level.items are none))
 
 pub returns-clause-cost : goal.returns-clause-cost
-returns-clause-cost c =
+returns-clause-cost g c =
     let search = c.in_ok-search.search in
     let complete = c.in_ok-search.ensures in
-    let are = levels_of c.args.net.now c.args.flow.now search complete in
-    let none = none_fixed_at_largest c.args.net.now c.args.flow.now search c.requires complete.tree in
+    let are = levels_of (g.N.FlowNetwork.numbered c.args.net.now) c.args.flow.now search complete in
+    let none = none_fixed_at_largest (g.N.FlowNetwork.numbered c.args.net.now) c.args.flow.now search c.requires complete.tree in
     rw c.from.ensures
-    (sym (levels_cost c.args.net.now c.args.flow.now search.marked.items search.level.items c.requires.valid are
-    (levels_admissible c.args.net.now c.args.flow.now search.marked.items search.level.items are none)))
+    (sym (levels_cost (g.N.FlowNetwork.numbered c.args.net.now) c.args.flow.now search.marked.items search.level.items c.requires.valid are
+    (levels_admissible (g.N.FlowNetwork.numbered c.args.net.now) c.args.flow.now search.marked.items search.level.items are none)))
