@@ -4,6 +4,7 @@ ghost use Rattle.std.specs.Prelude.{◌≡◌, length, IfSome, IfNone};
 ghost use Rattle.flow_net.specs.Flows.{amount_in};
 ghost use Rattle.flow_check.specs.Firsts.{IsFirst, NoneBelow};
 ghost use Rattle.flow_valid.specs.Totals.{AreTotals};
+ghost use Rattle.flow_net.specs.Flows.{numbered_of};
 ghost use Rattle.flow_check.specs.Verdicts.{IsUnbalanced, total_out};
 
 use flow_net::{Flow, Net};
@@ -22,7 +23,7 @@ pub struct Unbalance {
 /// The first free node that is not balanced, if there is one.
 pub fn unbalanced(net: &Net, flow: &Flow, totals: &Totals) -> Option<Unbalance>
     requires nodes { length flow.now.on_sink ≡ length net.now.fixed }
-    requires totals { AreTotals net.now flow.now totals.now }
+    requires totals { AreTotals (numbered_of net.now) flow.now totals.now }
     ensures first { IfSome result (λ found. IsFirst (length net.now.fixed) (IsUnbalanced net.now flow.now) found.node) }
     ensures amount_in { IfSome result (λ found. found.amount_in ≡ amount_in net.now.arcs flow.now.on_arc found.node) }
     ensures amount_out { IfSome result (λ found. found.amount_out ≡ total_out net.now flow.now found.node) }
