@@ -19,6 +19,7 @@ use curve_order::{in_rounds, order};
 use geo_sign::Point;
 use std::alloc::Global;
 use tetra_store::Tetra;
+use watch::{Silent, Stage, Watch, tell};
 
 /// The Delaunay cells of the box's corners and these distinct data points, of which point i is vertex 8 + i; all are inserted.
 ///
@@ -34,10 +35,29 @@ pub fn build(alloc: Global, points: &[Point]) -> Result<Tetra, NoMemory>
     ensures cells { IfOk result (λ t. IsDelaunay (all_vertices_of points.now) (links_of t.slots)) }
     ensures partition { IfOk result (λ t. IsPartition t) }
 {
+    build_watched(alloc, points, &mut Silent)
+}
+
+/// The same, where a watch is told of the stage and of how many points are inserted.
+pub fn build_watched<W: Watch>(
+    alloc: Global,
+    points: &[Point],
+    watch: &mut W,
+) -> Result<Tetra, NoMemory>
+    requires within { (k : ℕ) → k < length points.now → IsWithin DATA_LIMIT (get_or points.now k origin) }
+    requires distinct { (j k : ℕ) → j < length points.now → k < length points.now → get_or points.now j origin ≡ get_or points.now k origin → j ≡ k }
+    requires few { length points.now ≤ VERTEX_LIMIT }
+    ensures points { IfOk result (λ t. t.points ≡ corners ++ points.now) }
+    ensures inserted { IfOk result (λ t. (u : ℕ) → u < length t.points → slice_index_or t.inserted u false ≡ true) }
+    ensures delaunay { IfOk result (λ t. IsDelaunay (vertices_of t) (links_of t.slots)) }
+    ensures cells { IfOk result (λ t. IsDelaunay (all_vertices_of points.now) (links_of t.slots)) }
+    ensures partition { IfOk result (λ t. IsPartition t) }
+{
+    watch.stage(Stage::Cells, points.len() as u64);
     let along = order(alloc, points)?;
     let ranks = ranks_of(alloc, &along)?;
     let order = in_rounds(along)?;
-    let mut t = build_in_order(alloc, points, &order)?;
+    let mut t = build_in_order(alloc, points, &order, watch)?;
     let numbers = along_ranks(alloc, &t, &ranks)?;
     t.renumber(alloc, &numbers)?;
     t.facts();
@@ -62,7 +82,12 @@ fn box_with(alloc: Global, points: &[Point]) -> Result<Tetra, NoMemory>
 }
 
 /// The same, where the points are inserted in this order. Each walk begins at the cell that the insertion before it answered.
-fn build_in_order(alloc: Global, points: &[Point], order: &[u32]) -> Result<Tetra, NoMemory>
+fn build_in_order<W: Watch>(
+    alloc: Global,
+    points: &[Point],
+    order: &[u32],
+    watch: &mut W,
+) -> Result<Tetra, NoMemory>
     requires within { (k : ℕ) → k < length points.now → IsWithin DATA_LIMIT (get_or points.now k origin) }
     requires distinct { (j k : ℕ) → j < length points.now → k < length points.now → get_or points.now j origin ≡ get_or points.now k origin → j ≡ k }
     requires few { length points.now ≤ VERTEX_LIMIT }
@@ -78,6 +103,7 @@ fn build_in_order(alloc: Global, points: &[Point], order: &[u32]) -> Result<Tetr
     let mut cavity = Cavity::new(alloc);
     let mut at = t.cell_at(0);
     for i in 0..order.len() {
+        tell(watch, i);
         t.facts();
         at = insert_with(&mut t, 8 + order[i], at, &mut cavity)?;
     }

@@ -40,7 +40,7 @@ mod insertion;
 mod laws;
 mod numbering;
 
-pub use building::build;
+pub use building::{build, build_watched};
 pub use insertion::{insert, insert_with};
 pub use laws::partition_law;
 use std::alloc::AllocError;

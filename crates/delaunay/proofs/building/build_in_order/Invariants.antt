@@ -7,7 +7,7 @@ use Rattle.delaunay.proofs.Built.{AreInserted}
 use Rattle.delaunay.proofs.building.build_in_order.Given as goal
 
 abbrev pub invariant-loop-i : goal.invariant-loop-i
-invariant-loop-i l = record {
+invariant-loop-i g l = record {
   points : l.t.points ≡ corners ++ l.points;
   inserted : AreInserted l.t.inserted l.order l.i;
   delaunay : IsDelaunay (vertices_of l.t) (links_of l.t.slots);

@@ -1,0 +1,35 @@
+//! The trait, and the watch that does nothing.
+
+/// A stage of the work on a scan that may take long.
+#[derive(Clone, Copy, Debug, PartialEq, Eq)]
+pub enum Stage {
+    /// Points are inserted, which makes cells.
+    Cells,
+    /// Sights are walked along, which votes for cells.
+    Sights,
+    /// A largest flow is found. Nothing of it is counted.
+    Flow,
+    /// The surfaces of a sweep are found and handed on.
+    Surfaces,
+    /// No stage of these is to come, or none for now.
+    Over,
+}
+
+/// Who watches. What is done with a call is its own affair: it changes no answer of those who tell.
+pub trait Watch {
+    /// A stage begins, of so many points, sights or surfaces, or of 0 where nothing is counted.
+    fn stage(&mut self, stage: Stage, of: u64);
+
+    /// Of the stage that began last, so many are done.
+    fn done(&mut self, count: u64);
+}
+
+/// Nobody watches.
+#[derive(Clone, Copy, Debug, PartialEq, Eq)]
+pub struct Silent;
+
+impl Watch for Silent {
+    fn stage(&mut self, _stage: Stage, _of: u64) {}
+
+    fn done(&mut self, _count: u64) {}
+}
