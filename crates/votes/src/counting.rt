@@ -23,6 +23,7 @@ use std::alloc::Global;
 use tetra_store::{CellId, Tetra};
 use visibility::Scene;
 use vote_net::{Counted, StoreCounts, StoreNet, assemble, assemble_alone, assemble_rising};
+use watch::{Silent, Watch};
 
 /// What is counted, by the numbers that cells have in the store: what sights add, and which cells are fixed.
 #[derive(Drop)]
@@ -47,12 +48,13 @@ impl Votes {
 }
 
 /// The counts of the sights, which are walked in another order. That order is let go of before it returns.
-fn counts_of(
+fn counts_of<W: Watch>(
     alloc: Global,
     t: &Tetra,
     scanners: &[Point],
     cells: &[CellId],
     sights: &[Sight],
+    watch: &mut W,
 ) -> Result<Counts, NoMemory>
     requires delaunay { IsDelaunay (vertices_of t.now) (links_of t.now.slots) }
     requires sights { All (IsInRange (vertices_of t.now) scanners.now) sights.now }
@@ -62,11 +64,16 @@ fn counts_of(
     ensures { IfOk result (λ counts. AreCounted t.now scanners.now sights.now counts.crossed.items counts.behind.items) }
 {
     let walked = ordered(alloc, t, scanners, sights)?;
-    count_sights(alloc, t, scanners, cells, &walked)
+    count_sights(alloc, t, scanners, cells, &walked, watch)
 }
 
 /// What a scene's sights vote for and which cells are fixed. The cells of the scanners are let go of before it returns.
-fn votes_of(alloc: Global, t: &Tetra, scene: &Scene<'_>) -> Result<Votes, NoMemory>
+fn votes_of<W: Watch>(
+    alloc: Global,
+    t: &Tetra,
+    scene: &Scene<'_>,
+    watch: &mut W,
+) -> Result<Votes, NoMemory>
     requires cells { HasCellsOf t.now scene.now }
     requires scene { IsSound scene.now }
     ensures { IfOk result (λ votes. AreCountsOf (view_of scene.now) t.now.slots votes.counts.crossed.items votes.counts.behind.items votes.fixed.items) }
@@ -74,7 +81,7 @@ fn votes_of(alloc: Global, t: &Tetra, scene: &Scene<'_>) -> Result<Votes, NoMemo
     t.facts();
     let cells = scanner_cells(alloc, t, scene.scanners)?;
     let fixed = fixed_cells(alloc, t, scene.scanners, &cells)?;
-    let counts = counts_of(alloc, t, scene.scanners, &cells, scene.sights)?;
+    let counts = counts_of(alloc, t, scene.scanners, &cells, scene.sights, watch)?;
     Ok(Votes { counts, fixed })
 }
 
@@ -89,7 +96,22 @@ pub fn count_votes(alloc: Global, t: &Tetra, scene: &Scene<'_>) -> Result<Counte
     ensures network { IfOk result (λ counted. IsNetworkOf (view_of scene.now) counted.voted) }
     ensures ids { IfOk result (λ counted. AreIdsOf t.now.slots counted.voted.cells counted.ids.items) }
 {
-    let votes = votes_of(alloc, t, scene)?;
+    count_votes_watched(alloc, t, scene, &mut Silent)
+}
+
+/// The same, where a watch is told of the stage and of how many sights are counted.
+pub fn count_votes_watched<W: Watch>(
+    alloc: Global,
+    t: &Tetra,
+    scene: &Scene<'_>,
+    watch: &mut W,
+) -> Result<Counted, NoMemory>
+    requires cells { HasCellsOf t.now scene.now }
+    requires scene { IsSound scene.now }
+    ensures network { IfOk result (λ counted. IsNetworkOf (view_of scene.now) counted.voted) }
+    ensures ids { IfOk result (λ counted. AreIdsOf t.now.slots counted.voted.cells counted.ids.items) }
+{
+    let votes = votes_of(alloc, t, scene, watch)?;
     assemble_rising(alloc, t, scene, &votes.store_counts())
 }
 
@@ -105,22 +127,39 @@ pub fn count_votes_as_stored(
     ensures ids { IfOk result (λ counted. AreIdsOf t.now.slots counted.voted.cells counted.ids.items) }
     ensures order { IfOk result (λ counted. IsInStoreOrder t.now.slots counted.voted.facets counted.ids.items) }
 {
-    let votes = votes_of(alloc, t, scene)?;
+    count_votes_as_stored_watched(alloc, t, scene, &mut Silent)
+}
+
+/// The same, where a watch is told of the stage and of how many sights are counted.
+pub fn count_votes_as_stored_watched<W: Watch>(
+    alloc: Global,
+    t: &Tetra,
+    scene: &Scene<'_>,
+    watch: &mut W,
+) -> Result<Counted, NoMemory>
+    requires cells { HasCellsOf t.now scene.now }
+    requires scene { IsSound scene.now }
+    ensures network { IfOk result (λ counted. IsNetworkInAnyOrder (view_of scene.now) counted.voted) }
+    ensures ids { IfOk result (λ counted. AreIdsOf t.now.slots counted.voted.cells counted.ids.items) }
+    ensures order { IfOk result (λ counted. IsInStoreOrder t.now.slots counted.voted.facets counted.ids.items) }
+{
+    let votes = votes_of(alloc, t, scene, watch)?;
     assemble(alloc, t, scene, &votes.store_counts())
 }
 
 /// The network of `count_votes_as_stored` without the lists of its cells and facets, and which cells are fixed, by their numbers in the
-/// store. `vote_net::listed` adds the lists.
-pub fn count_votes_alone(
+/// store. `vote_net::listed` adds the lists. A watch is told of the stage and of how many sights are counted.
+pub fn count_votes_alone<W: Watch>(
     alloc: Global,
     t: &Tetra,
     scene: &Scene<'_>,
+    watch: &mut W,
 ) -> Result<(StoreNet, Vec<bool>), NoMemory>
     requires cells { HasCellsOf t.now scene.now }
     requires scene { IsSound scene.now }
     ensures { IfOk result (λ made. IsStoredNetwork (view_of scene.now) t.now.slots made.1.items made.0.net made.0.ids.items) }
 {
-    let votes = votes_of(alloc, t, scene)?;
+    let votes = votes_of(alloc, t, scene, watch)?;
     let made = assemble_alone(alloc, t, scene, &votes.store_counts())?;
     let Votes { fixed, .. } = votes;
     Ok((made, fixed))

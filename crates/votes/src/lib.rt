@@ -10,7 +10,10 @@ mod fixing;
 mod ordering;
 mod tally;
 
-pub use counting::{count_votes, count_votes_alone, count_votes_as_stored};
+pub use counting::{
+    count_votes, count_votes_alone, count_votes_as_stored, count_votes_as_stored_watched,
+    count_votes_watched,
+};
 use std::alloc::AllocError;
 
 /// Want of memory: the one answer that any input may get.

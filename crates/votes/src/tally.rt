@@ -20,6 +20,7 @@ use sight::{SightWalk, walk_into};
 use std::alloc::{AllocError, Global};
 use tetra_store::{CellId, Tetra};
 use tetra_walk::behind;
+use watch::{Stage, Watch, tell};
 
 /// The most numbers of cells for which there are counters.
 const MOST_CELLS: usize = 4_294_967_295;
@@ -153,13 +154,15 @@ fn count_two(t: &Tetra, one: &Line, other: &Line, crossed: &mut [u32], before: &
 }
 
 /// Adds for each directed facet the weights of the sights that cross it, and for each cell of those that it is behind, where the cells
-/// of the scanners are known. It takes memory for the counters alone, four of 32 bits for each number of a cell and one more.
-pub(crate) fn count_sights(
+/// of the scanners are known. It takes memory for the counters alone, four of 32 bits for each number of a cell and one more. A watch is
+/// told of the stage and of how many sights are counted.
+pub(crate) fn count_sights<W: Watch>(
     alloc: Global,
     t: &Tetra,
     scanners: &[Point],
     cells: &[CellId],
     sights: &[Sight],
+    watch: &mut W,
 ) -> Result<Counts, NoMemory>
     requires delaunay { IsDelaunay (vertices_of t.now) (links_of t.now.slots) }
     requires sights { All (IsInRange (vertices_of t.now) scanners.now) sights.now }
@@ -174,8 +177,10 @@ pub(crate) fn count_sights(
     }
     let mut crossed = vec![in alloc; 0; 4 * limit]?;
     let mut behind = vec![in alloc; 0; limit]?;
+    watch.stage(Stage::Sights, sights.len() as u64);
     let mut k = 0;
     while k + 1 < sights.len() {
+        tell(watch, k);
         let one = line_of(scanners, cells, sights[k]);
         let other = line_of(scanners, cells, sights[k + 1]);
         count_two(t, &one, &other, &mut crossed, &mut behind);

@@ -11,14 +11,14 @@ use Rattle.votes.proofs.Scenes.{counted_anyhow}
 use Rattle.votes.proofs.counting.counts_of.Goals as goal
 
 pub count_sights-requires-clause-sights : goal.count_sights-requires-clause-sights
-count_sights-requires-clause-sights c =
+count_sights-requires-clause-sights g c =
     let walked : IsPermutation c.args.sights.now c.deref.result.now =
     subst (λ (z : List Sight). IsPermutation c.args.sights.now z) (sym c.deref.ensures.value) c.in_ok-walked.ensures in
     All-permutation (IsInRange (vertices_of c.args.t.now) c.args.scanners.now) c.args.sights.now c.deref.result.now walked
     c.requires.sights
 
 pub count_sights-requires-clause-few : goal.count_sights-requires-clause-few
-count_sights-requires-clause-few c =
+count_sights-requires-clause-few g c =
     let walked : IsPermutation c.args.sights.now c.deref.result.now =
     subst (λ (z : List Sight). IsPermutation c.args.sights.now z) (sym c.deref.ensures.value) c.in_ok-walked.ensures in
     let n : length c.deref.result.now ≡ length c.args.sights.now =
@@ -29,7 +29,7 @@ count_sights-requires-clause-few c =
     }
 
 pub returns : goal.returns
-returns c =
+returns g c =
     let s = c.args.t.now in
     let scanners = c.args.scanners.now in
     let sights = c.args.sights.now in

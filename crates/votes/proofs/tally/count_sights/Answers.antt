@@ -15,23 +15,23 @@ use Rattle.votes.proofs.tally.count_sights.Goals as goal
 use Rattle.votes.proofs.tally.count_sights.Goals.{then-k-sights, else-k-sights}
 
 pub overflow_add-k : goal.overflow_add-k
-overflow_add-k c = let few = c.requires.few.few in let so_far = c.loop-k.invariant.so_far in omega (arith, few, so_far)
+overflow_add-k g c = let few = c.requires.few.few in let so_far = c.loop-k.invariant.so_far in omega (arith, few, so_far)
 
 pub count_two-requires-clause-crossed_fit : goal.count_two-requires-clause-crossed_fit
-count_two-requires-clause-crossed_fit c =
+count_two-requires-clause-crossed_fit g c =
     let fits = c.loop-k.invariant.crossed_fits in
     let same : length c.deref_mut.result.now ≡ length c.loop-k.crossed.items = ap length c.deref_mut.ensures.value in
     omega (arith, fits, same)
 
 pub count_two-requires-clause-before_fit : goal.count_two-requires-clause-before_fit
-count_two-requires-clause-before_fit c =
+count_two-requires-clause-before_fit g c =
     let fits = c.loop-k.invariant.behind_fits in
     let same : length c.deref_mut-in-loop-k.result.now ≡ length c.loop-k.behind.items =
     ap length c.deref_mut-in-loop-k.ensures.value in
     omega (arith, fits, same)
 
 pub count_two-requires-clause-crossed_room : goal.count_two-requires-clause-crossed_room
-count_two-requires-clause-crossed_room c id k m =
+count_two-requires-clause-crossed_room g c id k m =
     let a = c.args in let l = c.loop-k in
     let one =
     line_weight a.scanners.now a.cells.now (sight_at a.sights.now l.k) c.line_of-one.result
@@ -45,7 +45,7 @@ count_two-requires-clause-crossed_room c id k m =
     (omega (arith, one, other)) id k m)
 
 pub count_two-requires-clause-before_room : goal.count_two-requires-clause-before_room
-count_two-requires-clause-before_room c id =
+count_two-requires-clause-before_room g c id =
     let a = c.args in let l = c.loop-k in
     let one =
     line_weight a.scanners.now a.cells.now (sight_at a.sights.now l.k) c.line_of-one.result
@@ -59,7 +59,7 @@ count_two-requires-clause-before_room c id =
     (omega (arith, one, other)) id)
 
 pub loop-k-preserved : goal.loop-k-preserved
-loop-k-preserved c =
+loop-k-preserved g c =
     let a = c.args in let l = c.loop-k in let x = c.line_of-one.result in let y = c.line_of-other.result in
     let crossed = c.count_two.new.crossed in let behind = c.count_two.new.before in
     let same_crossed : length crossed ≡ length l.crossed.items =
@@ -93,14 +93,14 @@ loop-k-preserved c =
     (subst (λ (ys : List ℕ). IsTally a.t.now a.scanners.now a.sights.now (l.k + 2) crossed ys) (sym read_behind) tally)
 
 pub count_crossed-requires-clause-fits : goal.count_crossed-requires-clause-fits
-count_crossed-requires-clause-fits c =
+count_crossed-requires-clause-fits g c =
     let fits = c.loop-k.invariant.crossed_fits in
     let same : length c.deref_mut-then-k-sights.result.now ≡ length c.loop-k.crossed.items =
     ap length c.deref_mut-then-k-sights.ensures.value in
     omega (arith, fits, same)
 
 pub count_crossed-requires-clause-room : goal.count_crossed-requires-clause-room
-count_crossed-requires-clause-room c id k m =
+count_crossed-requires-clause-room g c id k m =
     let a = c.args in let l = c.loop-k in
     let last =
     line_weight a.scanners.now a.cells.now (sight_at a.sights.now l.k) c.line_of-last.result
@@ -111,14 +111,14 @@ count_crossed-requires-clause-room c id k m =
     c.line_of-last.result.added (omega (arith, last)) id k m)
 
 pub count_behind-requires-clause-fits : goal.count_behind-requires-clause-fits
-count_behind-requires-clause-fits c =
+count_behind-requires-clause-fits g c =
     let fits = c.loop-k.invariant.behind_fits in
     let same : length c.deref_mut-then-k-sights-2.result.now ≡ length c.loop-k.behind.items =
     ap length c.deref_mut-then-k-sights-2.ensures.value in
     omega (arith, fits, same)
 
 pub count_behind-requires-clause-room : goal.count_behind-requires-clause-room
-count_behind-requires-clause-room c id =
+count_behind-requires-clause-room g c id =
     let a = c.args in let l = c.loop-k in
     let last =
     line_weight a.scanners.now a.cells.now (sight_at a.sights.now l.k) c.line_of-last.result
@@ -129,7 +129,7 @@ count_behind-requires-clause-room c id =
     c.line_of-last.result.added (omega (arith, last)) id)
 
 pub returns : goal.returns
-returns c =
+returns g c =
     let a = c.args in let l = c.loop-k in
     elim c.if-k-sights.branch [
       | then-k-sights w ↦
