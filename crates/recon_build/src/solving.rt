@@ -2,15 +2,16 @@
 
 ghost use Rattle.std.specs.Prelude.{◌≡◌, ◌<◌, ◌^◌, ◌++◌, IfOk};
 ghost use Rattle.std.specs.Option.{option_map};
-ghost use Rattle.cert_text.specs.Certificates.{claim_of, stamp_view, IsWellFormed};
+ghost use Rattle.cert_text.specs.Certificates.{Claim, claim_of, stamp_view, IsWellFormed};
 ghost use Rattle.geo_sign.specs.Vertices.{corners};
-ghost use Rattle.mesh_ply.specs.Meshes.{IsMesh};
+ghost use Rattle.mesh_ply.specs.Meshes.{IsMesh, Surface};
 ghost use Rattle.scan.specs.Views.{shown_of};
 ghost use Rattle.flow_net.specs.Flows.{IsLeastInside, IsValidFlow, cost_of, value_of};
 ghost use Rattle.visibility.specs.Laws.{test_of};
 ghost use Rattle.visibility.specs.Listings.{IsListingOf};
 ghost use Rattle.visibility.specs.Networks.{complex_of, IsNetworkInAnyOrder};
 ghost use Rattle.vote_net.specs.Counts.{AreCellsOf, AreIdsOf};
+ghost use Rattle.solution.specs.Laws.{IsSame};
 ghost use Rattle.solution.specs.Scans.{points_of, scene_of_scan};
 ghost use Rattle.solution.specs.Solutions.{HasCounts, IsCertificate, IsSolution, surface_of};
 ghost use Rattle.surface.specs.Closed.{IsClosed};
@@ -31,6 +32,7 @@ use std::alloc::Global;
 use surface::facets;
 use tetra_store::Tetra;
 use vote_net::{Counted, listed};
+use watch::{Silent, Stage, Watch};
 
 /// A surface, and the certificate that shows it best.
 #[derive(Drop)]
@@ -153,7 +155,28 @@ pub fn solve_scan(
     ensures tetra { IfOk result (λ solved. IsStoreOf (shown_of scan.now) settings solved.tetra) }
     ensures closed { IfOk result (λ solved. IsClosed solved.mesh.faces.items) }
 {
-    let (tetra, made, fixed) = network(alloc, scan, settings)?;
+    solve_scan_watched(alloc, scan, settings, stamp, &mut Silent)
+}
+
+/// The same, where a watch is told of the stages of the work. The answer is the same whatever watches: it has the mesh of each other
+/// solution, and its certificate differs from theirs in the flow alone, and in the stamp where another was handed in.
+pub fn solve_scan_watched<W: Watch>(
+    alloc: Global,
+    scan: &Scan,
+    settings: Settings,
+    stamp: Option<Stamp>,
+    watch: &mut W,
+) -> Result<Solved, NoMemory>
+    ensures solution { IfOk result (λ solved. IsSolution (shown_of scan.now) settings (surface_of solved.mesh) (claim_of solved.cert)) }
+    ensures valid { IfOk result (λ solved. IsMesh solved.mesh.points.items solved.mesh.faces.items) }
+    ensures well_formed { IfOk result (λ solved. IsWellFormed (claim_of solved.cert)) }
+    ensures stamp { IfOk result (λ solved. (claim_of solved.cert).stamp ≡ option_map stamp_view stamp) }
+    ensures tetra { IfOk result (λ solved. IsStoreOf (shown_of scan.now) settings solved.tetra) }
+    ensures closed { IfOk result (λ solved. IsClosed solved.mesh.faces.items) }
+    ensures same { (mesh : Surface) (claim : Claim) → IsSolution (shown_of scan.now) settings mesh claim → IfOk result (λ solved. IsSame (surface_of solved.mesh) (claim_of solved.cert) mesh claim) }
+{
+    let (tetra, made, fixed) = network(alloc, scan, settings, watch)?;
+    watch.stage(Stage::Flow, 0);
     let (flow, labels) = minimum_cut(alloc, &made.net)?;
     let counted = listed(alloc, &tetra, &fixed, made)?;
     solve_over(alloc, scan, settings, tetra, counted, flow, labels, stamp)

@@ -12,21 +12,21 @@ use Rattle.solution.proofs.SightLists.{few_points}
 use Rattle.recon_build.proofs.Stored.{store_is}
 use Rattle.recon_build.proofs.network.network.Goals as goal
 
-pub build-requires-clause-within : goal.build-requires-clause-within
-build-requires-clause-within c =
+pub build_watched-requires-clause-within : goal.build_watched-requires-clause-within
+build_watched-requires-clause-within g c =
     rw (c.deref.ensures.value ∙ c.in_ok-seen.ensures.points)
     (λ k l. points_within (shown_of c.args.scan.now) (scan_is_shown c.args.scan.now) k origin l)
 
-pub build-requires-clause-distinct : goal.build-requires-clause-distinct
-build-requires-clause-distinct c =
+pub build_watched-requires-clause-distinct : goal.build_watched-requires-clause-distinct
+build_watched-requires-clause-distinct g c =
     rw (c.deref.ensures.value ∙ c.in_ok-seen.ensures.points) (points_apart (shown_of c.args.scan.now))
 
-pub build-requires-clause-few : goal.build-requires-clause-few
-build-requires-clause-few c =
+pub build_watched-requires-clause-few : goal.build_watched-requires-clause-few
+build_watched-requires-clause-few g c =
     omega (arith, ap length c.deref.ensures.value, ap length c.in_ok-seen.ensures.points, few_points c.args.scan.now)
 
 pub count_votes_alone-requires-clause-cells : goal.count_votes_alone-requires-clause-cells
-count_votes_alone-requires-clause-cells c =
+count_votes_alone-requires-clause-cells g c =
     record {
       points =
           rw (c.scene.ensures.points, ← c.in_ok-seen.ensures.points, ← c.deref.ensures.value) c.in_ok-tetra.ensures.points;
@@ -35,20 +35,20 @@ count_votes_alone-requires-clause-cells c =
     }
 
 pub returns-clause-cells : goal.returns-clause-cells
-returns-clause-cells c =
+returns-clause-cells g c =
     let scan : Shown = shown_of c.args.scan.now in
     stored_cells_law c.in_ok-tetra.tetra (points_of scan) c.facts.ensures
     (rw (← c.in_ok-seen.ensures.points, ← c.deref.ensures.value) c.in_ok-tetra.ensures.points) c.in_ok-tetra.ensures.delaunay
     c.in_ok-tetra.ensures.inserted scan.scanners (sights_of scan) c.args.settings
 
 pub returns-clause-store : goal.returns-clause-store
-returns-clause-store c =
+returns-clause-store g c =
     store_is (shown_of c.args.scan.now) c.args.settings c.in_ok-tetra.tetra c.deref.result.now
     (c.deref.ensures.value ∙ c.in_ok-seen.ensures.points) c.in_ok-tetra.ensures.points c.in_ok-tetra.ensures.inserted
-    c.in_ok-tetra.ensures.cells c.in_ok-tetra.ensures.partition (returns-clause-cells c)
+    c.in_ok-tetra.ensures.cells c.in_ok-tetra.ensures.partition (returns-clause-cells g c)
 
 pub returns-clause-network : goal.returns-clause-network
-returns-clause-network c =
+returns-clause-network g c =
     subst
     (λ (s : Scene). IsStoredNetwork s c.in_ok-tetra.tetra.slots c.in_ok-counted.counted.1.items c.in_ok-counted.counted.0.net
     c.in_ok-counted.counted.0.ids.items) c.scene.ensures.scene
