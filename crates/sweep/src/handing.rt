@@ -13,6 +13,7 @@ use flow_net::Settings;
 use mesh_form::{Form, drive};
 use scan::Scan;
 use std::alloc::Global;
+use watch::{Silent, Stage, Watch};
 
 /// What the first and the last surface of a sweep cost.
 #[derive(Clone, Copy, Debug, PartialEq, Eq)]
@@ -49,8 +50,14 @@ fn raise_to(sweep: &mut Sweep, smooth: u32) -> Result<(), NoMemory>
     Ok(())
 }
 
-/// Hands the surface of a sweep to the first of these fresh forms, and to each further one that at a smoothing larger by a step.
-fn hand_rising(sweep: &mut Sweep, step: u32, forms: &mut [Box<dyn Form>]) -> Result<(), NoMemory>
+/// Hands the surface of a sweep to the first of these fresh forms, and to each further one that at a smoothing larger by a step. A watch
+/// is told of the stage and of how many surfaces are handed on.
+fn hand_rising<W: Watch>(
+    sweep: &mut Sweep,
+    step: u32,
+    forms: &mut [Box<dyn Form>],
+    watch: &mut W,
+) -> Result<(), NoMemory>
     requires fresh { All IsFresh (map (λ form. received form) forms.old) }
     requires rises { 1 ≤ step }
     requires within { smoothing_of sweep.old.settings.smooth step (length forms.old - 1) ≤ WEIGHT_LIMIT }
@@ -61,8 +68,10 @@ fn hand_rising(sweep: &mut Sweep, step: u32, forms: &mut [Box<dyn Form>]) -> Res
     ensures fronts { OnErr result (HaveEntryFronts (given_in sweep.old) sweep.old.settings.vote sweep.old.settings.smooth step (map (λ form. received form) forms.new)) }
     ensures kinds { map (λ form. form.vtable) forms.new ≡ map (λ form. form.vtable) forms.old }
 {
+    watch.stage(Stage::Surfaces, forms.len() as u64);
     let from = sweep.smooth();
     for k in 0..forms.len() {
+        watch.done(k as u64);
         raise_to(sweep, from + k as u32 * step)?;
         hand_surface(sweep, &mut forms[k])?;
     }
@@ -89,9 +98,30 @@ pub fn hand_surfaces(
     ensures fronts { OnErr result (HaveEntryFronts (given_by (shown_of scan.now)) settings.vote settings.smooth step (map (λ form. received form) forms.new)) }
     ensures kinds { map (λ form. form.vtable) forms.new ≡ map (λ form. form.vtable) forms.old }
 {
-    let mut sweep = Sweep::start(alloc, scan, settings)?;
+    hand_surfaces_watched(alloc, scan, settings, step, forms, &mut Silent)
+}
+
+/// The same, where a watch is told of the stages of the work.
+pub fn hand_surfaces_watched<W: Watch>(
+    alloc: Global,
+    scan: &Scan,
+    settings: Settings,
+    step: u32,
+    forms: &mut [Box<dyn Form>],
+    watch: &mut W,
+) -> Result<Costs, NoMemory>
+    requires fresh { All IsFresh (map (λ form. received form) forms.old) }
+    requires rises { 1 ≤ step }
+    requires within { smoothing_of settings.smooth step (length forms.old - 1) ≤ WEIGHT_LIMIT }
+    ensures all { OnOk result (HaveEntries (given_by (shown_of scan.now)) settings.vote settings.smooth step (map (λ form. received form) forms.new)) }
+    ensures first { IfOk result (λ costs. CostsAt (given_by (shown_of scan.now)) settings.vote settings.smooth costs.first) }
+    ensures last { IfOk result (λ costs. CostsAt (given_by (shown_of scan.now)) settings.vote (smoothing_of settings.smooth step (length forms.old - 1)) costs.last) }
+    ensures fronts { OnErr result (HaveEntryFronts (given_by (shown_of scan.now)) settings.vote settings.smooth step (map (λ form. received form) forms.new)) }
+    ensures kinds { map (λ form. form.vtable) forms.new ≡ map (λ form. form.vtable) forms.old }
+{
+    let mut sweep = Sweep::start_watched(alloc, scan, settings, watch)?;
     let first = sweep.cost();
-    hand_rising(&mut sweep, step, forms)?;
+    hand_rising(&mut sweep, step, forms, watch)?;
     Ok(Costs {
         first,
         last: sweep.cost(),

@@ -12,7 +12,7 @@ mod handing;
 mod laws;
 mod sweeping;
 
-pub use handing::{Costs, hand_surfaces};
+pub use handing::{Costs, hand_surfaces, hand_surfaces_watched};
 pub use laws::a_sweep_is_as_a_fresh_build;
 use std::alloc::AllocError;
 pub use sweeping::Sweep;

@@ -11,7 +11,7 @@ ghost use Rattle.sweep.specs.Entries.{CostsLeast, IsSurfaceOf};
 ghost use Rattle.sweep.specs.Swept.{IsOf, HasLargest, IsRaised, scene_in};
 
 use crate::NoMemory;
-use delaunay::build;
+use delaunay::build_watched;
 use flow_net::{Flow, Labels, Settings, cost};
 use geo_sign::Point;
 use max_flow::{KeptPreflow, minimum_cut_above, minimum_cut_and_preflow};
@@ -23,7 +23,8 @@ use std::marker::Model;
 use surface::facets;
 use tetra_store::Tetra;
 use vote_net::Counted;
-use votes::count_votes_as_stored;
+use votes::count_votes_as_stored_watched;
+use watch::{Silent, Stage, Watch};
 
 /// The best surface of a scan at one smoothing, with a largest flow, which is kept when the smoothing is raised.
 ///
@@ -70,10 +71,26 @@ impl Sweep {
         ensures settings { IfOk result (λ sweep. sweep.settings ≡ settings) }
         ensures largest { IfOk result (λ sweep. HasLargest sweep) }
     {
+        Sweep::start_watched(alloc, scan, settings, &mut Silent)
+    }
+
+    /// The same, where a watch is told of the stages of the work.
+    pub fn start_watched<W: Watch>(
+        alloc: Global,
+        scan: &Scan,
+        settings: Settings,
+        watch: &mut W,
+    ) -> Result<Sweep, NoMemory>
+        ensures scan { IfOk result (λ sweep. IsOf sweep (shown_of scan.now)) }
+        ensures settings { IfOk result (λ sweep. sweep.settings ≡ settings) }
+        ensures largest { IfOk result (λ sweep. HasLargest sweep) }
+    {
         let seen = seen_in(alloc, scan)?;
-        let tetra = build(alloc, &seen.points)?;
+        let tetra = build_watched(alloc, &seen.points, watch)?;
         tetra.facts();
-        let counted = count_votes_as_stored(alloc, &tetra, &seen.scene(scan, settings))?;
+        let scene = seen.scene(scan, settings);
+        let counted = count_votes_as_stored_watched(alloc, &tetra, &scene, watch)?;
+        watch.stage(Stage::Flow, 0);
         let (flow, labels, kept) = minimum_cut_and_preflow(alloc, &counted.voted.net)?;
         let scanners = Vec::from_slice(alloc, &scan.scanners)?;
         Ok(Sweep {

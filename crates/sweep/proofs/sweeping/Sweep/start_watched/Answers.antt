@@ -9,32 +9,32 @@ use Rattle.visibility.specs.Networks.{IsNetworkInAnyOrder}
 use Rattle.visibility.specs.Scenes.{Scene}
 use Rattle.vote_net.proofs.Stored.{stored_cells_law}
 use Rattle.sweep.proofs.Scenes.{scene_kept}
-use Rattle.sweep.proofs.sweeping.Sweep.start.Goals as goal
+use Rattle.sweep.proofs.sweeping.Sweep.start_watched.Goals as goal
 
-pub build-requires-clause-within : goal.build-requires-clause-within
-build-requires-clause-within c =
+pub build_watched-requires-clause-within : goal.build_watched-requires-clause-within
+build_watched-requires-clause-within g c =
     rw (c.deref.ensures.value ∙ c.in_ok-seen.ensures.points)
     (λ k l. points_within (shown_of c.args.scan.now) (scan_is_shown c.args.scan.now) k origin l)
 
-pub build-requires-clause-distinct : goal.build-requires-clause-distinct
-build-requires-clause-distinct c =
+pub build_watched-requires-clause-distinct : goal.build_watched-requires-clause-distinct
+build_watched-requires-clause-distinct g c =
     rw (c.deref.ensures.value ∙ c.in_ok-seen.ensures.points) (points_apart (shown_of c.args.scan.now))
 
-pub build-requires-clause-few : goal.build-requires-clause-few
-build-requires-clause-few c =
+pub build_watched-requires-clause-few : goal.build_watched-requires-clause-few
+build_watched-requires-clause-few g c =
     omega (arith, ap length c.deref.ensures.value, ap length c.in_ok-seen.ensures.points, few_points c.args.scan.now)
 
-pub count_votes_as_stored-requires-clause-cells : goal.count_votes_as_stored-requires-clause-cells
-count_votes_as_stored-requires-clause-cells c =
+pub count_votes_as_stored_watched-requires-clause-cells : goal.count_votes_as_stored_watched-requires-clause-cells
+count_votes_as_stored_watched-requires-clause-cells g c =
     record {
       points =
-          rw (c.scene.ensures.points, ← c.in_ok-seen.ensures.points, ← c.deref.ensures.value) c.in_ok-tetra.ensures.points;
+          rw (c.scene-scene.ensures.points, ← c.in_ok-seen.ensures.points, ← c.deref.ensures.value) c.in_ok-tetra.ensures.points;
       inserted = c.in_ok-tetra.ensures.inserted;
       delaunay = c.in_ok-tetra.ensures.delaunay;
     }
 
 pub invariant_of-result : goal.invariant_of-result
-invariant_of-result c =
+invariant_of-result g c =
     let scanners = c.in_ok-scanners.ensures.items ∙ c.deref-2.ensures.value in
     let stored : c.in_ok-tetra.tetra.points ≡ corners ++ c.in_ok-seen.seen.points.items =
     subst (λ (list : List Point). c.in_ok-tetra.tetra.points ≡ corners ++ list) c.deref.ensures.value
@@ -52,7 +52,7 @@ invariant_of-result c =
       ids_are = c.in_ok-counted.ensures.ids;
       network =
           subst (λ (s : Scene). IsNetworkInAnyOrder s c.in_ok-counted.counted.voted)
-          (c.scene.ensures.scene
+          (c.scene-scene.ensures.scene
           ∙ scene_kept (shown_of c.args.scan.now) c.in_ok-seen.seen.points.items c.in_ok-scanners.scanners.items
           c.in_ok-seen.seen.sights.items c.args.settings c.in_ok-seen.ensures.points scanners c.in_ok-seen.ensures.sights)
           c.in_ok-counted.ensures.network;
@@ -61,14 +61,14 @@ invariant_of-result c =
     }
 
 pub returns-clause-largest : goal.returns-clause-largest
-returns-clause-largest c =
+returns-clause-largest g c =
     record {
       voted = c.in_ok-counted.counted.voted;
       cells_are = refl;
       facets_are = refl;
       network =
           subst (λ (s : Scene). IsNetworkInAnyOrder s c.in_ok-counted.counted.voted)
-          (c.scene.ensures.scene
+          (c.scene-scene.ensures.scene
           ∙ scene_kept (shown_of c.args.scan.now) c.in_ok-seen.seen.points.items c.in_ok-scanners.scanners.items
           c.in_ok-seen.seen.sights.items c.args.settings c.in_ok-seen.ensures.points
           (c.in_ok-scanners.ensures.items ∙ c.deref-2.ensures.value) c.in_ok-seen.ensures.sights)

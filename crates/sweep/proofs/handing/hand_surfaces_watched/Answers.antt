@@ -3,7 +3,7 @@ use Rattle.line_text.proofs.Kept.{OnErr-holds}
 use Rattle.scan.specs.Views.{shown_of}
 use Rattle.sweep.specs.Entries.{CostsAt, Given}
 use Rattle.sweep.proofs.Handings.{at_scan, costs_at, entries_at, fronts_at, fronts_of_fresh, last_at}
-use Rattle.sweep.proofs.handing.hand_surfaces.Goals as goal
+use Rattle.sweep.proofs.handing.hand_surfaces_watched.Goals as goal
 
 pub returns-in_err-sweep-clause-fronts : goal.returns-in_err-sweep-clause-fronts
 returns-in_err-sweep-clause-fronts g c = OnErr-holds _ _ (fronts_of_fresh _ _ _ _ _ c.requires.fresh)
