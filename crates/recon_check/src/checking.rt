@@ -34,6 +34,7 @@ use solution::{least_cost, seen_in};
 use std::alloc::{AllocError, Global};
 use surface::facets;
 use vote_net::Counted;
+use watch::{Silent, Watch};
 
 /// The numbers of a surface that was shown best, and whose text the mesh is.
 #[derive(Drop)]
@@ -139,12 +140,13 @@ fn shown_over(
 }
 
 /// The numbers of the surface whose text the mesh is, where the certificate shows it best.
-fn shown_by_certificate(
+fn shown_by_certificate<W: Watch>(
     alloc: Global,
     scan: &Scan,
     settings: Settings,
     mesh: &[u8],
     cert: &Certificate,
+    watch: &mut W,
 ) -> Result<Accepted, Stop>
     requires { IsWellFormed (claim_of cert.now) }
     ensures shown { IfOk result (λ shown. IsSolvedWith (shown_of scan.now) settings mesh.now shown.inside shown.faces shown.cost (claim_of cert.now)) }
@@ -154,19 +156,20 @@ fn shown_by_certificate(
     if let Some(reason) = other_count(scan, &seen.points, settings, cert) {
         return Err(Stop::Fault(reason));
     }
-    let network = network_of(alloc, scan, settings, seen)?;
+    let network = network_of(alloc, scan, settings, seen, watch)?;
     shown_over(alloc, scan, settings, network, mesh, cert)
 }
 
 /// The numbers of the surface whose text the mesh is, where the certificate whose text `cert` is shows it best and has no stamp or
 /// this one.
-fn shown_by_texts(
+fn shown_by_texts<W: Watch>(
     alloc: Global,
     scan: &Scan,
     settings: Settings,
     stamp: &Stamp,
     mesh: &[u8],
     cert: &[u8],
+    watch: &mut W,
 ) -> Result<Accepted, Stop>
     ensures shown { IfOk result (λ shown. IsAnswer (shown_of scan.now) settings (stamp_view stamp.now) mesh.now cert.now (Answer.Yes shown.inside shown.faces shown.cost)) }
     ensures fault { IfErr result (StopsFor (λ reason. IsAnswer (shown_of scan.now) settings (stamp_view stamp.now) mesh.now cert.now (Answer.No reason))) }
@@ -174,7 +177,7 @@ fn shown_by_texts(
     let stated = certificate(alloc, cert)?;
     match other_stamp(stamp, &stated) {
         Some(reason) => Err(Stop::Fault(reason)),
-        None => shown_by_certificate(alloc, scan, settings, mesh, &stated),
+        None => shown_by_certificate(alloc, scan, settings, mesh, &stated, watch),
     }
 }
 
@@ -200,7 +203,25 @@ pub fn check_all(
     ensures yes { IfOk result (λ answer. IsYes answer ↔ IsAccepted (shown_of scan.now) settings (stamp_view stamp.now) mesh.now cert.now) }
     ensures built { (surface : Surface) (claim : Claim) → IsSolution (shown_of scan.now) settings surface claim → IsWellFormed claim → IsStampedFor (stamp_view stamp.now) claim → mesh.now ≡ surface_text surface → cert.now ≡ cert_text claim → IfOk result (λ answer. answer ≡ Answer.Yes (length claim.inside) (length surface.faces) claim.counts.cost) }
 {
-    match shown_by_texts(alloc, scan, settings, stamp, mesh, cert) {
+    check_all_watched(alloc, scan, settings, stamp, mesh, cert, &mut Silent)
+}
+
+/// The same, where a watch is told of the stages of the work.
+pub fn check_all_watched<W: Watch>(
+    alloc: Global,
+    scan: &Scan,
+    settings: Settings,
+    stamp: &Stamp,
+    mesh: &[u8],
+    cert: &[u8],
+    watch: &mut W,
+) -> Result<Answer, NoMemory>
+    ensures answer { IfOk result (IsAnswer (shown_of scan.now) settings (stamp_view stamp.now) mesh.now cert.now) }
+    ensures only { (answer : Answer) → IsAnswer (shown_of scan.now) settings (stamp_view stamp.now) mesh.now cert.now answer → IfOk result (λ given. given ≡ answer) }
+    ensures yes { IfOk result (λ answer. IsYes answer ↔ IsAccepted (shown_of scan.now) settings (stamp_view stamp.now) mesh.now cert.now) }
+    ensures built { (surface : Surface) (claim : Claim) → IsSolution (shown_of scan.now) settings surface claim → IsWellFormed claim → IsStampedFor (stamp_view stamp.now) claim → mesh.now ≡ surface_text surface → cert.now ≡ cert_text claim → IfOk result (λ answer. answer ≡ Answer.Yes (length claim.inside) (length surface.faces) claim.counts.cost) }
+{
+    match shown_by_texts(alloc, scan, settings, stamp, mesh, cert, watch) {
         Ok(shown) => Ok(Answer::Yes {
             inside: shown.inside,
             faces: shown.faces,

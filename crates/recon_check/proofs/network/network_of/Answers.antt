@@ -12,20 +12,20 @@ use Rattle.visibility.specs.Scenes.{Scene}
 use Rattle.vote_net.proofs.Stored.{stored_cells_law}
 use Rattle.recon_check.proofs.network.network_of.Goals as goal
 
-pub build-requires-clause-within : goal.build-requires-clause-within
-build-requires-clause-within c =
+pub build_watched-requires-clause-within : goal.build_watched-requires-clause-within
+build_watched-requires-clause-within g c =
     rw (c.deref.ensures.value ∙ c.requires.points)
     (λ k l. points_within (shown_of c.args.scan.now) (scan_is_shown c.args.scan.now) k origin l)
 
-pub build-requires-clause-distinct : goal.build-requires-clause-distinct
-build-requires-clause-distinct c =
+pub build_watched-requires-clause-distinct : goal.build_watched-requires-clause-distinct
+build_watched-requires-clause-distinct g c =
     rw (c.deref.ensures.value ∙ c.requires.points) (points_apart (shown_of c.args.scan.now))
 
-pub build-requires-clause-few : goal.build-requires-clause-few
-build-requires-clause-few c = omega (arith, ap length (c.deref.ensures.value ∙ c.requires.points), few_points c.args.scan.now)
+pub build_watched-requires-clause-few : goal.build_watched-requires-clause-few
+build_watched-requires-clause-few g c = omega (arith, ap length (c.deref.ensures.value ∙ c.requires.points), few_points c.args.scan.now)
 
-pub count_votes-requires-clause-cells : goal.count_votes-requires-clause-cells
-count_votes-requires-clause-cells c =
+pub count_votes_watched-requires-clause-cells : goal.count_votes_watched-requires-clause-cells
+count_votes_watched-requires-clause-cells g c =
     record {
       points = rw (c.scene.ensures.points, ← c.requires.points, ← c.deref.ensures.value) c.in_ok-linked.ensures.points;
       inserted = c.in_ok-linked.ensures.inserted;
@@ -33,7 +33,7 @@ count_votes-requires-clause-cells c =
     }
 
 pub returns : goal.returns
-returns c =
+returns g c =
     let scan : Shown = shown_of c.args.scan.now in
     let points : c.in_ok-linked.linked.points ≡ corners ++ points_of scan =
     rw (← c.requires.points, ← c.deref.ensures.value) c.in_ok-linked.ensures.points in

@@ -8,44 +8,45 @@ use Rattle.recon_check.specs.declared.answer.Reason.{Reason}
 use Rattle.recon_check.specs.declared.stop.Stop.{Stop}
 use Rattle.recon_check.proofs.Uniqueness.{one_answer}
 use Rattle.recon_check.proofs.Whole.{built_yes, not_accepted}
-use Rattle.recon_check.proofs.checking.check_all.Goals as goal
+use Rattle.recon_check.proofs.checking.check_all_watched.Goals as goal
+use Rattle.recon_check.proofs.checking.check_all_watched.Given.{Over}
 
 pub returns-in-Ok-clause-only : goal.returns-in-Ok-clause-only
-returns-in-Ok-clause-only c = λ answer h.
+returns-in-Ok-clause-only g c = λ answer h.
     one_answer (shown_of c.args.scan.now) c.args.settings (stamp_view c.args.stamp.now) c.args.mesh.now c.args.cert.now
     (Yes c.in-Ok.shown.inside c.in-Ok.shown.faces c.in-Ok.shown.cost) answer c.in-Ok.ensures.shown h
 
 pub returns-in-Ok-clause-built : goal.returns-in-Ok-clause-built
-returns-in-Ok-clause-built c = λ surface claim solution formed stamped mesh_is cert_is.
+returns-in-Ok-clause-built g c = λ surface claim solution formed stamped mesh_is cert_is.
     one_answer (shown_of c.args.scan.now) c.args.settings (stamp_view c.args.stamp.now) c.args.mesh.now c.args.cert.now
     (Yes c.in-Ok.shown.inside c.in-Ok.shown.faces c.in-Ok.shown.cost) _ c.in-Ok.ensures.shown
     (built_yes (shown_of c.args.scan.now) c.args.settings (stamp_view c.args.stamp.now) c.args.mesh.now c.args.cert.now surface
     claim solution formed stamped mesh_is cert_is)
 
-fault_is : (c : goal.In-Err-Fault)
+fault_is : (g : Over) (c : goal.In-Err-Fault g)
     → IsAnswer (shown_of c.args.scan.now) c.args.settings (stamp_view c.args.stamp.now) c.args.mesh.now c.args.cert.now
     (No c.in-Err-Fault.reason)
-fault_is c =
+fault_is g c =
     let P : Reason → Type 0 =
     λ reason. IsAnswer (shown_of c.args.scan.now) c.args.settings (stamp_view c.args.stamp.now) c.args.mesh.now c.args.cert.now
     (No reason) in
     subst (λ (stop : Stop). StopsFor P stop) c.in-Err-Fault.field-0-is c.in-Err-Fault.ensures.fault
 
 pub returns-in-Err-Fault-clause-only : goal.returns-in-Err-Fault-clause-only
-returns-in-Err-Fault-clause-only c = λ answer h.
+returns-in-Err-Fault-clause-only g c = λ answer h.
     one_answer (shown_of c.args.scan.now) c.args.settings (stamp_view c.args.stamp.now) c.args.mesh.now c.args.cert.now
-    (No c.in-Err-Fault.reason) answer (fault_is c) h
+    (No c.in-Err-Fault.reason) answer (fault_is g c) h
 
 pub returns-in-Err-Fault-clause-yes : goal.returns-in-Err-Fault-clause-yes
-returns-in-Err-Fault-clause-yes c = (
+returns-in-Err-Fault-clause-yes g c = (
   λ h. absurd h,
   λ accepted. not_accepted (shown_of c.args.scan.now) c.args.settings (stamp_view c.args.stamp.now) c.args.mesh.now
-      c.args.cert.now c.in-Err-Fault.reason (fault_is c) accepted,
+      c.args.cert.now c.in-Err-Fault.reason (fault_is g c) accepted,
 )
 
 pub returns-in-Err-Fault-clause-built : goal.returns-in-Err-Fault-clause-built
-returns-in-Err-Fault-clause-built c = λ surface claim solution formed stamped mesh_is cert_is.
+returns-in-Err-Fault-clause-built g c = λ surface claim solution formed stamped mesh_is cert_is.
     one_answer (shown_of c.args.scan.now) c.args.settings (stamp_view c.args.stamp.now) c.args.mesh.now c.args.cert.now
-    (No c.in-Err-Fault.reason) _ (fault_is c)
+    (No c.in-Err-Fault.reason) _ (fault_is g c)
     (built_yes (shown_of c.args.scan.now) c.args.settings (stamp_view c.args.stamp.now) c.args.mesh.now c.args.cert.now surface
     claim solution formed stamped mesh_is cert_is)
