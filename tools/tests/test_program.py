@@ -4,6 +4,7 @@ from __future__ import annotations
 
 import hashlib
 import os
+import pty
 import random
 import re
 import resource
@@ -66,6 +67,27 @@ def told(*words: Any, **more: Any) -> Any:
     done = subprocess.run([RECON, *words], capture_output=True, timeout=10, **more)
     return done.returncode, done.stdout.decode('ascii'), done.stderr.decode('utf-8')
 
+
+def at_terminal(*words: Any, term: str = 'xterm', **more: Any) -> Any:
+    """Status, standard output, and what a terminal gets as standard error."""
+    ours, theirs = pty.openpty()
+    done = subprocess.Popen([RECON, *words], stdout=subprocess.PIPE, stderr=theirs, env={**os.environ, 'TERM': term}, **more)
+    os.close(theirs)
+    parts = []
+    while True:
+        try:
+            part = os.read(ours, 65536)
+        except OSError:  # the program has ended
+            break
+        if not part:
+            break
+        parts.append(part)
+    os.close(ours)
+    said = done.communicate(timeout=10)[0]
+    return done.returncode, said.decode('ascii'), b''.join(parts).decode('utf-8')
+
+
+CLEAR = '\r\x1b[K'
 
 USES = """usage: recon build IN MESH CERT [unit=U] [vote=V] [smooth=L] [scanner=X,Y,Z]
 usage: recon check IN MESH CERT [unit=U] [vote=V] [smooth=L] [scanner=X,Y,Z]
@@ -451,6 +473,35 @@ class Program(InFolder):
                 done = subprocess.run([RECON, *words], stdout=subprocess.PIPE, stderr=full)
                 equal((done.returncode, done.stdout), (status, line))
         equal(os.path.exists('out'), False)
+
+    def test_a_person_at_a_terminal_sees_how_far_it_is(self) -> None:
+        write('scan', example('tetrahedron.ply'))
+        status, said, shown = at_terminal('build', 'scan', 'mesh', 'cert')
+        whole, files = recon('build', 'scan', 'mesh2', 'cert2'), [data('mesh'), data('cert')]
+        equal((status, said), whole)
+        equal(files, [data('mesh2'), data('cert2')])
+        equal(shown.split(CLEAR), ['', 'cells 0 of 4 · 0 s', 'sights 0 of 4 · 0 s', 'flow, begun at 0 s', ''])
+        equal(at_terminal('cells', 'scan', 'out')[2].split(CLEAR), ['', 'cells 0 of 4 · 0 s', ''])
+        equal(at_terminal('check', 'scan', 'mesh', 'cert')[2].split(CLEAR), ['', 'cells 0 of 4 · 0 s', 'sights 0 of 4 · 0 s', ''])
+        shown = at_terminal('sweep', 'scan', '1', '2', '2', 'one', 'other')[2].split(CLEAR)
+        equal(shown[-2:], ['surfaces 0 of 2 · 0 s', ''])
+        # A line is taken off before anything else is told, and what reads no scan, or no good one, shows none.
+        equal(at_terminal('build', 'scan', 'mesh', 'cert', 'vote=1')[2].split(CLEAR)[-1][:16], 'recon: no face: ')
+        equal(at_terminal('build', 'cert', 'mesh', 'out')[2][:7], 'recon: ')
+        equal(at_terminal('build', 'scan', 'mesh', 'cert', term='dumb')[2], '')
+        equal(told('build', 'scan', 'mesh', 'cert')[2], '')
+
+    def test_counts_at_a_terminal(self) -> None:
+        status, said, shown = at_terminal('demo', '60000', '7')
+        equal((status, said), recon('demo', '60000', '7'))
+        lines = shown.split(CLEAR)
+        equal((lines[0], lines[-1], lines[1][:11]), ('', '', 'cells 0 of '))
+        for line in lines[1:-1]:
+            found = re.fullmatch(r'(cells|sights) ([0-9,]+) of ([0-9,]+) · [0-9]+ s|flow, begun at [0-9]+ s', line)
+            equal(found is not None, True)
+            if found and found.group(1):
+                count, of = (int(found.group(k).replace(',', '')) for k in (2, 3))
+                equal((count % 4096, count <= of), (0, True))
 
     def test_outputs_that_keep_no_bytes(self) -> None:
         write('scan', example('tetrahedron.ply'))

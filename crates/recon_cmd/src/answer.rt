@@ -33,6 +33,7 @@ pub use reading::FILE_LIMIT;
 use slice::reply_to_slice;
 use std::alloc::{AllocError, Global};
 pub use sweeping::sweep_scan;
+use watch::Watch;
 
 /// A line that is said last.
 #[derive(Drop)]
@@ -88,11 +89,12 @@ impl From<AllocError> for Stop {
 
 /// Reads what a command reads, each file of as many bytes as the limit at most, and makes its answer. Nothing is written or
 /// said.
-pub fn reply_to<'a, H: Host>(
+pub fn reply_to<'a, H: Host, W: Watch>(
     alloc: Global,
     host: &mut H,
     command: &Command<'a>,
     limit: u64,
+    watch: &mut W,
 ) -> Result<Reply<'a>, Stop>
     requires { (H.state host.old).writing ≡ false }
     ensures replied { limit ≡ file_limit → IfOk result (λ reply. IsReplied (asked command.now) reply (H.state host.old)) }
@@ -101,12 +103,12 @@ pub fn reply_to<'a, H: Host>(
     ensures cause { StopsFor result (H.state host.old).faults (H.state host.new).faults }
 {
     match command {
-        Command::Cells(names, options) => reply_to_cells(alloc, host, names, options, limit),
-        Command::Build(names, options) => reply_to_build(alloc, host, names, options, limit),
-        Command::Check(names, options) => reply_to_check(alloc, host, names, options, limit),
+        Command::Cells(names, options) => reply_to_cells(alloc, host, names, options, limit, watch),
+        Command::Build(names, options) => reply_to_build(alloc, host, names, options, limit, watch),
+        Command::Check(names, options) => reply_to_check(alloc, host, names, options, limit, watch),
         Command::Slice(words) => reply_to_slice(alloc, host, words, limit),
         Command::Ask(names, options) => reply_to_ask(alloc, host, names, options, limit),
-        Command::Demo(demo) => Ok(reply_to_demo(alloc, *demo)?),
+        Command::Demo(demo) => Ok(reply_to_demo(alloc, *demo, watch)?),
     }
 }
 

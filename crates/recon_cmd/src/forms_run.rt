@@ -16,6 +16,7 @@ use crate::words::{understand_export, understand_sweep};
 use host::Host;
 use mesh_form::Form;
 use std::alloc::Global;
+use watch::{Silent, Watch};
 
 /// Does what the words ask for, and answers the exit status of the program: `export MESH OUT1 .. OUTn` with as many outputs as
 /// there are forms, and at least one; `sweep IN FROM STEP N OUT1 .. OUTN` with as many outputs as there are forms, 1 to 64; and all
@@ -68,17 +69,19 @@ pub fn run_forms<H: Host>(
     // Each form is of the type of the one that was handed in.
     ensures kinds { map (λ form. form.vtable) forms.new ≡ map (λ form. form.vtable) forms.old }
 {
-    run_forms_within(alloc, words, host, forms, FILE_LIMIT)
+    run_forms_within(alloc, words, host, forms, FILE_LIMIT, &mut Silent)
 }
 
-/// The same, where a file that is read may have as many bytes as this limit.
+/// The same, where a file that is read may have as many bytes as this limit, and a watch is told of the stages of the work, as of
+/// [`run_within`].
 #[tactic(auto, using(crate::proofs::RefusedForms::refused_by_code))]
-pub fn run_forms_within<H: Host>(
+pub fn run_forms_within<H: Host, W: Watch>(
     alloc: Global,
     words: &[String],
     host: &mut H,
     forms: &mut [Box<dyn Form>],
     limit: u64,
+    watch: &mut W,
 ) -> u8
     requires closed { (H.state host.old).writing ≡ false }
     requires fresh { All IsFresh (map (λ form. received form) forms.old) }
@@ -99,7 +102,7 @@ pub fn run_forms_within<H: Host>(
         return export_mesh(alloc, host, &words, forms, limit).code();
     }
     match understand_sweep(words, forms.len()) {
-        Some(words) => sweep_scan(alloc, host, &words, forms, limit).code(),
-        None => run_within(alloc, words, host, limit),
+        Some(words) => sweep_scan(alloc, host, &words, forms, limit, watch).code(),
+        None => run_within(alloc, words, host, limit, watch),
     }
 }

@@ -18,6 +18,7 @@ mod status;
 mod whole_run;
 mod words;
 
+pub use answer::FILE_LIMIT;
 pub use forms_run::{run_forms, run_forms_within};
 pub use laws::{
     a_check_says_what_its_files_are, a_command_has_one_answer, a_mesh_that_was_checked_is_best,

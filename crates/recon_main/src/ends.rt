@@ -10,31 +10,36 @@ use crate::real::RealHost;
 use crate::unnamed::Unnamed;
 use host::Host;
 use mesh_form::{Form, ObjForm, OffForm, PlyForm};
-use recon_cmd::{Status, run, run_forms, sweep_entries};
+use recon_cmd::{FILE_LIMIT, Status, run, run_forms_within, sweep_entries};
 use std::alloc::{AllocError, Global};
 use std::env::Args;
 use std::io::ErrorKind;
 use std::process::ExitCode;
 use std::rt::{Env, Files};
 use std::{env, io};
+use watch::Watch;
 
 /// The whole program: it ends with what the system's words come to over the system's files and output.
 ///
 /// Nothing is known of what a system hands in, so the clause names no words: it says that the status is one of [`ends_over`].
-/// The program's name is left out of them, whatever it is.
-pub fn ends_on<R: Env + Files + Print + Eprint + AllocGlobal + Drop>(rt: R) -> ExitCode
+/// The program's name is left out of them, whatever it is. A watch is told of the stages of the work.
+pub fn ends_on<R: Env + Files + Print + Eprint + AllocGlobal + Drop, W: Watch>(
+    rt: R,
+    watch: &mut W,
+) -> ExitCode
     ensures { EndsAfterARun (exit_status result) }
 {
     let args = env::args(&(Unnamed(&rt), rt.alloc()));
-    ends_over(rt, args)
+    ends_over(rt, args, watch)
 }
 
 /// The status that the program ends with on these words, over the system's files and output, of which nothing was used before.
 ///
 /// What the system itself hands in as words decides only which lines of use a person is told.
-pub fn ends_over<R: Env + Files + Print + Eprint + AllocGlobal + Drop>(
+pub fn ends_over<R: Env + Files + Print + Eprint + AllocGlobal + Drop, W: Watch>(
     rt: R,
     args: io::Result<Args>,
+    watch: &mut W,
 ) -> ExitCode
     ensures { EndsOver args (exit_status result) }
 {
@@ -42,20 +47,25 @@ pub fn ends_over<R: Env + Files + Print + Eprint + AllocGlobal + Drop>(
     let command = command_begun(&rt);
     let mut host = RealHost::new(rt);
     host.begin(command);
-    ends(alloc, args, &mut host)
+    ends(alloc, args, &mut host, watch)
 }
 
 /// The status that the program ends with, after a run on the words behind the program's name.
 ///
 /// Words of which one is no text are no command, as if there were none. Where there is no memory for the words or for the forms
 /// of `export` and `sweep`, the status is 5 and nothing is done.
-pub fn ends<H: Host>(alloc: Global, args: io::Result<Args>, host: &mut H) -> ExitCode
+pub fn ends<H: Host, W: Watch>(
+    alloc: Global,
+    args: io::Result<Args>,
+    host: &mut H,
+    watch: &mut W,
+) -> ExitCode
     requires { (H.state host.old).writing ≡ false }
     ensures { EndsOn args (exit_status result) (H.state host.old) (H.state host.new) }
 {
     let status = match args {
         Ok(args) => match words_behind_name(alloc, args) {
-            Ok(words) => run_on(alloc, &words, host),
+            Ok(words) => run_on(alloc, &words, host, watch),
             Err(AllocError) => Status::NoMemory.code(),
         },
         Err(error) if error.kind() == ErrorKind::OutOfMemory => Status::NoMemory.code(),
@@ -66,34 +76,40 @@ pub fn ends<H: Host>(alloc: Global, args: io::Result<Args>, host: &mut H) -> Exi
 
 /// The status of a run on these words, where `export` writes PLY, OFF and OBJ, and `sweep` writes PLY. Where there is no memory for
 /// the forms, nothing is done.
-fn run_on<H: Host>(alloc: Global, words: &[String], host: &mut H) -> u8
+fn run_on<H: Host, W: Watch>(alloc: Global, words: &[String], host: &mut H, watch: &mut W) -> u8
     requires { (H.state host.old).writing ≡ false }
     ensures { RunsOrIdles (map string_bytes words.now) result (H.state host.old) (H.state host.new) }
 {
-    match run_in_forms(alloc, words, host) {
+    match run_in_forms(alloc, words, host, watch) {
         Ok(status) => status,
         Err(AllocError) => Status::NoMemory.code(),
     }
 }
 
 /// The same, and no status where there is no memory for the forms.
-fn run_in_forms<H: Host>(alloc: Global, words: &[String], host: &mut H) -> Result<u8, AllocError>
+fn run_in_forms<H: Host, W: Watch>(
+    alloc: Global,
+    words: &[String],
+    host: &mut H,
+    watch: &mut W,
+) -> Result<u8, AllocError>
     requires { (H.state host.old).writing ≡ false }
     ensures ran { IfOk result (λ status. RunsOn (map string_bytes words.now) status (H.state host.old) (H.state host.new)) }
     ensures idle { OnErr result (H.state host.new ≡ H.state host.old) }
 {
     match sweep_entries(words) {
-        Some(entries) => run_in_meshes(alloc, words, host, entries),
-        None => run_in_formats(alloc, words, host),
+        Some(entries) => run_in_meshes(alloc, words, host, entries, watch),
+        None => run_in_formats(alloc, words, host, watch),
     }
 }
 
 /// The same of words of `sweep`, where each of so many surfaces is written as PLY.
-fn run_in_meshes<H: Host>(
+fn run_in_meshes<H: Host, W: Watch>(
     alloc: Global,
     words: &[String],
     host: &mut H,
     entries: u32,
+    watch: &mut W,
 ) -> Result<u8, AllocError>
     requires closed { (H.state host.old).writing ≡ false }
     requires entries { entries_of (map string_bytes words.now) ≡ Some entries }
@@ -105,11 +121,16 @@ fn run_in_meshes<H: Host>(
         let form = PlyForm::new(alloc);
         forms.push(Box::new(alloc, form)?)?;
     }
-    Ok(run_forms(alloc, words, host, &mut forms))
+    Ok(run_forms_within(alloc, words, host, &mut forms, FILE_LIMIT, watch))
 }
 
 /// The same of other words, where `export` writes a mesh as PLY, OFF and OBJ.
-fn run_in_formats<H: Host>(alloc: Global, words: &[String], host: &mut H) -> Result<u8, AllocError>
+fn run_in_formats<H: Host, W: Watch>(
+    alloc: Global,
+    words: &[String],
+    host: &mut H,
+    watch: &mut W,
+) -> Result<u8, AllocError>
     requires closed { (H.state host.old).writing ≡ false }
     requires others { entries_of (map string_bytes words.now) ≡ None }
     ensures ran { IfOk result (λ status. RunsOn (map string_bytes words.now) status (H.state host.old) (H.state host.new)) }
@@ -119,7 +140,7 @@ fn run_in_formats<H: Host>(alloc: Global, words: &[String], host: &mut H) -> Res
     forms.push(Box::new(alloc, PlyForm::new(alloc))?)?;
     forms.push(Box::new(alloc, OffForm::new(alloc))?)?;
     forms.push(Box::new(alloc, ObjForm::new(alloc))?)?;
-    Ok(run_forms(alloc, words, host, &mut forms))
+    Ok(run_forms_within(alloc, words, host, &mut forms, FILE_LIMIT, watch))
 }
 
 /// All but the first.

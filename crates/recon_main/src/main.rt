@@ -1,10 +1,11 @@
 //! `recon`, the program: it hands the words of its command line, forms of a mesh and the system to
 //! `recon_cmd::run_forms`, and ends with the status that this answers (`ends_over`). What the system hands in as words is not
-//! proved: that is one line of `ends_on`.
+//! proved: that is one line of `ends_on`. Where standard error is a terminal, a person sees there how far the work is (`progress`).
 #![tactic(auto)]
 
 mod advice;
 mod ends;
+mod progress;
 mod real;
 mod retried;
 #[cfg(test)]
@@ -12,8 +13,11 @@ mod tests;
 mod unnamed;
 
 use ends::ends_on;
+use progress::{Progress, is_dumb};
+use std::io::IsTerminal;
 use std::process::ExitCode;
 
 fn main(rt: HostRuntime) -> ExitCode {
-    ends_on(rt)
+    let is_seen = rt.stderr().is_terminal() && !is_dumb(&rt);
+    ends_on(rt, &mut Progress::new(rt, is_seen))
 }

@@ -17,6 +17,7 @@ mod limits;
 mod memory;
 mod refusals;
 mod slice;
+mod stages;
 mod surfaces;
 mod sweeps;
 mod too_long;

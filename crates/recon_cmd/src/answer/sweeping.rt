@@ -17,16 +17,18 @@ use host::Host;
 use mesh_form::Form;
 use scan::Scan;
 use std::alloc::Global;
-use sweep::hand_surfaces;
+use sweep::hand_surfaces_watched;
+use watch::{Stage, Watch};
 
 /// Reads the scan, whose file may have as many bytes as the limit, hands its best surface at each weight to a form, and writes the
 /// forms' texts, in order. No file is made before all texts stand in memory.
-pub fn sweep_scan<H: Host>(
+pub fn sweep_scan<H: Host, W: Watch>(
     alloc: Global,
     host: &mut H,
     words: &SweepWords,
     forms: &mut [Box<dyn Form>],
     limit: u64,
+    watch: &mut W,
 ) -> Status
     requires closed { (H.state host.old).writing ≡ false }
     requires fresh { All IsFresh (map (λ form. received form) forms.old) }
@@ -44,19 +46,20 @@ pub fn sweep_scan<H: Host>(
     match reading {
         Reading::Scan(scan, bytes) => {
             drop(bytes);
-            hand_out(alloc, host, &scan, words, forms)
+            hand_out(alloc, host, &scan, words, forms, watch)
         }
         Reading::Refused(line) => conclude(host, &[], line.as_bytes(), Status::Refused),
     }
 }
 
 /// Hands the surface of each weight to its form, and writes their texts.
-fn hand_out<H: Host>(
+fn hand_out<H: Host, W: Watch>(
     alloc: Global,
     host: &mut H,
     scan: &Scan,
     words: &SweepWords,
     forms: &mut [Box<dyn Form>],
+    watch: &mut W,
 ) -> Status
     requires closed { (H.state host.old).writing ≡ false }
     requires fresh { All IsFresh (map (λ form. received form) forms.old) }
@@ -65,7 +68,10 @@ fn hand_out<H: Host>(
         (map (λ form. received form) forms.new) (map (λ form. text_of form) forms.new) }
     ensures kinds { map (λ form. form.vtable) forms.new ≡ map (λ form. form.vtable) forms.old }
 {
-    let costs = match hand_surfaces(alloc, scan, words.options.settings, words.step, forms) {
+    let settings = words.options.settings;
+    let handed = hand_surfaces_watched(alloc, scan, settings, words.step, forms, watch);
+    watch.stage(Stage::Over, 0);
+    let costs = match handed {
         Ok(costs) => costs,
         Err(_) => return Status::NoMemory,
     };

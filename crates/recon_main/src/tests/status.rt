@@ -9,6 +9,7 @@ use std::alloc::Global;
 use std::io::{Error, ErrorKind};
 use std::process::ExitCode;
 use std::test::Fail;
+use watch::Silent;
 
 /// A host without a file.
 fn empty_host(alloc: Global) -> Result<MemHost, Fail>
@@ -43,7 +44,7 @@ fn the_words_behind_the_name_are_run(rt: HostRuntime) -> Result<(), Fail> {
             args.push(String::from_str(alloc, word)?)?;
         }
         let mut host = empty_host(alloc)?;
-        let ended = ends(alloc, Ok(args.into_iter()), &mut host);
+        let ended = ends(alloc, Ok(args.into_iter()), &mut host, &mut Silent);
         assert_eq!(rt; ended, ExitCode::from(status));
         assert_eq!(rt; host.said().is_empty(), status == 4);
     }
@@ -54,11 +55,21 @@ fn the_words_behind_the_name_are_run(rt: HostRuntime) -> Result<(), Fail> {
 fn words_that_are_no_text_are_no_command(rt: HostRuntime) -> Result<(), Fail> {
     let alloc = rt.alloc();
     let mut host = empty_host(alloc)?;
-    let ended = ends(alloc, Err(Error::from(ErrorKind::InvalidData)), &mut host);
+    let ended = ends(
+        alloc,
+        Err(Error::from(ErrorKind::InvalidData)),
+        &mut host,
+        &mut Silent,
+    );
     assert_eq!(rt; ended, ExitCode::from(2));
     assert!(rt; !host.said().is_empty());
     let mut host = empty_host(alloc)?;
-    let ended = ends(alloc, Err(Error::from(ErrorKind::OutOfMemory)), &mut host);
+    let ended = ends(
+        alloc,
+        Err(Error::from(ErrorKind::OutOfMemory)),
+        &mut host,
+        &mut Silent,
+    );
     assert_eq!(rt; ended, ExitCode::from(5));
     assert!(rt; host.said().is_empty());
     Ok(())
@@ -68,7 +79,7 @@ fn words_that_are_no_text_are_no_command(rt: HostRuntime) -> Result<(), Fail> {
 fn status_on(memory: Global, words: &'static [&'static [u8]], failing: u32) -> ExitCode {
     let plan = Plan::new(1, 3, 0);
     let system = Fake::new(memory, words, plan, plan, Plan::new(1, 3, failing));
-    ends_on(system)
+    ends_on(system, &mut Silent)
 }
 
 /// A system that hands in no words of its own is run on those that it is told.
@@ -89,7 +100,7 @@ fn the_words_that_are_handed_in_are_run(rt: HostRuntime) -> Result<(), Fail> {
         let plan = Plan::new(1, 3, 0);
         let system = Fake::new(alloc, &[], plan, plan, plan);
         assert_eq!(rt;
-            ends_over(system, Ok(args.into_iter())),
+            ends_over(system, Ok(args.into_iter()), &mut Silent),
             ExitCode::from(status),
             "{words:?}"
         );

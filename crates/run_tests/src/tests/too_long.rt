@@ -12,6 +12,7 @@ use mesh_form::{Form, ObjForm, OffForm, PlyForm};
 use recon_cmd::{run_forms_within, run_within};
 use std::alloc::Global;
 use std::test::Fail;
+use watch::Silent;
 
 const SLICE: [&str; 4] = ["slice", "mesh", "0", "out"];
 
@@ -85,7 +86,13 @@ fn a_file_is_refused_where_it_is_longer_than_the_limit(rt: HostRuntime) -> Resul
             cert: lengthened(alloc, FOUR_CERT, cert)?,
         };
         let mut host = Watched::new(alloc, &files, 100, None)?;
-        let ended = run_within(alloc, &owned(alloc, words)?, &mut host, limit as u64);
+        let ended = run_within(
+            alloc,
+            &owned(alloc, words)?,
+            &mut host,
+            limit as u64,
+            &mut Silent,
+        );
         assert!(rt;
             ended == status && host.host.said() == said.as_bytes(),
             "{words:?} {limit}"
@@ -117,7 +124,7 @@ fn a_mesh_is_not_exported_where_it_is_longer_than_the_limit(rt: HostRuntime) -> 
         forms.push(Box::new(alloc, PlyForm::new(alloc))?)?;
         forms.push(Box::new(alloc, OffForm::new(alloc))?)?;
         forms.push(Box::new(alloc, ObjForm::new(alloc))?)?;
-        let ended = run_forms_within(alloc, &words, &mut host, &mut forms, limit);
+        let ended = run_forms_within(alloc, &words, &mut host, &mut forms, limit, &mut Silent);
         assert!(rt; ended == status && shows(&host, texts, said), "{limit}");
     }
     Ok(())
@@ -142,7 +149,7 @@ fn a_scan_is_not_swept_where_it_is_longer_than_the_limit(rt: HostRuntime) -> Res
         let mut forms: Vec<Box<dyn Form>> = Vec::new(alloc);
         forms.push(Box::new(alloc, PlyForm::new(alloc))?)?;
         forms.push(Box::new(alloc, PlyForm::new(alloc))?)?;
-        let ended = run_forms_within(alloc, &words, &mut host, &mut forms, limit);
+        let ended = run_forms_within(alloc, &words, &mut host, &mut forms, limit, &mut Silent);
         assert!(rt;
             ended == status && sweeps::shows(&host, texts, said),
             "{limit}"

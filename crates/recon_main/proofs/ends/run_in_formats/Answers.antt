@@ -11,11 +11,11 @@ returns-clause-ran g c =
     three_pushed _ _ _ _ _ c.into_dyn_box.result c.into_dyn_box-in_ok-new-2.result c.into_dyn_box-in_ok-new-3.result
     c.new-forms.ensures.items c.in_ok-push.ensures.items c.in_ok-push-2.ensures.items c.in_ok-push-3.ensures.items
     c.deref_mut.ensures.value in
-    ran_on (map string_bytes c.args.words.now) (length c.deref_mut.result.now) (ap length three) c.run_forms.result
-    (g.H.Host.state c.args.host.now) (g.H.Host.state c.run_forms.new.host) _ _ _
+    ran_on (map string_bytes c.args.words.now) (length c.deref_mut.result.now) (ap length three) c.run_forms_within.result
+    (g.H.Host.state c.args.host.now) (g.H.Host.state c.run_forms_within.new.host) _ _ _
     (by_kinds (λ b. b.vtable) _ _ c.into_dyn_box.result.vtable c.into_dyn_box-in_ok-new-2.result.vtable
-    c.into_dyn_box-in_ok-new-3.result.vtable c.run_forms.new.forms
-    (c.run_forms.ensures.kinds ∙ ap (map (λ b. b.vtable)) three)
+    c.into_dyn_box-in_ok-new-3.result.vtable c.run_forms_within.new.forms
+    (c.run_forms_within.ensures.kinds ∙ ap (map (λ b. b.vtable)) three)
     (λ b is. at_kind
     (λ i x. (own-1.entry i).1.text_of x ≡ mesh_text ((own-1.entry i).1.received x).points ((own-1.entry i).1.received x).faces)
     _ c.into_dyn_box.result.vtable c.into_dyn_box.ensures.0 (λ x. refl) b.vtable b.value is)
@@ -25,4 +25,4 @@ returns-clause-ran g c =
     (λ b is. at_kind
     (λ i x. (own-1.entry i).1.text_of x ≡ obj_text ((own-1.entry i).1.received x).points ((own-1.entry i).1.received x).faces) _
     c.into_dyn_box-in_ok-new-3.result.vtable c.into_dyn_box-in_ok-new-3.ensures.0 (λ x. refl) b.vtable b.value is))
-    c.requires.others c.run_forms.ensures.exported c.run_forms.ensures.ran
+    c.requires.others (c.run_forms_within.ensures.exported refl) (c.run_forms_within.ensures.ran refl)

@@ -34,8 +34,8 @@ loop-alloc-preserved g c =
           });
     }
 
-pub run_forms-requires-clause-fresh : goal.run_forms-requires-clause-fresh
-run_forms-requires-clause-fresh g c =
+pub run_forms_within-requires-clause-fresh : goal.run_forms_within-requires-clause-fresh
+run_forms_within-requires-clause-fresh g c =
     ply_fresh _ _ _ _ _ c.deref_mut.ensures.value c.loop-alloc.invariant.ply
 
 pub returns-clause-ran : goal.returns-clause-ran
@@ -50,7 +50,7 @@ returns-clause-ran g c =
       ap length c.deref_mut.ensures.value,
     ) in
     swept_on (map string_bytes c.args.words.now) (length c.deref_mut.result.now) c.args.entries c.requires.entries full
-    c.run_forms.result (g.H.Host.state c.args.host.now) (g.H.Host.state c.run_forms.new.host) _ _ _
-    (ply_written (λ b. b.vtable) _ _ _ _ c.run_forms.new.forms c.deref_mut.ensures.value c.run_forms.ensures.kinds
+    c.run_forms_within.result (g.H.Host.state c.args.host.now) (g.H.Host.state c.run_forms_within.new.host) _ _ _
+    (ply_written (λ b. b.vtable) _ _ _ _ c.run_forms_within.new.forms c.deref_mut.ensures.value c.run_forms_within.ensures.kinds
     c.loop-alloc.invariant.ply)
-    c.run_forms.ensures.swept c.run_forms.ensures.ran
+    (c.run_forms_within.ensures.swept refl) (c.run_forms_within.ensures.ran refl)
