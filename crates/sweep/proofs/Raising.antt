@@ -3,8 +3,10 @@
 -- At another smoothing the network is the scene's there (`network_to`). Back at the first, its arcs are those that the scene has at
 -- the first smoothing, as before, so the same flow is a largest one and the same labels the least inside (`lowered`).
 use Rattle.std.proofs.Common.{ℕ, ◌≡◌, ◌<◌, ◌≤◌, refl, ap, sym, subst, ◌∙◌, List, length}
-use Rattle.flow_net.specs.Flows.{IsLargest, IsLeastInside, IsValidFlow, value_of}
-use Rattle.flow_net.specs.Nets.{arc_at}
+use Rattle.std.specs.Prelude.{slice_index}
+use Rattle.flow_net.specs.Flows.{IsLargest, IsLeastInside, IsValidFlow, network_with, value_of}
+use Rattle.flow_net.specs.Nets.{arc_at, flag_at}
+use Rattle.flow_net.specs.Networks as networks
 use Rattle.flow_net.specs.Weights.{IsSightList}
 use Rattle.flow_net.specs.declared.Flow.{Flow}
 use Rattle.flow_net.specs.declared.Labels.{Labels}
@@ -35,10 +37,13 @@ turned net other h = record { fixed_is = sym h.fixed_is; sink_is = sym h.sink_is
 
 valid_same : (net other : Net) (flow : Flow) → IsSameNet net other → IsValidFlow net flow → IsValidFlow other flow
 valid_same net other flow h valid =
+    let amounts :
+    networks.IsValidFlow (network_with other.fixed other.sink other.arcs) (slice_index flow.on_arc) (slice_index flow.on_sink) =
+    rw (h.fixed_is, h.sink_is, h.arcs_are) valid.amounts in
     record {
       arc_count = valid.arc_count ∙ ap length (sym h.arcs_are);
       node_count = valid.node_count ∙ ap length (sym h.fixed_is);
-      amounts = rw (h.fixed_is, h.sink_is, h.arcs_are) valid.amounts;
+      amounts = amounts;
     }
 
 largest_same : (net other : Net) (flow : Flow) → IsSameNet net other → IsLargest net flow → IsLargest other flow
@@ -48,15 +53,18 @@ largest_same net other flow h is =
       largest =
           λ more valid. (let le : value_of net more ≤ value_of net flow =
           is.largest more (valid_same other net more (turned net other h) valid) in
-          rw (h.fixed_is, h.sink_is) le);
+          let there :
+          networks.value (network_with other.fixed other.sink other.arcs) (slice_index more.on_sink)
+          ≤ networks.value (network_with other.fixed other.sink other.arcs) (slice_index flow.on_sink) =
+          rw (h.fixed_is, h.sink_is) le in
+          there);
     }
 
 least_same : (net other : Net) (labels : Labels) → IsSameNet net other → IsLeastInside net labels → IsLeastInside other labels
 least_same net other labels h least =
-    record {
-      count = least.count ∙ ap length (sym h.fixed_is);
-      labelled = rw (h.fixed_is, h.sink_is, h.arcs_are) least.labelled;
-    }
+    let labelled : networks.IsLeastInside (network_with other.fixed other.sink other.arcs) (flag_at labels.inside) =
+    rw (h.fixed_is, h.sink_is, h.arcs_are) least.labelled in
+    record { count = least.count ∙ ap length (sym h.fixed_is); labelled = labelled }
 
 -- ---- the settings of another smoothing
 abbrev pub settings_at : (settings : Settings) (smooth : ℕ) → smooth ≤ WEIGHT_LIMIT → Settings
