@@ -1,5 +1,5 @@
 -- What is kept of a store, at one cell or vertex.
-use Rattle.std.proofs.Common.{◌↔◌, List, [], ◌∷◌, length, ℕ, zero, suc, ◌≡◌, ◌<◌, Option, Some, None, sym, subst, arith}
+use Rattle.std.proofs.Common.{◌↔◌, List, [], ◌∷◌, length, ℕ, zero, suc, ◌≡◌, ◌<◌, Option, Some, None, is_some, true, refl, sym, subst, arith}
 use Rattle.std.proofs.lemmas.Bool.{false≢true}
 use Rattle.std.specs.Option.{IfSome}
 use Rattle.geo_sign.specs.Tetrahedron.{facet_of}
@@ -9,7 +9,7 @@ use Rattle.std.specs.List.{Contains}
 use Rattle.slab.specs.Slab.{entries_from}
 use Rattle.slab.proofs.SlabLemmas.{Contains-entries}
 use Rattle.tetra_store.specs.declared.link.Cell.{Cell}
-use Rattle.tetra_store.specs.Links.{slot_at, links_of, Links, IsLive, IsLinked, IsOnlyAcross}
+use Rattle.tetra_store.specs.Links.{slot_at, next_in, links_of, Links, IsLive, IsLinked, IsOnlyAcross}
 use Rattle.tetra_store.specs.Store.{Store, IsStore}
 
 pub only_at : (v : Vertices) (links : Links) (id k other : ℕ) → IsLinked v links → IsLive links id → k < 4
@@ -27,6 +27,18 @@ pub only_across : (v : Vertices) (links : Links) (id k : ℕ) → IsLinked v lin
     → o ≡ links.next id k → IfSome o (λ other. IsOnlyAcross links id k other)
 only_across v links id k linked live l None e = tt
 only_across v links id k linked live l (Some other) e = only_at v links id k other linked live l (sym e)
+
+-- what has a neighbor is live
+pub next_live : (o : Option Cell) (k other : ℕ) → next_in o k ≡ Some other → is_some o ≡ true
+next_live None k other e = cc
+next_live (Some c) k other e = refl
+
+-- and so is the neighbor
+pub neighbor_live : (v : Vertices) (slots : List (Option Cell)) (id k : ℕ) → IsLinked v (links_of slots) → k < 4
+    → (o : Option ℕ) → o ≡ (links_of slots).next id k → IfSome o (λ other. IsLive (links_of slots) other)
+neighbor_live v slots id k linked l None e = tt
+neighbor_live v slots id k linked l (Some other) e =
+    (linked.back id k other (next_live (slot_at slots id) k other (sym e)) l (sym e)).live
 
 pub store_now : (s t : Store) → s ≡ t → IsStore s → IsStore t
 store_now s t e h = subst (λ (u : Store). IsStore u) e h

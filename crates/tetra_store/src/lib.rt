@@ -21,6 +21,7 @@ mod keeping;
 mod kept;
 mod link;
 mod linked;
+mod numbers;
 mod removal;
 mod renumbering;
 mod replace;

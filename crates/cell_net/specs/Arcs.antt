@@ -1,0 +1,51 @@
+-- What linked cells and counts of votes are as nodes and arcs. Node v is the cell with number v, arc 4 * v + k its side k.
+--
+--   across slots j             the neighbor across the side of an arc
+--   neighbor_or_self slots j   the node that an arc enters: the neighbor, or on a wall the cell itself
+--   is_free fixed other        there is a neighbor, and it is free
+--   capacity_of ..             a vote for each crossing and the smoothing, where the neighbor is there and free
+--   is_outside slots fixed v   the number has no cell, or a fixed one
+--   sink_of ..                 a vote for each sight that the cell is behind
+--   IsShape slots ..           counts and flags for each number that can have a cell, and neighbors that are other nodes
+use Rattle.std.specs.Prelude.{ℕ, ◌≡◌, ◌≢◌, true, ◌<◌, ◌≤◌, ◌^◌, length, ◌+◌, ◌*◌, ◌/◌, ◌%◌, ◌||◌, Bool, false, not, List, Option}
+use Rattle.std.specs.Prelude.{Some, None, slice_index, unwrap_or, if◌then◌else◌}
+use Rattle.flow_net.specs.Nets.{flag_at}
+use Rattle.flow_net.specs.declared.votes.Settings.{Settings}
+use Rattle.tetra_store.specs.declared.link.Cell.{Cell}
+use Rattle.tetra_store.specs.Links.{links_of}
+
+-- the neighbor across side j % 4 of cell j / 4
+abbrev pub across : List (Option Cell) → ℕ → Option ℕ
+across slots j = (links_of slots).next (j / 4) (j % 4)
+
+-- the neighbor, or the cell itself
+abbrev pub neighbor_or_self : List (Option Cell) → ℕ → ℕ
+neighbor_or_self slots j = unwrap_or (across slots j) (j / 4)
+
+-- there is a neighbor, and it is free
+abbrev pub is_free : List Bool → Option ℕ → Bool
+is_free fixed None = false
+is_free fixed (Some other) = not (flag_at fixed other)
+
+-- of an arc
+abbrev pub capacity_of : List (Option Cell) → (crossed : List ℕ) → List Bool → Settings → ℕ → ℕ
+capacity_of slots crossed fixed settings j =
+    if is_free fixed (across slots j) then settings.vote * slice_index crossed j + settings.smooth else 0
+
+-- no cell, or a fixed one
+abbrev pub is_outside : List (Option Cell) → List Bool → ℕ → Bool
+is_outside slots fixed v = not ((links_of slots).is_live v) || flag_at fixed v
+
+-- of a node
+abbrev pub sink_of : List (Option Cell) → (behind : List ℕ) → Settings → ℕ → ℕ
+sink_of slots behind settings v = if (links_of slots).is_live v then settings.vote * slice_index behind v else 0
+
+-- counts and flags for each number that can have a cell, of 32 bits, and neighbors that are nodes and not the cell itself
+pub record IsShape (slots : List (Option Cell)) (crossed behind : List ℕ) (fixed : List Bool) : Type 0 where
+  pub flags : length slots ≤ length fixed
+  pub sides : 4 * length slots ≤ length crossed
+  pub cells : length slots ≤ length behind
+  pub crossed_fit : (j : ℕ) → slice_index crossed j < 2 ^ 32
+  pub behind_fit : (v : ℕ) → slice_index behind v < 2 ^ 32
+  pub heads_in : (j : ℕ) → j < 4 * length fixed → neighbor_or_self slots j < length fixed
+  pub apart : (j : ℕ) → is_free fixed (across slots j) ≡ true → j / 4 ≢ neighbor_or_self slots j

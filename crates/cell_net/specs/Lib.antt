@@ -1,0 +1,4 @@
+pub mod Arcs
+pub mod Turns
+pub mod Facts
+pub mod Shape
