@@ -101,7 +101,7 @@ module _ (s : Scene) (slots : List (Option Cell)) (crossed behind : List ℕ) (f
       made.complex_is s slots fixed asked.cells asked.few rows lists.moved asked.flags sides lists.moved_sides sorted
       sorted_sides
 
-  listing_is : IsListingOf s complex
+  pub listing_is : IsListingOf s complex
   listing_is =
       let r = sorted_of key_of_row rows in
       let x = sorted_of key_of_side sides in

@@ -14,7 +14,8 @@ use Rattle.vote_net.specs.declared.rows.Row.{Row}
 use Rattle.vote_net.specs.declared.sides.Side.{Side}
 use Rattle.vote_net.specs.CellRows.{facet_row, risen, row_from}
 use Rattle.vote_net.specs.Counts.{row_of}
-use Rattle.vote_net.specs.Gathered.{row_at, side_at, is_free, side_if_open, open_at, cut_at, all_rows, all_open, all_cut}
+use Rattle.cell_net.specs.Arcs.{is_free}
+use Rattle.vote_net.specs.Gathered.{row_at, side_at, side_if_open, open_at, cut_at, all_rows, all_open, all_cut}
 use Rattle.vote_net.specs.Tables.{id_of_row, number_of_side, AreApart}
 use Rattle.vote_net.proofs.Lists.{Rises, rises_from, rises_append, rises_apart}
 use Rattle.geo_sign.proofs.Members.{here, there, flat_map_has, flat_map_gets}

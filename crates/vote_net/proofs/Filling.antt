@@ -7,7 +7,8 @@ use Rattle.std.proofs.lemmas.List.{get_or-drop, length-drop, drop-drop}
 use Rattle.vote_net.specs.declared.sides.Side.{Side}
 use Rattle.flow_net.specs.Nets.{flag_at}
 use Rattle.tetra_store.specs.declared.link.Cell.{Cell}
-use Rattle.vote_net.specs.Gathered.{is_free, side_at, side_if_open}
+use Rattle.cell_net.specs.Arcs.{is_free}
+use Rattle.vote_net.specs.Gathered.{side_at, side_if_open}
 use Rattle.vote_net.specs.Tables.{number_of_side, AreApart, AreNumbered, IsFilled}
 use Rattle.vote_net.proofs.Lists.{numbered_more}
 

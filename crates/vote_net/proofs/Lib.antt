@@ -12,3 +12,6 @@ pub mod CellCounts
 pub mod Filling
 pub mod StoreOrder
 pub mod CutOrder
+pub mod SlotSums
+pub mod SceneNetwork
+pub mod StoreLaws

@@ -6,6 +6,7 @@ use Rattle.flow_net.specs.Nets.{flag_at, IsValidNet}
 use Rattle.flow_net.specs.declared.Arc.{Arc}
 use Rattle.flow_net.specs.declared.Net.{Net}
 use Rattle.flow_net.specs.declared.votes.Settings.{Settings}
+use Rattle.visibility.specs.Listings.{IsListingOf}
 use Rattle.visibility.specs.Scenes.{Scene}
 use Rattle.tetra_store.specs.declared.link.Cell.{Cell}
 use Rattle.vote_net.specs.declared.rows.Row.{Row}
@@ -21,6 +22,9 @@ module _ (s : Scene) (slots : List (Option Cell)) (crossed behind : List ℕ) (f
     (asked : AreCountsOf s slots crossed behind fixed) where
   lists : AreListed slots fixed (all_rows slots) (all_open fixed slots)
   lists = record { moved = IsPermutation-refl (all_rows slots); moved_sides = IsPermutation-refl (all_open fixed slots) }
+
+  pub stored_listing : IsListingOf s (record { cells = stored_cells slots; facets = stored_facets fixed slots })
+  stored_listing = made.listing_is s slots crossed behind fixed (all_rows slots) (all_open fixed slots) asked lists
 
   pub stored_ids_below : (r : Row) → Contains (all_rows slots) r → id_of_row r < length fixed
   stored_ids_below = made.ids_below s slots crossed behind fixed (all_rows slots) (all_open fixed slots) asked lists

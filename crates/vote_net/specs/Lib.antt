@@ -6,3 +6,5 @@ pub mod CountLaws
 pub mod StoredCells
 pub mod StoredNetworks
 pub mod CutSides
+pub mod ByNumber
+pub mod StoreLaws

@@ -8,10 +8,10 @@ ghost use Rattle.vote_net.specs.declared.rows.Row.{Row};
 ghost use Rattle.vote_net.specs.declared.sides.Side.{Side};
 
 use crate::NoMemory;
-use crate::network::StoreCounts;
 use crate::rows::Row;
 use crate::sides::{Side, facet_row, flag};
 use crate::tables::{arc_numbers, entry, node_numbers};
+use cell_net::StoreCounts;
 use flow_net::{Arc, Arcs, Settings};
 use std::alloc::Global;
 use tetra_store::{CellId, Tetra};

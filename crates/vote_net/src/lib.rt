@@ -23,10 +23,8 @@ mod tables;
 
 pub use cells::rising_cells;
 pub use keys::{cell_key, facet_key};
-pub use laws::{cell_count_law, facet_count_law, stored_cells_law};
-pub use network::{
-    Counted, StoreCounts, StoreNet, assemble, assemble_alone, assemble_rising, listed,
-};
+pub use laws::{cell_count_law, facet_count_law, store_network_law, stored_cells_law};
+pub use network::{Counted, StoreNet, assemble, assemble_alone, assemble_rising, listed};
 pub use sides::{Side, sorted_cut};
 use std::alloc::AllocError;
 

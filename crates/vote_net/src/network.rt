@@ -19,21 +19,11 @@ use crate::passes::{stored_arcs, stored_facets};
 use crate::rows::{Row, cells_of, rows, sorted_rows};
 use crate::sides::{Side, flag, open_sides, sorted_sides};
 use crate::tables::{entry, node_numbers};
+use cell_net::StoreCounts;
 use flow_net::{Arcs, Net, Sequence, Settings, Voted};
 use std::alloc::{AllocError, Global};
 use tetra_store::{CellId, Tetra};
 use visibility::Scene;
-
-/// What a network is made from, by the numbers that cells have in the store.
-#[derive(Clone, Copy, Debug)]
-pub struct StoreCounts<'a> {
-    /// At 4 * id + side what the sights weigh together that cross the directed facet of a side.
-    pub crossed: &'a [u32],
-    /// At id what the sights weigh together that the cell is behind.
-    pub behind: &'a [u32],
-    /// At id whether the cell has a corner or a scanner.
-    pub fixed: &'a [bool],
-}
 
 /// The network with the cell of each node.
 #[derive(Debug, Drop)]

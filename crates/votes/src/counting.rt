@@ -1,6 +1,6 @@
 //! From sights to the network.
 
-ghost use Rattle.std.specs.Prelude.{◌≡◌, IfOk, All};
+ghost use Rattle.std.specs.Prelude.{◌≡◌, ◌<◌, ◌^◌, IfOk, All, length};
 ghost use Rattle.geo_sign.specs.declared.point.TheConstants.{DATA_LIMIT};
 ghost use Rattle.geo_sign.specs.Point.{IsWithin};
 ghost use Rattle.flow_net.specs.Weights.{IsSightList};
@@ -17,31 +17,37 @@ use crate::NoMemory;
 use crate::fixing::{fixed_cells, scanner_cells};
 use crate::ordering::ordered;
 use crate::tally::{Counts, count_sights};
+use cell_net::StoreCounts;
 use flow_net::Sight;
 use geo_sign::Point;
-use std::alloc::Global;
+use std::alloc::{AllocError, Global};
 use tetra_store::{CellId, Tetra};
 use visibility::Scene;
-use vote_net::{Counted, StoreCounts, StoreNet, assemble, assemble_alone, assemble_rising};
+use vote_net::{Counted, StoreNet, assemble, assemble_alone, assemble_rising};
 use watch::{Silent, Watch};
 
-/// What is counted, by the numbers that cells have in the store: what sights add, and which cells are fixed.
-#[derive(Drop)]
-struct Votes {
-    counts: Counts,
-    fixed: Vec<bool>,
+/// What is counted of the sights of a scene, by the numbers that cells have in the store. A number without a cell has entries that say
+/// nothing.
+#[derive(Debug, Drop)]
+pub struct Votes {
+    /// At 4 * id + side what the sights weigh together that cross the directed facet of a side.
+    pub crossed: Vec<u32>,
+    /// At id what the sights weigh together that the cell is behind.
+    pub behind: Vec<u32>,
+    /// At id whether the cell has a corner or a scanner.
+    pub fixed: Vec<bool>,
 }
 
 impl Votes {
-    /// What the network is made from.
-    fn store_counts(&self) -> StoreCounts<'_>
-        ensures crossed { result.crossed.now ≡ self.now.counts.crossed.items }
-        ensures behind { result.behind.now ≡ self.now.counts.behind.items }
+    /// What a network is made from.
+    pub fn store_counts(&self) -> StoreCounts<'_>
+        ensures crossed { result.crossed.now ≡ self.now.crossed.items }
+        ensures behind { result.behind.now ≡ self.now.behind.items }
         ensures fixed { result.fixed.now ≡ self.now.fixed.items }
     {
         StoreCounts {
-            crossed: &self.counts.crossed,
-            behind: &self.counts.behind,
+            crossed: &self.crossed,
+            behind: &self.behind,
             fixed: &self.fixed,
         }
     }
@@ -67,8 +73,13 @@ fn counts_of<W: Watch>(
     count_sights(alloc, t, scanners, cells, &walked, watch)
 }
 
-/// What a scene's sights vote for and which cells are fixed. The cells of the scanners are let go of before it returns.
-fn votes_of<W: Watch>(
+/// What a scene's sights vote for and which cells are fixed, by a walk along each sight. A watch is told of the stage and of how many
+/// sights are counted.
+///
+/// All points have to be inserted, and the cells Delaunay, as `delaunay::build` leaves them. Equal sights count as often as they were
+/// seen, each by its weight, and a scanner that sees nothing fixes its cell as well. The only error is want of memory, which also stands
+/// for 2^32 numbers of cells and more. The cells of the scanners are let go of before it returns.
+pub fn counted<W: Watch>(
     alloc: Global,
     t: &Tetra,
     scene: &Scene<'_>,
@@ -76,13 +87,21 @@ fn votes_of<W: Watch>(
 ) -> Result<Votes, NoMemory>
     requires cells { HasCellsOf t.now scene.now }
     requires scene { IsSound scene.now }
-    ensures { IfOk result (λ votes. AreCountsOf (view_of scene.now) t.now.slots votes.counts.crossed.items votes.counts.behind.items votes.fixed.items) }
+    ensures counts { IfOk result (λ votes. AreCountsOf (view_of scene.now) t.now.slots votes.crossed.items votes.behind.items votes.fixed.items) }
+    ensures few { IfOk result (λ votes. length votes.fixed.items < 2 ^ 32) }
 {
     t.facts();
     let cells = scanner_cells(alloc, t, scene.scanners)?;
     let fixed = fixed_cells(alloc, t, scene.scanners, &cells)?;
+    if fixed.len() > u32::MAX as usize {
+        return Err(AllocError);
+    }
     let counts = counts_of(alloc, t, scene.scanners, &cells, scene.sights, watch)?;
-    Ok(Votes { counts, fixed })
+    Ok(Votes {
+        crossed: counts.crossed,
+        behind: counts.behind,
+        fixed,
+    })
 }
 
 /// The network of the cells of a scene's points, by a walk along each sight.
@@ -111,7 +130,7 @@ pub fn count_votes_watched<W: Watch>(
     ensures network { IfOk result (λ counted. IsNetworkOf (view_of scene.now) counted.voted) }
     ensures ids { IfOk result (λ counted. AreIdsOf t.now.slots counted.voted.cells counted.ids.items) }
 {
-    let votes = votes_of(alloc, t, scene, watch)?;
+    let votes = counted(alloc, t, scene, watch)?;
     assemble_rising(alloc, t, scene, &votes.store_counts())
 }
 
@@ -143,7 +162,7 @@ pub fn count_votes_as_stored_watched<W: Watch>(
     ensures ids { IfOk result (λ counted. AreIdsOf t.now.slots counted.voted.cells counted.ids.items) }
     ensures order { IfOk result (λ counted. IsInStoreOrder t.now.slots counted.voted.facets counted.ids.items) }
 {
-    let votes = votes_of(alloc, t, scene, watch)?;
+    let votes = counted(alloc, t, scene, watch)?;
     assemble(alloc, t, scene, &votes.store_counts())
 }
 
@@ -159,7 +178,7 @@ pub fn count_votes_alone<W: Watch>(
     requires scene { IsSound scene.now }
     ensures { IfOk result (λ made. IsStoredNetwork (view_of scene.now) t.now.slots made.1.items made.0.net made.0.ids.items) }
 {
-    let votes = votes_of(alloc, t, scene, watch)?;
+    let votes = counted(alloc, t, scene, watch)?;
     let made = assemble_alone(alloc, t, scene, &votes.store_counts())?;
     let Votes { fixed, .. } = votes;
     Ok((made, fixed))

@@ -1,0 +1,49 @@
+-- What holds by the numbers of cells and of their sides holds over cells and facets.
+--
+--   stored_complex fixed slots     the rows of the live cells, and the facets of sides with a free cell across
+--   IsStoreNetwork s slots ..      labels and flows by number are judged as those over cells and facets
+--   StoreNetworkLaw                so it is for linked cells and counts
+use Rattle.std.specs.Prelude.{ℕ, ◌≡◌, Bool, Option, List, slice_index}
+use Rattle.flow_net.specs.declared.Labels.{Labels}
+use Rattle.flow_net.specs.declared.Flow.{Flow}
+use Rattle.flow_net.specs.declared.votes.Settings.{Settings}
+use Rattle.flow_net.specs.Nets.{flag_at}
+use Rattle.flow_net.specs.Numbered.{NumberedNetwork}
+use Rattle.flow_net.specs.NumberedFlows as numbered
+use Rattle.tetra_store.specs.declared.link.Cell.{Cell}
+use Rattle.visibility.specs.Scenes.{Scene}
+use Rattle.visibility.specs.Complexes.{Complex}
+use Rattle.visibility.specs.Cuts.{cost, IsLeastInside}
+use Rattle.visibility.specs.Flows.{value, IsValidFlow}
+use Rattle.visibility.specs.Listings.{IsListingOf}
+use Rattle.cell_net.specs.Arcs.{IsShape}
+use Rattle.cell_net.specs.Shape.{numbered_with}
+use Rattle.vote_net.specs.ByNumber.{SaysOfCells, SaysOfSides, IsZeroElsewhere}
+use Rattle.vote_net.specs.Counts.{AreCountsOf}
+use Rattle.vote_net.specs.StoredNetworks.{stored_cells, stored_facets}
+
+-- as the store has them
+abbrev pub stored_complex : List Bool → List (Option Cell) → Complex
+stored_complex fixed slots = record { cells = stored_cells slots; facets = stored_facets fixed slots }
+
+-- The complex lists the scene's cells and facets. Labels and flows by number have the same cost and value as those that say so of cells
+-- and facets, and are the least inside and valid where these are. No valid flow has an amount at a side without a free cell across.
+pub record IsStoreNetwork (s : Scene) (slots : List (Option Cell)) (fixed : List Bool) (net : NumberedNetwork) : Type 0 where
+  pub listing : IsListingOf s (stored_complex fixed slots)
+  pub cost_is : (labels : Labels) (inside : List ℕ → Bool) → SaysOfCells slots (flag_at labels.inside) inside
+      → numbered.cost_of net labels ≡ cost s (stored_complex fixed slots) inside
+  pub least_inside : (labels : Labels) (inside : List ℕ → Bool) → SaysOfCells slots (flag_at labels.inside) inside
+      → numbered.IsLeastInside net labels → IsLeastInside s (stored_complex fixed slots) inside
+  pub value_is : (flow : Flow) (on_cell : List ℕ → ℕ) → SaysOfCells slots (slice_index flow.on_sink) on_cell
+      → numbered.value_of net flow ≡ value s (stored_complex fixed slots) on_cell
+  pub valid : (flow : Flow) (on_facet on_cell : List ℕ → ℕ) → SaysOfSides slots fixed (slice_index flow.on_arc) on_facet
+      → SaysOfCells slots (slice_index flow.on_sink) on_cell → numbered.IsValidFlow net flow
+      → IsValidFlow s (stored_complex fixed slots) on_facet on_cell
+  pub zero_elsewhere : (flow : Flow) → numbered.IsValidFlow net flow → IsZeroElsewhere slots fixed (slice_index flow.on_arc)
+
+-- where counts and settings are those of a scene
+abbrev pub StoreNetworkLaw : Type 0
+StoreNetworkLaw =
+    (s : Scene) (slots : List (Option Cell)) (crossed behind : List ℕ) (fixed : List Bool) (settings : Settings)
+    → AreCountsOf s slots crossed behind fixed → (shape : IsShape slots crossed behind fixed) → s.settings ≡ settings
+    → IsStoreNetwork s slots fixed (numbered_with slots crossed behind fixed settings shape)
