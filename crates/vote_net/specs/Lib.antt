@@ -6,3 +6,4 @@ pub mod CountLaws
 pub mod StoredCells
 pub mod StoredNetworks
 pub mod CutSides
+pub mod ByNumber
