@@ -20,8 +20,8 @@ ghost use Rattle.recon_build.specs.MinimumCuts.{IsCutOf};
 ghost use Rattle.recon_build.specs.Stored.{IsStoreOf};
 
 use crate::NoMemory;
+use crate::listed_rows::{flow_rows, inside_rows, sink_rows};
 use crate::network::network;
-use crate::rows::{flow_rows, inside_rows, sink_rows};
 use cert_text::{Certificate, Stamp};
 use flow_net::{Flow, Labels, Settings, Voted};
 use max_flow::minimum_cut;
