@@ -1,3 +1,4 @@
 pub mod WellFormed
 pub mod Stored
 pub mod SortedRows
+pub mod Walks

@@ -20,8 +20,8 @@ ghost use Rattle.recon_build.specs.MinimumCuts.{IsCutOf};
 ghost use Rattle.recon_build.specs.Stored.{IsStoreOf};
 
 use crate::NoMemory;
+use crate::listed_rows::{flow_rows, inside_rows, sink_rows};
 use crate::network::network;
-use crate::rows::{flow_rows, inside_rows, sink_rows};
 use cert_text::{Certificate, Stamp};
 use flow_net::{Flow, Labels, Settings, Voted};
 use max_flow::minimum_cut;
@@ -29,7 +29,7 @@ use mesh_ply::Mesh;
 use scan::Scan;
 use solution::least_cost;
 use std::alloc::Global;
-use surface::facets;
+use surface::{facets, labels_by_number};
 use tetra_store::Tetra;
 use vote_net::{Counted, listed};
 use watch::{Silent, Stage, Watch};
@@ -117,7 +117,8 @@ fn solve_over(
     ensures closed { IfOk result (λ solved. IsClosed solved.mesh.faces.items) }
 {
     let Counted { voted, ids } = counted;
-    let mesh = facets(alloc, &tetra, &ids, &labels)?;
+    let inside = labels_by_number(alloc, &tetra, &ids, &labels)?;
+    let mesh = facets(alloc, &tetra, &inside)?;
     let cost = least_cost(scan, settings, &voted, &labels);
     // The network is let go of before the rows take memory.
     let Voted {

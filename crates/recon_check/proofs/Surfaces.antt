@@ -1,6 +1,6 @@
 -- The surface and the cost of the labels of a claim, by number and over cells and facets.
-use Rattle.std.proofs.Common.{ℕ, ◌≡◌, ◌++◌, ap, sym, subst, ◌∙◌, arith, Bool, false, List, [], length, get_or, map, AllPairs}
-use Rattle.std.proofs.lemmas.List.{get_or-map, length-append, length-map}
+use Rattle.std.proofs.Common.{ℕ, ◌≡◌, ◌++◌, ap, sym, subst, ◌∙◌, Bool, false, List, [], length, get_or, map, AllPairs}
+use Rattle.std.proofs.lemmas.List.{get_or-map, length-map}
 use Rattle.cert_text.specs.Certificates.{Claim}
 use Rattle.flow_net.specs.declared.Labels.{Labels}
 use Rattle.flow_net.specs.declared.Voted.{Voted}
@@ -15,7 +15,7 @@ use Rattle.mesh_ply.specs.declared.mesh.Mesh.{Mesh}
 use Rattle.solution.specs.Scans.{points_of, scene_of_scan}
 use Rattle.solution.specs.Solutions.{surface_of}
 use Rattle.scan.specs.Shown.{Shown}
-use Rattle.surface.specs.Labelled.{AreLabelsOver}
+use Rattle.surface.proofs.ListedLabels.{AreListed}
 use Rattle.visibility.specs.Scenes.{Scene}
 use Rattle.visibility.specs.Complexes.{Complex}
 use Rattle.visibility.specs.Cuts.{cost, cut_facets, IsAdmissible}
@@ -86,20 +86,18 @@ flags_admissible s voted claim labels network same admissible =
     })
 
 -- they are labels of the scan's cells
-pub labels_over : (scan : Shown) (settings : Settings) (network : Network) (claim : Claim) (ids : List ℕ) (labels : Labels)
+pub labels_listed : (scan : Shown) (settings : Settings) (network : Network) (claim : Claim) (ids : List ℕ) (labels : Labels)
     → IsNetworkOfScan scan settings network → ids ≡ network.counted.ids.items
     → labels ≡ labels_by network.counted.voted claim
     → IsAdmissible (scene_of_scan scan settings) (complex_of network.counted.voted) (is_inside claim)
-    → AreLabelsOver (scene_of_scan scan settings) (complex_of network.counted.voted) network.linked.points network.linked.slots
-    ids labels.inside
-labels_over scan settings network claim ids labels is ids_are labels_are admissible =
+    → AreListed (scene_of_scan scan settings) (complex_of network.counted.voted) network.linked.slots ids labels.inside
+labels_listed scan settings network claim ids labels is ids_are labels_are admissible =
     let s : Scene = scene_of_scan scan settings in
     record {
       cells = is.cells;
-      count = omega (arith, ap length is.points, length-append corners (points_of scan));
       lists = rising_listing s (complex_of network.counted.voted) is.voted.complex_is;
       ids_are = subst (AreIdsOf network.linked.slots network.counted.voted.cells) (sym ids_are) is.ids;
-      labels = ap (λ (l : Labels). length l.inside) labels_are ∙ length-map network.counted.voted.cells (is_inside claim);
+      count = ap (λ (l : Labels). length l.inside) labels_are ∙ length-map network.counted.voted.cells (is_inside claim);
       admissible = flags_admissible s network.counted.voted claim labels is.voted labels_are admissible;
     }
 

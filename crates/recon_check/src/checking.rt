@@ -32,7 +32,7 @@ use mesh_ply::{Mesh, push_mesh};
 use scan::Scan;
 use solution::{least_cost, seen_in};
 use std::alloc::{AllocError, Global};
-use surface::facets;
+use surface::{facets, labels_by_number};
 use vote_net::Counted;
 use watch::{Silent, Watch};
 
@@ -107,7 +107,8 @@ fn best_surface(
     let Network { linked, counted } = network;
     let Counted { voted, ids } = counted;
     let labels = labels_at_cost(alloc, scan, settings, voted, cert)?;
-    Ok(facets(alloc, &linked, &ids, &labels)?)
+    let inside = labels_by_number(alloc, &linked, &ids, &labels)?;
+    Ok(facets(alloc, &linked, &inside)?)
 }
 
 /// The numbers of the surface whose text the mesh is, where the certificate shows it best over the scan's network. The certificate

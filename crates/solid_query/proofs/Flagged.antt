@@ -1,34 +1,18 @@
 -- The flags of linked cells by their numbers are the labels of their rows. The numbers of the nodes' cells are those of all live cells,
 -- each once.
-use Rattle.std.proofs.Common.{ℕ, ◌<◌, ◌≡◌, ap, sym, ◌∙◌, Bool, Option, List, length, get_or}
-use Rattle.std.specs.List.Sorted.{IsPermutation}
+use Rattle.std.proofs.Common.{ℕ, ◌<◌, ◌≡◌, Bool, List, length, get_or}
 use Rattle.flow_net.specs.Nets.{flag_at}
 use Rattle.flow_net.specs.declared.votes.Settings.{Settings}
 use Rattle.scan.specs.Shown.{Shown}
 use Rattle.solution.specs.Scans.{scene_of_scan}
 use Rattle.surface.specs.Labelled.{AreAllLive}
-use Rattle.surface.proofs.Listed.{all_live, index_of, label_is}
-use Rattle.tetra_store.specs.declared.link.Cell.{Cell}
+use Rattle.surface.proofs.Listed.{all_live, says_by_number}
 use Rattle.tetra_store.specs.Links.{links_of, IsLive}
 use Rattle.tetra_store.specs.Store.{Store}
-use Rattle.visibility.specs.Complexes.{Complex}
 use Rattle.visibility.specs.Laws.{test_of}
-use Rattle.visibility.specs.Scenes.{Scene}
-use Rattle.visibility.specs.Votes.{IsComplexOf}
-use Rattle.vote_net.specs.Counts.{AreCellsOf, AreIdsOf, row_of}
+use Rattle.vote_net.specs.Counts.{row_of}
 use Rattle.vote_net.specs.declared.network.Counted.{Counted}
 use Rattle.solid_query.specs.Solids.{IsNetworkOfScan}
-
-module _ (s : Scene) (slots : List (Option Cell)) (cells : AreCellsOf s slots) (complex : Complex)
-    (all : IsComplexOf s complex) (order : List (List ℕ)) (listing : IsPermutation complex.cells order) (ids : List ℕ)
-    (are : AreIdsOf slots order ids) where
-  pub flag_is : (inside flags : List Bool)
-      → ((k : ℕ) → k < length ids → flag_at flags (get_or ids k 0) ≡ flag_at inside k) → (id : ℕ) → IsLive (links_of slots) id
-      → flag_at flags id ≡ test_of order inside (row_of slots id)
-  flag_is inside flags each id h =
-      let k = index_of s slots cells complex all order listing ids are id h in
-      ap (flag_at flags) (sym k.3) ∙ each k.0 k.1 ∙ sym (label_is s slots cells complex all order listing ids are inside k.0 k.1)
-      ∙ ap (λ (x : ℕ). test_of order inside (row_of slots x)) k.3
 
 -- of the network of a scan
 module _ (scan : Shown) (settings : Settings) (s : Store) (counted : Counted)
@@ -44,5 +28,5 @@ module _ (scan : Shown) (settings : Settings) (s : Store) (counted : Counted)
       → (id : ℕ) → IsLive (links_of s.slots) id → flag_at flags id ≡ test_of counted.voted.cells inside (row_of s.slots id)
   flags_are inside flags each =
       let listing = made.network.listing in
-      flag_is (scene_of_scan scan settings) s.slots made.cells listing.complex listing.complex_is counted.voted.cells
+      says_by_number (scene_of_scan scan settings) s.slots made.cells listing.complex listing.complex_is counted.voted.cells
       listing.cells_are counted.ids.items made.ids inside flags each

@@ -1,9 +1,7 @@
 //! The linked cells of a scan, and which of them are inside by the least-inside labels of least cost.
 
-ghost use Rattle.std.specs.Prelude.{◌≡◌, ◌<◌, ℕ, IfOk, Contains, length, slice_index};
-ghost use Rattle.flow_net.specs.Nets.{flag_at};
+ghost use Rattle.std.specs.Prelude.{IfOk};
 ghost use Rattle.scan.specs.Views.{shown_of};
-ghost use Rattle.surface.specs.Labelled.{AreOnce};
 ghost use Rattle.solid_query.specs.Solids.{IsNetworkOfScan, IsSolid};
 
 use crate::NoMemory;
@@ -13,7 +11,8 @@ use max_flow::{least_inside, solve};
 use scan::Scan;
 use solution::seen_in;
 use std::alloc::Global;
-use tetra_store::{CellId, Tetra};
+use surface::labels_by_number;
+use tetra_store::Tetra;
 use vote_net::Counted;
 use votes::count_votes_as_stored;
 
@@ -41,26 +40,6 @@ pub(crate) fn network(
     Ok((tetra, counted))
 }
 
-/// The labels of cells by their numbers in the store, which are below `limit`.
-fn flags_by_number(
-    alloc: Global,
-    ids: &[CellId],
-    inside: &[bool],
-    limit: usize,
-) -> Result<Vec<bool>, NoMemory>
-    requires below { (id : ℕ) → Contains ids.now id → id < limit }
-    requires once { AreOnce ids.now }
-    requires labels { length inside.now ≡ length ids.now }
-    ensures count { IfOk result (λ flags. length flags.items ≡ limit) }
-    ensures flags { IfOk result (λ flags. (k : ℕ) → k < length ids.now → flag_at flags.items (slice_index ids.now k) ≡ flag_at inside.now k) }
-{
-    let mut flags = vec![in alloc; false; limit]?;
-    for (node, id) in ids.iter().enumerate() {
-        flags[id.number()] = inside[node];
-    }
-    Ok(flags)
-}
-
 /// The linked cells of a scan, and which of them are inside by the least-inside labels of least cost at these settings.
 pub(crate) fn solid_of(alloc: Global, scan: &Scan, settings: Settings) -> Result<Solid, NoMemory>
     ensures { IfOk result (λ solid. IsSolid (shown_of scan.now) settings solid.tetra solid.inside.items) }
@@ -68,7 +47,6 @@ pub(crate) fn solid_of(alloc: Global, scan: &Scan, settings: Settings) -> Result
     let (tetra, counted) = network(alloc, scan, settings)?;
     let flow = solve(alloc, &counted.voted.net)?;
     let labels = least_inside(alloc, &counted.voted.net, &flow)?;
-    let limit = tetra.number_limit();
-    let inside = flags_by_number(alloc, &counted.ids, labels.inside.as_slice(), limit)?;
+    let inside = labels_by_number(alloc, &tetra, &counted.ids, &labels)?;
     Ok(Solid { tetra, inside })
 }

@@ -33,10 +33,9 @@ use Rattle.vote_net.proofs.CellRows.{least_rotated}
 use Rattle.vote_net.proofs.Entries.{map_has, map_gets}
 use Rattle.vote_net.proofs.Nodes.{no_side}
 use Rattle.surface.specs.Closed.{IsClosed}
-use Rattle.surface.specs.Labelled.{AreAllLive, NoneHasCorner}
+use Rattle.surface.specs.Labelled.{NoneHasCorner}
 use Rattle.surface.proofs.EvenSides as sides_of
 use Rattle.surface.proofs.Renumbered.{IsBelow, renamed, renumbered}
-use Rattle.surface.proofs.StoreCut as cuts
 
 -- a side in the words of the laws
 abbrev named : Side → laws.Side
@@ -71,17 +70,12 @@ none_low t k h l =
     by (suc (suc (suc k))) l a b c d = d
 
 -- cells with no flag have no corner, where these are the cells inside
-pub none_flagged : (slots : List (Option Cell)) (ids : List ℕ) (inside outside : List Bool) → AreAllLive slots ids
-    → NoneHasCorner slots ids inside
-    → ((k : ℕ) → k < length ids → flag_at outside (get_or ids k 0) ≡ not (flag_at inside k)) → (x k : ℕ)
+pub none_flagged : (slots : List (Option Cell)) (inside outside : List Bool) → NoneHasCorner slots inside
+    → ((x : ℕ) → IsLive (links_of slots) x → flag_at outside x ≡ not (flag_at inside x)) → (x k : ℕ)
     → IsLive (links_of slots) x → not (flag_at outside x) ≡ true → k < 4 → 8 ≤ vertex_of ((links_of slots).at x) k
-none_flagged slots ids inside outside all none flags x k h free l =
-    let i = cuts.index_at slots ids all x h in
-    let label : flag_at inside i.0 ≡ true =
-    not-false (flag_at inside i.0)
-    (sym (flags i.0 i.1) ∙ ap (flag_at outside) i.2 ∙ not-true (flag_at outside x) free) in
+none_flagged slots inside outside none flags x k h free l =
     none_low ((links_of slots).at x) k
-    (subst (λ (y : ℕ). has_corner ((links_of slots).at y) ≡ false) i.2 (none i.0 i.1 label)) l
+    (none x h (not-false (flag_at inside x) (sym (flags x h) ∙ not-true (flag_at outside x) free))) l
 
 module _ (v : Vertices) (slots : List (Option Cell)) (linked : IsLinked v (links_of slots)) (outside : List Bool)
     (free : (x k : ℕ) → IsLive (links_of slots) x → not (flag_at outside x) ≡ true → k < 4

@@ -2,15 +2,13 @@
 -- that the labels cut. Both lists rise, so it is enough that they have the same members. A facet of the one has a capacity, since an
 -- inside cell is not fixed; and the two cells of a facet of the other are live cells, of which the one is across the side of the
 -- other that has the facet.
-use Rattle.std.proofs.Common.{ℕ, zero, suc, ◌<◌, ◌≡◌, refl, sym, ap, subst, ◌∙◌, inl, arith, Bool, true, false, true≢false}
-use Rattle.std.proofs.Common.{not, cond, Option, Some, List, [], ◌∷◌, length, get_or, filter, Contains}
-use Rattle.std.specs.List.Sorted.{IsPermutation}
+use Rattle.std.proofs.Common.{ℕ, zero, suc, ◌≡◌, refl, sym, ap, subst, ◌∙◌, inl, arith, Bool, true, false, true≢false}
+use Rattle.std.proofs.Common.{not, cond, Option, List, [], ◌∷◌, filter, Contains}
 use Rattle.std.proofs.lemmas.Bool.{and_parts, and_from, not-true, not_from_false}
 use Rattle.std.proofs.lemmas.List.Elements.{Contains-get_or}
 use Rattle.std.proofs.lemmas.List.Kept.{AllPairs-filter}
 use Rattle.std.proofs.lemmas.List.Sums.{passes_at_first}
 use Rattle.flow_net.specs.Nets.{flag_at}
-use Rattle.geo_sign.specs.Point.{Point}
 use Rattle.geo_sign.specs.Tetrahedron.{Tetrahedron, DirectedFacet, facet_of, facet_at, numbers_of, turned}
 use Rattle.geo_sign.specs.Cells.{written}
 use Rattle.geo_sign.specs.Rising.{IsBefore}
@@ -24,19 +22,17 @@ use Rattle.visibility.specs.Scenes.{Scene}
 use Rattle.visibility.specs.Complexes.{Complex, has_facet, HasFacet, cell_index, cell_of}
 use Rattle.visibility.specs.Votes.{is_fixed, HasCapacity, IsComplexOf}
 use Rattle.visibility.specs.Cuts.{is_cut, cut_facets, IsAdmissible}
-use Rattle.visibility.specs.Laws.{test_of}
 use Rattle.visibility.proofs.Indices.{first_within}
-use Rattle.visibility.proofs.ListingAgreements.{with_rising}
-use Rattle.visibility.proofs.Ordered.{one_complex}
 use Rattle.tetra_store.specs.declared.link.Cell.{Cell}
 use Rattle.tetra_store.specs.Links.{links_of}
 use Rattle.tetra_store.specs.Stored.{live_of}
-use Rattle.vote_net.specs.CellRows.{least_first, facet_row}
-use Rattle.vote_net.specs.Counts.{AreCellsOf, AreIdsOf, row_of}
+use Rattle.vote_net.specs.ByNumber.{SaysOfCells}
+use Rattle.vote_net.specs.CellRows.{least_first}
+use Rattle.vote_net.specs.Counts.{AreCellsOf, row_of}
 use Rattle.vote_net.proofs.CellRows.{IsSideOf, row_has_side}
 use Rattle.vote_net.proofs.CellSides.{across_has, has_across, has_is}
-use Rattle.vote_net.proofs.Stored.{listed}
-use Rattle.surface.specs.Labelled.{AreAllLive, AreCutFacets, AreLabelsOver, IsCutFacet, NoneHasCorner}
+use Rattle.vote_net.proofs.Stored.{listed, live}
+use Rattle.surface.specs.Labelled.{AreCutFacets, AreLabelsOver, IsCutFacet, NoneHasCorner}
 use Rattle.surface.proofs.Listed as rows
 
 -- ---- what a filter keeps
@@ -103,28 +99,21 @@ module _ (s : Scene) (slots : List (Option Cell)) (cells : AreCellsOf s slots) (
       → cell_of s.vertices complex.cells f ≡ row
   cell_is row f c h = let p = first_in f (has row f c h) in one_cell (cell_of s.vertices complex.cells f) row f p.0 c p.1 h
 
-  module _ (order : List (List ℕ)) (listing : IsPermutation complex.cells order) (ids : List ℕ)
-      (are : AreIdsOf slots order ids) (inside : List Bool) (none : IsAdmissible s complex (test_of order inside)) where
-    abbrev test : List ℕ → Bool
-    test = test_of order inside
-
-    label_is : (k : ℕ) → k < length ids → test (row_of slots (get_or ids k 0)) ≡ flag_at inside k
-    label_is = rows.label_is s slots cells complex all order listing ids are inside
-
-    to_cut : (f : List ℕ) → IsCutFacet slots ids inside f → Contains (cut_facets s.vertices complex test) f
+  module _ (inside : List Bool) (test : List ℕ → Bool) (says : SaysOfCells slots (flag_at inside) test)
+      (none : IsAdmissible s complex test) where
+    to_cut : (f : List ℕ) → IsCutFacet slots inside f → Contains (cut_facets s.vertices complex test) f
     to_cut f c =
-        let x = get_or ids c.own 0 in
-        let y = get_or ids c.other 0 in
-        let lx = are.live c.own c.listed in
-        let ly = are.live c.other c.other_listed in
+        let x = c.own in
+        let y = c.other in
+        let b = across_has s.vertices (live_of slots) cell next cells x c.side y (listed slots x c.live) c.in_range c.across in
+        let ly = live slots y b.0 in
         let g : DirectedFacet = least_first (facet_of (cell x) c.side) in
-        let b = across_has s.vertices (live_of slots) cell next cells x c.side y (listed slots x lx) c.in_range c.across in
         let own : has_facet s.vertices (row_of slots x) g ≡ true =
-        row_has_side s.vertices (cell x) c.side (rows.positive s slots cells complex all x lx) in
+        row_has_side s.vertices (cell x) c.side (rows.positive s slots cells complex all x c.live) in
         let back : has_facet s.vertices (row_of slots y) (turned g) ≡ true =
         subst (λ (h : DirectedFacet). has_facet s.vertices (row_of slots y) h ≡ true) b.1.2
         (row_has_side s.vertices (cell y) b.1.0 (rows.positive s slots cells complex all y ly)) in
-        let cx = rows.row_in s slots cells complex all x lx in
+        let cx = rows.row_in s slots cells complex all x c.live in
         let cy = rows.row_in s slots cells complex all y ly in
         let first : cell_of s.vertices complex.cells g ≡ row_of slots x = cell_is (row_of slots x) g cx own in
         let second : cell_of s.vertices complex.cells (turned g) ≡ row_of slots y =
@@ -136,17 +125,17 @@ module _ (s : Scene) (slots : List (Option Cell)) (cells : AreCellsOf s slots) (
           across = has (row_of slots y) (turned g) cy back;
           free =
               ap (is_fixed s.vertices s.scanners) second
-              ∙ rows.free s slots cells complex all order listing ids are inside none c.other c.other_listed c.is_inside;
+              ∙ rows.free s slots cells complex all inside test says none y ly c.is_inside;
         } in
         subst (Contains (cut_facets s.vertices complex test)) (sym c.facet_is)
         (in_filter (is_cut s.vertices complex.cells test) complex.facets (numbers_of g)
         (all.facets_are.all (numbers_of g) cap)
         (and_from (not (test (cell_of s.vertices complex.cells g))) (test (cell_of s.vertices complex.cells (turned g)))
         (ap (λ (row : List ℕ). not (test row)) first
-        ∙ not_from_false (test (row_of slots x)) (label_is c.own c.listed ∙ c.is_outside))
-        (ap test second ∙ label_is c.other c.other_listed ∙ c.is_inside)))
+        ∙ not_from_false (test (row_of slots x)) (sym (says x c.live) ∙ c.is_outside))
+        (ap test second ∙ sym (says y ly) ∙ c.is_inside)))
 
-    from_cut : (f : List ℕ) → Contains (cut_facets s.vertices complex test) f → IsCutFacet slots ids inside f
+    from_cut : (f : List ℕ) → Contains (cut_facets s.vertices complex test) f → IsCutFacet slots inside f
     from_cut f h =
         let p = filter_in (is_cut s.vertices complex.cells test) complex.facets f h in
         let c = all.facets_are.only f p.0 in
@@ -163,56 +152,33 @@ module _ (s : Scene) (slots : List (Option Cell)) (cells : AreCellsOf s slots) (
         let m : IsSideOf (cell y.0) (turned g) =
         has_is s.vertices (live_of slots) cell next cells y.0 (turned g) (listed slots y.0 y.1)
         (subst (λ (row : List ℕ). has_facet s.vertices row (turned g) ≡ true) (sym y.2) b.1) in
-        let n : next x.0 k.0 ≡ Some y.0 =
-        has_across s.vertices (live_of slots) cell next cells x.0 k.0 y.0 m.0 (listed slots x.0 x.1)
-        (listed slots y.0 y.1) k.1 m.1 (m.2 ∙ ap (λ (z : DirectedFacet). turned z) (sym k.2)) in
-        let i = rows.index_of s slots cells complex all order listing ids are x.0 x.1 in
-        let j = rows.index_of s slots cells complex all order listing ids are y.0 y.1 in
         record {
-          own = i.0;
+          own = x.0;
           side = k.0;
-          other = j.0;
-          listed = i.1;
+          other = y.0;
+          live = x.1;
           in_range = k.1;
-          other_listed = j.1;
-          across = ap (λ (z : ℕ). next z k.0) i.3 ∙ n ∙ ap Some (sym j.3);
-          is_outside =
-              sym (label_is i.0 i.1) ∙ ap (λ (z : ℕ). test (row_of slots z)) i.3 ∙ ap test x.2
-              ∙ not-true (test (cell_of s.vertices complex.cells g)) q.0;
-          is_inside = sym (label_is j.0 j.1) ∙ ap (λ (z : ℕ). test (row_of slots z)) j.3 ∙ ap test y.2 ∙ q.1;
-          facet_is =
-              c.three ∙ ap (λ (z : DirectedFacet). numbers_of z) (sym k.2)
-              ∙ ap (λ (z : ℕ). facet_row (cell z) k.0) (sym i.3);
+          across =
+              has_across s.vertices (live_of slots) cell next cells x.0 k.0 y.0 m.0 (listed slots x.0 x.1)
+              (listed slots y.0 y.1) k.1 m.1 (m.2 ∙ ap (λ (z : DirectedFacet). turned z) (sym k.2));
+          is_outside = says x.0 x.1 ∙ ap test x.2 ∙ not-true (test (cell_of s.vertices complex.cells g)) q.0;
+          is_inside = says y.0 y.1 ∙ ap test y.2 ∙ q.1;
+          facet_is = c.three ∙ ap (λ (z : DirectedFacet). numbers_of z) (sym k.2);
         }
 
-    cut_is : (facets : List (List ℕ)) → AreCutFacets slots ids inside facets → facets ≡ cut_facets s.vertices complex test
+    cut_is : (facets : List (List ℕ)) → AreCutFacets slots inside facets → facets ≡ cut_facets s.vertices complex test
     cut_is facets are_cut =
         rising_law facets (cut_facets s.vertices complex test) are_cut.rising
         (AllPairs-filter IsBefore (is_cut s.vertices complex.cells test) complex.facets all.facets_are.rising)
         (λ f. ((λ h. to_cut f (are_cut.only f h)), λ h. are_cut.all f (from_cut f h)))
 
 -- ---- in the words of the clauses
-module _ (s : Scene) (listing : Complex) (points : List Point) (slots : List (Option Cell)) (ids : List ℕ) (inside : List Bool)
-    (over : AreLabelsOver s listing points slots ids inside) where
-  none_fixed : IsAdmissible s over.lists.complex (test_of listing.cells inside)
-  none_fixed = ((with_rising s listing over.lists).admissible (test_of listing.cells inside)).0 over.admissible
-
-  -- the facets, by the one complex of the scene
-  pub cut_in_scene : (rising : Complex) → IsComplexOf s rising → (facets : List (List ℕ)) → AreCutFacets slots ids inside facets
-      → facets ≡ cut_facets s.vertices rising (test_of listing.cells inside)
-  cut_in_scene rising is facets are_cut =
-      let lists = over.lists in
-      cut_is s slots over.cells lists.complex lists.complex_is listing.cells lists.cells_are ids over.ids_are inside none_fixed
-      facets are_cut
-      ∙ ap (λ (x : Complex). cut_facets s.vertices x (test_of listing.cells inside))
-      (one_complex s lists.complex rising lists.complex_is is)
+module _ (s : Scene) (rising : Complex) (slots : List (Option Cell)) (inside : List Bool) (test : List ℕ → Bool)
+    (over : AreLabelsOver s rising slots inside test) where
+  pub cut_in_scene : (facets : List (List ℕ)) → AreCutFacets slots inside facets
+      → facets ≡ cut_facets s.vertices rising test
+  cut_in_scene = cut_is s slots over.cells rising over.complex_is inside test over.says over.admissible
 
   -- such labels can be cut
-  pub can_be_cut : AreAllLive slots ids × (length inside ≡ length ids) × NoneHasCorner slots ids inside
-  can_be_cut =
-      let lists = over.lists in (
-        rows.all_live s slots over.cells lists.complex lists.complex_is listing.cells lists.cells_are ids over.ids_are,
-        over.labels ∙ sym over.ids_are.count,
-        rows.none_has_corner s slots over.cells lists.complex lists.complex_is listing.cells lists.cells_are ids over.ids_are
-            inside none_fixed,
-      )
+  pub can_be_cut : NoneHasCorner slots inside
+  can_be_cut = rows.none_has_corner s slots over.cells rising over.complex_is inside test over.says over.admissible

@@ -1,5 +1,6 @@
 pub mod Renumbered
 pub mod Listed
+pub mod ListedLabels
 pub mod CutList
 pub mod StoreCut
 pub mod EvenSides

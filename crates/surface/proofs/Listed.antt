@@ -1,6 +1,6 @@
 -- The cells of a scene by the numbers that they have in a store. Each row of the list is that of one live cell, so numbers in the
--- order of the rows, however these stand, are those of all live cells, each once. The label of a row is the flag at its index, so
--- no cell inside has a corner where no fixed cell is inside.
+-- order of the rows, however these stand, are those of all live cells, each once. The label of a row is the flag at its index, which a
+-- list by numbers has at the cell's number. No cell inside has a corner where no fixed cell is inside.
 use Rattle.std.proofs.Common.{ℕ, ◌<◌, ◌≡◌, refl, sym, ap, subst, ◌∙◌, arith, Bool, true, false, true≢false, List, [], Option, length}
 use Rattle.std.proofs.Common.{get_or, Contains}
 use Rattle.std.specs.List.Sorted.{IsPermutation}
@@ -21,6 +21,7 @@ use Rattle.visibility.proofs.Indices.{once_rising, once_permuted, same_index, ro
 use Rattle.tetra_store.specs.declared.link.Cell.{Cell}
 use Rattle.tetra_store.specs.Links.{links_of, IsLive}
 use Rattle.tetra_store.specs.Stored.{live_of}
+use Rattle.vote_net.specs.ByNumber.{SaysOfCells}
 use Rattle.vote_net.specs.Counts.{AreCellsOf, AreIdsOf, row_of}
 use Rattle.vote_net.proofs.CellCounts.{cell_count_law}
 use Rattle.vote_net.proofs.CellRows.{risen_row}
@@ -81,32 +82,29 @@ module _ (s : Scene) (slots : List (Option Cell)) (cells : AreCellsOf s slots) (
               (omega (arith, li, n)) (omega (arith, lj, n)) (are.row i li ∙ ap (row_of slots) e ∙ sym (are.row j lj)));
         }
 
-    -- the label of the row of a cell is that at the cell's index
-    pub label_is : (inside : List Bool) (k : ℕ) → k < length ids
-        → test_of order inside (row_of slots (get_or ids k 0)) ≡ flag_at inside k
-    label_is inside k l =
-        let n = are.count in
-        let m : k < length order = omega (arith, l, n) in
+    -- flags at the numbers of the cells, where each is the label at the cell's index, are those of the test of the labels
+    pub says_by_number : (labels inside : List Bool)
+        → ((k : ℕ) → k < length ids → flag_at inside (get_or ids k 0) ≡ flag_at labels k)
+        → SaysOfCells slots (flag_at inside) (test_of order labels)
+    says_by_number labels inside each x h =
+        let i = index_of x h in
         let once = once_permuted complex.cells order listing (once_rising complex.cells all.cells_are.rising) in
-        ap (test_of order inside) (sym (are.row k l)) ∙ ap (flag_at inside) (row_index_at order k once m)
+        ap (flag_at inside) (sym i.3) ∙ each i.0 i.1 ∙ sym (ap (flag_at labels) (row_index_at order i.0 once i.2))
+        ∙ ap (test_of order labels) i.4
 
-    module _ (inside : List Bool) (none : IsAdmissible s complex (test_of order inside)) where
-      pub free : (k : ℕ) → k < length ids → flag_at inside k ≡ true
-          → is_fixed s.vertices s.scanners (row_of slots (get_or ids k 0)) ≡ false
-      free k l h = by (is_fixed s.vertices s.scanners row) refl
-        where
-          row : List ℕ
-          row = row_of slots (get_or ids k 0)
+  -- ---- labels at the numbers of cells
+  module _ (inside : List Bool) (test : List ℕ → Bool) (says : SaysOfCells slots (flag_at inside) test)
+      (none : IsAdmissible s complex test) where
+    pub free : (x : ℕ) → IsLive (links_of slots) x → flag_at inside x ≡ true
+        → is_fixed s.vertices s.scanners (row_of slots x) ≡ false
+    free x l h = by (is_fixed s.vertices s.scanners (row_of slots x)) refl
+      where
+        by : (b : Bool) → is_fixed s.vertices s.scanners (row_of slots x) ≡ b
+            → is_fixed s.vertices s.scanners (row_of slots x) ≡ false
+        by true e = absurd (true≢false (sym (sym (says x l) ∙ h) ∙ none.none_fixed (row_of slots x) (row_in x l) e))
+        by false e = e
 
-          by : (b : Bool) → is_fixed s.vertices s.scanners row ≡ b → is_fixed s.vertices s.scanners row ≡ false
-          by true e =
-              absurd
-              (true≢false
-              (sym (label_is inside k l ∙ h) ∙ none.none_fixed row (row_in (get_or ids k 0) (are.live k l)) e))
-          by false e = e
-
-      pub none_has_corner : NoneHasCorner slots ids inside
-      none_has_corner k l h =
-          let x = get_or ids k 0 in
-          (or_parts (has_corner (cell x)) (has_scanner s.vertices s.scanners (cell x))
-          (sym (cell_count_law s slots cells x (are.live k l)).fixed ∙ free k l h)).0
+    pub none_has_corner : NoneHasCorner slots inside
+    none_has_corner x l h =
+        (or_parts (has_corner (cell x)) (has_scanner s.vertices s.scanners (cell x))
+        (sym (cell_count_law s slots cells x l).fixed ∙ free x l h)).0

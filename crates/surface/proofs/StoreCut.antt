@@ -2,9 +2,9 @@
 -- labels turned round. A facet of a positive cell has three distinct vertices, and no two sides have one facet, so the facets rise
 -- strictly and are a list of faces.
 use Rattle.std.proofs.Common.{ℕ, zero, suc, ◌<◌, ◌≤◌, ◌^◌, ◌≡◌, ◌≢◌, sym, ap, ap₂, subst, ◌∙◌, inl, inr, ⊎_elim, arith}
-use Rattle.std.proofs.Common.{Bool, not, List, length, get_or, map, Option, Some, AllPairs, Contains}
+use Rattle.std.proofs.Common.{Bool, not, List, length, get_or, map, Option, AllPairs, Contains}
 use Rattle.std.proofs.lemmas.Bool.{not-true, not-false, not_from_false}
-use Rattle.std.proofs.lemmas.List.{get_or-map, get_or_default, length-map}
+use Rattle.std.proofs.lemmas.List.{get_or-map, length-map}
 use Rattle.std.proofs.lemmas.List.Elements.{Contains-get_or}
 use Rattle.flow_net.specs.Nets.{flag_at}
 use Rattle.geo_sign.specs.Tetrahedron.{Tetrahedron, DirectedFacet, facet_of, IsRotated}
@@ -25,7 +25,7 @@ use Rattle.vote_net.proofs.CellRows.{least_rotated, side_least}
 use Rattle.vote_net.proofs.Entries.{map_has, map_gets}
 use Rattle.vote_net.proofs.KeyOrders.{AreSmallOf, facets_before}
 use Rattle.vote_net.proofs.Nodes.{no_side}
-use Rattle.surface.specs.Labelled.{AreAllLive, AreCutFacets, IsCutFacet, IsSortedCut}
+use Rattle.surface.specs.Labelled.{AreCutFacets, IsCutFacet, IsSortedCut}
 
 -- ---- three distinct vertices below a limit
 AreProper : ℕ → DirectedFacet → Type 0
@@ -49,11 +49,6 @@ least_same : (f g : DirectedFacet) → least_first f ≡ least_first g → IsRot
 least_same f g e =
     rotated_after f (least_first g) g (subst (IsRotated f) e (least_rotated f))
     (rotated_back g (least_first g) (least_rotated g))
-
--- the index of a live cell
-pub index_at : (slots : List (Option Cell)) (ids : List ℕ) → AreAllLive slots ids → (x : ℕ) → IsLive (links_of slots) x
-    → (k : ℕ) × (k < length ids) × (get_or ids k 0 ≡ x)
-index_at slots ids all x h = let c = all.all x h in (c.0, c.1, get_or_default ids c.0 0 x c.1 ∙ c.2)
 
 module _ (v : Vertices) (slots : List (Option Cell)) (linked : IsLinked v (links_of slots)) where
   abbrev cell : ℕ → Tetrahedron
@@ -137,45 +132,42 @@ module _ (v : Vertices) (slots : List (Option Cell)) (linked : IsLinked v (links
     are_faces = subst (IsFaceList v.count) (sym cut.facets_are) faces
 
     -- ---- labels of the cells
-    module _ (ids : List ℕ) (all : AreAllLive slots ids) (inside : List Bool)
-        (flags : (k : ℕ) → k < length ids → flag_at outside (get_or ids k 0) ≡ not (flag_at inside k)) where
-      only : (x : Side) → Contains cut.sides x → IsCutFacet slots ids inside x.facet
+    module _ (inside : List Bool)
+        (flags : (x : ℕ) → IsLive (links_of slots) x → flag_at outside x ≡ not (flag_at inside x)) where
+      only : (x : Side) → Contains cut.sides x → IsCutFacet slots inside x.facet
       only x h =
           let p = cut.are_cut.each x h in
           let b = linked.back x.id x.side p.other p.live p.in_range p.next in
-          let i = index_at slots ids all x.id p.live in
-          let j = index_at slots ids all p.other b.live in
           record {
-            own = i.0;
+            own = x.id;
             side = x.side;
-            other = j.0;
-            listed = i.1;
+            other = p.other;
+            live = p.live;
             in_range = p.in_range;
-            other_listed = j.1;
-            across = ap (λ (z : ℕ). (links_of slots).next z x.side) i.2 ∙ p.next ∙ ap Some (sym j.2);
-            is_outside = not-true (flag_at inside i.0) (sym (flags i.0 i.1) ∙ ap (flag_at outside) i.2 ∙ p.own);
-            is_inside = not-false (flag_at inside j.0) (sym (flags j.0 j.1) ∙ ap (flag_at outside) j.2 ∙ p.inside);
-            facet_is = p.facet_is ∙ ap (λ (z : ℕ). facet_row (cell z) x.side) (sym i.2);
+            across = p.next;
+            is_outside = not-true (flag_at inside x.id) (sym (flags x.id p.live) ∙ p.own);
+            is_inside = not-false (flag_at inside p.other) (sym (flags p.other b.live) ∙ p.inside);
+            facet_is = p.facet_is;
           }
 
-      there : (f : List ℕ) → IsCutFacet slots ids inside f → Contains (map facet_of_side cut.sides) f
+      there : (f : List ℕ) → IsCutFacet slots inside f → Contains (map facet_of_side cut.sides) f
       there f c =
-          let x = get_or ids c.own 0 in
+          let b = linked.back c.own c.side c.other c.live c.in_range c.across in
           let z =
-          cut.are_cut.all x c.side (get_or ids c.other 0) c.in_range c.across
-          (flags c.own c.listed ∙ not_from_false (flag_at inside c.own) c.is_outside)
-          (flags c.other c.other_listed ∙ ap not c.is_inside) in
+          cut.are_cut.all c.own c.side c.other c.in_range c.across
+          (flags c.own c.live ∙ not_from_false (flag_at inside c.own) c.is_outside)
+          (flags c.other b.live ∙ ap not c.is_inside) in
           let is : z.0.facet ≡ f =
           (cut.are_cut.each z.0 z.1).facet_is ∙ ap₂ (λ (i k : ℕ). facet_row (cell i) k) z.2 z.3 ∙ sym c.facet_is in
           subst (Contains (map facet_of_side cut.sides)) is (map_gets facet_of_side cut.sides z.0 z.1)
 
-      pub are_cut_facets : AreCutFacets slots ids inside facets
+      pub are_cut_facets : AreCutFacets slots inside facets
       are_cut_facets =
-          subst (AreCutFacets slots ids inside) (sym cut.facets_are)
+          subst (AreCutFacets slots inside) (sym cut.facets_are)
           (record {
             only = λ f h.
                 (let p = map_has facet_of_side cut.sides f h in
-                subst (IsCutFacet slots ids inside) p.is (only p.from p.listed));
+                subst (IsCutFacet slots inside) p.is (only p.from p.listed));
             all = there;
             rising = rise;
           })

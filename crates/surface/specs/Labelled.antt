@@ -1,12 +1,12 @@
--- Labels of a store's cells, which may be listed in any order, and the mesh that they cut.
+-- Labels of a store's cells, at the numbers that cells have in it, and the mesh that they cut.
 --
 --   AreOnce ids                               no number stands twice
 --   AreAllLive slots ids                      all live cells, each once
---   NoneHasCorner slots ids inside            no cell inside has a corner of the box
---   IsCutFacet slots ids inside facet         a facet of an outside cell with an inside cell across
---   AreCutFacets slots ids inside facets      all of these, rising
---   IsCutMesh points slots ids inside mesh    the mesh of these facets
---   AreLabelsOver scene listing points ..     the cells are those of the scene, and no fixed cell is inside
+--   NoneHasCorner slots inside                no cell inside has a corner of the box
+--   IsCutFacet slots inside facet             a facet of an outside cell with an inside cell across
+--   AreCutFacets slots inside facets          all of these, rising
+--   IsCutMesh points slots inside mesh        the mesh of these facets
+--   AreLabelsOver scene rising slots ..       the cells are those of the scene, labelled as by a test, and no fixed cell is inside
 --   IsSortedCut slots outside facets          the facets, sorted, of the sides of cells with a flag whose neighbor has none
 use Rattle.std.specs.Prelude.{ℕ, ◌≡◌, ◌<◌, Bool, true, false, List, Option, Some, map, length, slice_index, AllPairs, Contains}
 use Rattle.std.specs.List.Sorted.{IsNonDecreasingBy}
@@ -18,14 +18,13 @@ use Rattle.mesh_ply.specs.declared.mesh.Mesh.{Mesh}
 use Rattle.visibility.specs.Scenes.{Scene}
 use Rattle.visibility.specs.Complexes.{Complex}
 use Rattle.visibility.specs.Cuts.{IsAdmissible}
-use Rattle.visibility.specs.Laws.{test_of}
-use Rattle.visibility.specs.Listings.{IsListingOf}
-use Rattle.visibility.specs.Votes.{has_corner}
+use Rattle.visibility.specs.Votes.{has_corner, IsComplexOf}
 use Rattle.tetra_store.specs.declared.link.Cell.{Cell}
 use Rattle.tetra_store.specs.Links.{links_of, IsLive}
 use Rattle.vote_net.specs.declared.sides.Side.{Side}
+use Rattle.vote_net.specs.ByNumber.{SaysOfCells}
 use Rattle.vote_net.specs.CellRows.{facet_row}
-use Rattle.vote_net.specs.Counts.{AreCellsOf, AreIdsOf}
+use Rattle.vote_net.specs.Counts.{AreCellsOf}
 use Rattle.vote_net.specs.CutSides.{AreCutSides}
 use Rattle.vote_net.specs.Gathered.{key_of_side}
 use Rattle.vote_net.specs.Tables.{facet_of_side}
@@ -40,49 +39,44 @@ pub record AreAllLive (slots : List (Option Cell)) (ids : List ℕ) : Type 0 whe
   pub all : (id : ℕ) → IsLive (links_of slots) id → Contains ids id
   pub once : AreOnce ids
 
--- those with a corner are outside
-abbrev pub NoneHasCorner : List (Option Cell) → List ℕ → List Bool → Type 0
-NoneHasCorner slots ids inside =
-    (k : ℕ) → k < length ids → flag_at inside k ≡ true → has_corner ((links_of slots).at (slice_index ids k)) ≡ false
+-- live cells with a corner are outside
+abbrev pub NoneHasCorner : List (Option Cell) → List Bool → Type 0
+NoneHasCorner slots inside =
+    (id : ℕ) → IsLive (links_of slots) id → flag_at inside id ≡ true → has_corner ((links_of slots).at id) ≡ false
 
--- The cell across the side of one that is outside is inside. The facet is that of the outside cell, the least vertex first. Both cells
--- are told by the index of their labels.
-pub record IsCutFacet (slots : List (Option Cell)) (ids : List ℕ) (inside : List Bool) (facet : List ℕ) : Type 0 where
+-- The cell across the side of a live one that is outside is inside. The facet is that of the outside cell, the least vertex first.
+pub record IsCutFacet (slots : List (Option Cell)) (inside : List Bool) (facet : List ℕ) : Type 0 where
   pub own : ℕ
   pub side : ℕ
   pub other : ℕ
-  pub listed : own < length ids
+  pub live : IsLive (links_of slots) own
   pub in_range : side < 4
-  pub other_listed : other < length ids
-  pub across : (links_of slots).next (slice_index ids own) side ≡ Some (slice_index ids other)
+  pub across : (links_of slots).next own side ≡ Some other
   pub is_outside : flag_at inside own ≡ false
   pub is_inside : flag_at inside other ≡ true
-  pub facet_is : facet ≡ facet_row ((links_of slots).at (slice_index ids own)) side
+  pub facet_is : facet ≡ facet_row ((links_of slots).at own) side
 
 -- there are no others, and they rise, so each stands once
-pub record AreCutFacets (slots : List (Option Cell)) (ids : List ℕ) (inside : List Bool) (facets : List (List ℕ)) : Type 0 where
-  pub only : (f : List ℕ) → Contains facets f → IsCutFacet slots ids inside f
-  pub all : (f : List ℕ) → IsCutFacet slots ids inside f → Contains facets f
+pub record AreCutFacets (slots : List (Option Cell)) (inside : List Bool) (facets : List (List ℕ)) : Type 0 where
+  pub only : (f : List ℕ) → Contains facets f → IsCutFacet slots inside f
+  pub all : (f : List ℕ) → IsCutFacet slots inside f → Contains facets f
   pub rising : AllPairs IsBefore facets
 
 -- among these points
-pub record IsCutMesh (points : List Point) (slots : List (Option Cell)) (ids : List ℕ) (inside : List Bool) (mesh : Mesh)
-    : Type 0 where
+pub record IsCutMesh (points : List Point) (slots : List (Option Cell)) (inside : List Bool) (mesh : Mesh) : Type 0 where
   pub facets : List (List ℕ)
-  pub are_cut : AreCutFacets slots ids inside facets
+  pub are_cut : AreCutFacets slots inside facets
   pub points_are : mesh.points.items ≡ (mesh_of points facets).points
   pub faces_are : mesh.faces.items ≡ (mesh_of points facets).faces
 
--- the store has all cells of the scene over these points, the numbers and the labels are in the order of the listing, and no cell
--- inside has a corner or a scanner
-pub record AreLabelsOver (s : Scene) (listing : Complex) (points : List Point) (slots : List (Option Cell)) (ids : List ℕ)
-    (inside : List Bool) : Type 0 where
+-- the store has all cells of the scene, the labels at their numbers are those of a test of cells, and no cell inside has a corner or a
+-- scanner
+pub record AreLabelsOver (s : Scene) (rising : Complex) (slots : List (Option Cell)) (inside : List Bool) (test : List ℕ → Bool)
+    : Type 0 where
   pub cells : AreCellsOf s slots
-  pub count : s.vertices.count ≡ length points
-  pub lists : IsListingOf s listing
-  pub ids_are : AreIdsOf slots listing.cells ids
-  pub labels : length inside ≡ length listing.cells
-  pub admissible : IsAdmissible s listing (test_of listing.cells inside)
+  pub complex_is : IsComplexOf s rising
+  pub says : SaysOfCells slots (flag_at inside) test
+  pub admissible : IsAdmissible s rising test
 
 -- in the order of their numbers
 pub record IsSortedCut (slots : List (Option Cell)) (outside : List Bool) (facets : List (List ℕ)) : Type 0 where

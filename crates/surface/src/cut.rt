@@ -1,30 +1,27 @@
 //! The directed facets of outside cells with an inside cell across.
 
-ghost use Rattle.std.specs.Prelude.{◌≡◌, ◌<◌, ℕ, IfOk, Contains, length, not, map, slice_index};
+ghost use Rattle.std.specs.Prelude.{◌≡◌, ◌<◌, ℕ, IfOk, not, map};
 ghost use Rattle.flow_net.specs.Nets.{flag_at};
 ghost use Rattle.vote_net.specs.Tables.{facet_of_side};
-ghost use Rattle.surface.specs.Labelled.{AreOnce, IsSortedCut};
+ghost use Rattle.surface.specs.Labelled.{IsSortedCut};
 
 use crate::NoMemory;
 use std::alloc::Global;
-use tetra_store::{CellId, Tetra};
+use tetra_store::Tetra;
 use vote_net::{Side, sorted_cut};
 
 /// Which cells are outside, by their numbers in the store, which are below `limit`.
 pub(crate) fn outside_flags(
     alloc: Global,
-    ids: &[CellId],
     inside: &[bool],
     limit: usize,
 ) -> Result<Vec<bool>, NoMemory>
-    requires below { (id : ℕ) → Contains ids.now id → id < limit }
-    requires once { AreOnce ids.now }
-    requires labels { length inside.now ≡ length ids.now }
-    ensures { IfOk result (λ v. (k : ℕ) → k < length ids.now → flag_at v.items (slice_index ids.now k) ≡ not (flag_at inside.now k)) }
+    ensures { IfOk result (λ v. (id : ℕ) → id < limit → flag_at v.items id ≡ not (flag_at inside.now id)) }
 {
-    let mut outside = vec![in alloc; true; limit]?;
-    for (node, id) in ids.iter().enumerate() {
-        outside[id.number()] = !inside[node];
+    let mut outside = Vec::with_capacity(alloc, limit)?;
+    for number in 0..limit {
+        let is_inside = inside.get(number).copied().unwrap_or(false);
+        outside.push(!is_inside)?;
     }
     Ok(outside)
 }

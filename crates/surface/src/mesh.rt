@@ -1,23 +1,20 @@
 //! The mesh of labels.
 
-ghost use Rattle.std.specs.Prelude.{◌≡◌, IfOk, AllPairs, length};
+ghost use Rattle.std.specs.Prelude.{◌≡◌, ℕ, Bool, List, IfOk, AllPairs};
 ghost use Rattle.geo_sign.specs.Rising.{IsBefore};
 ghost use Rattle.mesh_ply.specs.Meshes.{mesh_of, IsMesh};
 ghost use Rattle.visibility.specs.Complexes.{Complex};
 ghost use Rattle.visibility.specs.Cuts.{cut_facets as cut_facets_in};
-ghost use Rattle.visibility.specs.Laws.{test_of};
 ghost use Rattle.visibility.specs.Scenes.{Scene};
-ghost use Rattle.visibility.specs.Votes.{IsComplexOf};
 ghost use Rattle.surface.specs.Closed.{IsClosed};
-ghost use Rattle.surface.specs.Labelled.{AreAllLive, AreLabelsOver, IsCutMesh, NoneHasCorner};
+ghost use Rattle.surface.specs.Labelled.{AreLabelsOver, IsCutMesh, NoneHasCorner};
 
 use crate::NoMemory;
 use crate::cut::{cut_facets, outside_flags};
-use flow_net::Labels;
 use geo_sign::Point;
 use mesh_ply::{Mesh, mesh_of_facets};
 use std::alloc::Global;
-use tetra_store::{CellId, Tetra};
+use tetra_store::Tetra;
 
 /// Where the vertices are, in order of their numbers.
 fn points_of(alloc: Global, t: &Tetra) -> Result<Vec<Point>, NoMemory>
@@ -33,25 +30,22 @@ fn points_of(alloc: Global, t: &Tetra) -> Result<Vec<Point>, NoMemory>
 /// The mesh of labels of linked cells: the facets of outside cells with an inside cell across, as outside cells have them, so that a
 /// face's three points turn counterclockwise as seen from outside. Nothing is asked of the cells but what each store keeps.
 ///
-/// `ids` are the numbers of all cells in the store, each once, in the order of the labels, which may be any. No cell inside has a corner
-/// of the box. Points that no face has are left out, and the others are numbered in the order of their vertex numbers. The faces have
-/// their smallest number first and rise. They are closed: each directed edge is met by its reverse equally often. Where the cells are
-/// all cells of a scene and none inside is fixed, the facets are those of the scene that the labels cut. The only error is want of
-/// memory, which also stands for 2^32 faces and more.
-pub fn facets(alloc: Global, t: &Tetra, ids: &[CellId], labels: &Labels) -> Result<Mesh, NoMemory>
-    requires ids { AreAllLive t.now.slots ids.now }
-    requires labels { length labels.now.inside ≡ length ids.now }
-    requires corners { NoneHasCorner t.now.slots ids.now labels.now.inside }
-    ensures cut { IfOk result (IsCutMesh t.now.points t.now.slots ids.now labels.now.inside) }
-    ensures points { (scene : Scene) (listing : Complex) → AreLabelsOver scene listing t.now.points t.now.slots ids.now labels.now.inside → (rising : Complex) → IsComplexOf scene rising → IfOk result (λ mesh. mesh.points.items ≡ (mesh_of t.now.points (cut_facets_in scene.vertices rising (test_of listing.cells labels.now.inside))).points) }
-    ensures faces { (scene : Scene) (listing : Complex) → AreLabelsOver scene listing t.now.points t.now.slots ids.now labels.now.inside → (rising : Complex) → IsComplexOf scene rising → IfOk result (λ mesh. mesh.faces.items ≡ (mesh_of t.now.points (cut_facets_in scene.vertices rising (test_of listing.cells labels.now.inside))).faces) }
+/// `inside` has the labels at the cells' numbers in the store; a cell past its end is outside. No cell inside has a corner of the box.
+/// Points that no face has are left out, and the others are numbered in the order of their vertex numbers. The faces have their
+/// smallest number first and rise. They are closed: each directed edge is met by its reverse equally often. Where the cells are all
+/// cells of a scene and none inside is fixed, the facets are those of the scene that the labels cut. The only error is want of memory,
+/// which also stands for 2^32 faces and more.
+pub fn facets(alloc: Global, t: &Tetra, inside: &[bool]) -> Result<Mesh, NoMemory>
+    requires { NoneHasCorner t.now.slots inside.now }
+    ensures cut { IfOk result (IsCutMesh t.now.points t.now.slots inside.now) }
+    ensures points { (scene : Scene) (rising : Complex) (test : List ℕ → Bool) → AreLabelsOver scene rising t.now.slots inside.now test → IfOk result (λ mesh. mesh.points.items ≡ (mesh_of t.now.points (cut_facets_in scene.vertices rising test)).points) }
+    ensures faces { (scene : Scene) (rising : Complex) (test : List ℕ → Bool) → AreLabelsOver scene rising t.now.slots inside.now test → IfOk result (λ mesh. mesh.faces.items ≡ (mesh_of t.now.points (cut_facets_in scene.vertices rising test)).faces) }
     ensures valid { IfOk result (λ mesh. IsMesh mesh.points.items mesh.faces.items) }
     ensures rising { IfOk result (λ mesh. AllPairs IsBefore mesh.faces.items) }
     ensures closed { IfOk result (λ mesh. IsClosed mesh.faces.items) }
 {
     t.facts();
-    let inside = labels.inside.as_slice();
-    let outside = outside_flags(alloc, ids, inside, t.number_limit())?;
+    let outside = outside_flags(alloc, inside, t.number_limit())?;
     let facets = cut_facets(alloc, t, &outside)?;
     let points = points_of(alloc, t)?;
     mesh_of_facets(alloc, &points, &facets)

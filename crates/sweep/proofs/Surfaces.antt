@@ -1,6 +1,5 @@
 -- The surface and the cost that the fields of a sweep keep.
-use Rattle.std.proofs.Common.{ℕ, ◌≡◌, ◌<◌, ◌++◌, ◌^◌, ap, sym, subst, ◌∙◌, arith, Bool, List, length}
-use Rattle.std.proofs.lemmas.List.{length-append}
+use Rattle.std.proofs.Common.{ℕ, ◌≡◌, ◌<◌, ◌++◌, ◌^◌, ap, sym, subst, ◌∙◌, arith, Bool, List}
 use Rattle.flow_net.specs.Flows.{cost_of}
 use Rattle.flow_net.specs.declared.Flow.{Flow}
 use Rattle.flow_net.specs.declared.Labels.{Labels}
@@ -15,7 +14,7 @@ use Rattle.solution.specs.Scans.{scene_of_scan}
 use Rattle.solution.specs.Solutions.{surface_of}
 use Rattle.solution.proofs.Certificates.{cost_over, least_inside_is}
 use Rattle.solution.proofs.LeastCosts.{least_cost_law}
-use Rattle.surface.specs.Labelled.{AreLabelsOver}
+use Rattle.surface.proofs.ListedLabels.{AreListed}
 use Rattle.tetra_store.specs.Store.{Store}
 use Rattle.visibility.specs.Complexes.{Complex}
 use Rattle.visibility.specs.Cuts.{cost, cut_facets, IsLeastCost}
@@ -80,15 +79,14 @@ module _ (points scanners : List Point) (sights : List Sight) (settings : Settin
       let is = cost_over scene voted labels kept.network kept.least in
       omega (arith, fits, is)
 
-  -- what the surface is made from, whatever the list of numbers is called
-  pub over : (given : List ℕ) → given ≡ ids → AreLabelsOver scene (complex_of voted) store.points store.slots given labels.inside
-  over given same =
+  -- the labels are those of the scene's cells, whatever the list of numbers is called
+  pub listed : (given : List ℕ) → given ≡ ids → AreListed scene (complex_of voted) store.slots given labels.inside
+  listed given same =
       record {
         cells = kept.cells;
-        count = sym (ap length kept.stored ∙ length-append corners points);
         lists = kept.network.listing;
         ids_are = subst (AreIdsOf store.slots voted.cells) (sym same) kept.ids_are;
-        labels = kept.least.count ∙ node_count scene voted kept.network;
+        count = kept.least.count ∙ node_count scene voted kept.network;
         admissible =
             ((with_rising scene (complex_of voted) kept.network.listing).admissible inside).1 best.least.least_cost.admissible;
       }

@@ -20,7 +20,7 @@ use scan::Scan;
 use solution::{SeenPoints, seen_in};
 use std::alloc::Global;
 use std::marker::Model;
-use surface::facets;
+use surface::{facets, labels_by_number};
 use tetra_store::Tetra;
 use vote_net::Counted;
 use votes::count_votes_as_stored_watched;
@@ -157,6 +157,7 @@ impl Sweep {
         ensures valid { IfOk result (λ mesh. IsMesh mesh.points.items mesh.faces.items) }
         ensures closed { IfOk result (λ mesh. IsClosed mesh.faces.items) }
     {
-        facets(self.alloc, &self.tetra, &self.counted.ids, &self.labels)
+        let inside = labels_by_number(self.alloc, &self.tetra, &self.counted.ids, &self.labels)?;
+        facets(self.alloc, &self.tetra, &inside)
     }
 }

@@ -25,7 +25,8 @@ pub use cells::rising_cells;
 pub use keys::{cell_key, facet_key};
 pub use laws::{cell_count_law, facet_count_law, store_network_law, stored_cells_law};
 pub use network::{Counted, StoreNet, assemble, assemble_alone, assemble_rising, listed};
-pub use sides::{Side, sorted_cut};
+pub use rows::cell_row;
+pub use sides::{Side, facet_row, flag, sorted_cut};
 use std::alloc::AllocError;
 
 /// Want of memory: the one answer that any input may get.

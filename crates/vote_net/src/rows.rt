@@ -27,9 +27,9 @@ fn in_order(x: u32, y: u32) -> (u32, u32)
     if y < x { (y, x) } else { (x, y) }
 }
 
-/// Four numbers in order.
+/// The four vertices of a cell by number, in rising order.
 #[tactic(auto, unfolding(crate::specs::CellRows::risen))]
-fn rising(v: [u32; 4]) -> [u32; 4]
+pub fn cell_row(v: [u32; 4]) -> [u32; 4]
     ensures { result ≡ row_from (risen (tetrahedron_from v)) }
 {
     let (a, b) = in_order(v[0], v[1]);
@@ -48,7 +48,7 @@ pub(crate) fn rows(alloc: Global, t: &Tetra) -> Result<Vec<Row>, NoMemory>
     let mut cells = t.cells();
     while let Some((id, cell)) = cells.next() {
         rows.push(Row {
-            cell: rising(cell.v),
+            cell: cell_row(cell.v),
             id,
         })?;
     }

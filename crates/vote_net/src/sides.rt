@@ -25,8 +25,8 @@ pub struct Side {
     pub id: CellId,
 }
 
-/// Whether a list of flags has a cell.
-pub(crate) fn flag(flags: &[bool], id: CellId) -> bool
+/// Whether a list of flags has a cell. A number past its end has no flag.
+pub fn flag(flags: &[bool], id: CellId) -> bool
     ensures { result ≡ flag_at flags.now id }
 {
     match flags.get(id.number()) {
@@ -50,8 +50,8 @@ fn least_first(facet: [u32; 3]) -> [u32; 3]
     }
 }
 
-/// The numbers of the directed facet of a side, the least first.
-pub(crate) fn facet_row(v: [u32; 4], side: u8) -> [u32; 3]
+/// The three vertices of the directed facet of a cell's side by number, the least first.
+pub fn facet_row(v: [u32; 4], side: u8) -> [u32; 3]
     requires { side < 4 }
     ensures { result ≡ facet_row_in (tetrahedron_from v) side }
 {

@@ -1,5 +1,5 @@
-//! `facets` of labels over built cells: which facets they are, how these are turned, which points are left out, and that the order of
-//! the labels decides nothing.
+//! `facets` of labels over built cells: which facets they are, how these are turned, which points are left out, and that the order in
+//! which the labels were found decides nothing.
 
 ghost use Rattle.visibility.specs.Networks.{IsNetworkInAnyOrder};
 ghost use Rattle.visibility.specs.SceneViews.{view_of};
@@ -16,7 +16,7 @@ use max_flow::minimum_cut;
 use mesh_ply::Mesh;
 use std::alloc::{AllocError, Global};
 use std::test::Fail;
-use surface::facets;
+use surface::{facets, labels_by_number};
 use tetra_store::Tetra;
 use visibility::Scene;
 use vote_net::Counted;
@@ -34,7 +34,8 @@ fn mesh_of(
     requires ids { AreIdsOf t.now.slots counted.now.voted.cells counted.now.ids.items }
 {
     let cut = minimum_cut(alloc, &counted.voted.net)?;
-    facets(alloc, t, &counted.ids, &cut.1)
+    let inside = labels_by_number(alloc, t, &counted.ids, &cut.1)?;
+    facets(alloc, t, &inside)
 }
 
 /// The mesh by labels in the store's order and by labels in the rising one. None where points are not distinct data points or too many, or

@@ -11,8 +11,8 @@ use Rattle.scan.specs.Views.{shown_of}
 use Rattle.solution.specs.Scans.{points_of, scene_of_scan}
 use Rattle.solution.specs.Solutions.{surface_of}
 use Rattle.solution.proofs.Certificates.{least_inside_is}
-use Rattle.surface.specs.Labelled.{AreLabelsOver}
 use Rattle.surface.proofs.CutList.{can_be_cut}
+use Rattle.surface.proofs.ListedLabels.{can_be_numbered, numbered, AreListed}
 use Rattle.tetra_store.specs.Store.{Store}
 use Rattle.visibility.specs.Complexes.{Complex}
 use Rattle.visibility.specs.Laws.{test_of}
@@ -27,31 +27,39 @@ use Rattle.recon_build.proofs.Stored.{corner_count}
 use Rattle.recon_build.proofs.solving.solve_over.Goals as goal
 
 -- the labels are those of the scene's cells, whatever the list of numbers is called
-over : (scan : Shown) (settings : Settings) (tetra : Store) (counted : Counted) (labels : Labels) (ids : List ℕ)
-    → IsStoreOf scan settings tetra → AreCellsOf (scene_of_scan scan settings) tetra.slots
+labels_listed : (scan : Shown) (settings : Settings) (tetra : Store) (counted : Counted) (labels : Labels) (ids : List ℕ)
+    → AreCellsOf (scene_of_scan scan settings) tetra.slots
     → IsNetworkInAnyOrder (scene_of_scan scan settings) counted.voted
     → AreIdsOf tetra.slots counted.voted.cells counted.ids.items → ids ≡ counted.ids.items
-    → IsLeastInside counted.voted.net labels → AreLabelsOver (scene_of_scan scan settings) (complex_of counted.voted) tetra.points
-    tetra.slots ids labels.inside
-over scan settings tetra counted labels ids store cells network are same least =
+    → IsLeastInside counted.voted.net labels
+    → AreListed (scene_of_scan scan settings) (complex_of counted.voted) tetra.slots ids labels.inside
+labels_listed scan settings tetra counted labels ids cells network are same least =
     let s : Scene = scene_of_scan scan settings in
     let inside = least_inside_is s counted.voted labels network least in
     record {
       cells = cells;
-      count = sym (corner_count tetra (points_of scan) store.points);
       lists = network.listing;
       ids_are = subst (AreIdsOf tetra.slots counted.voted.cells) (sym same) are;
-      labels = least.count ∙ node_count s counted.voted network;
+      count = least.count ∙ node_count s counted.voted network;
       admissible = ((with_rising s (complex_of counted.voted) network.listing).admissible _).1 inside.least_cost.admissible;
     }
 
+pub labels_by_number-requires : goal.labels_by_number-requires
+labels_by_number-requires c =
+    let labels =
+    can_be_numbered _ _ _ _ _
+    (labels_listed (shown_of c.args.scan.now) c.args.settings c.args.tetra c.args.counted c.args.labels c.deref.result.now
+    c.requires.cells c.requires.network c.requires.ids c.deref.ensures.value c.requires.least) in
+    record { ids = labels.0; labels = labels.1 }
+
 pub facets-requires : goal.facets-requires
 facets-requires c =
-    let cut =
-    can_be_cut _ _ _ _ _ _
-    (over (shown_of c.args.scan.now) c.args.settings c.args.tetra c.args.counted c.args.labels c.deref.result.now
-    c.requires.store c.requires.cells c.requires.network c.requires.ids c.deref.ensures.value c.requires.least) in
-    record { ids = cut.0; labels = cut.1; corners = cut.2 }
+    can_be_cut _ _ _ _ _
+    (numbered _ _ _ _ _
+    (labels_listed (shown_of c.args.scan.now) c.args.settings c.args.tetra c.args.counted c.args.labels c.deref.result.now
+    c.requires.cells c.requires.network c.requires.ids c.deref.ensures.value c.requires.least)
+    c.requires.network.listing.complex c.requires.network.listing.complex_is _ _ c.deref-2.ensures.value
+    c.in_ok-inside.ensures.flags)
 
 -- the mesh of these points and facets, by its parts
 mesh_is : (mesh : Mesh) (given points : List Point) (facets : List (List ℕ)) → given ≡ points
@@ -69,9 +77,10 @@ returns-clause-solution c =
     let network = c.requires.network in
     let lists = network.listing in
     let labels =
-    over scan c.args.settings c.args.tetra c.args.counted c.args.labels c.deref.result.now c.requires.store c.requires.cells
-    network c.requires.ids c.deref.ensures.value c.requires.least in
-    let complex : Complex = complex_of c.args.counted.voted in
+    numbered _ _ _ _ _
+    (labels_listed scan c.args.settings c.args.tetra c.args.counted c.args.labels c.deref.result.now c.requires.cells network
+    c.requires.ids c.deref.ensures.value c.requires.least) lists.complex lists.complex_is _ _ c.deref-2.ensures.value
+    c.in_ok-inside.ensures.flags in
     record {
       complex = lists.complex;
       inside = test_of c.args.counted.voted.cells c.args.labels.inside;
@@ -79,8 +88,8 @@ returns-clause-solution c =
       least = least_inside_is s c.args.counted.voted c.args.labels network c.requires.least;
       mesh_is =
           mesh_is c.in_ok-mesh.mesh c.args.tetra.points (corners ++ points_of scan) _ c.requires.store.points
-          (c.in_ok-mesh.ensures.points s complex labels lists.complex lists.complex_is)
-          (c.in_ok-mesh.ensures.faces s complex labels lists.complex lists.complex_is);
+          (c.in_ok-mesh.ensures.points s lists.complex _ labels)
+          (c.in_ok-mesh.ensures.faces s lists.complex _ labels);
       counts = c.in_ok-cert.ensures.counts;
       certificate = c.in_ok-cert.ensures.states c.args.counted.voted (record {
         network = network;

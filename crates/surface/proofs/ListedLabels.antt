@@ -1,0 +1,54 @@
+-- Labels in the order of a listing of the scene's cells can be put at the numbers that the cells have in the store, and are then labels
+-- over the scene.
+use Rattle.std.proofs.Common.{ℕ, ◌<◌, ◌≡◌, sym, subst, ◌∙◌, Bool, List, Option, length, get_or}
+use Rattle.flow_net.specs.Nets.{flag_at}
+use Rattle.visibility.specs.Scenes.{Scene}
+use Rattle.visibility.specs.Complexes.{Complex}
+use Rattle.visibility.specs.Cuts.{IsAdmissible}
+use Rattle.visibility.specs.Laws.{test_of}
+use Rattle.visibility.specs.Listings.{IsListingOf}
+use Rattle.visibility.specs.Votes.{IsComplexOf}
+use Rattle.visibility.proofs.ListingAgreements.{with_rising}
+use Rattle.visibility.proofs.Ordered.{one_complex}
+use Rattle.tetra_store.specs.declared.link.Cell.{Cell}
+use Rattle.vote_net.specs.ByNumber.{SaysOfCells}
+use Rattle.vote_net.specs.Counts.{AreCellsOf, AreIdsOf}
+use Rattle.surface.specs.Labelled.{AreAllLive, AreLabelsOver}
+use Rattle.surface.proofs.Listed.{all_live, says_by_number}
+
+-- the numbers of the cells and the labels are in the order of the listing, and no fixed cell is inside
+pub record AreListed (s : Scene) (listing : Complex) (slots : List (Option Cell)) (ids : List ℕ) (labels : List Bool)
+    : Type 0 where
+  pub cells : AreCellsOf s slots
+  pub lists : IsListingOf s listing
+  pub ids_are : AreIdsOf slots listing.cells ids
+  pub count : length labels ≡ length listing.cells
+  pub admissible : IsAdmissible s listing (test_of listing.cells labels)
+
+module _ (s : Scene) (listing : Complex) (slots : List (Option Cell)) (ids : List ℕ) (labels : List Bool)
+    (listed : AreListed s listing slots ids labels) where
+  -- as they are wanted for that
+  pub can_be_numbered : AreAllLive slots ids × (length labels ≡ length ids)
+  can_be_numbered =
+      let lists = listed.lists in (
+        all_live s slots listed.cells lists.complex lists.complex_is listing.cells lists.cells_are ids listed.ids_are,
+        listed.count ∙ sym listed.ids_are.count,
+      )
+
+  -- what comes of it, whatever the list by numbers is called
+  pub numbered : (rising : Complex) → IsComplexOf s rising → (given inside : List Bool) → given ≡ inside
+      → ((k : ℕ) → k < length ids → flag_at inside (get_or ids k 0) ≡ flag_at labels k)
+      → AreLabelsOver s rising slots given (test_of listing.cells labels)
+  numbered rising is given inside same each =
+      let lists = listed.lists in
+      subst (λ (complex : Complex). AreLabelsOver s complex slots given (test_of listing.cells labels))
+      (one_complex s lists.complex rising lists.complex_is is)
+      (record {
+        cells = listed.cells;
+        complex_is = lists.complex_is;
+        says =
+            subst (λ (flags : List Bool). SaysOfCells slots (flag_at flags) (test_of listing.cells labels)) (sym same)
+            (says_by_number s slots listed.cells lists.complex lists.complex_is listing.cells lists.cells_are ids listed.ids_are
+            labels inside each);
+        admissible = ((with_rising s listing lists).admissible (test_of listing.cells labels)).0 listed.admissible;
+      })
