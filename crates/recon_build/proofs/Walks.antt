@@ -1,7 +1,7 @@
 -- The rows that a walk over the store's cells finds are those of the stored cells and facets. What is known of cells and sides by
 -- their numbers is known of their vertices, so a cell has a row in the walk exactly where its row passes the test, and a side where its
 -- facet has an amount: over a side that is no facet of the complex nothing flows.
-use Rattle.std.proofs.Common.{ℕ, zero, suc, ◌≡◌, ◌<◌, ◌+◌, ◌*◌, ◌==◌, not, refl, ap, ap₂, sym, subst, ◌∙◌, arith, Bool, true, false}
+use Rattle.std.proofs.Common.{ℕ, ◌≡◌, ◌<◌, ◌+◌, ◌*◌, not, refl, ap, ap₂, sym, ◌∙◌, arith, Bool, true, false}
 use Rattle.std.proofs.Common.{cond, Option, Some, None, is_some, List, [], ◌∷◌, ◌++◌, length, get_or, map, filter, Contains, eqb}
 use Rattle.std.specs.List.{flat_map}
 use Rattle.std.proofs.lemmas.List.{map-append}
@@ -13,13 +13,13 @@ use Rattle.flow_net.specs.Nets.{flag_at}
 use Rattle.geo_sign.proofs.Members.{here, there}
 use Rattle.solution.specs.Solutions.{flow_row, sink_row, flow_rows, sink_rows, listed}
 use Rattle.tetra_store.specs.declared.link.Cell.{Cell}
-use Rattle.tetra_store.specs.Links.{links_of, slot_at, next_in, vertices_in, tetrahedron_from, IsLive}
+use Rattle.tetra_store.specs.Links.{links_of, slot_at, next_in, vertices_in, tetrahedron_from}
 use Rattle.tetra_store.proofs.Observed.{slot_in}
 use Rattle.cell_net.specs.Arcs.{is_free}
 use Rattle.vote_net.specs.ByNumber.{SaysOfCells, SaysOfSides, IsZeroElsewhere}
 use Rattle.vote_net.specs.CellRows.{facet_row, risen, row_from}
 use Rattle.vote_net.specs.Counts.{row_of}
-use Rattle.vote_net.specs.Gathered.{row_at, side_at, side_if_open, open_at, all_open, all_rows}
+use Rattle.vote_net.specs.Gathered.{row_at, side_at, side_if_open, open_at}
 use Rattle.vote_net.specs.StoredNetworks.{stored_cells, stored_facets}
 use Rattle.vote_net.specs.Tables.{cell_of_row, facet_of_side}
 use Rattle.vote_net.specs.declared.sides.Side.{Side}

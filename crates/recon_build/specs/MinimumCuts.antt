@@ -1,19 +1,31 @@
--- The labels of a network that cost least, and the flow that shows it.
+-- The labels of a scene's cells that cost least, and the flow that shows it.
 --
---   IsCutOf s voted cut      the least-inside labels of the network of a scene, and a valid flow that is worth what they cost
-use Rattle.std.specs.Prelude.{◌≡◌}
-use Rattle.flow_net.specs.Flows.{IsLeastInside, IsValidFlow, cost_of, value_of}
-use Rattle.flow_net.specs.declared.Voted.{Voted}
-use Rattle.visibility.specs.Networks.{IsNetworkInAnyOrder}
+--   IsCutOf s slots cut      by the numbers of cells and sides: the least-inside labels of the scene, and a valid flow that is worth
+--                            what they cost
+use Rattle.std.specs.Prelude.{ℕ, ◌≡◌, ◌≤◌, ◌*◌, Bool, Option, List, length, slice_index}
+use Rattle.flow_net.specs.Nets.{flag_at}
+use Rattle.tetra_store.specs.declared.link.Cell.{Cell}
+use Rattle.visibility.specs.Cuts.{cost as cost_over, IsLeastInside}
+use Rattle.visibility.specs.Flows.{value, IsValidFlow}
+use Rattle.visibility.specs.Listings.{IsListingOf}
 use Rattle.visibility.specs.Scenes.{Scene}
+use Rattle.vote_net.specs.ByNumber.{SaysOfCells, SaysOfSides, IsZeroElsewhere}
+use Rattle.vote_net.specs.StoreLaws.{stored_complex}
 use Rattle.recon_build.specs.declared.solving.MinimumCut.{MinimumCut}
 
--- no labels cost less than the flow is worth; the cells and facets are those of the network
-pub record IsCutOf (s : Scene) (voted : Voted) (cut : MinimumCut) : Type 0 where
-  pub network : IsNetworkInAnyOrder s voted
-  pub cells : cut.cells.now ≡ voted.cells
-  pub facets : cut.facets.now ≡ voted.facets
-  pub labels : IsLeastInside voted.net cut.labels.now
-  pub flow : IsValidFlow voted.net cut.flow.now
-  pub equal : cost_of voted.net cut.labels.now ≡ value_of voted.net cut.flow.now
-  pub cost : cut.cost ≡ cost_of voted.net cut.labels.now
+-- no labels cost less than the flow is worth; labels and amounts say the same of cells and facets as these functions
+pub record IsCutOf (s : Scene) (slots : List (Option Cell)) (cut : MinimumCut) : Type 0 where
+  pub fixed : List Bool
+  pub inside : List ℕ → Bool
+  pub on_facet : List ℕ → ℕ
+  pub on_cell : List ℕ → ℕ
+  pub listing : IsListingOf s (stored_complex fixed slots)
+  pub labels_say : SaysOfCells slots (flag_at cut.labels.inside) inside
+  pub sides : 4 * length slots ≤ length cut.flow.on_arc
+  pub arcs_say : SaysOfSides slots fixed (slice_index cut.flow.on_arc) on_facet
+  pub zero_elsewhere : IsZeroElsewhere slots fixed (slice_index cut.flow.on_arc)
+  pub sinks_say : SaysOfCells slots (slice_index cut.flow.on_sink) on_cell
+  pub least : IsLeastInside s (stored_complex fixed slots) inside
+  pub valid : IsValidFlow s (stored_complex fixed slots) on_facet on_cell
+  pub equal : cost_over s (stored_complex fixed slots) inside ≡ value s (stored_complex fixed slots) on_cell
+  pub cost_is : cut.cost ≡ cost_over s (stored_complex fixed slots) inside

@@ -1,37 +1,32 @@
-//! The best surface of a scan. It stands on the network of its cells, on `max_flow`, `surface` and the rows of `cert_text`.
+//! The best surface of a scan. It stands on its cells and their counts as a network, on `max_flow`, `surface` and the rows of `cert_text`.
 
-ghost use Rattle.std.specs.Prelude.{◌≡◌, ◌<◌, ◌^◌, ◌++◌, IfOk};
+ghost use Rattle.std.specs.Prelude.{◌≡◌, ◌<◌, ◌≤◌, ◌*◌, ◌^◌, ◌++◌, IfOk, length};
 ghost use Rattle.std.specs.Option.{option_map};
 ghost use Rattle.cert_text.specs.Certificates.{Claim, claim_of, stamp_view, IsWellFormed};
 ghost use Rattle.geo_sign.specs.Vertices.{corners};
 ghost use Rattle.mesh_ply.specs.Meshes.{IsMesh, Surface};
 ghost use Rattle.scan.specs.Views.{shown_of};
-ghost use Rattle.flow_net.specs.Flows.{IsLeastInside, IsValidFlow, cost_of, value_of};
-ghost use Rattle.visibility.specs.Laws.{test_of};
-ghost use Rattle.visibility.specs.Listings.{IsListingOf};
-ghost use Rattle.visibility.specs.Networks.{complex_of, IsNetworkInAnyOrder};
-ghost use Rattle.vote_net.specs.Counts.{AreCellsOf, AreIdsOf};
+ghost use Rattle.vote_net.specs.Counts.{AreCellsOf, AreCountsOf};
 ghost use Rattle.solution.specs.Laws.{IsSame};
 ghost use Rattle.solution.specs.Scans.{points_of, scene_of_scan};
 ghost use Rattle.solution.specs.Solutions.{HasCounts, IsCertificate, IsSolution, surface_of};
 ghost use Rattle.surface.specs.Closed.{IsClosed};
-ghost use Rattle.flow_net.specs.declared.Voted.{Voted};
 ghost use Rattle.recon_build.specs.MinimumCuts.{IsCutOf};
 ghost use Rattle.recon_build.specs.Stored.{IsStoreOf};
 
 use crate::NoMemory;
-use crate::listed_rows::{flow_rows, inside_rows, sink_rows};
-use crate::network::network;
+use crate::network::counted_cells;
+use crate::rows::{flow_rows, inside_rows, sink_rows};
+use cell_net::CellNetwork;
 use cert_text::{Certificate, Stamp};
-use flow_net::{Flow, Labels, Settings, Voted};
+use flow_net::{Flow, Labels, Settings, cost};
 use max_flow::minimum_cut;
 use mesh_ply::Mesh;
 use scan::Scan;
-use solution::least_cost;
 use std::alloc::Global;
-use surface::{facets, labels_by_number};
+use surface::facets;
 use tetra_store::Tetra;
-use vote_net::{Counted, listed};
+use votes::Votes;
 use watch::{Silent, Stage, Watch};
 
 /// A surface, and the certificate that shows it best.
@@ -45,38 +40,52 @@ pub struct Solved {
     pub cert: Certificate,
 }
 
-/// The cells and facets of a network, its least-inside labels, what these cost, and a flow that is worth as much.
-#[derive(Clone, Copy)]
-struct MinimumCut<'a> {
-    cells: &'a [[u32; 4]],
-    facets: &'a [[u32; 3]],
-    labels: &'a Labels,
-    flow: &'a Flow,
+/// The least-inside labels of a scan's cells by the cells' numbers, a flow by the numbers of sides and cells that is worth what they cost,
+/// and that cost.
+#[derive(Drop)]
+struct MinimumCut {
+    labels: Labels,
+    flow: Flow,
     cost: u64,
 }
 
-/// The certificate of a minimum cut of the network of a scan's cells, with this stamp or none.
+/// The minimum cut of a scan's cells. What is counted of them is let go of before it returns.
+///
+/// The cost fits, since it is no more than to have all cells outside, and that is below 2^47: each sight has one cell behind it.
+fn minimum_cut_of(
+    alloc: Global,
+    scan: &Scan,
+    settings: Settings,
+    tetra: &Tetra,
+    votes: Votes,
+) -> Result<MinimumCut, NoMemory>
+    requires counts { AreCountsOf (scene_of_scan (shown_of scan.now) settings) tetra.now.slots votes.crossed.items votes.behind.items votes.fixed.items }
+    requires few { length votes.fixed.items < 2 ^ 32 }
+    ensures { IfOk result (λ cut. IsCutOf (scene_of_scan (shown_of scan.now) settings) tetra.now.slots cut) }
+{
+    let _scan = scan;
+    let net = CellNetwork::new(tetra, votes.store_counts(), settings);
+    let (flow, labels) = minimum_cut(alloc, &net)?;
+    let cost = cost(&net, &labels) as u64;
+    Ok(MinimumCut { labels, flow, cost })
+}
+
+/// The certificate of a minimum cut of a scan's cells, with this stamp or none.
 fn certificate(
     alloc: Global,
     scan: &Scan,
     settings: Settings,
     tetra: &Tetra,
-    cut: &MinimumCut<'_>,
+    cut: &MinimumCut,
     stamp: Option<Stamp>,
 ) -> Result<Certificate, NoMemory>
     requires points { tetra.now.points ≡ corners ++ points_of (shown_of scan.now) }
+    requires sides { 4 * length tetra.now.slots ≤ length cut.now.flow.on_arc }
     ensures counts { IfOk result (λ cert. HasCounts (claim_of cert) (shown_of scan.now) settings) }
-    ensures states { (voted : Voted) → IsCutOf (scene_of_scan (shown_of scan.now) settings) voted cut.now → (listing : IsListingOf (scene_of_scan (shown_of scan.now) settings) (complex_of voted)) → IfOk result (λ cert. IsCertificate (scene_of_scan (shown_of scan.now) settings) listing.complex (test_of voted.cells cut.now.labels.now.inside) (claim_of cert)) }
-    ensures well_formed { (voted : Voted) → IsCutOf (scene_of_scan (shown_of scan.now) settings) voted cut.now → IfOk result (λ cert. IsWellFormed (claim_of cert)) }
+    ensures states { (is : IsCutOf (scene_of_scan (shown_of scan.now) settings) tetra.now.slots cut.now) → IfOk result (λ cert. IsCertificate (scene_of_scan (shown_of scan.now) settings) is.listing.complex is.inside (claim_of cert)) }
+    ensures well_formed { IsCutOf (scene_of_scan (shown_of scan.now) settings) tetra.now.slots cut.now → IfOk result (λ cert. IsWellFormed (claim_of cert)) }
     ensures stamp { IfOk result (λ cert. (claim_of cert).stamp ≡ option_map stamp_view stamp) }
 {
-    let MinimumCut {
-        cells,
-        facets,
-        labels,
-        flow,
-        cost,
-    } = *cut;
     Ok(Certificate {
         stamp,
         points: tetra.vertex_count() - 8,
@@ -84,10 +93,10 @@ fn certificate(
         sights: scan.seen.len() as u32,
         vote: settings.vote,
         smooth: settings.smooth,
-        cost,
-        inside: inside_rows(alloc, cells, labels.inside.as_slice())?,
-        flow: flow_rows(alloc, facets, flow.on_arc.as_slice())?,
-        sink: sink_rows(alloc, cells, flow.on_sink.as_slice())?,
+        cost: cut.cost,
+        inside: inside_rows(alloc, tetra, cut.labels.inside.as_slice())?,
+        flow: flow_rows(alloc, tetra, cut.flow.on_arc.as_slice())?,
+        sink: sink_rows(alloc, tetra, cut.flow.on_sink.as_slice())?,
     })
 }
 
@@ -97,18 +106,12 @@ fn solve_over(
     scan: &Scan,
     settings: Settings,
     tetra: Tetra,
-    counted: Counted,
-    flow: Flow,
-    labels: Labels,
+    cut: MinimumCut,
     stamp: Option<Stamp>,
 ) -> Result<Solved, NoMemory>
     requires store { IsStoreOf (shown_of scan.now) settings tetra }
     requires cells { AreCellsOf (scene_of_scan (shown_of scan.now) settings) tetra.slots }
-    requires network { IsNetworkInAnyOrder (scene_of_scan (shown_of scan.now) settings) counted.voted }
-    requires ids { AreIdsOf tetra.slots counted.voted.cells counted.ids.items }
-    requires flow { IsValidFlow counted.voted.net flow }
-    requires least { IsLeastInside counted.voted.net labels }
-    requires equal { cost_of counted.voted.net labels ≡ value_of counted.voted.net flow }
+    requires cut { IsCutOf (scene_of_scan (shown_of scan.now) settings) tetra.slots cut }
     ensures solution { IfOk result (λ solved. IsSolution (shown_of scan.now) settings (surface_of solved.mesh) (claim_of solved.cert)) }
     ensures valid { IfOk result (λ solved. IsMesh solved.mesh.points.items solved.mesh.faces.items) }
     ensures well_formed { IfOk result (λ solved. IsWellFormed (claim_of solved.cert)) }
@@ -116,23 +119,7 @@ fn solve_over(
     ensures tetra { IfOk result (λ solved. IsStoreOf (shown_of scan.now) settings solved.tetra) }
     ensures closed { IfOk result (λ solved. IsClosed solved.mesh.faces.items) }
 {
-    let Counted { voted, ids } = counted;
-    let inside = labels_by_number(alloc, &tetra, &ids, &labels)?;
-    let mesh = facets(alloc, &tetra, &inside)?;
-    let cost = least_cost(scan, settings, &voted, &labels);
-    // The network is let go of before the rows take memory.
-    let Voted {
-        cells,
-        facets: sides,
-        ..
-    } = voted;
-    let cut = MinimumCut {
-        cells: cells.as_slice(),
-        facets: sides.as_slice(),
-        labels: &labels,
-        flow: &flow,
-        cost,
-    };
+    let mesh = facets(alloc, &tetra, cut.labels.inside.as_slice())?;
     let cert = certificate(alloc, scan, settings, &tetra, &cut, stamp)?;
     Ok(Solved { tetra, mesh, cert })
 }
@@ -176,9 +163,8 @@ pub fn solve_scan_watched<W: Watch>(
     ensures closed { IfOk result (λ solved. IsClosed solved.mesh.faces.items) }
     ensures same { (mesh : Surface) (claim : Claim) → IsSolution (shown_of scan.now) settings mesh claim → IfOk result (λ solved. IsSame (surface_of solved.mesh) (claim_of solved.cert) mesh claim) }
 {
-    let (tetra, made, fixed) = network(alloc, scan, settings, watch)?;
+    let (tetra, votes) = counted_cells(alloc, scan, settings, watch)?;
     watch.stage(Stage::Flow, 0);
-    let (flow, labels) = minimum_cut(alloc, &made.net)?;
-    let counted = listed(alloc, &tetra, &fixed, made)?;
-    solve_over(alloc, scan, settings, tetra, counted, flow, labels, stamp)
+    let cut = minimum_cut_of(alloc, scan, settings, &tetra, votes)?;
+    solve_over(alloc, scan, settings, tetra, cut, stamp)
 }

@@ -1,27 +1,26 @@
 -- The certificate of labels and a flow by number, said over cells and facets.
 use Rattle.std.proofs.Common.{ℕ, ◌≡◌, refl, ap, sym, subst, ◌∙◌, Bool, false, List, [], get_or, map, filter, AllPairs, Contains}
-use Rattle.std.specs.List.Sorted.{IsPermutation}
 use Rattle.std.proofs.lemmas.List.{get_or-map}
-use Rattle.std.proofs.lemmas.List.Sorted.{IsPermutation-sym, Contains-permutation}
 use Rattle.cert_text.specs.Certificates.{Claim}
 use Rattle.cert_text.specs.declared.certificate.FlowRow.{FlowRow}
 use Rattle.cert_text.specs.declared.certificate.SinkRow.{SinkRow}
-use Rattle.flow_net.specs.declared.Flow.{Flow}
 use Rattle.flow_net.specs.declared.Labels.{Labels}
 use Rattle.flow_net.specs.declared.Voted.{Voted}
-use Rattle.flow_net.specs.Flows.{cost_of, value_of, IsLeastInside as IsLeastInsideNet, IsValidFlow as IsValidFlowNet}
+use Rattle.flow_net.specs.Flows.{cost_of, IsLeastInside as IsLeastInsideNet}
+use Rattle.flow_net.proofs.Correspondences as judged
+use Rattle.flow_net.proofs.Correspondences.{itself}
 use Rattle.geo_sign.specs.Rising.{IsBefore}
 use Rattle.visibility.specs.Scenes.{Scene}
-use Rattle.visibility.specs.Cuts.{IsLeastInside, cost}
-use Rattle.visibility.specs.Laws.{flow_of, test_of, amount_of, AgreeAsLabels, AgreeAsFlows}
+use Rattle.visibility.specs.Cuts.{IsLeastInside, cost, network_over}
+use Rattle.visibility.specs.Flows.{value, IsValidFlow}
+use Rattle.visibility.specs.Laws.{test_of, AgreeAsLabels}
 use Rattle.visibility.specs.Networks.{complex_of, IsNetworkInAnyOrder}
 use Rattle.visibility.specs.Complexes.{Complex}
-use Rattle.visibility.specs.Listings.{AgreeInAnyOrder}
+use Rattle.visibility.specs.Listings.{IsListingOf, AgreeInAnyOrder}
 use Rattle.visibility.proofs.Indices.{at_index, map_of_indices}
-use Rattle.visibility.proofs.Members.{same_map}
-use Rattle.visibility.proofs.ListingAgreements.{with_rising}
-use Rattle.visibility.proofs.Networks.{node_count, arc_count, nodes_once, arcs_once}
-use Rattle.visibility.proofs.Numbers.{labels_agree, flows_agree}
+use Rattle.visibility.proofs.ListingAgreements.{by_itself, with_rising}
+use Rattle.visibility.proofs.Networks.{node_count, nodes_once}
+use Rattle.visibility.proofs.Numbers.{labels_agree}
 use Rattle.solution.specs.Solutions.{IsCertificate, flow_on, sink_at, flow_row, sink_row, flow_rows, sink_rows, stated}
 use Rattle.solution.proofs.RowLists.{Makes, map_stated, listed_same}
 
@@ -31,18 +30,6 @@ pub flags_are : (s : Scene) (voted : Voted) (labels : Labels) → IsNetworkInAny
 flags_are s voted labels network least =
     map_of_indices voted.cells labels.inside false (nodes_once s voted network)
     (least.count ∙ node_count s voted network)
-
--- the amounts on arcs are amounts by facet
-pub on_arcs_are : (s : Scene) (voted : Voted) (flow : Flow) → IsNetworkInAnyOrder s voted → IsValidFlowNet voted.net flow
-    → map (amount_of voted.facets flow.on_arc) voted.facets ≡ flow.on_arc
-on_arcs_are s voted flow network valid =
-    map_of_indices voted.facets flow.on_arc 0 (arcs_once s voted network) (valid.arc_count ∙ arc_count s voted network)
-
--- the amounts at nodes are amounts by cell
-pub at_nodes_are : (s : Scene) (voted : Voted) (flow : Flow) → IsNetworkInAnyOrder s voted → IsValidFlowNet voted.net flow
-    → map (amount_of voted.cells flow.on_sink) voted.cells ≡ flow.on_sink
-at_nodes_are s voted flow network valid =
-    map_of_indices voted.cells flow.on_sink 0 (nodes_once s voted network) (valid.node_count ∙ node_count s voted network)
 
 -- the labels as a test are the least inside
 pub least_inside_is : (s : Scene) (voted : Voted) (labels : Labels) → (network : IsNetworkInAnyOrder s voted)
@@ -85,54 +72,40 @@ sink_at_is cells at claim rising is =
     ap (λ (rows : List SinkRow). map (stated (λ (row : SinkRow). row.cell) (λ (row : SinkRow). row.amount) rows) cells) is
     ∙ map_stated sink_row (λ (row : SinkRow). row.cell) (λ (row : SinkRow). row.amount) cell_rows cells at rising
 
--- amounts that agree on rows agree on them in another order
-map_permuted : (f g : List ℕ → ℕ) (xs ys : List (List ℕ)) → IsPermutation xs ys → map f xs ≡ map g xs → map f ys ≡ map g ys
-map_permuted f g xs ys p e = same_map f g ys (λ row i. at (Contains-permutation ys xs row (IsPermutation-sym xs ys p) i))
-  where
-    at : {row : List ℕ} → Contains xs row → f row ≡ g row
-    at {row} h =
-        let here : get_or xs h.0 [] ≡ row = at_index xs row h in
-        ap f (sym here) ∙ sym (get_or-map f xs h.0 [] 0 h.1) ∙ ap (λ (amounts : List ℕ). get_or amounts h.0 0) e
-        ∙ get_or-map g xs h.0 [] 0 h.1 ∙ ap g here
+-- amounts that agree on rows, at one of them
+same_at : (f g : List ℕ → ℕ) (rows : List (List ℕ)) → map f rows ≡ map g rows → (row : List ℕ) → Contains rows row
+    → f row ≡ g row
+same_at f g rows e row h =
+    let here : get_or rows h.0 [] ≡ row = at_index rows row h in
+    ap f (sym here) ∙ sym (get_or-map f rows h.0 [] 0 h.1) ∙ ap (λ (amounts : List ℕ). get_or amounts h.0 0) e
+    ∙ get_or-map g rows h.0 [] 0 h.1 ∙ ap g here
 
--- the certificate with these rows, which are those of the rising lists
-pub certificate_is : (s : Scene) (voted : Voted) (labels : Labels) (flow : Flow) (claim : Claim)
-    → (network : IsNetworkInAnyOrder s voted) → IsLeastInsideNet voted.net labels → IsValidFlowNet voted.net flow
-    → cost_of voted.net labels ≡ value_of voted.net flow
-    → claim.counts.cost ≡ cost_of voted.net labels
-    → claim.inside ≡ filter (test_of voted.cells labels.inside) network.listing.complex.cells
-    → claim.flow ≡ flow_rows network.listing.complex.facets (amount_of voted.facets flow.on_arc)
-    → claim.sink ≡ sink_rows network.listing.complex.cells (amount_of voted.cells flow.on_sink)
-    → IsCertificate s network.listing.complex (test_of voted.cells labels.inside) claim
-certificate_is s voted labels flow claim network least valid equal cost_is inside_is flow_is sink_is =
-    let rising : Complex = network.listing.complex in
-    let on : List ℕ → ℕ = amount_of voted.facets flow.on_arc in
-    let at : List ℕ → ℕ = amount_of voted.cells flow.on_sink in
+-- The certificate of labels and of a flow over cells and facets that are listed in any order, with these rows of the rising lists. The
+-- amounts that the rows state are those of the flow, and a flow is judged by its amounts on the cells and facets alone.
+pub certificate_is : (s : Scene) (listing : Complex) (h : IsListingOf s listing) (inside : List ℕ → Bool) (on at : List ℕ → ℕ)
+    (claim : Claim) → IsValidFlow s listing on at → cost s listing inside ≡ value s listing at
+    → claim.counts.cost ≡ cost s listing inside → claim.inside ≡ filter inside h.complex.cells
+    → claim.flow ≡ flow_rows h.complex.facets on → claim.sink ≡ sink_rows h.complex.cells at
+    → IsCertificate s h.complex inside claim
+certificate_is s listing h inside on at claim flow equal cost_is inside_is flow_is sink_is =
+    let rising : Complex = h.complex in
+    let order : AgreeInAnyOrder s listing rising = with_rising s listing h in
     let on_same : map (flow_on claim) rising.facets ≡ map on rising.facets =
-    flow_on_is rising.facets on claim network.listing.complex_is.facets_are.rising flow_is in
+    flow_on_is rising.facets on claim h.complex_is.facets_are.rising flow_is in
     let at_same : map (sink_at claim) rising.cells ≡ map at rising.cells =
-    sink_at_is rising.cells at claim network.listing.complex_is.cells_are.rising sink_is in
-    let on_arc : map (flow_on claim) voted.facets ≡ flow.on_arc =
-    map_permuted (flow_on claim) on rising.facets voted.facets network.listing.facets_are on_same
-    ∙ on_arcs_are s voted flow network valid in
-    let on_sink : map (sink_at claim) voted.cells ≡ flow.on_sink =
-    map_permuted (sink_at claim) at rising.cells voted.cells network.listing.cells_are at_same
-    ∙ at_nodes_are s voted flow network valid in
-    let same : flow ≡ flow_of (complex_of voted) (flow_on claim) (sink_at claim) =
-    ap (λ (amounts : List ℕ). record { on_arc = amounts; on_sink = flow.on_sink }) (sym on_arc)
-    ∙ ap (λ (amounts : List ℕ). record { on_arc = map (flow_on claim) voted.facets; on_sink = amounts }) (sym on_sink) in
-    let agree : AgreeAsFlows s voted (flow_on claim) (sink_at claim) =
-    flows_agree s voted (flow_on claim) (sink_at claim) network in
-    let order : AgreeInAnyOrder s (complex_of voted) rising = with_rising s (complex_of voted) network.listing in
+    sink_at_is rising.cells at claim h.complex_is.cells_are.rising sink_is in
+    let net = network_over s rising in
+    let each = itself (by_itself s rising h.complex_is) in
     record {
-      cost_is = cost_is ∙ cost_over s voted labels network least;
+      cost_is = cost_is ∙ order.cost_is inside;
       inside_is = inside_is;
       flow =
-          (order.valid (flow_on claim) (sink_at claim)).0
-          (agree.valid.0 (subst (λ (f : Flow). IsValidFlowNet voted.net f) same valid));
+          (judged.valid net net each on (flow_on claim) at (sink_at claim)
+          (same_at on (flow_on claim) rising.facets (sym on_same)) (same_at at (sink_at claim) rising.cells (sym at_same))).0
+          ((order.valid on at).0 flow);
       value_is =
-          sym (order.value_is (sink_at claim)) ∙ sym agree.value_is ∙ ap (λ (f : Flow). value_of voted.net f) (sym same)
-          ∙ sym equal ∙ sym cost_is;
+          judged.value_is net net each (sink_at claim) at (same_at (sink_at claim) at rising.cells at_same)
+          ∙ sym (order.value_is at) ∙ sym equal ∙ sym cost_is;
       flow_is = flow_is ∙ listed_same flow_row rising.facets on (flow_on claim) (sym on_same);
       sink_is = sink_is ∙ listed_same sink_row rising.cells at (sink_at claim) (sym at_same);
     }

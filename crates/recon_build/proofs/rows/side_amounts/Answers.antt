@@ -1,4 +1,4 @@
-use Rattle.std.proofs.Common.{ℕ, ◌≡◌, ◌<◌, ◌∙◌, ◌++◌, ◌∷◌, Contains, List, ap, ap₂, append_assoc, length, sym, subst, arith}
+use Rattle.std.proofs.Common.{ℕ, ◌≡◌, ◌<◌, ◌∙◌, ◌++◌, ◌∷◌, Contains, List, ap, ap₂, append_assoc, sym, subst, arith}
 use Rattle.std.specs.List.{flat_map}
 use Rattle.geo_sign.proofs.Members.{here, there}
 use Rattle.cert_text.specs.declared.certificate.FlowRow.{FlowRow}

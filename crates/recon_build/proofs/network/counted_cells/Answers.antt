@@ -2,15 +2,12 @@ use Rattle.std.proofs.Common.{ap, subst, ◌∙◌, arith, length}
 use Rattle.geo_sign.specs.Point.{origin}
 use Rattle.scan.proofs.ShownLemmas.{scan_is_shown}
 use Rattle.scan.specs.Views.{shown_of}
-use Rattle.scan.specs.Shown.{Shown}
 use Rattle.visibility.specs.Scenes.{Scene}
-use Rattle.vote_net.specs.StoredNetworks.{IsStoredNetwork}
-use Rattle.vote_net.proofs.Stored.{stored_cells_law}
-use Rattle.solution.specs.Scans.{points_of, sights_of}
+use Rattle.vote_net.specs.Counts.{AreCountsOf}
 use Rattle.solution.proofs.ScanScenes.{points_within, points_apart}
 use Rattle.solution.proofs.SightLists.{few_points}
 use Rattle.recon_build.proofs.Stored.{store_is}
-use Rattle.recon_build.proofs.network.network.Goals as goal
+use Rattle.recon_build.proofs.network.counted_cells.Goals as goal
 
 pub build_watched-requires-clause-within : goal.build_watched-requires-clause-within
 build_watched-requires-clause-within g c =
@@ -25,8 +22,8 @@ pub build_watched-requires-clause-few : goal.build_watched-requires-clause-few
 build_watched-requires-clause-few g c =
     omega (arith, ap length c.deref.ensures.value, ap length c.in_ok-seen.ensures.points, few_points c.args.scan.now)
 
-pub count_votes_alone-requires-clause-cells : goal.count_votes_alone-requires-clause-cells
-count_votes_alone-requires-clause-cells g c =
+pub counted-requires-clause-cells : goal.counted-requires-clause-cells
+counted-requires-clause-cells g c =
     record {
       points =
           rw (c.scene.ensures.points, ← c.in_ok-seen.ensures.points, ← c.deref.ensures.value) c.in_ok-tetra.ensures.points;
@@ -34,22 +31,14 @@ count_votes_alone-requires-clause-cells g c =
       delaunay = c.in_ok-tetra.ensures.delaunay;
     }
 
-pub returns-clause-cells : goal.returns-clause-cells
-returns-clause-cells g c =
-    let scan : Shown = shown_of c.args.scan.now in
-    stored_cells_law c.in_ok-tetra.tetra (points_of scan) c.facts.ensures
-    (rw (← c.in_ok-seen.ensures.points, ← c.deref.ensures.value) c.in_ok-tetra.ensures.points) c.in_ok-tetra.ensures.delaunay
-    c.in_ok-tetra.ensures.inserted scan.scanners (sights_of scan) c.args.settings
+pub returns-clause-counts : goal.returns-clause-counts
+returns-clause-counts g c =
+    subst
+    (λ (s : Scene). AreCountsOf s c.in_ok-tetra.tetra.slots c.in_ok-votes.votes.crossed.items c.in_ok-votes.votes.behind.items
+    c.in_ok-votes.votes.fixed.items) c.scene.ensures.scene c.in_ok-votes.ensures.counts
 
 pub returns-clause-store : goal.returns-clause-store
 returns-clause-store g c =
     store_is (shown_of c.args.scan.now) c.args.settings c.in_ok-tetra.tetra c.deref.result.now
     (c.deref.ensures.value ∙ c.in_ok-seen.ensures.points) c.in_ok-tetra.ensures.points c.in_ok-tetra.ensures.inserted
-    c.in_ok-tetra.ensures.cells c.in_ok-tetra.ensures.partition (returns-clause-cells g c)
-
-pub returns-clause-network : goal.returns-clause-network
-returns-clause-network g c =
-    subst
-    (λ (s : Scene). IsStoredNetwork s c.in_ok-tetra.tetra.slots c.in_ok-counted.counted.1.items c.in_ok-counted.counted.0.net
-    c.in_ok-counted.counted.0.ids.items) c.scene.ensures.scene
-    c.in_ok-counted.ensures
+    c.in_ok-tetra.ensures.cells c.in_ok-tetra.ensures.partition (returns-clause-counts g c).cells
