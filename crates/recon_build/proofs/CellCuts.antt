@@ -18,7 +18,8 @@ use Rattle.visibility.specs.Listings.{AgreeInAnyOrder}
 use Rattle.visibility.specs.Scenes.{Scene}
 use Rattle.visibility.proofs.ListingAgreements.{with_rising}
 use Rattle.vote_net.specs.Counts.{AreCountsOf}
-use Rattle.vote_net.specs.StoreLaws.{stored_complex, IsStoreNetwork}
+use Rattle.vote_net.specs.StoreLaws.{IsStoreNetwork}
+use Rattle.vote_net.specs.StoredComplexes.{stored_complex}
 use Rattle.vote_net.proofs.StoreLaws.{store_network_law}
 use Rattle.vote_net.proofs.SceneNetwork.{back, side_of, says_of_cells, says_of_sides}
 use Rattle.recon_build.specs.MinimumCuts.{IsCutOf}

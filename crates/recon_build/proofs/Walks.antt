@@ -20,7 +20,7 @@ use Rattle.vote_net.specs.ByNumber.{SaysOfCells, SaysOfSides, IsZeroElsewhere}
 use Rattle.vote_net.specs.CellRows.{facet_row, risen, row_from}
 use Rattle.vote_net.specs.Counts.{row_of}
 use Rattle.vote_net.specs.Gathered.{row_at, side_at, side_if_open, open_at}
-use Rattle.vote_net.specs.StoredNetworks.{stored_cells, stored_facets}
+use Rattle.vote_net.specs.StoredComplexes.{stored_cells, stored_facets}
 use Rattle.vote_net.specs.Tables.{cell_of_row, facet_of_side}
 use Rattle.vote_net.specs.declared.sides.Side.{Side}
 use Rattle.vote_net.proofs.Entries.{entry_slot}

@@ -10,7 +10,7 @@ use Rattle.visibility.specs.Flows.{value, IsValidFlow}
 use Rattle.visibility.specs.Listings.{IsListingOf}
 use Rattle.visibility.specs.Scenes.{Scene}
 use Rattle.vote_net.specs.ByNumber.{SaysOfCells, SaysOfSides, IsZeroElsewhere}
-use Rattle.vote_net.specs.StoreLaws.{stored_complex}
+use Rattle.vote_net.specs.StoredComplexes.{stored_complex}
 use Rattle.recon_build.specs.declared.solving.MinimumCut.{MinimumCut}
 
 -- no labels cost less than the flow is worth; labels and amounts say the same of cells and facets as these functions

@@ -7,9 +7,7 @@ pub mod KeyOrders
 pub mod Nodes
 pub mod Sorting
 pub mod Assembled
-pub mod StoredNetwork
 pub mod CellCounts
-pub mod Filling
 pub mod StoreOrder
 pub mod CutOrder
 pub mod SlotSums

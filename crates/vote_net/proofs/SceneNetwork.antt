@@ -36,6 +36,7 @@ use Rattle.visibility.specs.Votes.{is_fixed, capacity, sink, crossings, sights_b
 use Rattle.visibility.specs.Cuts.{network_over}
 use Rattle.visibility.specs.Laws.{row_index}
 use Rattle.visibility.specs.Listings.{AreOnce}
+use Rattle.visibility.specs.Listings.{IsListingOf}
 use Rattle.visibility.proofs.Listings.{cells_once, facets_once}
 use Rattle.visibility.proofs.Indices.{at_index, row_index_at}
 use Rattle.vote_net.specs.declared.rows.Row.{Row}
@@ -44,15 +45,15 @@ use Rattle.vote_net.specs.ByNumber.{SaysOfCells, SaysOfSides, IsZeroElsewhere}
 use Rattle.vote_net.specs.CellRows.{facet_row, least_first, risen, row_from}
 use Rattle.vote_net.specs.Counts.{AreCountsOf, row_of}
 use Rattle.vote_net.specs.Gathered.{all_rows, all_open, row_at, side_at, side_if_open, open_at}
-use Rattle.vote_net.specs.StoreLaws.{stored_complex}
+use Rattle.vote_net.specs.StoredComplexes.{stored_complex}
 use Rattle.vote_net.specs.Tables.{cell_of_row, facet_of_side, number_of_side}
 use Rattle.vote_net.proofs.CellRows.{least_rotated}
 use Rattle.vote_net.proofs.CellSides.{side_facet, one_cell, one_side_of, across_has}
 use Rattle.vote_net.proofs.Entries.{map_has, map_gets, side_is, side_there}
+use Rattle.vote_net.proofs.Assembled as made_of
 use Rattle.vote_net.proofs.Nodes as made
 use Rattle.vote_net.proofs.Nodes.{no_row, no_side}
 use Rattle.vote_net.proofs.Stored.{listed, live}
-use Rattle.vote_net.proofs.StoredNetwork.{stored_listing}
 use Rattle.cell_net.specs.Arcs.{IsShape, across, neighbor_or_self, is_free}
 use Rattle.cell_net.specs.Facts.{from_in, cell_part, side_part}
 use Rattle.cell_net.specs.Shape.{numbered_with}
@@ -136,6 +137,12 @@ module _ (s : Scene) (slots : List (Option Cell)) (crossed behind : List ℕ) (f
 
   abbrev pub complex : Complex
   complex = stored_complex fixed slots
+
+  -- all cells and facets of the scene, as the store has them
+  pub stored_listing : IsListingOf s complex
+  stored_listing =
+      made_of.listing_is s slots crossed behind fixed rows sides asked
+      (record { moved = IsPermutation-refl rows; moved_sides = IsPermutation-refl sides })
 
   -- the facet of an arc
   abbrev pub facet_by : ℕ → List ℕ
@@ -317,7 +324,7 @@ module _ (s : Scene) (slots : List (Option Cell)) (crossed behind : List ℕ) (f
   moved = IsPermutation-refl rows
 
   once : AreOnce complex.cells
-  once = cells_once s complex (stored_listing s slots crossed behind fixed asked)
+  once = cells_once s complex stored_listing
 
   -- the cell of a row
   abbrev pub back : List ℕ → ℕ
@@ -357,7 +364,7 @@ module _ (s : Scene) (slots : List (Option Cell)) (crossed behind : List ℕ) (f
       let within = has.1 in
       let n = length-map sides facet_of_side in
       let li : has.0 < length sides = omega (arith, within, n) in
-      let facets_are_once = facets_once s complex (stored_listing s slots crossed behind fixed asked) in
+      let facets_are_once = facets_once s complex stored_listing in
       let index_is : row_index complex.facets f ≡ has.0 =
       ap (row_index complex.facets) (sym (at_index complex.facets f has)) ∙ row_index_at complex.facets has.0 facets_are_once has.1 in
       let x : Side = get_or sides has.0 no_side in

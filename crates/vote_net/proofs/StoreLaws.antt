@@ -12,8 +12,7 @@ use Rattle.visibility.specs.Cuts.{network_over}
 use Rattle.cell_net.specs.Arcs.{IsShape}
 use Rattle.vote_net.specs.Counts.{AreCountsOf}
 use Rattle.vote_net.specs.StoreLaws.{IsStoreNetwork, StoreNetworkLaw}
-use Rattle.vote_net.proofs.SceneNetwork.{real, there, net, padding, complex, by_cell, by_arc, elsewhere}
-use Rattle.vote_net.proofs.StoredNetwork.{stored_listing}
+use Rattle.vote_net.proofs.SceneNetwork.{real, there, net, padding, complex, by_cell, by_arc, elsewhere, stored_listing}
 
 store_network : (s : Scene) (slots : List (Option Cell)) (crossed behind : List ℕ) (fixed : List Bool)
     (settings : Settings)
@@ -28,7 +27,7 @@ store_network s slots crossed behind fixed settings asked shape same =
     let alike = padding_law number nodes arcs (padding s slots crossed behind fixed settings asked shape same) in
     let c = by_cell s slots crossed behind fixed settings asked shape same in
     record {
-      listing = stored_listing s slots crossed behind fixed asked;
+      listing = stored_listing s slots crossed behind fixed settings asked shape same;
       cost_is = λ labels inside says.
           alike.cost_is (flag_at labels.inside)
           ∙ judged.cost_is near far c (flag_at labels.inside) inside (λ v is. says v is.1);

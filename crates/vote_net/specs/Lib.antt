@@ -4,7 +4,7 @@ pub mod Counts
 pub mod Tables
 pub mod CountLaws
 pub mod StoredCells
-pub mod StoredNetworks
+pub mod StoredComplexes
 pub mod CutSides
 pub mod ByNumber
 pub mod StoreLaws

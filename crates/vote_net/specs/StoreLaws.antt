@@ -1,6 +1,5 @@
 -- What holds by the numbers of cells and of their sides holds over cells and facets.
 --
---   stored_complex fixed slots     the rows of the live cells, and the facets of sides with a free cell across
 --   IsStoreNetwork s slots ..      labels and flows by number are judged as those over cells and facets
 --   StoreNetworkLaw                so it is for linked cells and counts
 use Rattle.std.specs.Prelude.{ℕ, ◌≡◌, Bool, Option, List, slice_index}
@@ -12,7 +11,6 @@ use Rattle.flow_net.specs.Numbered.{NumberedNetwork}
 use Rattle.flow_net.specs.NumberedFlows as numbered
 use Rattle.tetra_store.specs.declared.link.Cell.{Cell}
 use Rattle.visibility.specs.Scenes.{Scene}
-use Rattle.visibility.specs.Complexes.{Complex}
 use Rattle.visibility.specs.Cuts.{cost, IsLeastInside}
 use Rattle.visibility.specs.Flows.{value, IsValidFlow}
 use Rattle.visibility.specs.Listings.{IsListingOf}
@@ -20,11 +18,7 @@ use Rattle.cell_net.specs.Arcs.{IsShape}
 use Rattle.cell_net.specs.Shape.{numbered_with}
 use Rattle.vote_net.specs.ByNumber.{SaysOfCells, SaysOfSides, IsZeroElsewhere}
 use Rattle.vote_net.specs.Counts.{AreCountsOf}
-use Rattle.vote_net.specs.StoredNetworks.{stored_cells, stored_facets}
-
--- as the store has them
-abbrev pub stored_complex : List Bool → List (Option Cell) → Complex
-stored_complex fixed slots = record { cells = stored_cells slots; facets = stored_facets fixed slots }
+use Rattle.vote_net.specs.StoredComplexes.{stored_complex}
 
 -- The complex lists the scene's cells and facets. Labels and flows by number have the same cost and value as those that say so of cells
 -- and facets, and are the least inside and valid where these are. No valid flow has an amount at a side without a free cell across.

@@ -5,13 +5,12 @@
 --   number_of_side x            the number of a side among all sides
 --   AreApart f xs               no two of a list have one number
 --   AreNumberedTo, AreNumbered  a table has the index of each of the first n, or of all
---   IsFilled                    the same before a place, and what is left of the list from there on
 --   side_with t f               the side of a cell that has a facet
 --   other_of slots x            the neighbor across a side
 --   CanJoin slots x             a side with a neighbor, whose numbers fit
 --   arc_from ..                 the arc of a side, as the code finds it
 --   AreArcs ..                  the arcs of sides, from tables of the indices
-use Rattle.std.specs.Prelude.{ℕ, ◌≡◌, ◌<◌, ◌+◌, ◌*◌, ◌^◌, Bool, Option, Some, None, IsSome, List, length, map, drop, slice_index}
+use Rattle.std.specs.Prelude.{ℕ, ◌≡◌, ◌<◌, ◌+◌, ◌*◌, ◌^◌, Bool, Option, Some, None, IsSome, List, length, map, slice_index}
 use Rattle.std.specs.Prelude.{slice_index_or, unwrap_or, if◌then◌else◌}
 use Rattle.flow_net.specs.declared.Arc.{Arc}
 use Rattle.flow_net.specs.declared.votes.Settings.{Settings}
@@ -51,11 +50,6 @@ AreNumberedTo {X} f xs table n = (i : ℕ) (d : X) → i < n → slice_index tab
 -- of all
 abbrev pub AreNumbered : {X : Type 0} → (X → ℕ) → List X → List ℕ → Type 0
 AreNumbered f xs table = AreNumberedTo f xs table (length xs)
-
--- a table has the index of each side of a list before a place, from which on these are left
-pub record IsFilled (all : List Side) (table : List ℕ) (next : ℕ) (left : List Side) : Type 0 where
-  pub numbered : AreNumberedTo number_of_side all table next
-  pub left_are : drop next all ≡ left
 
 -- the side of a cell that has the facet, which has its least number first, and side 3 where none has
 unfoldable pub side_with : Tetrahedron → DirectedFacet → ℕ

@@ -18,11 +18,11 @@ use tetra_store::{CellId, Tetra};
 
 /// What arcs are made with: by a cell's number its node and whether it is fixed, by a side's number its arc and its crossings.
 #[derive(Clone, Copy)]
-pub(crate) struct Tables<'a> {
-    pub(crate) nodes: &'a [u32],
-    pub(crate) numbers: &'a [u32],
-    pub(crate) crossed: &'a [u32],
-    pub(crate) fixed: &'a [bool],
+struct Tables<'a> {
+    nodes: &'a [u32],
+    numbers: &'a [u32],
+    crossed: &'a [u32],
+    fixed: &'a [bool],
 }
 
 /// The side of a cell that has a directed facet.
@@ -84,7 +84,7 @@ fn reverse(t: &Tetra, tables: Tables<'_>, side: &Side, other: CellId) -> usize
 
 /// The arc of a side with a cell across.
 #[tactic(auto, unfolding(crate::specs::Tables::arc_from))]
-pub(crate) fn arc(t: &Tetra, tables: Tables<'_>, settings: Settings, side: &Side) -> Arc
+fn arc(t: &Tetra, tables: Tables<'_>, settings: Settings, side: &Side) -> Arc
     requires { CanJoin t.now.slots side.now }
     ensures { result ≡ arc_from t.now.slots tables.entry.nodes.now tables.entry.numbers.now tables.entry.crossed.now tables.entry.fixed.now settings side.now }
 {

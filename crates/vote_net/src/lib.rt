@@ -2,12 +2,12 @@
 //!
 //! What sights vote for is counted elsewhere, by the numbers that cells have in the store. Here the nodes and arcs are listed and
 //! numbered, in the store's order or in the rising one: `rows` lists the cells, `sides` the facets, by the numbers of `keys` where they
-//! are to rise, `tables` finds their indices, `arcs` makes the arcs, `numbering` and `passes` number and make those of the store's
-//! order without a list of sides, and `network` the whole. `cells` is the list of all cells, and `laws` says what the counts are
-//! however a cell is written.
+//! are to rise, `tables` finds their indices, `arcs` makes the arcs, and `network` the whole. `cells` is the list of all cells, and
+//! `laws` says what the counts are however a cell is written, and that the network of `cell_net`, which lists nothing, judges labels
+//! and flows as this one does.
 //!
 //! No sight and no point is looked at. The crate stands on `tetra_store` (linked cells), `visibility` (scenes, and what their network
-//! is), `flow_net` (networks) and the laws of `cell_laws`.
+//! is), `flow_net` and `cell_net` (networks) and the laws of `cell_laws`.
 #![tactic(auto)]
 
 mod arcs;
@@ -15,8 +15,6 @@ mod cells;
 mod keys;
 mod laws;
 mod network;
-mod numbering;
-mod passes;
 mod rows;
 mod sides;
 mod tables;
@@ -24,7 +22,7 @@ mod tables;
 pub use cells::rising_cells;
 pub use keys::{cell_key, facet_key};
 pub use laws::{cell_count_law, facet_count_law, store_network_law, stored_cells_law};
-pub use network::{Counted, StoreNet, assemble, assemble_alone, assemble_rising, listed};
+pub use network::{Counted, assemble, assemble_rising};
 pub use rows::cell_row;
 pub use sides::{Side, facet_row, flag, sorted_cut};
 use std::alloc::AllocError;

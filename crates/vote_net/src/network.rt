@@ -1,26 +1,21 @@
 //! The network: a node for each cell, an arc for each directed facet with a free cell across.
 
-ghost use Rattle.std.specs.Prelude.{◌≡◌, ◌<◌, ◌*◌, IfOk, Contains, length, map, slice_index};
+ghost use Rattle.std.specs.Prelude.{◌≡◌, ◌*◌, IfOk, map, slice_index};
 ghost use Rattle.std.specs.List.Sorted.{IsPermutation};
 ghost use Rattle.flow_net.specs.Nets.{flag_at};
-ghost use Rattle.visibility.specs.Scenes as scenes;
 ghost use Rattle.visibility.specs.SceneViews.{view_of};
 ghost use Rattle.visibility.specs.Networks.{IsNetworkInAnyOrder, IsNetworkOf};
 ghost use Rattle.vote_net.specs.Counts.{AreCountsOf, AreIdsOf, IsInStoreOrder};
 ghost use Rattle.vote_net.specs.Gathered.{all_rows, all_open};
-ghost use Rattle.vote_net.specs.StoredNetworks.{IsStoredNetwork};
-ghost use Rattle.vote_net.specs.Tables.{id_of_row, cell_of_row, facet_of_side, number_of_side, AreArcs, AreNumbered, CanJoin};
-ghost use Rattle.vote_net.specs.declared.sides.Side.{Side};
+ghost use Rattle.vote_net.specs.Tables.{id_of_row, cell_of_row, facet_of_side};
 
 use crate::NoMemory;
-use crate::arcs::{Tables, arcs_of, votes};
-use crate::numbering::stored_numbers;
-use crate::passes::{stored_arcs, stored_facets};
+use crate::arcs::{arcs_of, votes};
 use crate::rows::{Row, cells_of, rows, sorted_rows};
 use crate::sides::{Side, flag, open_sides, sorted_sides};
-use crate::tables::{entry, node_numbers};
+use crate::tables::entry;
 use cell_net::StoreCounts;
-use flow_net::{Arcs, Net, Sequence, Settings, Voted};
+use flow_net::{Net, Sequence, Settings, Voted};
 use std::alloc::{AllocError, Global};
 use tetra_store::{CellId, Tetra};
 use visibility::Scene;
@@ -30,15 +25,6 @@ use visibility::Scene;
 pub struct Counted {
     /// The network.
     pub voted: Voted,
-    /// The live cell that each node stands for.
-    pub ids: Vec<CellId>,
-}
-
-/// The network of linked cells in the store's order. What its nodes and arcs stand for is found in the store.
-#[derive(Debug, Drop)]
-pub struct StoreNet {
-    /// The network.
-    pub net: Net,
     /// The live cell that each node stands for.
     pub ids: Vec<CellId>,
 }
@@ -154,74 +140,4 @@ pub fn assemble_rising(
     let rows = sorted_rows(alloc, t)?;
     let sides = sorted_sides(alloc, t, counts.fixed, counts.crossed.len())?;
     network_over(alloc, t, scene, counts, &rows, sides)
-}
-
-/// The arcs of all sides with a free cell across. The tables that lead from the store to nodes and arcs live no longer than this takes.
-fn all_arcs(
-    alloc: Global,
-    t: &Tetra,
-    counts: &StoreCounts<'_>,
-    settings: Settings,
-    nodes: &[u32],
-) -> Result<Arcs, NoMemory>
-    requires nodes { AreNumbered id_of_row (all_rows t.now.slots) nodes.now }
-    requires numbers { (x : Side) → Contains (all_open counts.now.fixed.now t.now.slots) x → number_of_side x < length counts.now.crossed.now }
-    requires joins { (x : Side) → Contains (all_open counts.now.fixed.now t.now.slots) x → CanJoin t.now.slots x }
-    ensures { IfOk result (λ arcs. AreArcs t.now.slots (all_rows t.now.slots) (all_open counts.now.fixed.now t.now.slots) counts.now.crossed.now counts.now.fixed.now settings arcs) }
-{
-    let numbers = stored_numbers(alloc, t, counts.fixed, counts.crossed.len())?;
-    let tables = Tables {
-        nodes,
-        numbers: &numbers,
-        crossed: counts.crossed,
-        fixed: counts.fixed,
-    };
-    stored_arcs(alloc, t, tables, settings, counts.crossed.len())
-}
-
-/// The network of a scene, whose cells are those of the store, in the store's order, without lists of its cells and facets: `assemble`
-/// in two steps, so that what the network is solved with need not stand beside these lists. `listed` adds them.
-pub fn assemble_alone(
-    alloc: Global,
-    t: &Tetra,
-    scene: &Scene<'_>,
-    counts: &StoreCounts<'_>,
-) -> Result<StoreNet, NoMemory>
-    requires { let n = counts.now in AreCountsOf (view_of scene.now) t.now.slots n.crossed.now n.behind.now n.fixed.now }
-    ensures { IfOk result (λ made. IsStoredNetwork (view_of scene.now) t.now.slots counts.now.fixed.now made.net made.ids.items) }
-{
-    let live = rows(alloc, t)?;
-    if live.len() > u32::MAX as usize {
-        return Err(AllocError);
-    }
-    let fixed = fixed_of(alloc, &live, counts.fixed)?;
-    let sinks = sinks_of(alloc, &live, counts.behind, scene.settings)?;
-    let ids = ids_of(alloc, &live)?;
-    let nodes = node_numbers(alloc, &live, counts.fixed.len())?;
-    // The rows are let go of before the arcs take memory.
-    drop(live);
-    let arcs = all_arcs(alloc, t, counts, scene.settings, &nodes)?;
-    let net = Net::with_arcs(Sequence::from(fixed), Sequence::from(sinks), arcs);
-    Ok(StoreNet { net, ids })
-}
-
-/// The vertices of all live cells. Their rows are let go of before it returns.
-fn all_cells(alloc: Global, t: &Tetra) -> Result<Vec<[u32; 4]>, NoMemory>
-    ensures { IfOk result (λ cells. cells.items ≡ map cell_of_row (all_rows t.now.slots)) }
-{
-    let live = rows(alloc, t)?;
-    cells_of(alloc, &live)
-}
-
-/// The network with the lists of its cells and facets, where `fixed` are the flags that it was made with.
-pub fn listed(alloc: Global, t: &Tetra, fixed: &[bool], made: StoreNet) -> Result<Counted, NoMemory>
-    ensures network { (s : scenes.Scene) → IsStoredNetwork s t.now.slots fixed.now made.net made.ids.items → IfOk result (λ counted. IsNetworkInAnyOrder s counted.voted) }
-    ensures ids { (s : scenes.Scene) → IsStoredNetwork s t.now.slots fixed.now made.net made.ids.items → IfOk result (λ counted. AreIdsOf t.now.slots counted.voted.cells counted.ids.items) }
-    ensures net { IfOk result (λ counted. counted.voted.net ≡ made.net) }
-{
-    let StoreNet { net, ids } = made;
-    let cells = Sequence::from(all_cells(alloc, t)?);
-    let facets = Sequence::from(stored_facets(alloc, t, fixed, net.arcs.len())?);
-    let voted = Voted { net, cells, facets };
-    Ok(Counted { voted, ids })
 }

@@ -10,7 +10,6 @@ ghost use Rattle.tetra_store.specs.Delaunay.{IsDelaunay};
 ghost use Rattle.tetra_store.specs.Links.{links_of};
 ghost use Rattle.tetra_store.specs.Store.{vertices_of};
 ghost use Rattle.vote_net.specs.Counts.{AreCountsOf, AreIdsOf, IsInStoreOrder};
-ghost use Rattle.vote_net.specs.StoredNetworks.{IsStoredNetwork};
 ghost use Rattle.votes.specs.Counts.{HasCellsOf, IsInRange, AreScannerCells, AreCounted};
 
 use crate::NoMemory;
@@ -23,7 +22,7 @@ use geo_sign::Point;
 use std::alloc::{AllocError, Global};
 use tetra_store::{CellId, Tetra};
 use visibility::Scene;
-use vote_net::{Counted, StoreNet, assemble, assemble_alone, assemble_rising};
+use vote_net::{Counted, assemble, assemble_rising};
 use watch::{Silent, Watch};
 
 /// What is counted of the sights of a scene, by the numbers that cells have in the store. A number without a cell has entries that say
@@ -164,22 +163,4 @@ pub fn count_votes_as_stored_watched<W: Watch>(
 {
     let votes = counted(alloc, t, scene, watch)?;
     assemble(alloc, t, scene, &votes.store_counts())
-}
-
-/// The network of `count_votes_as_stored` without the lists of its cells and facets, and which cells are fixed, by their numbers in the
-/// store. `vote_net::listed` adds the lists. A watch is told of the stage and of how many sights are counted.
-pub fn count_votes_alone<W: Watch>(
-    alloc: Global,
-    t: &Tetra,
-    scene: &Scene<'_>,
-    watch: &mut W,
-) -> Result<(StoreNet, Vec<bool>), NoMemory>
-    requires cells { HasCellsOf t.now scene.now }
-    requires scene { IsSound scene.now }
-    ensures { IfOk result (λ made. IsStoredNetwork (view_of scene.now) t.now.slots made.1.items made.0.net made.0.ids.items) }
-{
-    let votes = counted(alloc, t, scene, watch)?;
-    let made = assemble_alone(alloc, t, scene, &votes.store_counts())?;
-    let Votes { fixed, .. } = votes;
-    Ok((made, fixed))
 }

@@ -11,8 +11,8 @@ mod ordering;
 mod tally;
 
 pub use counting::{
-    Votes, count_votes, count_votes_alone, count_votes_as_stored, count_votes_as_stored_watched,
-    count_votes_watched, counted,
+    Votes, count_votes, count_votes_as_stored, count_votes_as_stored_watched, count_votes_watched,
+    counted,
 };
 use std::alloc::AllocError;
 

@@ -15,7 +15,7 @@ use Rattle.visibility.specs.Scenes.{Scene}
 use Rattle.visibility.proofs.ListingAgreements.{with_rising}
 use Rattle.vote_net.specs.ByNumber.{SaysOfCells}
 use Rattle.vote_net.specs.Counts.{AreCellsOf}
-use Rattle.vote_net.specs.StoreLaws.{stored_complex}
+use Rattle.vote_net.specs.StoredComplexes.{stored_complex}
 use Rattle.recon_build.specs.MinimumCuts.{IsCutOf}
 use Rattle.recon_build.specs.declared.solving.MinimumCut.{MinimumCut}
 use Rattle.recon_build.proofs.solving.solve_over.Goals as goal
