@@ -1,12 +1,9 @@
 -- Rows of a certificate: those of amounts that are not 0, and what rows state.
 --
--- The code goes through keys and amounts in pairs, which is the same as through keys with a function of them (filtered_zip,
--- listed_zip). What rows state about a key is the amount in the first row about it. The rows of rising keys are each about
--- another key, so of each key they state its amount, also where it is 0 and has no row (stated_at, by induction: the first
--- key, or one behind it): map_stated.
+-- What rows state about a key is the amount in the first row about it. The rows of rising keys are each about another key, so of each
+-- key they state its amount, also where it is 0 and has no row (stated_at, by induction: the first key, or one behind it): map_stated.
 use Rattle.std.proofs.Common.{ℕ, zero, suc, ◌≡◌, ◌<◌, not, refl, ap, sym, subst, ◌∙◌, arith, Bool, true, false}
-use Rattle.std.proofs.Common.{cond, List, [], ◌∷◌, Some, None, ◌==◌, if◌then◌else◌, length, get_or, map, filter, eqb, AllPairs}
-use Rattle.std.specs.List.{cons_option, filter_map, zip}
+use Rattle.std.proofs.Common.{cond, List, [], ◌∷◌, length, get_or, map, filter, eqb, AllPairs}
 use Rattle.std.proofs.lemmas.Bool.{eqb-true, false_from_ne_true}
 use Rattle.std.proofs.lemmas.List.{get_or-map, length-map, same_lists}
 use Rattle.geo_sign.specs.Rising.{IsBefore}
@@ -14,47 +11,6 @@ use Rattle.std.specs.Str.{bytes_eq}
 use Rattle.std.proofs.lemmas.Slice.Eq.{bytes_eq-Decides}
 use Rattle.visibility.proofs.Indices.{not_before_itself}
 use Rattle.solution.specs.Solutions.{stated, listed}
-
--- the rows with a flag, by pairs of rows and flags
-filtered_pairs : (test : List ℕ → Bool) (rows : List (List ℕ))
-    → filter_map (λ (p : List ℕ × Bool). if p.1 then Some p.0 else None) (zip rows (map test rows)) ≡ filter test rows
-filtered_pairs test [] = refl
-filtered_pairs test (row ∷ rows) = by (test row) (filtered_pairs test rows)
-  where
-    by : (b : Bool) {others kept : List (List ℕ)} → others ≡ kept
-        → cons_option (cond b (Some row) None) others ≡ cond b (row ∷ kept) kept
-    by true same = ap (λ (list : List (List ℕ)). row ∷ list) same
-    by false same = same
-
-pub filtered_zip : (test : List ℕ → Bool) (rows : List (List ℕ)) (flags : List Bool) → map test rows ≡ flags
-    → filter_map (λ (p : List ℕ × Bool). if p.1 then Some p.0 else None) (zip rows flags) ≡ filter test rows
-filtered_zip test rows flags same =
-    subst (λ (list : List Bool).
-    filter_map (λ (p : List ℕ × Bool). if p.1 then Some p.0 else None) (zip rows list) ≡ filter test rows) same
-    (filtered_pairs test rows)
-
--- the rows of amounts that are not 0, by pairs of keys and amounts
-listed_pairs : {Row : Type 0} (make : List ℕ → ℕ → Row) (keys : List (List ℕ)) (on : List ℕ → ℕ)
-    → map (λ (p : List ℕ × ℕ). make p.0 p.1) (filter (λ (p : List ℕ × ℕ). not (p.1 == 0)) (zip keys (map on keys)))
-    ≡ listed make keys on
-listed_pairs make [] on = refl
-listed_pairs {Row} make (key ∷ keys) on = by (not (eqb (on key) 0)) _ _ (listed_pairs make keys on)
-  where
-    by : (b : Bool) (pairs : List (List ℕ × ℕ)) (kept : List (List ℕ))
-        → map (λ (p : List ℕ × ℕ). make p.0 p.1) pairs ≡ map (λ (k : List ℕ). make k (on k)) kept
-        → map (λ (p : List ℕ × ℕ). make p.0 p.1) (cond b ((key, on key) ∷ pairs) pairs)
-        ≡ map (λ (k : List ℕ). make k (on k)) (cond b (key ∷ kept) kept)
-    by true pairs kept same = ap (λ (rows : List Row). make key (on key) ∷ rows) same
-    by false pairs kept same = same
-
-pub listed_zip : {Row : Type 0} (make : List ℕ → ℕ → Row) (keys : List (List ℕ)) (amounts : List ℕ) (on : List ℕ → ℕ)
-    → map on keys ≡ amounts
-    → map (λ (p : List ℕ × ℕ). make p.0 p.1) (filter (λ (p : List ℕ × ℕ). not (p.1 == 0)) (zip keys amounts))
-    ≡ listed make keys on
-listed_zip make keys amounts on same =
-    subst (λ (list : List ℕ).
-    map (λ (p : List ℕ × ℕ). make p.0 p.1) (filter (λ (p : List ℕ × ℕ). not (p.1 == 0)) (zip keys list)) ≡ listed make keys on)
-    same (listed_pairs make keys on)
 
 -- the rows of a list, by the amount of its first element
 listed_first : {Row : Type 0} → (List ℕ → ℕ → Row) → List ℕ → ℕ → List Row → List Row

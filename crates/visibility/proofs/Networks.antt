@@ -10,14 +10,11 @@ use Rattle.visibility.specs.Complexes.{has_facet, cell_index, cell_of}
 use Rattle.visibility.specs.Votes.{is_fixed, capacity, sink, HasCapacity}
 use Rattle.visibility.specs.Networks.{complex_of, arc_of, IsNetworkInAnyOrder}
 use Rattle.visibility.specs.Listings.{AreOnce}
-use Rattle.visibility.proofs.Listings.{cells_once, facets_once}
+use Rattle.visibility.proofs.Listings.{cells_once}
 use Rattle.visibility.proofs.Indices.{first_within}
 
 pub nodes_once : (s : Scene) (voted : Voted) → IsNetworkInAnyOrder s voted → AreOnce voted.cells
 nodes_once s voted n = cells_once s (complex_of voted) n.listing
-
-pub arcs_once : (s : Scene) (voted : Voted) → IsNetworkInAnyOrder s voted → AreOnce voted.facets
-arcs_once s voted n = facets_once s (complex_of voted) n.listing
 
 pub node_count : (s : Scene) (voted : Voted) → IsNetworkInAnyOrder s voted → length voted.net.fixed ≡ length voted.cells
 node_count s voted n = ap length n.fixed_is ∙ length-map voted.cells (is_fixed s.vertices s.scanners)
