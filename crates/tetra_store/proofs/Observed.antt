@@ -1,5 +1,6 @@
 -- What is kept of a store, at one cell or vertex.
-use Rattle.std.proofs.Common.{◌↔◌, List, [], ◌∷◌, length, ℕ, zero, suc, ◌≡◌, ◌<◌, Option, Some, None, sym, subst, arith}
+use Rattle.std.proofs.Common.{◌↔◌, List, [], ◌∷◌, length, ℕ, zero, suc, ◌≡◌, ◌<◌, Option, Some, None, is_some, sym, ap, ◌∙◌, subst, arith}
+use Rattle.std.proofs.Common.{slice_index_or}
 use Rattle.std.proofs.lemmas.Bool.{false≢true}
 use Rattle.std.specs.Option.{IfSome}
 use Rattle.geo_sign.specs.Tetrahedron.{facet_of}
@@ -9,7 +10,7 @@ use Rattle.std.specs.List.{Contains}
 use Rattle.slab.specs.Slab.{entries_from}
 use Rattle.slab.proofs.SlabLemmas.{Contains-entries}
 use Rattle.tetra_store.specs.declared.link.Cell.{Cell}
-use Rattle.tetra_store.specs.Links.{slot_at, links_of, Links, IsLive, IsLinked, IsOnlyAcross}
+use Rattle.tetra_store.specs.Links.{slot_at, links_of, next_in, Links, IsLive, IsBack, IsLinked, IsOnlyAcross}
 use Rattle.tetra_store.specs.Store.{Store, IsStore}
 
 pub only_at : (v : Vertices) (links : Links) (id k other : ℕ) → IsLinked v links → IsLive links id → k < 4
@@ -27,6 +28,15 @@ pub only_across : (v : Vertices) (links : Links) (id k : ℕ) → IsLinked v lin
     → o ≡ links.next id k → IfSome o (λ other. IsOnlyAcross links id k other)
 only_across v links id k linked live l None e = tt
 only_across v links id k linked live l (Some other) e = only_at v links id k other linked live l (sym e)
+
+-- the cell across, which names this one back, as the cell that is there says
+pub back_across : (v : Vertices) (slots : List (Option Cell)) → IsLinked v (links_of slots) → (id k y : ℕ) (c : Cell)
+    → slot_at slots id ≡ Some c → k < 4 → slice_index_or c.next k None ≡ Some y → IsBack (links_of slots) id k y
+back_across v slots linked id k y c e l f = linked.back id k y (ap is_some e) l (ap (λ (o : Option Cell). next_in o k) e ∙ f)
+
+pub named_in : (slots : List (Option Cell)) (id k y : ℕ) (c : Cell) → slot_at slots id ≡ Some c
+    → (links_of slots).next id k ≡ Some y → slice_index_or c.next k None ≡ Some y
+named_in slots id k y c e f = sym (ap (λ (o : Option Cell). next_in o k) e) ∙ f
 
 pub store_now : (s t : Store) → s ≡ t → IsStore s → IsStore t
 store_now s t e h = subst (λ (u : Store). IsStore u) e h
