@@ -5,7 +5,7 @@ PROGRAM = crates/recon_main/out/recon_main
 USER_TOOLS = $(notdir $(basename $(wildcard tools/*.py)))
 MACHINE = $(shell uname -s | tr A-Z a-z)-$(shell uname -m)
 
-.PHONY: run recon test attack bench install dist clean
+.PHONY: run recon test attack bench bench-short install dist clean
 
 # Proves and builds the program (the first time about twenty minutes on four processors, afterwards seconds), leaves it
 # as ./recon and runs it on an example.
@@ -40,6 +40,11 @@ bench: recon
 	cd crates/cell_bench && rt run -- 100000
 	@echo "times of build and check at growing sizes, into bench_scans/"
 	python3 dev/bench.py ./recon bench_scans $(if $(BESIDE),beside=$(BESIDE))
+
+# Times build alone on the three worst shapes and on a cube, a room and a torus of a million points, a run each (some minutes; BESIDE as
+# above), and prints the table of docs/performance.md that has these.
+bench-short: recon
+	python3 dev/bench.py ./recon bench_scans scans=short check=no runs=1 $(if $(BESIDE),beside=$(BESIDE))
 
 # Installs the program, its manual page and the programs of tools/ under PREFIX (a second, where the program is built; else it is
 # built first). scan.py becomes recon-scan, mesh_to_floats.py recon-mesh-to-floats, and so on; they want Python 3.8 or later.

@@ -1,7 +1,7 @@
 #!/usr/bin/env python3
 """Times `recon build` and `recon check` on scans of growing size, and prints a table for docs/performance.md.
 
-  bench.py RECON FOLDER [beside=PROGRAM] [sizes=N,N,..] [shapes=NAME,NAME,..] [runs=N]
+  bench.py RECON FOLDER [beside=PROGRAM] [sizes=N,N,..] [shapes=NAME,NAME,..] [scans=NAME.N,NAME.N,..] [check=no] [runs=N]
 
   RECON              the built program
   FOLDER             where the scans are kept and the meshes and certificates are written; a scan that is there is not made
@@ -11,6 +11,9 @@
   sizes=N,N,..       without it 10000,100000,1000000
   shapes=NAME,..     shapes of make_scan.py; without it cube,torus,room,statue. Where neither sizes nor shapes are given, the
                      worst shapes follow, each at a size of its own
+  scans=NAME.N,..    these scans, each a shape with its own size, in the place of sizes and shapes; scans=short stands for the worst
+                     shapes, and a cube, a room and a torus of 1000000
+  check=no           times `build` alone
   runs=N             runs of each, of which the least times and the largest peak count; without it 2
 
 Seconds are of the processor (user and system) and of the wall; the peak is the largest resident memory, in units of 2^20
@@ -32,6 +35,8 @@ from toolbox.tool import run
 SEED = '7'
 # Shapes whose sights cross as many cells as may be, and how many rows of each take about as long as the others.
 WORST = (('tube', 20000), ('crowd', 1000000), ('paraboloid', 30000))
+# The worst, and three of the others as large as may be.
+SHORT = WORST + (('cube', 1000000), ('room', 1000000), ('torus', 1000000))
 
 
 class Run:
@@ -56,6 +61,16 @@ class Run:
 def least(runs: list[Run]) -> tuple[float, float, int]:
     """The least processor and wall seconds of some runs and the largest peak."""
     return min(r.processor for r in runs), min(r.wall for r in runs), max(r.peak for r in runs)
+
+
+def named(word: str) -> list[tuple[str, int]]:
+    """The scans of the option `scans`."""
+    if word == 'short':
+        return list(SHORT)
+    pairs = [scan.split('.') for scan in word.split(',')]
+    if not all(len(pair) == 2 and pair[1].isdigit() for pair in pairs):
+        raise Refusal(f'scans={word}: write SHAPE.SIZE, with commas between, or short')
+    return [(shape, int(size)) for shape, size in pairs]
 
 
 def scan_of(folder: str, shape: str, size: int) -> str:
@@ -91,8 +106,8 @@ def compared(lines: list[str], meshes: list[str]) -> None:
         raise Refusal(f'the meshes differ: {meshes[0]} {meshes[1]}')
 
 
-def measured(programs: list[str], folder: str, shape: str, size: int, count: int) -> list[str]:
-    """A row of the table: each program's build, and the first one's check of its own files."""
+def measured(programs: list[str], folder: str, shape: str, size: int, count: int, check: bool) -> list[str]:
+    """A row of the table: each program's build, and where that is asked for the first one's check of its own files."""
     scan, name = scan_of(folder, shape, size), f'{shape}.{size}'
     built = {program: [] for program in programs}
     for _ in range(count):
@@ -100,22 +115,25 @@ def measured(programs: list[str], folder: str, shape: str, size: int, count: int
             built[program].append(Run([program, 'build', scan, *texts(program, folder, name)]))
     if len(programs) == 2:
         compared([built[program][0].line for program in programs], [texts(program, folder, name)[0] for program in programs])
-    checked = [Run([programs[0], 'check', scan, *texts(programs[0], folder, name)]) for _ in range(count)]
-    cells = [f'{shape} {size}']
+    cells = [f'{shape} {size:,}']
     for program in programs:
         processor, wall, peak = least(built[program])
         cells += [f'{processor:.2f}', f'{wall:.2f}', str(peak)]
-    processor, wall, peak = least(checked)
-    ratio = [f'{least(built[programs[0]])[0] / least(built[programs[1]])[0]:.2f}'] if len(programs) == 2 else []
-    return cells + ratio + [f'{processor:.2f}', f'{wall:.2f}', str(peak)]
+    if len(programs) == 2:
+        cells += [f'{least(built[programs[0]])[0] / least(built[programs[1]])[0]:.2f}']
+    if not check:
+        return cells
+    processor, wall, peak = least([Run([programs[0], 'check', scan, *texts(programs[0], folder, name)]) for _ in range(count)])
+    return cells + [f'{processor:.2f}', f'{wall:.2f}', str(peak)]
 
 
-def heading(programs: list[str]) -> str:
+def heading(programs: list[str], check: bool) -> str:
     """The first two rows of the table."""
     cells = ['scan', 'build s', 'wall s', 'peak MB']
     if len(programs) == 2:
         cells += ['beside s', 'wall s', 'peak MB', 'ratio']
-    cells += ['check s', 'wall s', 'peak MB']
+    if check:
+        cells += ['check s', 'wall s', 'peak MB']
     return '| ' + ' | '.join(cells) + ' |\n|' + '---|' * len(cells)
 
 
@@ -126,13 +144,16 @@ def main(names: Sequence[str], options: Any) -> str:
     programs = [os.path.abspath(recon)] + ([os.path.abspath(options.beside)] if options.beside else [])
     os.makedirs(folder, exist_ok=True)
     resource.setrlimit(resource.RLIMIT_CORE, (0, 0))
-    print(heading(programs))
+    check = options.check != 'no'
+    print(heading(programs, check))
     scans = [(shape, size) for size in sizes for shape in shapes]
-    if not options.sizes and not options.shapes:
+    if options.scans:
+        scans = named(options.scans)
+    elif not options.sizes and not options.shapes:
         scans += WORST
     for shape, size in scans:
-        print('| ' + ' | '.join(measured(programs, folder, shape, size, int(options.runs or 2))) + ' |', flush=True)
+        print('| ' + ' | '.join(measured(programs, folder, shape, size, int(options.runs or 2), check)) + ' |', flush=True)
     return f'{len(scans)} scans'
 
 
-run(main, __doc__, 2, ('beside', 'sizes', 'shapes', 'runs'))
+run(main, __doc__, 2, ('beside', 'sizes', 'shapes', 'scans', 'check', 'runs'))

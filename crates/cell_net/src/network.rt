@@ -89,16 +89,19 @@ impl<'a> CellNetwork<'a> {
         Some(other)
     }
 
-    /// The side back from a neighbor, as an arc.
-    fn arc_back(&self, id: CellId, side: u8, other: CellId) -> usize
+    /// The arc that leads back across the side of a cell, if the neighbor there is free.
+    fn arc_back(&self, id: CellId, side: usize) -> Option<usize>
         requires live { IsLive (links_of self.now.tetra.now.slots) id }
         requires side { side < 4 }
-        requires neighbor { (links_of self.now.tetra.now.slots).next id side ≡ Some other }
-        ensures from { result / 4 ≡ other }
-        ensures to { across self.now.tetra.now.slots result ≡ Some id }
+        ensures from { IfSome result (λ arc. (links_of self.now.tetra.now.slots).next id side ≡ Some (arc / 4)) }
+        ensures to { IfSome result (λ arc. across self.now.tetra.now.slots arc ≡ Some id) }
+        ensures live { IfSome result (λ arc. IsLive (links_of self.now.tetra.now.slots) (arc / 4)) }
     {
-        self.tetra.facts();
-        4 * other.number() + self.tetra.side_to(other, id)
+        let neighbor = self.tetra.neighbor(id, side)?;
+        if self.counts.fixed[neighbor.id.number()] {
+            return None;
+        }
+        Some(4 * neighbor.id.number() + neighbor.side)
     }
 }
 
@@ -135,9 +138,8 @@ impl<'a> FlowNetwork for CellNetwork<'a> {
         if self.counts.fixed[arc / 4] {
             return None;
         }
-        let other = self.free_across(arc)?;
         let id = self.tetra.id_at(arc / 4)?;
-        Some(self.arc_back(id, (arc % 4) as u8, other))
+        self.arc_back(id, arc % 4)
     }
 
     #[inline]

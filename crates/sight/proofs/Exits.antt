@@ -7,7 +7,8 @@
 -- The laws say that there is an exit, or that the scanner is in the cell; so the sign at the side that is left tells which
 -- (`goes_out`, `ends_here`).
 use Rattle.std.proofs.Common.{ℕ, zero, suc, ◌<◌, ◌≡◌, ◌⊎◌, inl, inr, ⊎_elim, refl, sym, subst, arith, true, false, true≢false}
-use Rattle.std.proofs.Common.{IsTrue, ◌↔◌, pos, ◌<ℤ◌, Bool}
+use Rattle.std.proofs.Common.{IsTrue, ◌↔◌, ℤ, pos, ◌<ℤ◌, Bool}
+use Rattle.std.specs.Int.{is_positive}
 use Rattle.std.proofs.lemmas.Int.{ints}
 use Rattle.geo_sign.specs.Rational.{RationalPoint, side}
 use Rattle.geo_sign.specs.Cells.{IsCell}
@@ -30,7 +31,7 @@ use Rattle.geo_sign.specs.Rational.{displaced}
 use Rattle.tetra_store.specs.Links.{tetrahedron_from}
 use Rattle.tetra_store.specs.Store.{Store, vertices_of}
 use Rattle.tetra_store.proofs.Keeps.{vertex_index}
-use Rattle.sight.specs.Exits.{IsExit, IsEntered, past, left_behind}
+use Rattle.sight.specs.Exits.{IsExit, IsEntered, past, left_behind, left_by}
 
 -- what an exit says of two such sides, at vertices of the facet through which the sight came in
 abbrev pub IsBetween : Vertices → (p : ℕ) → RationalPoint → (d before after : ℕ) → Type 0
@@ -203,6 +204,28 @@ pub no : {A : Type 0} → IsTrue false ↔ A → ¬ A
 no h = λ a. true≢false (sym (h.1 a))
 
 -- ---- three tests
+-- whether a number is above zero
+pub positive_so : (n : ℤ) → IsTrue (is_positive n) ↔ (pos 0 <ℤ n)
+positive_so n = (λ e. omega (arith, ints, e), λ l. by (is_positive n) refl l)
+  where
+    by : (b : Bool) → is_positive n ≡ b → pos 0 <ℤ n → is_positive n ≡ true
+    by true e l = e
+    by false e l = absurd (omega (arith, ints, e, l))
+
+positive_is : (t : Bool) (n : ℤ) → IsTrue t ↔ (pos 0 <ℤ n) → t ≡ is_positive n
+positive_is true n h = sym ((positive_so n).1 (h.0 refl))
+positive_is false n h = by (is_positive n) refl
+  where
+    by : (b : Bool) → is_positive n ≡ b → false ≡ is_positive n
+    by true e = h.1 ((positive_so n).0 e) ∙ sym e
+    by false e = sym e
+
+pub left_same : (a b c : Bool) (x y z : ℤ) → IsTrue a ↔ (pos 0 <ℤ x) → IsTrue b ↔ (pos 0 <ℤ y) → IsTrue c ↔ (pos 0 <ℤ z)
+    → left_behind a b c ≡ left_by x y z
+left_same a b c x y z h k l =
+    ap (λ (t : Bool). left_behind t b c) (positive_is a x h) ∙ ap (λ (t : Bool). left_behind (is_positive x) t c) (positive_is b y k)
+    ∙ ap (λ (t : Bool). left_behind (is_positive x) (is_positive y) t) (positive_is c z l)
+
 -- what stays behind, and what the facet becomes
 abbrev pub IsLeftBehind : (d n : ℕ) (g f : DirectedFacet) → ℕ → Type 0
 IsLeftBehind d n g f zero = (n ≡ f.a) × IsTurned g (facet d f.b f.c)
@@ -237,6 +260,14 @@ behind_in d n g (a ∷ b ∷ c ∷ []) (suc zero) l j h = h
 behind_in d n g (a ∷ b ∷ c ∷ []) (suc (suc zero)) l j h = h
 behind_in d n g (a ∷ b ∷ c ∷ []) (suc (suc (suc i))) l j h = absurd (omega (arith, j))
 
+-- points that are the same have the same side
+pub side_same : (q p a d x y z : Point) → p ≡ x → a ≡ y → d ≡ z → (yes : Bool) → IsTrue yes ↔ (pos 0 <ℤ side p a d (displaced q))
+    → IsTrue yes ↔ (pos 0 <ℤ side x y z (displaced q))
+side_same q p a d x y z ep ea ed yes h =
+    subst (λ (u : Point). IsTrue yes ↔ (pos 0 <ℤ side u y z (displaced q))) ep
+    (subst (λ (u : Point). IsTrue yes ↔ (pos 0 <ℤ side p u z (displaced q))) ea
+    (subst (λ (u : Point). IsTrue yes ↔ (pos 0 <ℤ side p a u (displaced q))) ed h))
+
 -- the side of the points that were read is that of the vertices
 pub past_of : (s : Store) (v : List ℕ) (vertex m x : ℕ) (q p a d : Point) → m < 4 → p ≡ get_or s.points vertex origin
     → a ≡ get_or s.points x origin → d ≡ get_or s.points (slice_index v m) origin → (yes : Bool)
@@ -244,7 +275,4 @@ pub past_of : (s : Store) (v : List ℕ) (vertex m x : ℕ) (q p a d : Point) �
     → IsTrue yes ↔ (pos 0 <ℤ past (vertices_of s) vertex (displaced q) (vertex_of (tetrahedron_from v) m) x)
 past_of s v vertex m x q p a d l ep ea ed yes h =
     let at : ℕ → Point = λ n. get_or s.points n origin in
-    let t = tetrahedron_from v in
-    subst (λ (z : Point). IsTrue yes ↔ (pos 0 <ℤ side z (at x) (at (vertex_of t m)) (displaced q))) ep
-    (subst (λ (z : Point). IsTrue yes ↔ (pos 0 <ℤ side p z (at (vertex_of t m)) (displaced q))) ea
-    (subst (λ (z : Point). IsTrue yes ↔ (pos 0 <ℤ side p a z (displaced q))) (ed ∙ ap at (sym (vertex_index v m l))) h))
+    side_same q p a d (at vertex) (at x) (at (vertex_of (tetrahedron_from v) m)) ep ea (ed ∙ ap at (sym (vertex_index v m l))) yes h

@@ -3,7 +3,7 @@
 -- For a screen of vectors r and u and two vectors a and d, (r . a) (u . d) - (r . d) (u . a) is (r x u) . (a x d) (`by_screen`).
 -- Where r x u is the line of sight l times c, that is c times (d x l) . a (`by_line`), the orientation of the sight's point, d, the
 -- scanner and a. As c is not below zero, the determinant has its sign where it is not zero itself (`same_sign`).
-use Rattle.std.proofs.Common.{◌≡◌, refl, sym, ap, ap₂, ◌∙◌, arith, Bool, IsTrue, ◌↔◌, ℤ, pos, neg_ℤ, ◌<ℤ◌, ◌≤ℤ◌, ◌-ℤ◌, ◌*ℤ◌, [], ◌∷◌}
+use Rattle.std.proofs.Common.{◌≡◌, refl, ap, ap₂, ◌∙◌, arith, Bool, IsTrue, ◌↔◌, ℤ, pos, neg_ℤ, ◌<ℤ◌, ◌≤ℤ◌, ◌-ℤ◌, ◌*ℤ◌, [], ◌∷◌}
 use Rattle.std.proofs.lemmas.Int.{ints, by_lt_z}
 use Rattle.geo_sign.specs.Orientation.{orientation}
 use Rattle.geo_sign.specs.declared.point.TheConstants.{BOX_LIMIT}

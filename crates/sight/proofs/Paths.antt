@@ -35,8 +35,7 @@ use Rattle.tetra_walk.proofs.Backs.{one_back}
 use Rattle.tetra_walk.proofs.Bridge.{linked, cells, listed, live}
 use Rattle.tetra_walk.proofs.Ends.{walks}
 use Rattle.sight.specs.Exits.{IsExit}
-use Rattle.tetra_walk.specs.Walks.{number_first}
-use Rattle.sight.specs.Walks.{first_of, leaves, exit_of, is_some_of, side_naming, side_into, side_through}
+use Rattle.sight.specs.Walks.{first_of, leaves, exit_of, is_some_of, number_first, side_naming, side_into, side_through}
 use Rattle.sight.specs.Walks.{next_side, with_rest, sides_within, sides_from}
 
 -- ---- what the laws need, at once

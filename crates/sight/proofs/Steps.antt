@@ -7,8 +7,8 @@
 -- turned round (walks_on, front_on). Where the walk is told its end and is not there yet, the one facet that may be the exit
 -- is it (ahead_there).
 use Rattle.std.proofs.Common.{ℕ, ◌<◌, ◌≡◌, inl, ⊎_elim, refl, sym, ap, subst, ◌∙◌, Bool, true, false, Some, None, List, [], ◌∷◌}
-use Rattle.std.proofs.Common.{slice_index, get_or, length}
-use Rattle.geo_sign.specs.Point.{Point, origin}
+use Rattle.std.proofs.Common.{slice_index, length}
+use Rattle.geo_sign.specs.Point.{Point}
 use Rattle.geo_sign.specs.Rational.{RationalPoint, displaced}
 use Rattle.geo_sign.specs.Sights.{is_crossed, is_towards, is_cell_of}
 use Rattle.geo_sign.specs.Tetrahedron.{Tetrahedron, facet_at, facet_of, vertex_of, turned, IsTurned}

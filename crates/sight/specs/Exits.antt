@@ -3,8 +3,10 @@
 --   IsEntered v p s t k                       the sight came into t through side k; or k is 4, and t is the cell at p towards s
 --   IsExit v p s t k                          it goes out of t through side k
 --   left_behind first second third            which vertex of facet k three tests leave behind, 0 to 2
+--   left_by first second third                the same, where the tests are whether three numbers are above zero
 --   past v p s d x                            the side of the facet of p, x and d on which s is
 use Rattle.std.specs.Prelude.{ℕ, ◌<◌, ◌≡◌, ◌⊎◌, Bool, true, false, ℤ}
+use Rattle.std.specs.Int.{is_positive}
 use Rattle.geo_sign.specs.Rational.{RationalPoint, side}
 use Rattle.geo_sign.specs.Sights.{is_crossed, is_towards}
 use Rattle.geo_sign.specs.Tetrahedron.{Tetrahedron, facet_of, turned}
@@ -25,6 +27,9 @@ left_behind true second true = 0
 left_behind true second false = 1
 left_behind false true third = 2
 left_behind false false third = 0
+
+abbrev pub left_by : (first second third : ℤ) → ℕ
+left_by first second third = left_behind (is_positive first) (is_positive second) (is_positive third)
 
 -- positive where s is on the inner side
 abbrev pub past : Vertices → (p : ℕ) → RationalPoint → (d x : ℕ) → ℤ

@@ -5,6 +5,7 @@
 --   leaves v p s t k            the sight goes out of t through facet k
 --   exit_of v p s t             the side through which it goes out
 --   is_some_of n x              the neighbor is the cell x
+--   number_first a b c          which of three tests is the first that holds
 --   side_naming links y x       the side of y that names x
 --   next_side s p o x           the next facet from the cell x, as a side of the cell that is entered
 --   sides_from s p o x          all facets from there on
@@ -39,7 +40,6 @@ use Rattle.sight.specs.Exits.{IsEntered}
 use Rattle.sight.specs.declared.image.Screen.{Screen}
 use Rattle.sight.specs.Fronts.{IsFront}
 use Rattle.sight.specs.Images.{IsScreen}
-use Rattle.tetra_walk.specs.Walks.{number_first}
 
 -- the sight from a vertex to the scanner at a point, through the cells of a store
 pub record Walk : Type 0 where
@@ -71,6 +71,13 @@ exit_of v p s t = first_of (leaves v p s t 0) (leaves v p s t 1) (leaves v p s t
 abbrev pub is_some_of : Option ℕ → ℕ → Bool
 is_some_of None x = false
 is_some_of (Some y) x = y == x
+
+-- the first of three tests that holds, and else 3
+abbrev pub number_first : (a b c : Bool) → ℕ
+number_first true b c = 0
+number_first false true c = 1
+number_first false false true = 2
+number_first false false false = 3
 
 -- the side of y that names x
 abbrev pub side_naming : Links → (y x : ℕ) → ℕ

@@ -138,7 +138,7 @@ impl<'a> SightWalk<'a> {
             self.scanner,
         ) {
             None => false,
-            Some(exit) => match self.tetra.across(self.at, exit.side as u8) {
+            Some(exit) => match self.tetra.neighbor(self.at, exit.side) {
                 None => unreachable!(),
                 Some(next) => {
                     go_through(
@@ -150,9 +150,10 @@ impl<'a> SightWalk<'a> {
                         self.point,
                         &mut self.front,
                     );
-                    self.entered = self.tetra.side_to(next, self.at);
-                    self.vertices = self.tetra.vertices(next);
-                    self.at = next;
+                    let vertices = next.vertices;
+                    self.at = next.id;
+                    self.vertices = vertices;
+                    self.entered = next.side;
                     true
                 }
             },

@@ -23,7 +23,7 @@ ghost use Rattle.geo_sign.specs.Writings.{IsVertexOf};
 ghost use Rattle.tetra_store.specs.Links.{tetrahedron_from};
 ghost use Rattle.tetra_store.specs.Store.{vertices_of};
 ghost use Rattle.std.specs.Option.{ForSome};
-ghost use Rattle.sight.specs.Exits.{left_behind, IsEntered, IsExit};
+ghost use Rattle.sight.specs.Exits.{left_behind, left_by, IsEntered, IsExit};
 ghost use Rattle.sight.specs.Fronts.{IsSeen, AreSeen, IsFront, IsPassed};
 ghost use Rattle.sight.specs.Images.{along, no_image, IsScreen, IsImage};
 ghost use Rattle.sight.specs.Walks.{IsWalking, IsEndCell};
@@ -122,63 +122,69 @@ fn is_before_displaced(p: Point, a: Point, b: Point, s: Point) -> bool
     }
 }
 
-/// Whether the scanner is on the inner side of three facets, by the signs of its displaced place.
+/// Which vertex of a front stays behind, by the signs of the scanner's displaced place. It is asked for where the scanner's point is in
+/// one of the three planes, which is seldom. So it takes numbers of vertices and reads the points itself: no step has to put them where
+/// it finds them.
 #[inline(never)]
-fn are_before_displaced(
+fn behind_by_displacement(
     t: &Tetra,
     vertices: [u32; 3],
-    p: Point,
-    d: Point,
+    vertex: u32,
+    fourth: u32,
     s: Point,
-) -> (bool, bool, bool)
-    requires { (j : ℕ) → j < 3 → slice_index vertices j < length t.now.points }
-    ensures first { IsTrue result.0 ↔ (pos 0 <ℤ side p (get_or t.now.points (slice_index vertices 0) origin) d (displaced s)) }
-    ensures second { IsTrue result.1 ↔ (pos 0 <ℤ side p (get_or t.now.points (slice_index vertices 1) origin) d (displaced s)) }
-    ensures third { IsTrue result.2 ↔ (pos 0 <ℤ side p (get_or t.now.points (slice_index vertices 2) origin) d (displaced s)) }
+) -> usize
+    requires known { (j : ℕ) → j < 3 → slice_index vertices j < length t.now.points }
+    requires vertex { vertex < length t.now.points }
+    requires fourth { fourth < length t.now.points }
+    ensures side { result < 3 }
+    ensures left { result ≡ left_by (side (get_or t.now.points vertex origin) (get_or t.now.points (slice_index vertices 0) origin) (get_or t.now.points fourth origin) (displaced s)) (side (get_or t.now.points vertex origin) (get_or t.now.points (slice_index vertices 1) origin) (get_or t.now.points fourth origin) (displaced s)) (side (get_or t.now.points vertex origin) (get_or t.now.points (slice_index vertices 2) origin) (get_or t.now.points fourth origin) (displaced s)) }
 {
-    (
+    let p = t.point(vertex);
+    let d = t.point(fourth);
+    left(
         is_before_displaced(p, t.point(vertices[0]), d, s),
         is_before_displaced(p, t.point(vertices[1]), d, s),
         is_before_displaced(p, t.point(vertices[2]), d, s),
     )
 }
 
-/// Whether the scanner is on the inner side of the facets of p, d and each of a front's vertices. It is so where that vertex is before
-/// the plane of p, d and the scanner's point, as the determinant of its image and d's tells. Only where one of these is zero the
-/// displacement decides: no other branch is taken by a sign.
+/// Which vertex of a front stays behind. The scanner is on the inner side of the facet of the sight's vertex, the cell's fourth one and
+/// one of the front where the latter is before the plane of the two others and the scanner's point, as the determinant of its image and
+/// the fourth vertex's tells. Only where one of these is zero the displacement decides: no other branch is taken by a sign.
 #[inline(always)]
-fn are_before(
+fn behind_by_images(
     t: &Tetra,
     screen: &Screen,
     front: &Front,
+    vertex: u32,
     p: Point,
-    d: Point,
+    fourth: u32,
     image: Image,
     s: Point,
-) -> (bool, bool, bool)
+) -> usize
+    requires start { p ≡ get_or t.now.points vertex origin }
+    requires vertex { vertex < length t.now.points }
     requires p_within { IsWithin BOX_LIMIT p }
-    requires d_within { IsWithin BOX_LIMIT d }
     requires screen { IsScreen screen.now (step p s) }
     requires seen { AreSeen t.now.points screen.now p front.now }
-    requires image { IsImage screen.now p d image }
-    ensures first { IsTrue result.0 ↔ (pos 0 <ℤ side p (get_or t.now.points (slice_index front.now.vertices 0) origin) d (displaced s)) }
-    ensures second { IsTrue result.1 ↔ (pos 0 <ℤ side p (get_or t.now.points (slice_index front.now.vertices 1) origin) d (displaced s)) }
-    ensures third { IsTrue result.2 ↔ (pos 0 <ℤ side p (get_or t.now.points (slice_index front.now.vertices 2) origin) d (displaced s)) }
+    requires image { IsSeen t.now.points screen.now p fourth image }
+    ensures side { result < 3 }
+    ensures left { result ≡ left_by (side (get_or t.now.points vertex origin) (get_or t.now.points (slice_index front.now.vertices 0) origin) (get_or t.now.points fourth origin) (displaced s)) (side (get_or t.now.points vertex origin) (get_or t.now.points (slice_index front.now.vertices 1) origin) (get_or t.now.points fourth origin) (displaced s)) (side (get_or t.now.points vertex origin) (get_or t.now.points (slice_index front.now.vertices 2) origin) (get_or t.now.points fourth origin) (displaced s)) }
 {
-    let _screen = screen;
+    let (_screen, _p) = (screen, p);
     let first = determinant(image, image_of(front, 0));
     let second = determinant(image, image_of(front, 1));
     let third = determinant(image, image_of(front, 2));
     if is_zero(first) {
-        return are_before_displaced(t, front.vertices, p, d, s);
+        return behind_by_displacement(t, front.vertices, vertex, fourth, s);
     }
     if is_zero(second) {
-        return are_before_displaced(t, front.vertices, p, d, s);
+        return behind_by_displacement(t, front.vertices, vertex, fourth, s);
     }
     if is_zero(third) {
-        return are_before_displaced(t, front.vertices, p, d, s);
+        return behind_by_displacement(t, front.vertices, vertex, fourth, s);
     }
-    (is_positive(first), is_positive(second), is_positive(third))
+    left(is_positive(first), is_positive(second), is_positive(third))
 }
 
 /// Whether the scanner is behind the facet a b c.
@@ -218,6 +224,7 @@ fn ahead(
     requires distinct { (j k : ℕ) → j < 4 → k < 4 → slice_index v j ≡ slice_index v k → j ≡ k }
     requires known { (k : ℕ) → k < 4 → slice_index v k < length t.now.points }
     requires start { p ≡ get_or t.now.points vertex origin }
+    requires vertex { vertex < length t.now.points }
     requires p_within { IsWithin BOX_LIMIT p }
     requires screen { IsScreen screen.now (step p s) }
     requires entered { IsEntered (vertices_of t.now) vertex (displaced s) (tetrahedron_from v) entered }
@@ -233,10 +240,8 @@ fn ahead(
             image: Image { right: 0, up: 0 },
         };
     }
-    let d = t.point(v[entered]);
-    let image = seen_at(screen, p, d);
-    let past = are_before(t, screen, front, p, d, image, s);
-    let behind = left(past.0, past.1, past.2);
+    let image = vertex_seen(t, screen, p, v[entered]);
+    let behind = behind_by_images(t, screen, front, vertex, p, v[entered], image, s);
     WayOut {
         side: side_opposite(v, front.vertices[behind]),
         behind,
@@ -313,6 +318,7 @@ pub(crate) fn exit(
 }
 
 /// The image of a vertex.
+#[inline(always)]
 fn vertex_seen(t: &Tetra, screen: &Screen, p: Point, vertex: u32) -> Image
     requires known { vertex < length t.now.points }
     requires p_within { IsWithin BOX_LIMIT p }

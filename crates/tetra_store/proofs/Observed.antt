@@ -1,5 +1,6 @@
 -- What is kept of a store, at one cell or vertex.
-use Rattle.std.proofs.Common.{◌↔◌, List, [], ◌∷◌, length, ℕ, zero, suc, ◌≡◌, ◌<◌, Option, Some, None, is_some, true, refl, sym, subst, arith}
+use Rattle.std.proofs.Common.{◌↔◌, List, [], ◌∷◌, length, ℕ, zero, suc, ◌≡◌, ◌<◌, Option, Some, None, is_some, true, refl, sym, ap, ◌∙◌, subst}
+use Rattle.std.proofs.Common.{arith, slice_index_or}
 use Rattle.std.proofs.lemmas.Bool.{false≢true}
 use Rattle.std.specs.Option.{IfSome}
 use Rattle.geo_sign.specs.Tetrahedron.{facet_of}
@@ -9,7 +10,7 @@ use Rattle.std.specs.List.{Contains}
 use Rattle.slab.specs.Slab.{entries_from}
 use Rattle.slab.proofs.SlabLemmas.{Contains-entries}
 use Rattle.tetra_store.specs.declared.link.Cell.{Cell}
-use Rattle.tetra_store.specs.Links.{slot_at, next_in, links_of, Links, IsLive, IsLinked, IsOnlyAcross}
+use Rattle.tetra_store.specs.Links.{slot_at, links_of, next_in, Links, IsLive, IsBack, IsLinked, IsOnlyAcross}
 use Rattle.tetra_store.specs.Store.{Store, IsStore}
 
 pub only_at : (v : Vertices) (links : Links) (id k other : ℕ) → IsLinked v links → IsLive links id → k < 4
@@ -39,6 +40,15 @@ pub neighbor_live : (v : Vertices) (slots : List (Option Cell)) (id k : ℕ) →
 neighbor_live v slots id k linked l None e = tt
 neighbor_live v slots id k linked l (Some other) e =
     (linked.back id k other (next_live (slot_at slots id) k other (sym e)) l (sym e)).live
+
+-- the cell across, which names this one back, as the cell that is there says
+pub back_across : (v : Vertices) (slots : List (Option Cell)) → IsLinked v (links_of slots) → (id k y : ℕ) (c : Cell)
+    → slot_at slots id ≡ Some c → k < 4 → slice_index_or c.next k None ≡ Some y → IsBack (links_of slots) id k y
+back_across v slots linked id k y c e l f = linked.back id k y (ap is_some e) l (ap (λ (o : Option Cell). next_in o k) e ∙ f)
+
+pub named_in : (slots : List (Option Cell)) (id k y : ℕ) (c : Cell) → slot_at slots id ≡ Some c
+    → (links_of slots).next id k ≡ Some y → slice_index_or c.next k None ≡ Some y
+named_in slots id k y c e f = sym (ap (λ (o : Option Cell). next_in o k) e) ∙ f
 
 pub store_now : (s t : Store) → s ≡ t → IsStore s → IsStore t
 store_now s t e h = subst (λ (u : Store). IsStore u) e h

@@ -76,7 +76,7 @@ fn link_side(cells: &mut Slab<Linked>, ids: &[CellId], i: usize, k: usize)
 {
     let other = ACROSS[i][k];
     if other < 6 {
-        set_next(cells, ids[i], k, ids[other]);
+        set_next(cells, ids[i], k, ids[other], 0);
     }
 }
 

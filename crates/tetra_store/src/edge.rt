@@ -9,7 +9,7 @@ pub(crate) struct Edge {
     pub(crate) start: u32,
     pub(crate) end: u32,
     pub(crate) cell: u32,
-    pub(crate) side: u32,
+    pub(crate) side: u8,
 }
 
 impl Edge {

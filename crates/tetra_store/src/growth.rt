@@ -12,7 +12,7 @@ use crate::edge::Edge;
 use crate::hints::Hints;
 use crate::joining::{join, push_edges};
 use crate::link::Link;
-use crate::linked::{Linked, set_next};
+use crate::linked::{Linked, set_back, set_next};
 use crate::{CellId, Facet};
 use slab::Slab;
 
@@ -117,7 +117,10 @@ fn facing_side(v: [u32; 4], f: [u32; 3]) -> usize
     turned_side(v, f)
 }
 
-/// Makes a cell name another across a facet.
+/// The side of a new cell across which the cell across its fan facet is.
+const OUTER_SIDE: u8 = 3;
+
+/// Makes a cell name a new one across a facet.
 fn name(cells: &mut Slab<Linked>, y: CellId, f: [u32; 3], id: CellId)
     requires live { IsLive (links_of cells.old.slots) y }
     requires facing { IsFacing ((links_of cells.old.slots).at y) (facet_at f) }
@@ -127,7 +130,8 @@ fn name(cells: &mut Slab<Linked>, y: CellId, f: [u32; 3], id: CellId)
     ensures len { slab_len cells.new ≡ slab_len cells.old }
 {
     let side = facing_side(cells[y.number()].vertices(), f);
-    set_next(cells, y, side, id);
+    set_next(cells, y, side, id, OUTER_SIDE);
+    set_back(cells, id, usize::from(OUTER_SIDE), side as u8);
 }
 
 /// Makes the cells across a fan name those over it.

@@ -62,7 +62,7 @@ fn join_side(cells: &mut Slab<Linked>, edge: Edge, mate: Edge)
 {
     let id = CellId::new(edge.cell as usize);
     let other = CellId::new(mate.cell as usize);
-    set_next(cells, id, edge.side as usize, other);
+    set_next(cells, id, usize::from(edge.side), other, mate.side);
 }
 
 /// Puts edges in the order of their keys.

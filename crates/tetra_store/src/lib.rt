@@ -5,7 +5,8 @@
 //! is across each facet, and that each facet is in one cell alone. That the cells are Delaunay is for its callers to say, who choose
 //! the cells that `replace` takes out. Only `with_box` says it of the cells that it makes.
 //!
-//! A cell takes 40 bytes: 32 for its vertices and neighbors, and 8 by which the slab marks a slot that is taken. A vertex takes 12
+//! A cell takes 40 bytes: 32 for its vertices and neighbors, 4 for hints which side of each neighbor leads back, and 4 by which the slab
+//! marks a slot that is taken. A vertex takes 12
 //! bytes for its point, 4 for its kept cell, one for whether it is inserted and one for its number in a fan.
 #![tactic(auto)]
 
@@ -33,7 +34,7 @@ pub use fan::Facet;
 pub use id::CellId;
 pub use link::Cell;
 use std::alloc::AllocError;
-pub use store::Tetra;
+pub use store::{Neighbor, Tetra};
 
 /// Want of memory: the one answer that any input may get.
 pub type NoMemory = AllocError;

@@ -1,4 +1,4 @@
-//! Cells, as callers see them and as the store keeps them: 32 bytes each.
+//! Cells, as callers see them, and neighbors, as the store keeps them in four bytes.
 
 ghost use Rattle.std.specs.Prelude.{◌≡◌, ◌+◌, ◌<◌, ◌^◌, ◌↔◌, IsTrue, Some, None};
 

@@ -1,9 +1,9 @@
-//! A cell as the store keeps it, in 32 bytes.
+//! A cell as the store keeps it, in 36 bytes.
 
 ghost use Rattle.std.specs.Prelude.{◌≡◌, ◌+◌, ◌<◌, ◌^◌, ◌↔◌, ℕ, IsTrue, Some, None, [], ◌∷◌, length, slice_index_or, slice_set, if◌then◌else◌};
 ghost use Rattle.slab.specs.Slab.{ContainsKey, slab_len};
 ghost use Rattle.geo_sign.specs.Writings.{IsVertexOf};
-ghost use Rattle.tetra_store.specs.Links.{links_of, tetrahedron_from};
+ghost use Rattle.tetra_store.specs.Links.{links_of, slot_at, tetrahedron_from};
 ghost use Rattle.tetra_store.specs.Steps.{IsWritten};
 
 use crate::link::Link;
@@ -12,10 +12,12 @@ use slab::Slab;
 use std::marker::Model;
 
 /// A cell whose neighbors take four bytes each. Contracts see it as the cell that it stands for.
-#[derive(Clone, Copy)]
+#[derive(Drop)]
 pub(crate) struct Linked {
     v: [u32; 4],
     next: [Link; 4],
+    // Which side of each neighbor leads back here: a hint, of which nothing is kept true. Whoever reads it tests it.
+    backs: [u8; 4],
 }
 
 impl Model for Linked {
@@ -27,8 +29,6 @@ impl Model for Linked {
     ghost view = { λ c. record { v = c.v; next = c.next } };
 
     ghost invariant = { λ c. length c.next ≡ 4 };
-
-    ghost inverse = { λ c. record { v = c.v; next = c.next } };
 }
 
 /// Which of three tests is the first that holds, and 3 where none does, with no branch between.
@@ -41,21 +41,26 @@ fn first_of(a: bool, b: bool, c: bool) -> usize
 }
 
 impl Linked {
-    /// A cell with these vertices, and no neighbor but one across the facet opposite to the last.
+    /// A cell with these vertices, and no neighbor but one across the facet opposite to the last. Its hints are unknown.
     pub(crate) fn new(v: [u32; 4], outer: Link) -> Linked
         ensures { result ≡ record { v = v; next = None ∷ None ∷ None ∷ outer ∷ [] } }
     {
         Linked {
             v,
             next: [Link::none(), Link::none(), Link::none(), outer],
+            backs: [0; 4],
         }
     }
 
-    /// A cell with these vertices and neighbors.
-    pub(crate) fn with_links(v: [u32; 4], next: [Link; 4]) -> Linked
-        ensures { result ≡ record { v = v; next = next } }
+    /// A cell with the vertices and the hints of this one, and these neighbors.
+    pub(crate) fn with_links(&self, next: [Link; 4]) -> Linked
+        ensures { result ≡ record self.now { next = next } }
     {
-        Linked { v, next }
+        Linked {
+            v: self.v,
+            next,
+            backs: self.backs,
+        }
     }
 
     /// Its vertices.
@@ -81,8 +86,31 @@ impl Linked {
         self.next[side].get()
     }
 
-    /// The first side across which a neighbor of it is. It compares numbers, with no branch between.
-    pub(crate) fn side_to(&self, other: CellId) -> usize
+    /// The side of the neighbor across a side that may lead back here.
+    pub(crate) fn back(&self, side: usize) -> usize
+        requires { side < 4 }
+        ensures { result < 4 }
+    {
+        usize::from(self.backs[side]) % 4
+    }
+
+    /// The side across which a neighbor of it is: this one, where it is there, and else the first such side.
+    pub(crate) fn side_to(&self, other: CellId, hint: usize) -> usize
+        requires neighbor { (k : ℕ) × (k < 4) × (slice_index_or self.now.next k None ≡ Some other) }
+        requires hint { hint < 4 }
+        ensures side { result < 4 }
+        ensures named { slice_index_or self.now.next result None ≡ Some other }
+    {
+        if self.next[hint].is(other) {
+            return hint;
+        }
+        self.first_side_to(other)
+    }
+
+    /// The first side across which a neighbor of it is. It is seldom asked for, and stays a call: so a walk goes on with a hint before
+    /// it is known to be right.
+    #[inline(never)]
+    fn first_side_to(&self, other: CellId) -> usize
         requires { (k : ℕ) × (k < 4) × (slice_index_or self.now.next k None ≡ Some other) }
         ensures side { result < 4 }
         ensures named { slice_index_or self.now.next result None ≡ Some other }
@@ -103,19 +131,28 @@ impl Linked {
         }
     }
 
-    /// Names the neighbor across a side.
-    pub(crate) fn set_next(&mut self, side: usize, other: CellId)
+    /// Names the neighbor across a side, and which side of that may lead back.
+    pub(crate) fn set_next(&mut self, side: usize, other: CellId, back: u8)
         requires side { side < 4 }
         requires other { other + 1 < 2 ^ 32 }
         ensures whole { length self.old.next ≡ 4 }
         ensures after { self.new ≡ record self.old { next = slice_set self.old.next side (Some other) } }
     {
         self.next[side] = Link::to(other);
+        self.backs[side] = back;
+    }
+
+    /// Says which side of the neighbor across a side may lead back.
+    pub(crate) fn set_back(&mut self, side: usize, back: u8)
+        requires { side < 4 }
+        ensures { self.new ≡ self.old }
+    {
+        self.backs[side] = back;
     }
 }
 
-/// Names a cell across a side of another.
-pub(crate) fn set_next(cells: &mut Slab<Linked>, id: CellId, side: usize, other: CellId)
+/// Names a cell across a side of another, and which side of that cell may lead back.
+pub(crate) fn set_next(cells: &mut Slab<Linked>, id: CellId, side: usize, other: CellId, back: u8)
     requires live { ContainsKey cells.old id }
     requires side { side < 4 }
     requires small { other + 1 < 2 ^ 32 }
@@ -124,5 +161,17 @@ pub(crate) fn set_next(cells: &mut Slab<Linked>, id: CellId, side: usize, other:
     ensures len { slab_len cells.new ≡ slab_len cells.old }
 {
     let cell = &mut cells[id.number()];
-    cell.set_next(side, other);
+    cell.set_next(side, other, back);
+}
+
+/// Says which side of the neighbor across a side of a cell may lead back.
+pub(crate) fn set_back(cells: &mut Slab<Linked>, id: CellId, side: usize, back: u8)
+    requires { side < 4 }
+    ensures slots { (x : ℕ) → slot_at cells.new.slots x ≡ slot_at cells.old.slots x }
+    ensures capacity { cells.new.capacity ≡ cells.old.capacity }
+    ensures len { slab_len cells.new ≡ slab_len cells.old }
+{
+    if let Some(cell) = cells.get_mut(id.number()) {
+        cell.set_back(side, back);
+    }
 }

@@ -117,20 +117,17 @@ fn moved_link(places: &[Link], link: Option<CellId>) -> Link
     }
 }
 
-/// A cell with the places of its neighbors.
+/// A cell with the places of its neighbors. Its sides stay, and so do hints which of them lead back.
 fn moved_cell(places: &[Link], cell: &Linked) -> Linked
     requires { (k : ℕ) → k < 4 → ForSome (slice_index_or cell.now.next k None) (λ y. y < length places.now) }
     ensures { result ≡ moved places.now cell.now }
 {
-    Linked::with_links(
-        cell.vertices(),
-        [
-            moved_link(places, cell.next(0)),
-            moved_link(places, cell.next(1)),
-            moved_link(places, cell.next(2)),
-            moved_link(places, cell.next(3)),
-        ],
-    )
+    cell.with_links([
+        moved_link(places, cell.next(0)),
+        moved_link(places, cell.next(1)),
+        moved_link(places, cell.next(2)),
+        moved_link(places, cell.next(3)),
+    ])
 }
 
 /// Copies the cell with the place `at` there, where the cells before it are.

@@ -49,6 +49,17 @@ impl Model for Tetra {
     ghost invariant = { λ t. IsStore (store_from t.points.items t.inserted.items t.cells t.kept.items (vec_capacity t.ids) (vec_capacity t.edges)) };
 }
 
+/// The cell across a side of another.
+#[derive(Clone, Copy, Debug, PartialEq, Eq)]
+pub struct Neighbor {
+    /// Its number.
+    pub id: CellId,
+    /// The side of it, 0 to 3, across which the other cell is.
+    pub side: usize,
+    /// Its four vertices, as `vertices` has them.
+    pub vertices: [u32; 4],
+}
+
 impl Tetra {
     ghost use Rattle.tetra_store.specs.Store.{IsStore, vertices_of};
 
@@ -98,16 +109,6 @@ impl Tetra {
         self.cells[id.number()].vertices()
     }
 
-    /// The side of a live cell across which one of its neighbors is. Two cells are neighbors across one facet alone.
-    pub fn side_to(&self, id: CellId, other: CellId) -> usize
-        requires live { IsLive (links_of self.now.slots) id }
-        requires neighbor { (k : ℕ) × (k < 4) × ((links_of self.now.slots).next id k ≡ Some other) }
-        ensures side { result < 4 }
-        ensures named { (links_of self.now.slots).next id result ≡ Some other }
-    {
-        self.cells[id.number()].side_to(other)
-    }
-
     /// The neighbor of a cell across a side, which is 0 to 3: the cell across the facet opposite to that vertex. There is none exactly
     /// where the facet is on a wall, and else it is the only cell that has the facet in the other direction.
     pub fn across(&self, id: CellId, side: u8) -> Option<CellId>
@@ -118,6 +119,29 @@ impl Tetra {
         ensures only { IfSome result (λ other. IsOnlyAcross (links_of self.now.slots) id side other) }
     {
         self.cells[id.number()].next(side as usize)
+    }
+
+    /// The neighbor of a cell across a side, 0 to 3, as `across` answers it, with the side of it that leads back and its vertices. Two
+    /// cells are neighbors across one facet alone. For walks, which go from cell to cell: it looks each cell up once, and mostly does not
+    /// search for the side.
+    #[inline(always)]
+    pub fn neighbor(&self, id: CellId, side: usize) -> Option<Neighbor>
+        requires live { IsLive (links_of self.now.slots) id }
+        requires side { side < 4 }
+        ensures across { IfSome result (λ n. (links_of self.now.slots).next id side ≡ Some n.id) }
+        ensures wall { IfNone result ((links_of self.now.slots).next id side ≡ None) }
+        ensures side { IfSome result (λ n. n.side < 4) }
+        ensures back { IfSome result (λ n. (links_of self.now.slots).next n.id n.side ≡ Some id) }
+        ensures vertices { IfSome result (λ n. tetrahedron_from n.vertices ≡ (links_of self.now.slots).at n.id) }
+    {
+        let cell = &self.cells[id.number()];
+        let next = cell.next(side)?;
+        let there = &self.cells[next.number()];
+        Some(Neighbor {
+            id: next,
+            side: there.side_to(id, cell.back(side)),
+            vertices: there.vertices(),
+        })
     }
 
     /// The kept cell of an inserted vertex: a live cell that has it. Which one it is changes as cells are replaced.

@@ -12,5 +12,5 @@ mod goal;
 mod side;
 mod walk;
 
-pub use side::{facet, side_to};
+pub use side::facet;
 pub use walk::{behind, locate, locate_displaced, locate_scanner, toward};

@@ -14,7 +14,7 @@ ghost use Rattle.tetra_walk.specs.Goals.{place_of, IsGoal};
 ghost use Rattle.tetra_walk.specs.Walks.{IsBehindSide};
 
 use crate::goal::Goal;
-use crate::side::{facet, neighbor, side_to};
+use crate::side::facet;
 use geo_sign::Point;
 use tetra_store::{CellId, Tetra};
 
@@ -60,16 +60,16 @@ fn walk_to(t: &Tetra, goal: &Goal, from: CellId) -> CellId
 {
     t.facts();
     let mut at = from;
-    let mut cell = t.cell(at);
+    let mut vertices = t.vertices(at);
     let mut entered = NO_SIDE;
     loop {
-        match side_behind(t, goal, cell.v, entered) {
+        match side_behind(t, goal, vertices, entered) {
             None => return at,
-            Some(side) => match neighbor(&cell, side) {
+            Some(side) => match t.neighbor(at, side) {
                 Some(next) => {
-                    cell = t.cell(next);
-                    entered = side_to(&cell, at);
-                    at = next;
+                    at = next.id;
+                    vertices = next.vertices;
+                    entered = next.side;
                 }
                 None => unreachable!(),
             },

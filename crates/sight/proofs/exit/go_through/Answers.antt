@@ -1,5 +1,4 @@
-use Rattle.std.proofs.Common.{◌<◌, ◌≡◌, ◌⊎◌, inl, inr, ⊎_elim, arith, slice_index}
-use Rattle.sight.specs.Fronts.{IsSeen}
+use Rattle.std.proofs.Common.{◌<◌, ◌≡◌, ⊎_elim, arith, slice_index}
 use Rattle.sight.proofs.Fronts.{set_seen}
 use Rattle.sight.proofs.exit.go_through.Goals as goal
 

@@ -1,7 +1,6 @@
 use mir.Syntax.{w64, w128}
 use Rattle.std.proofs.Common.{ℤ, ◌≡◌, ◌∙◌, ◌≤◌, ◌*◌, ◌^◌, ◌*ℤ◌, ◌-ℤ◌, unsigned_abs}
 use Rattle.geo_sign.proofs.Bounds.{Held, kept, held_kept, held_sub, fits_held, within_held, held_product}
-use Rattle.sight.specs.declared.image.Image.{Image}
 use Rattle.sight.proofs.image.determinant.Goals as goal
 
 -- a product, and the difference of two, as the code computes them

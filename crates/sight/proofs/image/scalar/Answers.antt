@@ -1,6 +1,6 @@
-use Rattle.std.proofs.Common.{◌∙◌, ◌^◌, ◌*◌, ◌+ℤ◌, ◌*ℤ◌}
+use Rattle.std.proofs.Common.{◌^◌, ◌*◌, ◌+ℤ◌, ◌*ℤ◌}
 use mir.Syntax.{w64}
-use Rattle.geo_sign.specs.Point.{Point, point, IsWithin, dot}
+use Rattle.geo_sign.specs.Point.{Point, IsWithin, dot}
 use Rattle.geo_sign.proofs.Bounds.{Held, kept, held_kept, held_add, fits_held, within_held, held_product}
 use Rattle.sight.specs.Images.{along}
 use Rattle.sight.proofs.image.scalar.Goals as goal

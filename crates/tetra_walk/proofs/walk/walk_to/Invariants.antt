@@ -8,7 +8,7 @@ use Rattle.tetra_walk.proofs.Ends.{IsReached}
 use Rattle.tetra_walk.proofs.walk.walk_to.Given as goal
 
 abbrev pub invariant-loop-at : goal.invariant-loop-at
-invariant-loop-at l = IsReached l.t (place_of l.goal) l.at l.cell l.entered
+invariant-loop-at l = IsReached l.t (place_of l.goal) l.at l.vertices l.entered
 
 abbrev pub decreases-loop-at : goal.decreases-loop-at
 decreases-loop-at l =

@@ -11,7 +11,7 @@ pub unreachable-requires : goal.unreachable-requires
 unreachable-requires c =
     let i = c.self.inside in
     goes_on i.tetra.now i.vertex i.scanner i.at i.vertices i.entered c.in-Some.exit.side c.facts.ensures c.self.invariant.0
-    c.in-Some.ensures.some.0 (sym c.across.ensures.value ∙ c.in-None-across.is)
+    c.in-Some.ensures.some.0 c.in-None-neighbor.ensures.wall
 
 pub go_through-requires-clause-known : goal.go_through-requires-clause-known
 go_through-requires-clause-known c =
@@ -22,15 +22,15 @@ pub invariant_of-self : goal.invariant_of-self
 invariant_of-self c =
     let i = c.self.inside in
     let out = c.in-Some.ensures.some.0 in
-    let there = sym c.across.ensures.value ∙ c.in-Some-across.is in
-    let next = c.side_to-self-inside.ensures in
+    let there = c.in-Some-neighbor.ensures.across in
+    let next = c.in-Some-neighbor.ensures in
+    let n = c.in-Some-neighbor.next in
     let passed = c.go_through.ensures in (
-      walks_on i.tetra.now i.vertex i.scanner i.at i.vertices i.entered c.in-Some.exit.side c.in-Some-across.next
-          c.side_to-self-inside.result c.vertices-self-inside.result c.facts.ensures c.self.invariant.0 out there
-          c.vertices-self-inside.ensures next.side next.named,
-      front_on i.tetra.now i.vertex i.scanner i.at i.vertices i.entered c.in-Some.exit.side c.in-Some-across.next
-          c.side_to-self-inside.result c.vertices-self-inside.result i.point i.screen i.front c.go_through.new.front
-          c.facts.ensures c.self.invariant.0 out there c.vertices-self-inside.ensures next.side next.named c.self.invariant.1
+      walks_on i.tetra.now i.vertex i.scanner i.at i.vertices i.entered c.in-Some.exit.side n.id n.side n.vertices
+          c.facts.ensures c.self.invariant.0 out there next.vertices next.side next.back,
+      front_on i.tetra.now i.vertex i.scanner i.at i.vertices i.entered c.in-Some.exit.side n.id n.side n.vertices
+          i.point i.screen i.front c.go_through.new.front
+          c.facts.ensures c.self.invariant.0 out there next.vertices next.side next.back c.self.invariant.1
           passed.three passed.images passed.turned passed.seen,
       c.self.invariant.2,
     )
@@ -45,11 +45,11 @@ returns-in-None-clause-out c =
       refl,
     ))
 
-pub returns-in-Some-across-clause-on : goal.returns-in-Some-across-clause-on
-returns-in-Some-across-clause-on c =
+pub returns-in-Some-neighbor-clause-on : goal.returns-in-Some-neighbor-clause-on
+returns-in-Some-neighbor-clause-on c =
     λ yes.
     (let i = c.self.inside in
-    let y = c.in-Some-across.next in let m = c.side_to-self-inside.result in
+    let y = c.in-Some-neighbor.next.id in let m = c.in-Some-neighbor.next.side in
     let after : Walk = record {
       store = i.tetra.now;
       vertex = i.vertex;
@@ -60,11 +60,10 @@ returns-in-Some-across-clause-on c =
     } in
     subst (λ (w : Walk). IsGoneOn w after) c.self.view_is
     (gone_on i.tetra.now i.vertex i.scanner i.at i.vertices i.entered c.in-Some.exit.side y m c.facts.ensures c.self.invariant.0
-    c.in-Some.ensures.some.0 (sym c.across.ensures.value ∙ c.in-Some-across.is) c.side_to-self-inside.ensures.side
-    c.side_to-self-inside.ensures.named))
+    c.in-Some.ensures.some.0 c.in-Some-neighbor.ensures.across c.in-Some-neighbor.ensures.side c.in-Some-neighbor.ensures.back))
 
-pub returns-in-Some-across-clause-more : goal.returns-in-Some-across-clause-more
-returns-in-Some-across-clause-more c =
+pub returns-in-Some-neighbor-clause-more : goal.returns-in-Some-neighbor-clause-more
+returns-in-Some-neighbor-clause-more c =
     λ yes.
     (let i = c.self.inside in
     subst (λ (w : Walk). is_cell_of (vertices_of w.store) (displaced w.scanner) ((links_of w.store.slots).at w.at) ≡ false)
