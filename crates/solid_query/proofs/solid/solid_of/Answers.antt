@@ -1,7 +1,7 @@
 -- The flags by the numbers of cells are the labels of the best surface.
 --
--- Nodes have the store's live cells, each once (ids_are), so labels by node become flags by number without a clash. The labels are the least-inside ones of the scene (least_inside_is), and each live cell has the flag of
--- its node (flags_are).
+-- Nodes have the store's live cells, each once (ids_are), so labels by node become flags by number without a clash. The labels are the
+-- least-inside ones of the scene (least_inside_is), and each live cell has the flag of its node (flags_are).
 use Rattle.std.proofs.Common.{ℕ, ◌≡◌, ◌<◌, sym, subst, ◌∙◌, List, length, get_or}
 use Rattle.flow_net.specs.Nets.{flag_at}
 use Rattle.scan.specs.Views.{shown_of}
