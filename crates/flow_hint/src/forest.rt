@@ -12,6 +12,7 @@ use crate::preflow::Preflow;
 use crate::wiring::Ends;
 use flow_net::FlowNetwork;
 use std::alloc::Global;
+use watch::Watch;
 
 /// The parent of a node outside the forest.
 const FREE: u32 = u32::MAX;
@@ -398,8 +399,8 @@ impl<'a, N: FlowNetwork> Forest<'a, N> {
         }
     }
 
-    /// Grows until nothing grows, or the fuel is used.
-    pub fn run(&mut self)
+    /// Grows until nothing grows, or the fuel is used. A watch is told from how many nodes.
+    pub fn run<W: Watch>(&mut self, watch: &mut W)
         ensures { self.new.preflow.wiring ≡ self.old.preflow.wiring }
     {
         self.plant();
@@ -410,6 +411,7 @@ impl<'a, N: FlowNetwork> Forest<'a, N> {
             let Some(node) = self.dequeue() else {
                 return;
             };
+            self.preflow.tell_next(watch);
             self.grow(node);
         }
     }

@@ -12,6 +12,7 @@ use crate::sweep::Sweep;
 use crate::walk::Walk;
 use flow_net::{Flow, FlowNetwork};
 use std::alloc::Global;
+use watch::{Silent, Watch};
 
 /// Amounts that mostly are a largest flow, and levels of nodes in its residual network, which mostly show it. Whoever asks tests
 /// both.
@@ -24,10 +25,12 @@ pub struct Hint {
     pub levels: Levels,
 }
 
-/// The amounts after those that can have come to sinks, and the levels of the nodes from which a sink could still be reached.
-fn sent<'a, N: FlowNetwork>(
+/// The amounts after those that can have come to sinks, and the levels of the nodes from which a sink could still be reached. A watch
+/// is told from how many nodes amounts were moved on.
+fn sent<'a, N: FlowNetwork, W: Watch>(
     alloc: Global,
     preflow: Preflow<'a, N>,
+    watch: &mut W,
 ) -> Result<(Preflow<'a, N>, Levels), NoMemory>
     ensures { IfOk result (λ made. made.0.wiring ≡ preflow.entry.wiring) }
 {
@@ -36,25 +39,26 @@ fn sent<'a, N: FlowNetwork>(
         return Ok((preflow, levels));
     }
     let mut forest = Forest::new(alloc, preflow)?;
-    forest.run();
+    forest.run(watch);
     let Forest { preflow, .. } = forest;
     let mut rounds = Rounds::new(alloc, preflow)?;
-    rounds.run(alloc)?;
+    rounds.run(alloc, watch)?;
     rounds.into_levels(alloc)
 }
 
 /// The amounts after sinks have taken what is listed, as far as it can come, with the sinks open to their whole size.
-fn filled_first<'a, N: FlowNetwork>(
+fn filled_first<'a, N: FlowNetwork, W: Watch>(
     alloc: Global,
     preflow: Preflow<'a, N>,
     first: &[u64],
+    watch: &mut W,
 ) -> Result<Preflow<'a, N>, NoMemory>
     ensures { IfOk result (λ filled. filled.wiring ≡ preflow.entry.wiring) }
 {
     if first.is_empty() {
         return Ok(preflow);
     }
-    let (mut preflow, _levels) = sent(alloc, preflow)?;
+    let (mut preflow, _levels) = sent(alloc, preflow, watch)?;
     preflow.open_sinks(first);
     Ok(preflow)
 }
@@ -81,19 +85,20 @@ fn given_back<'a, N: FlowNetwork>(
 /// The amounts by one way to start, after those that can have come to sinks, and the levels. None where there is no hint.
 ///
 /// Where amounts are listed, sinks first take no more than these, so that mostly no less comes to any.
-fn sent_from<'a, N: FlowNetwork>(
+fn sent_from<'a, N: FlowNetwork, W: Watch>(
     alloc: Global,
     net: &'a N,
     start: Start,
     first: &[u64],
+    watch: &mut W,
 ) -> Result<Option<(Preflow<'a, N>, Levels)>, NoMemory>
     ensures { IfOk result (λ found. IfSome found (λ made. made.0.wiring.net.now ≡ net.now)) }
 {
     let Some(preflow) = Preflow::new(alloc, net, start, first)? else {
         return Ok(None);
     };
-    let preflow = filled_first(alloc, preflow, first)?;
-    Ok(Some(sent(alloc, preflow)?))
+    let preflow = filled_first(alloc, preflow, first, watch)?;
+    Ok(Some(sent(alloc, preflow, watch)?))
 }
 
 /// The hint that amounts are after what has come to no sink has gone back, or None where not all of it has.
@@ -141,8 +146,20 @@ pub fn find_hint<N: FlowNetwork>(alloc: Global, net: &N) -> Result<Option<Hint>,
     ensures arcs { IfOk result (λ found. IfSome found (λ hint. length hint.flow.on_arc ≡ (N.numbered net.now).arc_count)) }
     ensures sinks { IfOk result (λ found. IfSome found (λ hint. length hint.flow.on_sink ≡ (N.numbered net.now).node_count)) }
 {
+    find_hint_watched(alloc, net, &mut Silent)
+}
+
+/// The same, where a watch is told from how many nodes amounts were moved on. The count begins anew where a first try gives no hint.
+pub fn find_hint_watched<N: FlowNetwork, W: Watch>(
+    alloc: Global,
+    net: &N,
+    watch: &mut W,
+) -> Result<Option<Hint>, NoMemory>
+    ensures arcs { IfOk result (λ found. IfSome found (λ hint. length hint.flow.on_arc ≡ (N.numbered net.now).arc_count)) }
+    ensures sinks { IfOk result (λ found. IfSome found (λ hint. length hint.flow.on_sink ≡ (N.numbered net.now).node_count)) }
+{
     for start in [Start::Full, Start::Plain] {
-        if let Some((preflow, levels)) = sent_from(alloc, net, start, &[])? {
+        if let Some((preflow, levels)) = sent_from(alloc, net, start, &[], watch)? {
             let found = settled(alloc, preflow, levels)?;
             if found.is_some() {
                 return Ok(found);
@@ -164,8 +181,21 @@ pub fn find_hint_above<N: FlowNetwork>(
     ensures arcs { IfOk result (λ found. IfSome found (λ pair. length pair.0.flow.on_arc ≡ (N.numbered net.now).arc_count)) }
     ensures sinks { IfOk result (λ found. IfSome found (λ pair. length pair.0.flow.on_sink ≡ (N.numbered net.now).node_count)) }
 {
+    find_hint_above_watched(alloc, net, first, &mut Silent)
+}
+
+/// The same, where a watch is told as by `find_hint_watched`.
+pub fn find_hint_above_watched<N: FlowNetwork, W: Watch>(
+    alloc: Global,
+    net: &N,
+    first: &[u64],
+    watch: &mut W,
+) -> Result<Option<(Hint, KeptPreflow)>, NoMemory>
+    ensures arcs { IfOk result (λ found. IfSome found (λ pair. length pair.0.flow.on_arc ≡ (N.numbered net.now).arc_count)) }
+    ensures sinks { IfOk result (λ found. IfSome found (λ pair. length pair.0.flow.on_sink ≡ (N.numbered net.now).node_count)) }
+{
     for start in [Start::Full, Start::Plain] {
-        if let Some((preflow, levels)) = sent_from(alloc, net, start, first)? {
+        if let Some((preflow, levels)) = sent_from(alloc, net, start, first, watch)? {
             let found = settled_and_kept(alloc, preflow, levels)?;
             if found.is_some() {
                 return Ok(found);
@@ -191,6 +221,6 @@ pub fn find_hint_on<N: FlowNetwork>(
     let Some(preflow) = Preflow::on(alloc, net, kept)? else {
         return Ok(None);
     };
-    let (preflow, levels) = sent(alloc, preflow)?;
+    let (preflow, levels) = sent(alloc, preflow, &mut Silent)?;
     settled_and_kept(alloc, preflow, levels)
 }

@@ -92,6 +92,7 @@ impl<'a, N: FlowNetwork> Preflow<'a, N> {
             excess,
             sink,
             source,
+            moves: 0,
         };
         preflow.open_arcs();
         preflow.send_more(sends.as_slice());

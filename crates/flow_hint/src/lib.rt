@@ -9,7 +9,7 @@
 //! `survey` adds up capacities, `wiring` says which arcs leave a node, `amounts` holds numbers in few bits, `preflow` holds what
 //! is where, `kept` goes on from where an earlier one stood, `forest` and `rounds` move excess into sinks, `refund` says what can
 //! go back, `sweep` and `walk` give it back, and `hinting` puts them together. `levels` finds the levels of nodes in the residual
-//! network of a flow. The crate stands on `flow_net` alone.
+//! network of a flow. The crate stands on `flow_net` alone, and tells a `watch` how far it is.
 #![tactic(auto)]
 
 mod amounts;
@@ -25,7 +25,9 @@ mod sweep;
 mod walk;
 mod wiring;
 
-pub use hinting::{Hint, find_hint, find_hint_above, find_hint_on};
+pub use hinting::{
+    Hint, find_hint, find_hint_above, find_hint_above_watched, find_hint_on, find_hint_watched,
+};
 pub use kept::KeptPreflow;
 pub use levels::{Levels, find_levels};
 

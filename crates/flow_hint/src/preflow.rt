@@ -10,6 +10,7 @@ use crate::survey::Survey;
 use crate::wiring::Wiring;
 use flow_net::FlowNetwork;
 use std::alloc::Global;
+use watch::{Watch, tell};
 
 /// How a hint starts.
 #[derive(Clone, Copy, Debug, PartialEq, Eq)]
@@ -33,6 +34,8 @@ pub struct Preflow<'a, N: FlowNetwork> {
     pub sink: Vec<u64>,
     /// How much has come to each node from fixed nodes.
     pub source: Vec<u64>,
+    /// From how many nodes amounts were moved on, a node as often as that was.
+    pub moves: usize,
     pub ghost excess_count: { length excess.items ≡ wiring.nodes },
     pub ghost sink_count: { length sink.items ≡ wiring.nodes },
     pub ghost source_count: { length source.items ≡ wiring.nodes },
@@ -126,6 +129,7 @@ impl<'a, N: FlowNetwork> Preflow<'a, N> {
             excess,
             sink: free_sinks(alloc, net, first)?,
             source,
+            moves: 0,
         };
         preflow.settle();
         Ok(Some(preflow))
@@ -171,6 +175,14 @@ impl<'a, N: FlowNetwork> Preflow<'a, N> {
         self.sink[node] -= leaves;
         self.excess[node] = arrived - leaves;
         arrived - leaves
+    }
+
+    /// Amounts are moved on from one more node. A watch is told of every 4,096th.
+    pub fn tell_next<W: Watch>(&mut self, watch: &mut W)
+        ensures { self.new.wiring ≡ self.old.wiring }
+    {
+        self.moves = self.moves.saturating_add(1);
+        tell(watch, self.moves);
     }
 
     /// Sends an amount along an arc, so that as much more can go along its reverse.

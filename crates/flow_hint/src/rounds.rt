@@ -11,6 +11,7 @@ use crate::preflow::Preflow;
 use crate::wiring::Ends;
 use flow_net::FlowNetwork;
 use std::alloc::Global;
+use watch::Watch;
 
 /// The level of a node from which no sink is known to be reached, and the end of a list of nodes.
 const NONE: u32 = u32::MAX;
@@ -253,8 +254,8 @@ impl<'a, N: FlowNetwork> Rounds<'a, N> {
         }
     }
 
-    /// Moves the excess of nodes that wait, until the fuel is used.
-    fn drain(&mut self)
+    /// Moves the excess of nodes that wait, until the fuel is used. A watch is told from how many nodes.
+    fn drain<W: Watch>(&mut self, watch: &mut W)
         ensures { self.new.preflow.wiring ≡ self.old.preflow.wiring }
     {
         self.fuel = self.preflow.wiring.nodes.saturating_mul(FUEL);
@@ -265,12 +266,13 @@ impl<'a, N: FlowNetwork> Rounds<'a, N> {
             let Some(node) = self.take() else {
                 return;
             };
+            self.preflow.tell_next(watch);
             self.discharge(node);
         }
     }
 
     /// Moves excess to sinks until none moves, or the rounds are over.
-    pub fn run(&mut self, alloc: Global) -> Result<(), NoMemory>
+    pub fn run<W: Watch>(&mut self, alloc: Global, watch: &mut W) -> Result<(), NoMemory>
         ensures { self.new.preflow.wiring ≡ self.old.preflow.wiring }
     {
         for _ in 0..MOST_ROUNDS {
@@ -278,7 +280,7 @@ impl<'a, N: FlowNetwork> Rounds<'a, N> {
                 return Ok(());
             }
             self.put_all(alloc)?;
-            self.drain();
+            self.drain(watch);
         }
         Ok(())
     }
