@@ -1,12 +1,11 @@
 #!/usr/bin/env python3
 """Makes each allocation of the built program fail in turn, one a run, on a scan of four points, and says how the runs ended.
 
-usage: dev/fail_alloc.py [PROGRAM [TESTS]]    (default ./recon; it needs a C compiler, and takes half a minute)
+usage: dev/fail_alloc.py [PROGRAM]    (default ./recon; it needs a C compiler, and takes half a minute)
 
 Behind an allocation that fails a command ends with status 5, says nothing and leaves all files as they were; or the call of the
 system that lacked memory failed, with status 4 and the files as they were or a front of what is written; or the command found
-another way and is done. In each case the same words with memory then do what they would have done at first. TESTS is the
-program of the tests of run_tests, where a run is tried again in the same process: it passes whichever allocation fails.
+another way and is done. In each case the same words with memory then do what they would have done at first.
 """
 from __future__ import annotations
 
@@ -58,8 +57,6 @@ COMMANDS = (('cells', 'in', 'out'), ('build', 'in', 'mesh', 'cert'), ('check', '
             ('sweep', 'in', '0', '1', '2', 'first', 'second', 'vote=1'),
             ('demo', '7', '1'), ('slice', 'mesh', '0', 'out'),
             ('export', 'mesh', 'out', 'cert', 'new'))
-TESTS = tuple('tests::memory::' + name for name in ('a_command_without_memory_leaves_all_as_it_was',
-              'an_export_without_memory_leaves_all_as_it_was', 'a_text_without_memory_is_as_it_was'))
 
 
 def ran(folder: pathlib.Path, program: str, words: Sequence[str], number: int) -> tuple[Answer, bool]:
@@ -133,28 +130,13 @@ def told_of_commands(folder: pathlib.Path, program: str) -> int:
     return against
 
 
-def told_of_test(folder: pathlib.Path, program: str, test: str) -> int:
-    """Tries a test and prints how often it failed. Returns that."""
-    number, bad = 0, 0
-    while True:
-        number += 1
-        answer, failed = ran(folder, program, [test], number)
-        if not failed:
-            print(f'{test}: {number - 1} allocations, {bad} failed runs')
-            return bad
-        bad += answer[0] != 0
-
-
 def main() -> int:
-    words = [os.path.abspath(word) for word in sys.argv[1:]] or [str(TOP / 'recon')]
+    program = os.path.abspath(sys.argv[1]) if len(sys.argv) > 1 else str(TOP / 'recon')
     with tempfile.TemporaryDirectory() as name:
         folder = pathlib.Path(name)
         (folder / 'shim.c').write_text(SHIM)
         subprocess.run(['cc', '-O2', '-shared', '-fPIC', '-o', 'shim.so', 'shim.c'], cwd=folder, check=True)
-        against = told_of_commands(folder, words[0])
-        for program in words[1:]:
-            against += sum(told_of_test(folder, program, test) for test in TESTS)
-    return 1 if against else 0
+        return 1 if told_of_commands(folder, program) else 0
 
 
 if __name__ == '__main__':

@@ -12,6 +12,7 @@ import shutil
 import signal
 import struct
 import subprocess
+import time
 import unittest
 from typing import Any, Iterator
 
@@ -482,7 +483,9 @@ class Program(InFolder):
         equal(files, [data('mesh2'), data('cert2')])
         equal(shown.split(CLEAR), ['', 'cells 0 of 4 · 0 s', 'sights 0 of 4 · 0 s', 'flow, begun at 0 s', ''])
         equal(at_terminal('cells', 'scan', 'out')[2].split(CLEAR), ['', 'cells 0 of 4 · 0 s', ''])
-        equal(at_terminal('check', 'scan', 'mesh', 'cert')[2].split(CLEAR), ['', 'cells 0 of 4 · 0 s', 'sights 0 of 4 · 0 s', ''])
+        for words in (('check', 'scan', 'mesh', 'cert'), ('upgrade', 'scan', 'mesh', 'cert', 'new')):
+            equal(at_terminal(*words)[2].split(CLEAR), ['', 'cells 0 of 4 · 0 s', 'sights 0 of 4 · 0 s', ''])
+        equal(at_terminal('cells', 'none', 'out')[2][:13], 'recon: none: ')
         shown = at_terminal('sweep', 'scan', '1', '2', '2', 'one', 'other')[2].split(CLEAR)
         equal(shown[-2:], ['surfaces 0 of 2 · 0 s', ''])
         # A line is taken off before anything else is told, and what reads no scan, or no good one, shows none.
@@ -492,10 +495,14 @@ class Program(InFolder):
         equal(told('build', 'scan', 'mesh', 'cert')[2], '')
 
     def test_counts_at_a_terminal(self) -> None:
+        began = time.monotonic()
         status, said, shown = at_terminal('demo', '60000', '7')
+        took = time.monotonic() - began
         equal((status, said), recon('demo', '60000', '7'))
         lines = shown.split(CLEAR)
         equal((lines[0], lines[-1], lines[1][:11]), ('', '', 'cells 0 of '))
+        # Beside the first line of each of three stages, none within a quarter second of another.
+        equal(len(lines) - 2 <= 3 + 4 * took, True)
         for line in lines[1:-1]:
             found = re.fullmatch(r'(cells|sights) ([0-9,]+) of ([0-9,]+) · [0-9]+ s|flow, begun at [0-9]+ s', line)
             equal(found is not None, True)

@@ -8,8 +8,6 @@ mod ends;
 mod progress;
 mod real;
 mod retried;
-#[cfg(test)]
-mod tests;
 mod unnamed;
 
 use ends::ends_on;

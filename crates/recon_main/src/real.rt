@@ -79,12 +79,6 @@ impl<R: Files + Print + Eprint + AllocGlobal + Drop> RealHost<R, R::File> {
         self.command = command;
     }
 
-    /// How many calls failed.
-    #[cfg(test)]
-    pub fn fault_count(&self) -> u64 {
-        self.faults
-    }
-
     /// The answer of a call of the system, an error of which is counted as a fault.
     fn counted<T: Drop>(&mut self, answer: io::Result<T>) -> Result<T, Failed>
         ensures ok { IfOk answer (λ value. result ≡ Ok value) }

@@ -18,8 +18,6 @@ mod laws;
 mod queries;
 mod refusal;
 mod solid;
-#[cfg(test)]
-mod tests;
 
 pub use asking::ask;
 pub use labels::label_at;

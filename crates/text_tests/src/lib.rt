@@ -1,8 +1,7 @@
-//! Tests of numbers, headers, rows, lines, scans, meshes and certificates as texts: values from outside, printed texts, and the
-//! place that a refusal names.
+//! Tests of texts: the rows of generated scans, printed, beside those of another program, and the example of `ply_rows`.
 //!
 //! The crate has tests alone. They call what the crates of texts promise to callers, so a check of them proves no function of
-//! those again.
+//! those again. What the program refuses and prints is tested at the built program, in `tools/tests`.
 #![tactic(auto)]
 
 #[cfg(test)]

@@ -1,14 +1,4 @@
-//! From numbers up to scans, meshes, certificates and slices.
+//! Generated scans, and an example.
 
-mod certificates;
-mod forms;
 mod generated_scans;
-mod headers;
-mod lines;
-mod merged_points;
-mod meshes;
-mod numbers;
 mod rows;
-mod scans;
-mod slices;
-mod texts;

@@ -9,10 +9,9 @@ ghost use Rattle.std.specs.Prelude.{◌<◌};
 
 use super::fixtures::{in_three_forms, owned, plain};
 use super::watched::{Files, Watched};
-use gen_scan::gen_scan;
 use geo_sign::Point;
 use host::HostCall;
-use scan::{Scan, push_scan, read_scan};
+use scan::{Scan, read_scan};
 use std::alloc::Global;
 use std::test::Fail;
 
@@ -336,40 +335,6 @@ fn in_byte_orders(alloc: Global, text: &[u8], few: u32, lines: [&str; 8]) -> Res
 const ALL: u32 = 10_000;
 
 #[test]
-fn each_call_fails_on_no_point(rt: HostRuntime) -> Result<(), Fail> {
-    let alloc = rt.alloc();
-    let text = plain(alloc, &[], &["0 0 0"])?;
-    let lines = [
-        "points 0 cells 6\n",
-        "sweep 3 first_cost 0 last_cost 0\n",
-        "points 0 scanners 1 sights 0 inside 0 faces 0 cost 0\n",
-        "yes inside 0 faces 0 cost 0\n",
-        "upgraded cost 0\n",
-        "loops 0 steps 0\n",
-        "exported 3 points 0 faces 0\n",
-        "points 0 asked 2 inside 0\n",
-    ];
-    in_byte_orders(alloc, text.as_bytes(), ALL, lines)
-}
-
-#[test]
-fn each_call_fails_on_one_point(rt: HostRuntime) -> Result<(), Fail> {
-    let alloc = rt.alloc();
-    let text = plain(alloc, &["0 0 0 0"], &["100 0 0"])?;
-    let lines = [
-        "points 1 cells 12\n",
-        "sweep 3 first_cost 8 last_cost 8\n",
-        "points 1 scanners 1 sights 1 inside 0 faces 0 cost 8\n",
-        "yes inside 0 faces 0 cost 8\n",
-        "upgraded cost 8\n",
-        "loops 0 steps 0\n",
-        "exported 3 points 0 faces 0\n",
-        "points 1 asked 2 inside 0\n",
-    ];
-    in_byte_orders(alloc, text.as_bytes(), ALL, lines)
-}
-
-#[test]
 fn each_call_fails_on_five_points(rt: HostRuntime) -> Result<(), Fail> {
     let alloc = rt.alloc();
     let points = [
@@ -391,25 +356,6 @@ fn each_call_fails_on_five_points(rt: HostRuntime) -> Result<(), Fail> {
         "points 5 asked 2 inside 1\n",
     ];
     in_byte_orders(alloc, text.as_bytes(), ALL, lines)
-}
-
-#[test]
-fn each_call_fails_on_many_points(rt: HostRuntime) -> Result<(), Fail> {
-    let alloc = rt.alloc();
-    let scan = gen_scan(alloc, 56, 7)?;
-    let mut text = Vec::new(alloc);
-    push_scan(&mut text, &scan)?;
-    let lines = [
-        "points 56 cells 365\n",
-        "sweep 3 first_cost 104 last_cost 288\n",
-        "points 56 scanners 6 sights 56 inside 61 faces 92 cost 196\n",
-        "yes inside 61 faces 92 cost 196\n",
-        "upgraded cost 196\n",
-        "loops 2 steps 27\n",
-        "exported 3 points 48 faces 92\n",
-        "points 56 asked 2 inside 1\n",
-    ];
-    in_byte_orders(alloc, &text, 2_000, lines)
 }
 
 #[test]

@@ -5,7 +5,7 @@ ghost use Rattle.host.specs.Handed.{NamesApart};
 
 use host::{Host, HostCall, MemHost};
 use mesh_form::{Form, ObjForm, OffForm, PlyForm};
-use recon_cmd::{NoMemory, run, run_forms};
+use recon_cmd::{NoMemory, run_forms};
 use std::alloc::Global;
 use std::test::Fail;
 
@@ -13,7 +13,7 @@ use std::test::Fail;
 pub const PIECE: usize = 65_536;
 
 /// How many bytes a host has room for in each file.
-pub const ROOM: usize = 65_536;
+const ROOM: usize = 65_536;
 
 /// The words of commands without options.
 pub const CELLS: [&str; 3] = ["cells", "in", "out"];
@@ -33,12 +33,6 @@ pub const ASK: [&str; 4] = ["ask", "in", "mesh", "out"];
 /// Four points round the origin, each seen from a scanner of its own, ten times as far out.
 pub const FOUR: &str =
     "ply\nformat ascii 1.0\nelement vertex 4\nproperty int x\nproperty int y\nproperty int z\nproperty int scanner\nelement scanner 4\nproperty int x\nproperty int y\nproperty int z\nend_header\n100 100 100 0\n100 -100 -100 1\n-100 100 -100 2\n-100 -100 100 3\n1000 1000 1000\n1000 -1000 -1000\n-1000 1000 -1000\n-1000 -1000 1000\n";
-
-/// What `sha256sum` says of this file.
-pub const FOUR_DIGEST: &str = "807df695fa3763ef3a9f43d82fed2c3150d7b3c85294745a5288348690943785";
-
-/// What `build` says of the four points, and `check` of what was built.
-pub const FOUR_BUILT: &str = "points 4 scanners 4 sights 4 inside 1 faces 4 cost 4\n";
 
 pub const FOUR_CHECKED: &str = "yes inside 1 faces 4 cost 4\n";
 
@@ -63,21 +57,6 @@ pub const NO_FACE: &str =
 /// What `export` says of it in three forms.
 pub const FOUR_EXPORTED: &str = "exported 3 points 4 faces 4\n";
 
-/// The same four points as a scan tool writes them, without scanners.
-pub const FOUR_OF_A_TOOL: &str =
-    "ply\r\nformat ascii 1.0\r\ncomment made by a scan tool\r\nobj_info num_cols 2\r\nelement vertex 4\r\nproperty float x\r\nproperty float y\r\nproperty float z\r\nproperty float confidence\r\nelement face 1\r\nproperty list uchar int vertex_indices\r\nend_header\r\n0.1 0.1 0.1 0.5\n0.1 -0.1 -0.1 0.5\n-0.1 0.1 -0.1 1\n-1e-1 -0.1 0.1 1\n3 0 1 2\n";
-
-/// No point, and what `sha256sum` says of this file.
-pub const NO_POINT: &str =
-    "ply\nformat ascii 1.0\nelement vertex 0\nproperty int x\nproperty int y\nproperty int z\nproperty int scanner\nelement scanner 1\nproperty int x\nproperty int y\nproperty int z\nend_header\n0 0 0\n";
-
-pub const NO_POINT_DIGEST: &str =
-    "f39a3283b74ec161fd146213fe5eae5ea262877f591c1eecc11caf1bd1e5467a";
-
-/// One point, which has no cell without a corner of the box.
-pub const ONE_POINT: &str =
-    "ply\nformat ascii 1.0\nelement vertex 1\nproperty int x\nproperty int y\nproperty int z\nproperty int scanner\nelement scanner 1\nproperty int x\nproperty int y\nproperty int z\nend_header\n0 0 0 0\n100 0 0\n";
-
 /// The plain form of a scan with these lines.
 pub fn plain(alloc: Global, points: &[&str], scanners: &[&str]) -> Result<String, Fail> {
     let vertices = points.len();
@@ -93,23 +72,6 @@ pub fn plain(alloc: Global, points: &[&str], scanners: &[&str]) -> Result<String
         text.push_str(line)?;
         text.push('\n')?;
     }
-    Ok(text)
-}
-
-/// A text, with another part in the place of the first one like this.
-pub fn with_part(alloc: Global, text: &str, old: &str, new: &str) -> Result<String, Fail> {
-    match text.split_once(old) {
-        Some((before, behind)) => Ok(format!(in alloc; "{before}{new}{behind}")?),
-        None => Err(Fail::new("the text has no such part")),
-    }
-}
-
-/// A certificate of the first version in its second, for a file with this digest that was read in the unit 1.
-pub fn stamped(alloc: Global, cert: &str, digest: &str) -> Result<String, NoMemory> {
-    let mut text = String::from_str(alloc, "recon certificate 2\nscan ")?;
-    text.push_str(digest)?;
-    text.push_str("\nunit 1\nscanner none\n")?;
-    text.push_str(cert.strip_prefix("recon certificate 1\n").unwrap_or(""))?;
     Ok(text)
 }
 
@@ -131,7 +93,7 @@ fn copied(alloc: Global, bytes: Option<&[u8]>) -> Result<Option<Vec<u8>>, NoMemo
 }
 
 /// The files `in`, `out`, `mesh` and `cert`, which have these bytes in this order or are not there, and `unit=3`, which is not.
-pub fn files_of(
+fn files_of(
     alloc: Global,
     held: [Option<&[u8]>; 4],
 ) -> Result<Vec<(String, Option<Vec<u8>>)>, NoMemory>
@@ -180,49 +142,6 @@ fn has(host: &MemHost, name: &str, text: Option<&str>) -> bool {
     }
 }
 
-/// What a run leaves.
-#[derive(Drop)]
-pub struct Ran {
-    pub status: u8,
-    pub said: Vec<u8>,
-    pub output: Option<Vec<u8>>,
-    pub mesh: Option<Vec<u8>>,
-    pub cert: Option<Vec<u8>>,
-}
-
-/// A run on these words over such a host.
-pub fn run_over(
-    alloc: Global,
-    words: &[&str],
-    held: [Option<&[u8]>; 4],
-    piece: usize,
-    failing: Vec<(HostCall, u64)>,
-) -> Result<Ran, Fail>
-    requires piece { 0 < piece }
-    requires failing { AreNumbers failing.items }
-{
-    let mut host = host_with(alloc, held, piece, failing)?;
-    let status = run(alloc, &owned(alloc, words)?, &mut host);
-    Ok(Ran {
-        status,
-        said: host.said().to_vec(alloc)?,
-        output: copied(alloc, host.file("out"))?,
-        mesh: copied(alloc, host.file("mesh"))?,
-        cert: copied(alloc, host.file("cert"))?,
-    })
-}
-
-/// A run in which no call is to fail, where the file `in` has these bytes, if there is one, and no other is there.
-pub fn run_on(alloc: Global, words: &[&str], input: Option<&[u8]>) -> Result<Ran, Fail> {
-    run_over(
-        alloc,
-        words,
-        [input, None, None, None],
-        PIECE,
-        Vec::new(alloc),
-    )
-}
-
 /// The status of a run on these words, where `export` writes PLY, OFF and OBJ, and so does a `sweep` of three surfaces.
 pub fn in_three_forms<H: Host>(
     alloc: Global,
@@ -236,58 +155,4 @@ pub fn in_three_forms<H: Host>(
     forms.push(Box::new(alloc, OffForm::new(alloc))?)?;
     forms.push(Box::new(alloc, ObjForm::new(alloc))?)?;
     Ok(run_forms(alloc, words, host, &mut forms))
-}
-
-/// The same, where one form writes PLY.
-fn in_one_mesh<H: Host>(alloc: Global, words: &[String], host: &mut H) -> Result<u8, NoMemory>
-    requires { (H.state host.old).writing ≡ false }
-{
-    let mut forms: Vec<Box<dyn Form>> = Vec::new(alloc);
-    forms.push(Box::new(alloc, PlyForm::new(alloc))?)?;
-    Ok(run_forms(alloc, words, host, &mut forms))
-}
-
-/// The same, where two forms write PLY.
-pub fn in_two_meshes<H: Host>(alloc: Global, words: &[String], host: &mut H) -> Result<u8, NoMemory>
-    requires { (H.state host.old).writing ≡ false }
-{
-    let mut forms: Vec<Box<dyn Form>> = Vec::new(alloc);
-    forms.push(Box::new(alloc, PlyForm::new(alloc))?)?;
-    forms.push(Box::new(alloc, PlyForm::new(alloc))?)?;
-    Ok(run_forms(alloc, words, host, &mut forms))
-}
-
-/// The same with one form, two or three.
-pub fn in_forms<H: Host>(
-    alloc: Global,
-    words: &[String],
-    host: &mut H,
-    count: u32,
-) -> Result<u8, NoMemory>
-    requires { (H.state host.old).writing ≡ false }
-{
-    match count {
-        1 => in_one_mesh(alloc, words, host),
-        2 => in_two_meshes(alloc, words, host),
-        _ => in_three_forms(alloc, words, host),
-    }
-}
-
-/// Whether a file has this text, or is not there.
-pub fn is_text(file: &Option<Vec<u8>>, text: Option<&str>) -> bool {
-    match (file, text) {
-        (Some(bytes), Some(text)) => bytes.as_slice() == text.as_bytes(),
-        (None, None) => true,
-        _ => false,
-    }
-}
-
-/// Whether a run ended so and said this.
-pub fn ended(ran: &Ran, status: u8, said: &str) -> bool {
-    ran.status == status && ran.said.as_slice() == said.as_bytes()
-}
-
-/// Whether a run wrote no file.
-pub fn wrote_nothing(ran: &Ran) -> bool {
-    ran.output.is_none() && ran.mesh.is_none() && ran.cert.is_none()
 }
