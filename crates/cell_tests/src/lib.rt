@@ -1,8 +1,8 @@
-//! Tests of signs, cells, walks and networks over cells: values from outside, and what is built of linked cells beside what is found
-//! by trying all.
+//! Tests of cells and of networks over cells: what is built of linked cells beside what is found by trying all, and the examples of
+//! `geo_sign` and `delaunay`.
 //!
 //! The crate has tests alone. They call what the crates of cells promise to callers, so a check of them proves no function of
-//! those again.
+//! those again. What a test says of one case stands in a function of its own, as in `flow_tests`.
 #![tactic(auto)]
 
 #[cfg(test)]

@@ -1,13 +1,7 @@
-//! From signs up to networks over linked cells; `points` is what they share.
+//! Built cells and networks beside what is found by trying all, and examples; `points` is what they share.
 
 mod insertions;
 mod networks;
-mod orders;
 mod plain_networks;
 mod points;
-mod sides;
 mod signs;
-mod stores;
-mod surfaces;
-mod ties;
-mod walks;

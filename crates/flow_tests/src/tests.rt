@@ -1,8 +1,5 @@
-//! Sums, valid flows, hints, largest flows and verdicts; `networks` is what they share.
+//! Hints and largest flows; `networks` is what they share.
 
 mod hints;
 mod largest_flows;
 mod networks;
-mod sums;
-mod valid_flows;
-mod verdicts;

@@ -1,13 +1,11 @@
-//! `build` beside the plain list of cells, on made sets of points, and single insertions.
+//! `build` beside the plain list of cells, on sets of points with ties and without.
 
-use super::points::{ONE_POINT, are_data, are_distinct, cube, rows, scattered};
-use cavity::Cavity;
-use delaunay::{build, insert, insert_with};
+use super::points::{are_data, are_distinct, cube, rows, scattered};
+use delaunay::build;
 use geo_sign::Point;
 use geo_tie::plain_cells;
 use std::alloc::{AllocError, Global};
 use std::test::Fail;
-use tetra_store::{Cell, Tetra};
 
 /// Whether `build` gives the cells that the plain list has. No, too, where points are not distinct data points or too many.
 fn agrees(alloc: Global, points: &[Point]) -> Result<bool, AllocError> {
@@ -56,121 +54,92 @@ fn example_of_delaunay(rt: HostRuntime) -> Result<(), Fail> {
     Ok(())
 }
 
-#[test]
-fn the_cube_is_built(rt: HostRuntime) -> Result<(), Fail> {
-    let points = cube(rt.alloc(), 100)?;
-    assert!(rt; points.len() == 8 && agrees(rt.alloc(), &points)?);
-    Ok(())
+/// Whether it does on so many points without a pattern, in a plane if they are to be flat.
+fn agrees_on_scattered(alloc: Global, count: u64, flat: bool) -> Result<bool, Fail> {
+    let points = scattered(alloc, 0, count, flat)?;
+    Ok(agrees(alloc, &points)?)
 }
 
 #[test]
 fn points_in_general_position_are_built(rt: HostRuntime) -> Result<(), Fail> {
-    for count in [0, 1, 2, 3, 5, 12, 24, 48] {
-        let points = scattered(rt.alloc(), 0, count, false)?;
-        assert!(rt; agrees(rt.alloc(), &points)?, "{count} points");
+    for count in [0, 1, 2, 3, 5, 12, 24] {
+        if !agrees_on_scattered(rt.alloc(), count, false)? {
+            return Err(Fail::from("scattered points"));
+        }
     }
     Ok(())
+}
+
+/// Fails where a set of points is not built so.
+fn expect(agrees: bool) -> Result<(), Fail> {
+    if agrees {
+        Ok(())
+    } else {
+        Err(Fail::from("other cells"))
+    }
+}
+
+#[test]
+fn forty_eight_points_are_built(rt: HostRuntime) -> Result<(), Fail> {
+    expect(agrees_on_scattered(rt.alloc(), 48, false)?)
 }
 
 #[test]
 fn points_of_a_plane_are_built(rt: HostRuntime) -> Result<(), Fail> {
-    let points = scattered(rt.alloc(), 0, 48, true)?;
-    assert_eq!(rt; points.len(), 48);
-    assert!(rt; agrees(rt.alloc(), &points)?);
-    let line = grid(rt.alloc(), &[-70, -3, 0, 1, 2, 5, 80, 90], &[7], &[-7])?;
-    assert!(rt; agrees(rt.alloc(), &line)?);
-    Ok(())
+    expect(agrees_on_scattered(rt.alloc(), 48, true)?)
+}
+
+/// Whether it does on points from three lists of coordinates, of which there are so many.
+fn agrees_on_grid(
+    alloc: Global,
+    xs: &[i64],
+    ys: &[i64],
+    zs: &[i64],
+    count: usize,
+) -> Result<bool, Fail> {
+    let points = grid(alloc, xs, ys, zs)?;
+    Ok(points.len() == count && agrees(alloc, &points)?)
+}
+
+/// Whether two coordinates have one size.
+fn has_one_size_twice(point: &Point) -> bool {
+    let [x, y, z] = [point.x(), point.y(), point.z()].map(i32::unsigned_abs);
+    x == y || y == z || z == x
+}
+
+/// The points whose coordinates have the sizes 10, 20 and 40 in any order, which lie on one sphere.
+fn sphere(alloc: Global) -> Result<Vec<Point>, AllocError> {
+    let sizes = [-40, -20, -10, 10, 20, 40];
+    let mut points = grid(alloc, &sizes, &sizes, &sizes)?;
+    points.retain(|point| !has_one_size_twice(point));
+    Ok(points)
+}
+
+/// Whether it does on these.
+fn agrees_on_sphere(alloc: Global) -> Result<bool, Fail> {
+    let points = sphere(alloc)?;
+    Ok(points.len() == 48 && agrees(alloc, &points)?)
+}
+
+/// Whether it does on the corners of a cube.
+fn agrees_on_cube(alloc: Global) -> Result<bool, Fail> {
+    let points = cube(alloc, 100)?;
+    Ok(points.len() == 8 && agrees(alloc, &points)?)
+}
+
+#[test]
+fn a_cube_and_a_line_are_built(rt: HostRuntime) -> Result<(), Fail> {
+    expect(agrees_on_cube(rt.alloc())?)?;
+    expect(agrees_on_grid(rt.alloc(), &[-70, -3, 0, 1, 2, 5, 80, 90], &[7], &[-7], 8)?)
 }
 
 #[test]
 fn points_of_a_lattice_are_built(rt: HostRuntime) -> Result<(), Fail> {
-    let points = grid(
-        rt.alloc(),
-        &[-10, 0, 10, 20],
-        &[-10, 0, 10, 20],
-        &[-10, 0, 10],
-    )?;
-    assert_eq!(rt; points.len(), 48);
-    assert!(rt; agrees(rt.alloc(), &points)?);
-    Ok(())
+    let four = [-10, 0, 10, 20];
+    expect(agrees_on_grid(rt.alloc(), &four, &four, &[-10, 0, 10], 48)?)
 }
 
-/// The points whose coordinates have the sizes 10, 20 and 40 in any order lie on one sphere.
 #[test]
 fn points_of_a_sphere_are_built(rt: HostRuntime) -> Result<(), Fail> {
-    let sizes = [-40, -20, -10, 10, 20, 40];
-    let mut points = Vec::new(rt.alloc());
-    for point in &grid(rt.alloc(), &sizes, &sizes, &sizes)? {
-        let x = point.x().unsigned_abs();
-        let y = point.y().unsigned_abs();
-        let z = point.z().unsigned_abs();
-        if x != y && y != z && z != x {
-            points.push(*point)?;
-        }
-    }
-    assert_eq!(rt; points.len(), 48);
-    assert!(rt; agrees(rt.alloc(), &points)?);
-    Ok(())
-}
-
-/// Whether a cell has a neighbor exactly across the facets that have vertex 8, which is each but the one opposite to it.
-fn has_neighbors_round_8(cell: &Cell) -> bool {
-    for side in 0..4 {
-        if cell.next[side].is_some() != (cell.v[side] != 8) {
-            return false;
-        }
-    }
-    true
-}
-
-/// Whether each cell of a store does.
-fn have_neighbors_round_8(store: &Tetra) -> bool {
-    let mut cells = store.cells();
-    while let Some((_, cell)) = cells.next() {
-        if !has_neighbors_round_8(&cell) {
-            return false;
-        }
-    }
-    true
-}
-
-/// The first point is in conflict with all six cells of the box, round which there are the twelve halves of the walls. The cells after
-/// it stand over these.
-#[test]
-fn one_point_has_twelve_cells(rt: HostRuntime) -> Result<(), Fail> {
-    let alloc = rt.alloc();
-    let points = [Point::data(0, 0, 0).ok_or("a data point")?];
-    assert!(rt; are_data(&points) && are_distinct(&points));
-    let mut store = Tetra::with_box(alloc, &points)?;
-    store.facts();
-    let from = store.cell_at(0);
-    let mut cavity = Cavity::new(alloc);
-    assert!(rt; store.vertex_count() == 9 && !store.is_inserted(8));
-    let last = insert_with(&mut store, 8, from, &mut cavity)?;
-    assert!(rt; cavity.cells.len() == 6 && cavity.fan.len() == 12);
-    assert!(rt; store.cell(last).v.contains(&8));
-    assert_eq!(rt; rows(alloc, &store)?.as_slice(), ONE_POINT.as_slice());
-    assert!(rt; have_neighbors_round_8(&store));
-    Ok(())
-}
-
-#[test]
-fn vertices_are_inserted_by_falling_number(rt: HostRuntime) -> Result<(), Fail> {
-    let points = [
-        Point::data(30, -20, 7).ok_or("a data point")?,
-        Point::data(-5, 60, 1).ok_or("a data point")?,
-    ];
-    assert!(rt; are_data(&points) && are_distinct(&points));
-    let mut store = Tetra::with_box(rt.alloc(), &points)?;
-    store.facts();
-    let first = store.cell_at(0);
-    assert!(rt; store.vertex_count() == 10 && !store.is_inserted(9));
-    let next = insert(rt.alloc(), &mut store, 9, first)?;
-    assert!(rt; store.vertex_count() == 10 && !store.is_inserted(8));
-    let last = insert(rt.alloc(), &mut store, 8, next)?;
-    assert!(rt; store.cell(last).v.contains(&8));
-    let found = rows(rt.alloc(), &store)?;
-    let plain = plain_cells(rt.alloc(), &points)?;
-    assert_eq!(rt; found.as_slice(), plain.as_slice());
-    Ok(())
+    expect(agrees_on_sphere(rt.alloc())?)
 }

@@ -154,29 +154,3 @@ pub fn rows(alloc: Global, store: &Tetra) -> Result<Vec<[u32; 4]>, AllocError> {
     rows.sort_unstable();
     Ok(rows)
 }
-
-/// The six cells of the box by their vertices in rising order.
-pub const SIX: [[u32; 4]; 6] = [
-    [0, 1, 2, 4],
-    [1, 2, 3, 4],
-    [1, 3, 4, 5],
-    [2, 3, 4, 6],
-    [3, 4, 5, 6],
-    [3, 5, 6, 7],
-];
-
-/// The cells of one point, in rising order.
-pub const ONE_POINT: [[u32; 4]; 12] = [
-    [0, 1, 2, 8],
-    [0, 1, 4, 8],
-    [0, 2, 4, 8],
-    [1, 2, 3, 8],
-    [1, 3, 5, 8],
-    [1, 4, 5, 8],
-    [2, 3, 6, 8],
-    [2, 4, 6, 8],
-    [3, 5, 7, 8],
-    [3, 6, 7, 8],
-    [4, 5, 6, 8],
-    [5, 6, 7, 8],
-];

@@ -1,87 +1,163 @@
-//! Hints at networks whose largest flows are known, and the levels of a flow.
+//! Hints at networks whose largest flows are known, and the levels of a flow. Nothing is promised of them but that they come.
+
+ghost use Rattle.std.specs.Prelude.{◌≡◌, length, IfOk};
 
 use super::networks::three_nodes;
 use flow_hint::{Hint, find_hint, find_hint_above, find_hint_on, find_levels};
 use flow_net::{Flow, NetBuilder, Sequence};
+use std::alloc::Global;
 use std::test::Fail;
+
+/// Capacities of three nodes with the sinks 1, 3 and 5, the largest flow, and which nodes reach a sink with room.
+#[derive(Clone, Copy)]
+struct Known {
+    name: &'static str,
+    capacities: (u64, u64, u64),
+    on_arc: [u64; 3],
+    on_sink: [u64; 3],
+    is_found: [bool; 3],
+}
+
+const SMALL: [Known; 3] = [
+    Known {
+        name: "all but one of what is given",
+        capacities: (4, 2, 2),
+        on_arc: [3, 2, 0],
+        on_sink: [1, 2, 0],
+        is_found: [false, true, false],
+    },
+    Known {
+        name: "a node that would owe",
+        capacities: (1, 5, 0),
+        on_arc: [1, 0, 0],
+        on_sink: [1, 0, 0],
+        is_found: [true, true, false],
+    },
+    Known {
+        name: "nothing is given",
+        capacities: (0, 2, 2),
+        on_arc: [0, 0, 0],
+        on_sink: [0, 0, 0],
+        is_found: [true, true, false],
+    },
+];
+
+/// Whether a hint is as known.
+fn is_as_known(hint: &Hint, known: &Known) -> bool {
+    hint.flow.on_arc.as_slice() == known.on_arc.as_slice()
+        && hint.flow.on_sink.as_slice() == known.on_sink.as_slice()
+        && hint.levels.is_found.as_slice() == known.is_found.as_slice()
+}
+
+/// Whether the hint at a network is.
+fn is_hinted(alloc: Global, known: &Known) -> Result<bool, Fail> {
+    let net = three_nodes(alloc, 3, known.capacities)?;
+    let hint = find_hint(alloc, &net)?.ok_or("no hint")?;
+    Ok(is_as_known(&hint, known))
+}
 
 #[test]
 fn small_networks_have_their_largest_flows(rt: HostRuntime) -> Result<(), Fail> {
-    let cases = [
-        (
-            "all but one of what is given",
-            (4, 2, 2),
-            [3, 2, 0],
-            [1, 2, 0],
-            [false, true, false],
-        ),
-        (
-            "a node that would owe",
-            (1, 5, 0),
-            [1, 0, 0],
-            [1, 0, 0],
-            [true, true, false],
-        ),
-        (
-            "nothing is given",
-            (0, 2, 2),
-            [0, 0, 0],
-            [0, 0, 0],
-            [true, true, false],
-        ),
-    ];
-    for (name, capacities, on_arc, on_sink, inside) in cases {
-        let net = three_nodes(rt.alloc(), 3, capacities)?;
-        let Hint { flow, levels } = find_hint(rt.alloc(), &net)?.ok_or(name)?;
-        assert!(rt; flow.on_arc.as_slice() == on_arc.as_slice(), "{name}");
-        assert!(rt; flow.on_sink.as_slice() == on_sink.as_slice(), "{name}");
-        assert!(rt; levels.is_found.as_slice() == inside.as_slice(), "{name}");
+    for known in SMALL.as_slice() {
+        if !is_hinted(rt.alloc(), known)? {
+            return Err(Fail::from(known.name));
+        }
     }
     Ok(())
+}
+
+/// What is listed at sinks before a hint is found, and what comes there.
+const LISTED: [(&str, [u64; 3], [u64; 3]); 4] = [
+    ("all is listed", [1, 1, 0], [1, 1, 0]),
+    ("all is listed at one node", [0, 2, 0], [0, 2, 0]),
+    ("some is listed", [1, 0, 0], [1, 1, 0]),
+    ("more than comes", [5, 7, 9], [1, 1, 0]),
+];
+
+/// Whether the hint above a list leaves so much at the sinks.
+fn is_hinted_above(alloc: Global, first: [u64; 3], on_sink: [u64; 3]) -> Result<bool, Fail> {
+    let net = three_nodes(alloc, 3, (2, 2, 2))?;
+    let found = find_hint_above(alloc, &net, &first)?.ok_or("no hint")?;
+    Ok(found.0.flow.on_sink.as_slice() == on_sink.as_slice())
 }
 
 #[test]
 fn no_less_comes_to_a_sink_than_is_listed(rt: HostRuntime) -> Result<(), Fail> {
-    let cases = [
-        ("all is listed", [1, 1, 0], [1, 1, 0]),
-        ("all is listed at one node", [0, 2, 0], [0, 2, 0]),
-        ("some is listed", [1, 0, 0], [1, 1, 0]),
-        ("more than comes", [5, 7, 9], [1, 1, 0]),
-    ];
-    let net = three_nodes(rt.alloc(), 3, (2, 2, 2))?;
-    for (name, first, on_sink) in cases {
-        let (Hint { flow, .. }, _) = find_hint_above(rt.alloc(), &net, &first)?.ok_or(name)?;
-        assert!(rt; flow.on_sink.as_slice() == on_sink.as_slice(), "{name}");
+    for (name, first, on_sink) in LISTED {
+        if !is_hinted_above(rt.alloc(), first, on_sink)? {
+            return Err(Fail::from(name));
+        }
     }
     Ok(())
 }
 
-/// Ten are given to the node with sink 1, of which as much as the arc there takes comes to the node with sink 3.
+const WIDE: u64 = 4_294_967_296;
+
+/// Capacities that have risen from 10, 1 and 1, and what comes to the sinks.
+const RISEN: [(&str, (u64, u64, u64), [u64; 3]); 5] = [
+    ("nothing has risen", (10, 1, 1), [1, 1, 0]),
+    ("a pair has risen", (10, 2, 2), [1, 2, 0]),
+    ("all sinks are full", (10, 5, 5), [1, 3, 0]),
+    ("more than 32 bits", (10, WIDE, WIDE), [1, 3, 0]),
+    ("more is given", (WIDE, 2, 2), [1, 2, 0]),
+];
+
+/// Whether the hint that goes on over these capacities leaves so much at the sinks. Ten are given to the node with sink 1, of which as
+/// much as the arc there takes comes to the node with sink 3.
+fn is_hinted_on(
+    alloc: Global,
+    capacities: (u64, u64, u64),
+    on_sink: [u64; 3],
+) -> Result<bool, Fail> {
+    let before = three_nodes(alloc, 3, (10, 1, 1))?;
+    let net = three_nodes(alloc, 3, capacities)?;
+    let (_hint, kept) = find_hint_above(alloc, &before, &[])?.ok_or("no hint")?;
+    let found = find_hint_on(alloc, &net, kept)?.ok_or("no hint on it")?;
+    Ok(found.0.flow.on_sink.as_slice() == on_sink.as_slice())
+}
+
 #[test]
 fn a_hint_goes_on_where_capacities_have_risen(rt: HostRuntime) -> Result<(), Fail> {
-    const WIDE: u64 = 4_294_967_296;
-    let cases = [
-        ("nothing has risen", (10, 1, 1), [1, 1, 0]),
-        ("a pair has risen", (10, 2, 2), [1, 2, 0]),
-        ("all sinks are full", (10, 5, 5), [1, 3, 0]),
-        ("more than 32 bits", (10, WIDE, WIDE), [1, 3, 0]),
-        ("more is given", (WIDE, 2, 2), [1, 2, 0]),
-    ];
-    let before = three_nodes(rt.alloc(), 3, (10, 1, 1))?;
-    for (name, capacities, on_sink) in cases {
-        let (_hint, kept) = find_hint_above(rt.alloc(), &before, &[])?.ok_or(name)?;
-        let net = three_nodes(rt.alloc(), 3, capacities)?;
-        let (Hint { flow, .. }, _) = find_hint_on(rt.alloc(), &net, kept)?.ok_or(name)?;
-        assert!(rt; flow.on_sink.as_slice() == on_sink.as_slice(), "{name}");
+    for (name, capacities, on_sink) in RISEN {
+        if !is_hinted_on(rt.alloc(), capacities, on_sink)? {
+            return Err(Fail::from(name));
+        }
     }
     Ok(())
 }
 
-/// Levels count arcs between free nodes: node 2 is fixed and has none.
+/// A flow over three nodes.
+fn flow_of(alloc: Global, on_arc: [u64; 3], on_sink: [u64; 3]) -> Result<Flow, Fail>
+    ensures arcs { IfOk result (λ flow. length flow.on_arc ≡ 3) }
+    ensures sinks { IfOk result (λ flow. length flow.on_sink ≡ 3) }
+{
+    Ok(Flow {
+        on_arc: Sequence::from(Vec::from_array(alloc, on_arc)?),
+        on_sink: Sequence::from(Vec::from_array(alloc, on_sink)?),
+    })
+}
+
+/// Whether these nodes reach a sink with room where this flows, and node 0 at level 1 if it does. Levels count arcs between free nodes:
+/// node 2 is fixed and has none.
+fn is_at_levels(
+    alloc: Global,
+    on_arc: [u64; 3],
+    on_sink: [u64; 3],
+    is_found: [bool; 3],
+) -> Result<bool, Fail> {
+    let net = three_nodes(alloc, 3, (4, 2, 2))?;
+    let flow = flow_of(alloc, on_arc, on_sink)?;
+    let levels = find_levels(alloc, &net, &flow)?.ok_or("no levels")?;
+    Ok(
+        levels.is_found.as_slice() == is_found.as_slice()
+            && (!is_found[0] || levels.level.first() == Some(&1))
+            && levels.level.get(1) == Some(&0),
+    )
+}
+
 #[test]
 fn levels_count_the_arcs_to_a_sink_with_room(rt: HostRuntime) -> Result<(), Fail> {
-    let net = three_nodes(rt.alloc(), 3, (4, 2, 2))?;
-    let cases = [
+    for (name, on_arc, on_sink, is_found) in [
         ("a full arc", [3, 2, 0], [1, 2, 0], [false, true, false]),
         (
             "room behind an arc",
@@ -89,32 +165,41 @@ fn levels_count_the_arcs_to_a_sink_with_room(rt: HostRuntime) -> Result<(), Fail
             [1, 1, 0],
             [true, true, false],
         ),
-    ];
-    for (name, on_arc, on_sink, is_found) in cases {
-        let flow = Flow {
-            on_arc: Sequence::from(Vec::from_array(rt.alloc(), on_arc)?),
-            on_sink: Sequence::from(Vec::from_array(rt.alloc(), on_sink)?),
-        };
-        let levels = find_levels(rt.alloc(), &net, &flow)?.ok_or(name)?;
-        assert!(rt; levels.is_found.as_slice() == is_found.as_slice(), "{name}");
-        assert!(rt; levels.level[1] == 0, "{name}");
-        assert!(rt; !levels.is_found[0] || levels.level[0] == 1, "{name}");
+    ] {
+        if !is_at_levels(rt.alloc(), on_arc, on_sink, is_found)? {
+            return Err(Fail::from(name));
+        }
     }
     Ok(())
 }
 
-#[test]
-fn there_is_no_hint_where_sums_could_be_too_large(rt: HostRuntime) -> Result<(), Fail> {
-    const LIMIT: u64 = 1_152_921_504_606_846_976;
-    let within = three_nodes(rt.alloc(), 3, (LIMIT, LIMIT, LIMIT))?;
-    assert!(rt; find_hint(rt.alloc(), &within)?.is_some());
-    let mut builder = NetBuilder::new(rt.alloc());
+const LIMIT: u64 = 1_152_921_504_606_846_976;
+
+/// Whether there is a hint where all capacities are the limit.
+fn has_hint_at_the_limit(alloc: Global) -> Result<bool, Fail> {
+    let net = three_nodes(alloc, 3, (LIMIT, LIMIT, LIMIT))?;
+    Ok(find_hint(alloc, &net)?.is_some())
+}
+
+/// Whether there is one where a node is given the limit five times.
+fn has_hint_beyond(alloc: Global) -> Result<bool, Fail> {
+    let mut builder = NetBuilder::new(alloc);
     let outer = builder.add_fixed()?;
     let inner = builder.add_free(1)?;
-    for _ in 0..5 {
+    for _ in 0..5u32 {
         builder.feed(outer, inner, LIMIT)?;
     }
-    let beyond = builder.build();
-    assert!(rt; find_hint(rt.alloc(), &beyond)?.is_none());
+    let net = builder.build();
+    Ok(find_hint(alloc, &net)?.is_some())
+}
+
+#[test]
+fn there_is_no_hint_where_sums_could_be_too_large(rt: HostRuntime) -> Result<(), Fail> {
+    if !has_hint_at_the_limit(rt.alloc())? {
+        return Err(Fail::from("none within the limit"));
+    }
+    if has_hint_beyond(rt.alloc())? {
+        return Err(Fail::from("a hint beyond the limit"));
+    }
     Ok(())
 }

@@ -39,18 +39,6 @@ pub fn three_nodes(alloc: Global, sink: u64, capacities: (u64, u64, u64)) -> Res
     ))
 }
 
-/// A free node with this sink, and four fixed ones, from each of which an arc of capacity 1 leads to it: a cell of four points, each
-/// seen from outside.
-pub fn one_cell(alloc: Global, sink: u64) -> Result<Net, Fail> {
-    let mut builder = NetBuilder::new(alloc);
-    let inner = builder.add_free(sink)?;
-    for _ in 0..4 {
-        let outer = builder.add_fixed()?;
-        builder.feed(outer, inner, 1)?;
-    }
-    Ok(builder.build())
-}
-
 /// A number below `bound` from a linear congruential generator.
 fn random(state: &mut u64, bound: u64) -> u64 {
     *state = state
