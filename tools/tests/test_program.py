@@ -481,13 +481,18 @@ class Program(InFolder):
         whole, files = recon('build', 'scan', 'mesh2', 'cert2'), [data('mesh'), data('cert')]
         equal((status, said), whole)
         equal(files, [data('mesh2'), data('cert2')])
-        equal(shown.split(CLEAR), ['', 'cells 0 of 4 · 0 s', 'sights 0 of 4 · 0 s', 'flow, begun at 0 s', ''])
+        equal(shown.split(CLEAR), ['', 'cells 0 of 4 · 0 s', 'sights 0 of 4 · 0 s', 'flow 0 · 0 s', ''])
         equal(at_terminal('cells', 'scan', 'out')[2].split(CLEAR), ['', 'cells 0 of 4 · 0 s', ''])
         for words in (('check', 'scan', 'mesh', 'cert'), ('upgrade', 'scan', 'mesh', 'cert', 'new')):
             equal(at_terminal(*words)[2].split(CLEAR), ['', 'cells 0 of 4 · 0 s', 'sights 0 of 4 · 0 s', ''])
         equal(at_terminal('cells', 'none', 'out')[2][:13], 'recon: none: ')
         shown = at_terminal('sweep', 'scan', '1', '2', '2', 'one', 'other')[2].split(CLEAR)
         equal(shown[-2:], ['surfaces 0 of 2 · 0 s', ''])
+        write('points', POINTS)
+        status, said, shown = at_terminal('ask', 'scan', 'points', 'labels')
+        whole, labels = recon('ask', 'scan', 'points', 'labels2'), data('labels')
+        equal((status, said, labels), (*whole, data('labels2')))
+        equal(shown.split(CLEAR)[1:], ['cells 0 of 4 · 0 s', 'sights 0 of 4 · 0 s', 'flow 0 · 0 s', 'answers 0 of 4 · 0 s', ''])
         # A line is taken off before anything else is told, and what reads no scan, or no good one, shows none.
         equal(at_terminal('build', 'scan', 'mesh', 'cert', 'vote=1')[2].split(CLEAR)[-1][:16], 'recon: no face: ')
         equal(at_terminal('build', 'cert', 'mesh', 'out')[2][:7], 'recon: ')
@@ -504,11 +509,11 @@ class Program(InFolder):
         # Beside the first line of each of three stages, none within a quarter second of another.
         equal(len(lines) - 2 <= 3 + 4 * took, True)
         for line in lines[1:-1]:
-            found = re.fullmatch(r'(cells|sights) ([0-9,]+) of ([0-9,]+) · [0-9]+ s|flow, begun at [0-9]+ s', line)
+            found = re.fullmatch(r'(?:cells|sights) ([0-9,]+) of ([0-9,]+) · [0-9]+ s|flow ([0-9,]+) · [0-9]+ s', line)
             equal(found is not None, True)
-            if found and found.group(1):
-                count, of = (int(found.group(k).replace(',', '')) for k in (2, 3))
-                equal((count % 4096, count <= of), (0, True))
+            if found:
+                count, of, moved = (int((number or '0').replace(',', '')) for number in found.groups())
+                equal((count % 4096, count <= of, moved % 4096), (0, True, 0))
 
     def test_outputs_that_keep_no_bytes(self) -> None:
         write('scan', example('tetrahedron.ply'))

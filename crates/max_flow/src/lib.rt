@@ -11,7 +11,8 @@
 //! `residual` holds the residual arcs, `incidence` finds those that enter a node, `searches` goes backwards from the
 //! sinks with room, `levels` tests levels that a hint gives in its place, `paths` sends more along augmenting paths,
 //! `phases` does so down the levels of a search, `solving` has the calls that stand on all these, and `resuming` those that go on
-//! from a valid flow. The crate stands on `flow_net`, on `flow_hint` for the hint and on `flow_valid` for its test.
+//! from a valid flow. The crate stands on `flow_net`, on `flow_hint` for the hint and on `flow_valid` for its test, and tells a `watch`
+//! how far it is.
 //!
 //! # Example
 //!
@@ -45,7 +46,10 @@ mod solving;
 
 pub use flow_hint::KeptPreflow;
 pub use resuming::{minimum_cut_above, resume};
-pub use solving::{least_inside, minimum_cut, minimum_cut_and_preflow, solve};
+pub use solving::{
+    least_inside, minimum_cut, minimum_cut_and_preflow, minimum_cut_and_preflow_watched,
+    minimum_cut_watched, solve,
+};
 
 /// The error of a call for which there was no memory.
 pub type NoMemory = std::alloc::AllocError;

@@ -15,6 +15,7 @@ use flow_hint::{Hint, KeptPreflow, find_hint_above, find_hint_on};
 use flow_net::{Flow, FlowNetwork, Labels, Sequence};
 use flow_valid::is_valid_flow;
 use std::alloc::Global;
+use watch::Silent;
 
 /// The amounts of a flow once more.
 fn copied(alloc: Global, flow: &Flow) -> Result<Flow, NoMemory>
@@ -135,7 +136,7 @@ pub fn minimum_cut_above<N: FlowNetwork>(
     if let Some(labels) = found {
         return Ok((more, labels));
     }
-    finish(alloc, net, &mut more)?;
+    finish(alloc, net, &mut more, &mut Silent)?;
     let labels = least_inside(alloc, net, &more)?;
     Ok((more, labels))
 }

@@ -15,10 +15,13 @@ use crate::paths::{augment, bottleneck};
 use crate::phases::Phase;
 use crate::residual::ResidualArc;
 use crate::searches::{Search, search_back};
-use flow_hint::{Hint, KeptPreflow, Levels, find_hint, find_hint_above, find_levels};
+use flow_hint::{
+    Hint, KeptPreflow, Levels, find_hint, find_hint_above_watched, find_hint_watched, find_levels,
+};
 use flow_net::{Flow, FlowNetwork, Labels, Sequence};
 use flow_valid::is_valid_flow;
 use std::alloc::Global;
+use watch::{Silent, Stage, Watch};
 
 /// An augmenting path, and the node at its end.
 #[derive(Debug, Drop)]
@@ -97,18 +100,28 @@ fn improve<N: FlowNetwork>(
     Ok(true)
 }
 
-/// Goes on from a valid flow to a largest one, by rounds. No less leaves at any sink than before.
+/// Goes on from a valid flow to a largest one, by rounds, of which a watch is told. No less leaves at any sink than before.
 ///
 /// Without memory the flow is valid, and its value is no smaller than before.
-pub fn finish<N: FlowNetwork>(alloc: Global, net: &N, flow: &mut Flow) -> Result<(), NoMemory>
+pub fn finish<N: FlowNetwork, W: Watch>(
+    alloc: Global,
+    net: &N,
+    flow: &mut Flow,
+    watch: &mut W,
+) -> Result<(), NoMemory>
     requires { IsValidFlow (N.numbered net.now) flow.old }
     ensures largest { OnOk result (IsLargest (N.numbered net.now) flow.new) }
     ensures valid { IsValidFlow (N.numbered net.now) flow.new }
     ensures rises { value_of (N.numbered net.now) flow.old ≤ value_of (N.numbered net.now) flow.new }
     ensures sinks { KeepsSinks flow.old flow.new }
 {
+    watch.stage(Stage::Rounds, 0);
+    let mut round: u64 = 0;
     let incidence = Incidence::new(alloc, net)?;
-    while improve(alloc, net, &incidence, flow)? {}
+    while improve(alloc, net, &incidence, flow)? {
+        round = round.saturating_add(1);
+        watch.done(round);
+    }
     Ok(())
 }
 
@@ -172,10 +185,11 @@ fn first_flow<N: FlowNetwork>(
 
 /// A flow of the largest value, and the least-inside labels where a hint shows them.
 #[tactic(auto, using(crate::proofs::Cuts::shown_largest))]
-fn largest_flow<N: FlowNetwork>(
+fn largest_flow<N: FlowNetwork, W: Watch>(
     alloc: Global,
     net: &N,
     hint: Option<Hint>,
+    watch: &mut W,
 ) -> Result<(Flow, Option<Labels>), NoMemory>
     ensures valid { IfOk result (λ found. IsValidFlow (N.numbered net.now) found.0) }
     ensures largest { IfOk result (λ found. IsLargest (N.numbered net.now) found.0) }
@@ -186,7 +200,7 @@ fn largest_flow<N: FlowNetwork>(
     if let Some(labels) = found {
         return Ok((flow, Some(labels)));
     }
-    finish(alloc, net, &mut flow)?;
+    finish(alloc, net, &mut flow, watch)?;
     Ok((flow, None))
 }
 
@@ -196,7 +210,7 @@ pub fn solve<N: FlowNetwork>(alloc: Global, net: &N) -> Result<Flow, NoMemory>
     ensures largest { IfOk result (λ flow. IsLargest (N.numbered net.now) flow) }
 {
     let hint = find_hint(alloc, net)?;
-    let (flow, _labels) = largest_flow(alloc, net, hint)?;
+    let (flow, _labels) = largest_flow(alloc, net, hint, &mut Silent)?;
     Ok(flow)
 }
 
@@ -246,17 +260,18 @@ pub fn least_inside<N: FlowNetwork>(alloc: Global, net: &N, flow: &Flow) -> Resu
 }
 
 /// A flow of the largest value from a hint, and the least-inside labels, which cost as much.
-fn cut_by<N: FlowNetwork>(
+fn cut_by<N: FlowNetwork, W: Watch>(
     alloc: Global,
     net: &N,
     hint: Option<Hint>,
+    watch: &mut W,
 ) -> Result<(Flow, Labels), NoMemory>
     ensures valid { IfOk result (λ cut. IsValidFlow (N.numbered net.now) cut.0) }
     ensures largest { IfOk result (λ cut. IsLargest (N.numbered net.now) cut.0) }
     ensures least { IfOk result (λ cut. IsLeastInside (N.numbered net.now) cut.1) }
     ensures cost { IfOk result (λ cut. cost_of (N.numbered net.now) cut.1 ≡ value_of (N.numbered net.now) cut.0) }
 {
-    let (flow, found) = largest_flow(alloc, net, hint)?;
+    let (flow, found) = largest_flow(alloc, net, hint, watch)?;
     if let Some(labels) = found {
         return Ok((flow, labels));
     }
@@ -272,8 +287,24 @@ pub fn minimum_cut<N: FlowNetwork>(alloc: Global, net: &N) -> Result<(Flow, Labe
     ensures least { IfOk result (λ cut. IsLeastInside (N.numbered net.now) cut.1) }
     ensures cost { IfOk result (λ cut. cost_of (N.numbered net.now) cut.1 ≡ value_of (N.numbered net.now) cut.0) }
 {
-    let hint = find_hint(alloc, net)?;
-    cut_by(alloc, net, hint)
+    minimum_cut_watched(alloc, net, &mut Silent)
+}
+
+/// The same, where a watch is told of the stage, and from how many nodes the hint moved amounts on; and where it has to be gone on
+/// from the hint, of the stage of rounds, and how many are made.
+pub fn minimum_cut_watched<N: FlowNetwork, W: Watch>(
+    alloc: Global,
+    net: &N,
+    watch: &mut W,
+) -> Result<(Flow, Labels), NoMemory>
+    ensures valid { IfOk result (λ cut. IsValidFlow (N.numbered net.now) cut.0) }
+    ensures largest { IfOk result (λ cut. IsLargest (N.numbered net.now) cut.0) }
+    ensures least { IfOk result (λ cut. IsLeastInside (N.numbered net.now) cut.1) }
+    ensures cost { IfOk result (λ cut. cost_of (N.numbered net.now) cut.1 ≡ value_of (N.numbered net.now) cut.0) }
+{
+    watch.stage(Stage::Flow, 0);
+    let hint = find_hint_watched(alloc, net, watch)?;
+    cut_by(alloc, net, hint, watch)
 }
 
 /// What `minimum_cut` answers, and the preflow of its hint, if there is one, for `minimum_cut_above` to go on from.
@@ -286,10 +317,25 @@ pub fn minimum_cut_and_preflow<N: FlowNetwork>(
     ensures least { IfOk result (λ cut. IsLeastInside (N.numbered net.now) cut.1) }
     ensures cost { IfOk result (λ cut. cost_of (N.numbered net.now) cut.1 ≡ value_of (N.numbered net.now) cut.0) }
 {
-    let (hint, kept) = match find_hint_above(alloc, net, &[])? {
+    minimum_cut_and_preflow_watched(alloc, net, &mut Silent)
+}
+
+/// The same, where a watch is told as by `minimum_cut_watched`.
+pub fn minimum_cut_and_preflow_watched<N: FlowNetwork, W: Watch>(
+    alloc: Global,
+    net: &N,
+    watch: &mut W,
+) -> Result<(Flow, Labels, Option<KeptPreflow>), NoMemory>
+    ensures valid { IfOk result (λ cut. IsValidFlow (N.numbered net.now) cut.0) }
+    ensures largest { IfOk result (λ cut. IsLargest (N.numbered net.now) cut.0) }
+    ensures least { IfOk result (λ cut. IsLeastInside (N.numbered net.now) cut.1) }
+    ensures cost { IfOk result (λ cut. cost_of (N.numbered net.now) cut.1 ≡ value_of (N.numbered net.now) cut.0) }
+{
+    watch.stage(Stage::Flow, 0);
+    let (hint, kept) = match find_hint_above_watched(alloc, net, &[], watch)? {
         Some((hint, kept)) => (Some(hint), Some(kept)),
         None => (None, None),
     };
-    let (flow, labels) = cut_by(alloc, net, hint)?;
+    let (flow, labels) = cut_by(alloc, net, hint, watch)?;
     Ok((flow, labels, kept))
 }

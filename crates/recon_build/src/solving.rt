@@ -20,14 +20,14 @@ use crate::rows::{flow_rows, inside_rows, sink_rows};
 use cell_net::CellNetwork;
 use cert_text::{Certificate, Stamp};
 use flow_net::{Flow, Labels, Settings, cost};
-use max_flow::minimum_cut;
+use max_flow::minimum_cut_watched;
 use mesh_ply::Mesh;
 use scan::Scan;
 use std::alloc::Global;
 use surface::facets;
 use tetra_store::Tetra;
 use votes::Votes;
-use watch::{Silent, Stage, Watch};
+use watch::{Silent, Watch};
 
 /// A surface, and the certificate that shows it best.
 #[derive(Drop)]
@@ -52,12 +52,13 @@ struct MinimumCut {
 /// The minimum cut of a scan's cells. What is counted of them is let go of before it returns.
 ///
 /// The cost fits, since it is no more than to have all cells outside, and that is below 2^47: each sight has one cell behind it.
-fn minimum_cut_of(
+fn minimum_cut_of<W: Watch>(
     alloc: Global,
     scan: &Scan,
     settings: Settings,
     tetra: &Tetra,
     votes: Votes,
+    watch: &mut W,
 ) -> Result<MinimumCut, NoMemory>
     requires counts { AreCountsOf (scene_of_scan (shown_of scan.now) settings) tetra.now.slots votes.crossed.items votes.behind.items votes.fixed.items }
     requires few { length votes.fixed.items < 2 ^ 32 }
@@ -65,7 +66,7 @@ fn minimum_cut_of(
 {
     let _scan = scan;
     let net = CellNetwork::new(tetra, votes.store_counts(), settings);
-    let (flow, labels) = minimum_cut(alloc, &net)?;
+    let (flow, labels) = minimum_cut_watched(alloc, &net, watch)?;
     let cost = cost(&net, &labels) as u64;
     Ok(MinimumCut { labels, flow, cost })
 }
@@ -164,7 +165,6 @@ pub fn solve_scan_watched<W: Watch>(
     ensures same { (mesh : Surface) (claim : Claim) → IsSolution (shown_of scan.now) settings mesh claim → IfOk result (λ solved. IsSame (surface_of solved.mesh) (claim_of solved.cert) mesh claim) }
 {
     let (tetra, votes) = counted_cells(alloc, scan, settings, watch)?;
-    watch.stage(Stage::Flow, 0);
-    let cut = minimum_cut_of(alloc, scan, settings, &tetra, votes)?;
+    let cut = minimum_cut_of(alloc, scan, settings, &tetra, votes, watch)?;
     solve_over(alloc, scan, settings, tetra, cut, stamp)
 }

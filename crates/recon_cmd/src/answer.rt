@@ -107,7 +107,7 @@ pub fn reply_to<'a, H: Host, W: Watch>(
         Command::Build(names, options) => reply_to_build(alloc, host, names, options, limit, watch),
         Command::Check(names, options) => reply_to_check(alloc, host, names, options, limit, watch),
         Command::Slice(words) => reply_to_slice(alloc, host, words, limit),
-        Command::Ask(names, options) => reply_to_ask(alloc, host, names, options, limit),
+        Command::Ask(names, options) => reply_to_ask(alloc, host, names, options, limit, watch),
         Command::Demo(demo) => Ok(reply_to_demo(alloc, *demo, watch)?),
     }
 }

@@ -2,8 +2,8 @@
 //! `watch`, and on std's clock and standard error.
 //!
 //! No clause speaks of the line, and nothing hangs on it: where a write of it is refused, or the clock tells no time, all goes on
-//! without. The start of each stage is written, of which a run has five, and counts four times a second at most: so no more than ten
-//! lines are written in a second.
+//! without. The start of each stage is written, of which a run has six, and counts four times a second at most: so no more than
+//! eleven lines are written in a second.
 
 use std::fmt;
 use std::fmt::{Display, Formatter};
@@ -54,7 +54,9 @@ fn name_of(stage: Stage) -> &'static str {
         Stage::Cells => "cells",
         Stage::Sights => "sights",
         Stage::Flow => "flow",
+        Stage::Rounds => "flow rounds",
         Stage::Surfaces => "surfaces",
+        Stage::Answers => "answers",
         Stage::Over => "",
     }
 }
@@ -96,10 +98,10 @@ impl<R: Clock + Eprint + Drop> Progress<R> {
     /// Writes the line of the stage, of which so many are done after so many milliseconds.
     fn show(&mut self, count: u64, passed: u64) {
         let (name, seconds) = (name_of(self.stage), passed / 1000);
+        let (count, of) = (Grouped(count), Grouped(self.of));
         let _ = if self.of == 0 {
-            eprint!(self.rt; "{CLEAR}{name}, begun at {seconds} s")
+            eprint!(self.rt; "{CLEAR}{name} {count} · {seconds} s")
         } else {
-            let (count, of) = (Grouped(count), Grouped(self.of));
             eprint!(self.rt; "{CLEAR}{name} {count} of {of} · {seconds} s")
         };
         self.is_shown = true;

@@ -19,14 +19,16 @@ use scan::Scan;
 use std::alloc::Global;
 use tetra_store::Tetra;
 use tetra_walk::locate_displaced;
+use watch::{Silent, Stage, Watch, tell};
 
 /// The flags of the cells in which points lie, displaced. `flags` has one for each cell by its number in the store. Each walk
-/// begins in the cell that the one before it found.
-fn flags_at(
+/// begins in the cell that the one before it found. A watch is told of how many points.
+fn flags_at<W: Watch>(
     alloc: Global,
     t: &Tetra,
     flags: &[bool],
     points: &[Point],
+    watch: &mut W,
 ) -> Result<Vec<bool>, NoMemory>
     requires delaunay { IsDelaunay (vertices_of t.now) (links_of t.now.slots) }
     requires fits { (id : ℕ) → IsLive (links_of t.now.slots) id → id < length flags.now }
@@ -37,6 +39,7 @@ fn flags_at(
     let mut found = Vec::with_capacity(alloc, points.len())?;
     let mut cell = t.cell_at(0);
     for point in points {
+        tell(watch, found.len());
         cell = locate_displaced(t, *point, cell);
         found.push(flags[cell.number()])?;
     }
@@ -45,11 +48,12 @@ fn flags_at(
 
 /// The same, where the points are gone through along a space-filling curve, so that each is near the one before it wherever
 /// they stand in the list.
-fn flags_along(
+fn flags_along<W: Watch>(
     alloc: Global,
     t: &Tetra,
     flags: &[bool],
     points: &[Point],
+    watch: &mut W,
 ) -> Result<Vec<bool>, NoMemory>
     requires delaunay { IsDelaunay (vertices_of t.now) (links_of t.now.slots) }
     requires fits { (id : ℕ) → IsLive (links_of t.now.slots) id → id < length flags.now }
@@ -62,6 +66,7 @@ fn flags_along(
     let mut found = vec![in alloc; false; points.len()]?;
     let mut cell = t.cell_at(0);
     for k in 0..order.len() {
+        tell(watch, k);
         let at = order[k] as usize;
         cell = locate_displaced(t, points[at], cell);
         found[at] = flags[cell.number()];
@@ -80,9 +85,24 @@ pub fn ask(
     requires { All (IsWithin DATA_LIMIT) queries.now }
     ensures { IfOk result (λ answers. AreLabels (shown_of scan.now) settings queries.now answers.items) }
 {
-    let solid = solid_of(alloc, scan, settings)?;
+    ask_watched(alloc, scan, settings, queries, &mut Silent)
+}
+
+/// The same, where a watch is told of the stages of the work, and of how many of these points are found among the cells.
+pub fn ask_watched<W: Watch>(
+    alloc: Global,
+    scan: &Scan,
+    settings: Settings,
+    queries: &[Point],
+    watch: &mut W,
+) -> Result<Vec<bool>, NoMemory>
+    requires { All (IsWithin DATA_LIMIT) queries.now }
+    ensures { IfOk result (λ answers. AreLabels (shown_of scan.now) settings queries.now answers.items) }
+{
+    let solid = solid_of(alloc, scan, settings, watch)?;
+    watch.stage(Stage::Answers, queries.len() as u64);
     if queries.len() > u32::MAX as usize {
-        return flags_at(alloc, &solid.tetra, &solid.inside, queries);
+        return flags_at(alloc, &solid.tetra, &solid.inside, queries, watch);
     }
-    flags_along(alloc, &solid.tetra, &solid.inside, queries)
+    flags_along(alloc, &solid.tetra, &solid.inside, queries, watch)
 }

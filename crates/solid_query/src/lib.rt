@@ -5,7 +5,7 @@
 //! cost.
 //!
 //! `label_at` tells the label of one point among labelled cells, without taking memory. `read_queries` reads points from a text of
-//! decimals, and `ask` answers for a list of points and a scan. `labels` and `solid` hold what both stand on.
+//! decimals, and `ask` and `ask_watched` answer for a list of points and a scan. `labels` and `solid` hold what both stand on.
 //!
 //! No mesh is read: what is asked is the scan's best surface, and not a file that somebody made. The crate stands on `delaunay` and
 //! `votes` (the cells and the network over them), `max_flow` (labels), `solution` (what the best surface is), `tetra_walk` (the cell of a
@@ -19,7 +19,7 @@ mod queries;
 mod refusal;
 mod solid;
 
-pub use asking::ask;
+pub use asking::{ask, ask_watched};
 pub use labels::label_at;
 pub use laws::{labels_are_certified, labels_are_unique, points_have_labels};
 pub use queries::{TOKEN_LIMIT, read_queries};

@@ -5,16 +5,17 @@ ghost use Rattle.scan.specs.Views.{shown_of};
 ghost use Rattle.solid_query.specs.Solids.{IsNetworkOfScan, IsSolid};
 
 use crate::NoMemory;
-use delaunay::build;
+use delaunay::build_watched;
 use flow_net::Settings;
-use max_flow::{least_inside, solve};
+use max_flow::minimum_cut_watched;
 use scan::Scan;
 use solution::seen_in;
 use std::alloc::Global;
 use surface::labels_by_number;
 use tetra_store::Tetra;
 use vote_net::Counted;
-use votes::count_votes_as_stored;
+use votes::count_votes_as_stored_watched;
+use watch::Watch;
 
 /// The linked Delaunay cells of a scan, and which of them are inside.
 #[derive(Drop)]
@@ -25,28 +26,35 @@ pub(crate) struct Solid {
     pub(crate) inside: Vec<bool>,
 }
 
-/// The linked cells of a scan, and the network over them at these settings.
-pub(crate) fn network(
+/// The linked cells of a scan, and the network over them at these settings. A watch is told of both stages.
+pub(crate) fn network<W: Watch>(
     alloc: Global,
     scan: &Scan,
     settings: Settings,
+    watch: &mut W,
 ) -> Result<(Tetra, Counted), NoMemory>
     ensures { IfOk result (λ made. IsNetworkOfScan (shown_of scan.now) settings made.0 made.1) }
 {
     let seen = seen_in(alloc, scan)?;
-    let tetra = build(alloc, &seen.points)?;
+    let tetra = build_watched(alloc, &seen.points, watch)?;
     tetra.facts();
-    let counted = count_votes_as_stored(alloc, &tetra, &seen.scene(scan, settings))?;
+    let scene = seen.scene(scan, settings);
+    let counted = count_votes_as_stored_watched(alloc, &tetra, &scene, watch)?;
     Ok((tetra, counted))
 }
 
-/// The linked cells of a scan, and which of them are inside by the least-inside labels of least cost at these settings.
-pub(crate) fn solid_of(alloc: Global, scan: &Scan, settings: Settings) -> Result<Solid, NoMemory>
+/// The linked cells of a scan, and which of them are inside by the least-inside labels of least cost at these settings. A watch is told
+/// of the stages.
+pub(crate) fn solid_of<W: Watch>(
+    alloc: Global,
+    scan: &Scan,
+    settings: Settings,
+    watch: &mut W,
+) -> Result<Solid, NoMemory>
     ensures { IfOk result (λ solid. IsSolid (shown_of scan.now) settings solid.tetra solid.inside.items) }
 {
-    let (tetra, counted) = network(alloc, scan, settings)?;
-    let flow = solve(alloc, &counted.voted.net)?;
-    let labels = least_inside(alloc, &counted.voted.net, &flow)?;
+    let (tetra, counted) = network(alloc, scan, settings, watch)?;
+    let (_flow, labels) = minimum_cut_watched(alloc, &counted.voted.net, watch)?;
     let inside = labels_by_number(alloc, &tetra, &counted.ids, &labels)?;
     Ok(Solid { tetra, inside })
 }

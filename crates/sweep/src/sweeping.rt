@@ -14,7 +14,7 @@ use crate::NoMemory;
 use delaunay::build_watched;
 use flow_net::{Flow, Labels, Settings, cost};
 use geo_sign::Point;
-use max_flow::{KeptPreflow, minimum_cut_above, minimum_cut_and_preflow};
+use max_flow::{KeptPreflow, minimum_cut_above, minimum_cut_and_preflow_watched};
 use mesh_ply::Mesh;
 use scan::Scan;
 use solution::{SeenPoints, seen_in};
@@ -24,7 +24,7 @@ use surface::{facets, labels_by_number};
 use tetra_store::Tetra;
 use vote_net::Counted;
 use votes::count_votes_as_stored_watched;
-use watch::{Silent, Stage, Watch};
+use watch::{Silent, Watch};
 
 /// The best surface of a scan at one smoothing, with a largest flow, which is kept when the smoothing is raised.
 ///
@@ -90,8 +90,8 @@ impl Sweep {
         tetra.facts();
         let scene = seen.scene(scan, settings);
         let counted = count_votes_as_stored_watched(alloc, &tetra, &scene, watch)?;
-        watch.stage(Stage::Flow, 0);
-        let (flow, labels, kept) = minimum_cut_and_preflow(alloc, &counted.voted.net)?;
+        let net = &counted.voted.net;
+        let (flow, labels, kept) = minimum_cut_and_preflow_watched(alloc, net, watch)?;
         let scanners = Vec::from_slice(alloc, &scan.scanners)?;
         Ok(Sweep {
             alloc,

@@ -24,16 +24,18 @@ use geo_sign::Point;
 use host::{Host, ReadRefusal, read_all};
 use merge::merge;
 use scan::Scan;
-use solid_query::{ask, read_queries};
+use solid_query::{ask_watched, read_queries};
 use std::alloc::Global;
+use watch::Watch;
 
 /// Reads the scan and, where it is not refused, the points, and makes the answer of `ask`. Nothing is written or said.
-pub fn reply_to_ask<'a, H: Host>(
+pub fn reply_to_ask<'a, H: Host, W: Watch>(
     alloc: Global,
     host: &mut H,
     names: &AskNames<'a>,
     options: &Options,
     limit: u64,
+    watch: &mut W,
 ) -> Result<Reply<'a>, Stop>
     requires { (H.state host.old).writing ≡ false }
     ensures replied { limit ≡ file_limit → IfOk result (λ reply. IsReplied (ask_of (ask_names names.now) (options_view options.now)) reply (H.state host.old)) }
@@ -44,20 +46,21 @@ pub fn reply_to_ask<'a, H: Host>(
     match read_input(alloc, host, names.input, options, limit)? {
         Reading::Scan(scan, bytes) => {
             drop(bytes);
-            reply_to_scan(alloc, host, &scan, names, options, limit)
+            reply_to_scan(alloc, host, &scan, names, options, limit, watch)
         }
         Reading::Refused(line) => Ok(refusal(alloc, line)),
     }
 }
 
 /// Reads the points, and answers to a scan.
-fn reply_to_scan<'a, H: Host>(
+fn reply_to_scan<'a, H: Host, W: Watch>(
     alloc: Global,
     host: &mut H,
     scan: &Scan,
     names: &AskNames<'a>,
     options: &Options,
     limit: u64,
+    watch: &mut W,
 ) -> Result<Reply<'a>, Stop>
     requires { (H.state host.old).writing ≡ false }
     ensures replied { limit ≡ file_limit → IfOk result (λ reply. IsReplyOf (ask_of (ask_names names.now) (options_view options.now))
@@ -76,23 +79,24 @@ fn reply_to_scan<'a, H: Host>(
         Err(ReadRefusal::Failed) => return Err(Stop::Failed),
         Err(ReadRefusal::NoMemory) => return Err(Stop::NoMemory),
     };
-    Ok(reply_to_points(alloc, scan, bytes, names.output, options)?)
+    Ok(reply_to_points(alloc, scan, bytes, names.output, options, watch)?)
 }
 
 /// The answer to a scan and the bytes of the points' file, which are let go before the scan is solved.
-fn reply_to_points<'a>(
+fn reply_to_points<'a, W: Watch>(
     alloc: Global,
     scan: &Scan,
     bytes: Vec<u8>,
     output: &'a str,
     options: &Options,
+    watch: &mut W,
 ) -> Result<Reply<'a>, NoMemory>
     ensures { length bytes.items ≤ file_limit → IfOk result (λ reply. IsAsked output.now (options_view options.now) (shown_of scan.now) bytes.items (answer_of 2 reply)) }
 {
     match read_queries(alloc, &bytes, options.unit) {
         Ok(points) => {
             drop(bytes);
-            reply_to_queries(alloc, scan, &points, output, options)
+            reply_to_queries(alloc, scan, &points, output, options, watch)
         }
         Err(why) => {
             let line = line_of_query_refusal(alloc, why)?;
@@ -102,17 +106,18 @@ fn reply_to_points<'a>(
 }
 
 /// The labels of points, and the line.
-fn reply_to_queries<'a>(
+fn reply_to_queries<'a, W: Watch>(
     alloc: Global,
     scan: &Scan,
     points: &[Point],
     output: &'a str,
     options: &Options,
+    watch: &mut W,
 ) -> Result<Reply<'a>, NoMemory>
     requires { All (IsWithin DATA_LIMIT) points.now }
     ensures { IfOk result (λ reply. WritesLabels output.now (options_view options.now) (shown_of scan.now) points.now (answer_of 2 reply)) }
 {
-    let labels = ask(alloc, scan, options.settings, points)?;
+    let labels = ask_watched(alloc, scan, options.settings, points, watch)?;
     let count = point_count(alloc, scan)?;
     let text = text_of_labels(alloc, &labels)?;
     let line = line_of_ask(

@@ -15,11 +15,11 @@ use Rattle.solid_query.proofs.Along.{one_flagged_along, all_flagged_along, AreFl
 use Rattle.solid_query.proofs.asking.flags_along.Goals as goal
 
 pub order-requires-clause-within : goal.order-requires-clause-within
-order-requires-clause-within c =
+order-requires-clause-within g c =
     λ k l. All-get_or (IsWithin DATA_LIMIT) c.args.points.now k origin l c.requires.data_points
 
 pub locate_displaced-cell-requires-clause-data_point : goal.locate_displaced-cell-requires-clause-data_point
-locate_displaced-cell-requires-clause-data_point c =
+locate_displaced-cell-requires-clause-data_point g c =
     let points = c.args.points.now in
     let order = c.in_ok-order.order.items in
     let at : ℕ = c.index.result.now in
@@ -33,7 +33,7 @@ locate_displaced-cell-requires-clause-data_point c =
     (All-get_or (IsWithin DATA_LIMIT) points at origin m c.requires.data_points)
 
 pub index_mut-requires : goal.index_mut-requires
-index_mut-requires c =
+index_mut-requires g c =
     let points = c.args.points.now in
     let order = c.in_ok-order.order.items in
     let at : ℕ = c.index.result.now in
@@ -46,7 +46,7 @@ index_mut-requires c =
     omega (arith, e, below, count)
 
 pub loop-k-preserved : goal.loop-k-preserved
-loop-k-preserved c =
+loop-k-preserved g c =
     let s = c.args.t.now in
     let flags = c.args.flags.now in
     let points = c.args.points.now in
@@ -75,7 +75,7 @@ loop-k-preserved c =
     }
 
 pub returns : goal.returns
-returns c =
+returns g c =
     let points = c.args.points.now in
     let order = c.in_ok-order.order.items in
     let is : IsOrder (length points) order = c.in_ok-order.ensures.order in

@@ -4,7 +4,7 @@ use Rattle.solid_query.proofs.Along.{AreFlaggedAlong}
 use Rattle.solid_query.proofs.asking.flags_along.Given as goal
 
 abbrev pub invariant-loop-k : goal.invariant-loop-k
-invariant-loop-k l =
+invariant-loop-k g l =
     record {
       live : IsLive (links_of l.t.slots) l.cell;
       count : length l.found.items ≡ length l.points;

@@ -7,7 +7,7 @@ use Rattle.solid_query.proofs.Located.{one_flagged}
 use Rattle.solid_query.proofs.asking.flags_at.Goals as goal
 
 pub loop-point-preserved : goal.loop-point-preserved
-loop-point-preserved c =
+loop-point-preserved g c =
     let s = c.args.t.now in
     let flags = c.args.flags.now in
     let points = c.args.points.now in

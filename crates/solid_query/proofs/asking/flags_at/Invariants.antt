@@ -5,7 +5,7 @@ use Rattle.solid_query.specs.Solids.{IsFlaggedAs}
 use Rattle.solid_query.proofs.asking.flags_at.Given as goal
 
 abbrev pub invariant-loop-point : goal.invariant-loop-point
-invariant-loop-point l =
+invariant-loop-point g l =
     record {
       live : IsLive (links_of l.t.slots) l.cell;
       count : length l.found.items ≡ l.point-index;

@@ -10,7 +10,7 @@ use Rattle.recon_cmd.proofs.AskReplies.{points_refused}
 use Rattle.recon_cmd.proofs.answer.ask.reply_to_points.Goals as goal
 
 pub returns-in-Ok : goal.returns-in-Ok
-returns-in-Ok c = λ within.
+returns-in-Ok g c = λ within.
     let options = options_view c.args.options.now in
     let scan = shown_of c.args.scan.now in
     let bytes = c.args.bytes.items in
@@ -29,7 +29,7 @@ returns-in-Ok c = λ within.
     })) c.reply_to_queries.ensures
 
 pub returns : goal.returns
-returns c = λ within.
+returns g c = λ within.
     let options = options_view c.args.options.now in
     inl (points_refused options c.args.bytes.items c.in-Err.why c.in_ok-line-in-Err.line.items (answer_of 2 c.refusal.result)
     within

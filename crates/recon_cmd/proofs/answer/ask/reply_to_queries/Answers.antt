@@ -9,7 +9,7 @@ use Rattle.recon_cmd.proofs.AskReplies.{labels_written}
 use Rattle.recon_cmd.proofs.answer.ask.reply_to_queries.Goals as goal
 
 pub returns : goal.returns
-returns c =
+returns g c =
     let labels = c.in_ok-labels.labels.items in
     let writes_is : texts_of c.push.new.self.items ≡ (c.args.output.now, c.in_ok-text.text.items) ∷ [] =
     ap texts_of

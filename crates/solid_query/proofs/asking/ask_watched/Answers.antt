@@ -4,10 +4,10 @@ use Rattle.scan.specs.Views.{shown_of}
 use Rattle.solid_query.specs.Labels.{AreLabels}
 use Rattle.solid_query.specs.Solids.{AreFlagged}
 use Rattle.solid_query.proofs.Located.{labels_of}
-use Rattle.solid_query.proofs.asking.ask.Goals as goal
+use Rattle.solid_query.proofs.asking.ask_watched.Goals as goal
 
 pub returns-then-queries : goal.returns-then-queries
-returns-then-queries c =
+returns-then-queries g c =
     let s = c.in_ok-solid.solid.tetra in
     let flags = c.in_ok-solid.solid.inside.items in
     let points = c.args.queries.now in
@@ -18,7 +18,7 @@ returns-then-queries c =
     c.requires (subst (λ (xs : List Bool). AreFlagged s xs points found.items) c.deref.ensures.value h)) c.flags_at.ensures
 
 pub returns : goal.returns
-returns c =
+returns g c =
     let s = c.in_ok-solid.solid.tetra in
     let flags = c.in_ok-solid.solid.inside.items in
     let points = c.args.queries.now in
