@@ -55,7 +55,7 @@ class File:
         self.definitions = {}
         name, in_import = None, False
         for line in text.splitlines():
-            in_import = line.startswith('use ') or in_import and line.startswith((' ', '}'))
+            in_import = line.startswith(('use ', 'pub use ')) or in_import and line.startswith((' ', '}'))
             if not line.strip() or line.strip().startswith('--') or in_import:
                 continue
             if head := HEAD.match(line):
@@ -90,6 +90,9 @@ def reached_from(places: list[tuple[str, str, str]] | set[tuple[str, str, str]])
             continue
         file = files.setdefault((crate, module), None) or File(crate, module)
         files[crate, module] = file
+        if name not in file.definitions and name in file.names:
+            left.append(file.names[name])
+            continue
         lines = file.definitions.get(name, [])
         reached[crate, module, name] = lines
         left += named_in('\n'.join(lines), file.names, file.modules)

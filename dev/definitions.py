@@ -8,8 +8,8 @@ The source is docs/definitions.in.md: text, and tables of words by theme. Each w
 heading over it names, or that its own cell names. The files are printed into each row. Where a second cell is empty, it becomes what the
 heads of these files say of the words, or the line over a definition that a head does not name, and words that stand there alone get the
 arguments that they have in the heads. {shared} becomes the words that more than one crate defines, and {others} what is said of the
-words that no table has, by crate. What stands in marks above {shared} has to be such a word, a crate or a file, and there may be no more
-such words than the text there says. Of each definition a head or a line over it has to say something.
+words that no table has, by crate. What stands in marks above {shared} has to be such a word, a crate or a file; each such word has to stand
+there, and there may be no more of them than the text there says. Of each definition a head or a line over it has to say something.
 """
 from __future__ import annotations
 
@@ -144,11 +144,14 @@ class Page:
         self.words, self.faults, self.lines = words, [], []
         self.tabled: set[tuple[str, str, str]] = set()
         above = source.split('{shared}')[0]
-        known = set(words.shared()) | set(words.crates) | {file.name for file in words.files} | {'specs/'}
-        self.faults += [f'{name} stands above {{shared}}, and no two crates define it' for name in MARKED.findall(above) if name not in known]
+        shared, marked = words.shared(), MARKED.findall(above)
+        known = set(shared) | set(words.crates) | {file.name for file in words.files} | {'specs/'}
+        self.faults += [f'{name} stands above {{shared}}, and no two crates define it' for name in marked if name not in known]
+        self.faults += [f'{name} is defined in {" and ".join(crates)}, and does not stand above {{shared}}'
+                        for name, crates in shared.items() if name not in marked]
         most = re.search(r'at most (\d+) words', above)
-        if most and len(words.shared()) > int(most[1]):
-            self.faults.append(f'{len(words.shared())} words stand in more than one crate, above {most[1]}')
+        if most and len(shared) > int(most[1]):
+            self.faults.append(f'{len(shared)} words stand in more than one crate, above {most[1]}')
         heading, header = '', ''
         for line in source.splitlines():
             heading = line if line.startswith('#') else heading

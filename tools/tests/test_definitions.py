@@ -100,7 +100,8 @@ class Definitions(InFolder):
         equal(self.faults(SOURCE.replace('`first`, `last` |', '`frist` | the ends |')),
               ['frist is defined nowhere in what its row or its heading names: ## Numbers (`crates/low/specs`)'])
         equal(self.faults(SOURCE.replace('`first`, `last`', '`first`, `bare`')), ['nothing is said of bare'])
-        equal(self.faults(SOURCE.replace('`mid`: `last`', '`mid`: `first`')), ['first stands above {shared}, and no two crates define it'])
+        equal(self.faults(SOURCE.replace('`mid`: `last`', '`mid`: `last`, `first`')), ['first stands above {shared}, and no two crates define it'])
+        equal(self.faults(SOURCE.replace('`mid`: `last`', '`mid`: none')), ['last is defined in low and mid, and does not stand above {shared}'])
         equal(self.faults(SOURCE.replace('most 1', 'most 0')), ['1 words stand in more than one crate, above 0'])
         laws = SOURCE + '\n| Crate | Laws |\n|---|---|\n| `low` | `size_law`: `IsSmall`. `other_law`: `first` |\n'
         equal(self.faults(laws), ['low has no other_law, which the laws by name have'])

@@ -20,7 +20,7 @@ use Rattle.tetra_store.specs.Fan.{fan_facet}
 use Rattle.geo_sign.specs.Boxes.{IsInConflict, IsClearOf}
 use Rattle.geo_sign.proofs.Rotations.{rotated_back}
 use Rattle.cell_laws.proofs.RimLists.{one_side}
-use Rattle.cavity.specs.Flood.{facet_on, IsRimAt, IsInFan, IsPassed, IsFlooding}
+use Rattle.cavity.specs.Flood.{facet_on, IsRimAt, HasFanFacet, IsPassed, IsFlooding}
 use Rattle.cavity.proofs.Growing.{last_at, only_one, longer, old_or_last, cell_left, facet_left, outer_left, facet_last}
 use Rattle.cavity.proofs.Growing.{outer_last, contains_at}
 
@@ -218,7 +218,7 @@ module _ (v : Vertices) (links : Links) (p from : ℕ) where
             ⊎_elim
             (λ (w : 4 * a + b < 4 * j + k).
             ⊎_elim (λ (z : (y : ℕ) × (links.next (slice_index cells a) b ≡ Some y) × Contains cells y). inl z)
-            (λ (z : IsInFan fan (facet_of (links.at (slice_index cells a)) b) (links.next (slice_index cells a) b)).
+            (λ (z : HasFanFacet fan (facet_of (links.at (slice_index cells a)) b) (links.next (slice_index cells a) b)).
             inr (record {
               facet = z.facet;
               facet_in = let i = z.facet_in in omega arith;

@@ -21,22 +21,22 @@ use Rattle.geo_sign.specs.Cells.{IsCell}
 use Rattle.tetra_store.specs.declared.fan.Facet.{Facet}
 use Rattle.tetra_store.specs.Links.{links_of, IsLive}
 use Rattle.tetra_store.specs.Store.{Store, IsStore, vertices_of}
-use Rattle.tetra_store.specs.Fan as fans
+use Rattle.tetra_store.specs.Fan.{HasPairedEdges, IsInFan, IsRim}
 use Rattle.tetra_store.specs.Fan.{fan_facet, fan_outer, IsOutside, IsHeld, HasEdge, CanReplace}
 use Rattle.tetra_store.specs.Delaunay.{IsDelaunay}
 use Rattle.tetra_store.specs.Stored.{live_of}
 use Rattle.geo_sign.specs.Writings as laws
 use Rattle.geo_sign.specs.Boxes.{IsNew, IsInConflict, IsClearOf}
-use Rattle.cell_laws.specs.Fans.{IsFan}
+use Rattle.cell_laws.specs.Fans.{IsOnFan}
 use Rattle.cell_laws.specs.Lists.{IsListing}
-use Rattle.cell_laws.specs.Links.{IsRim, IsFlooded}
+use Rattle.cell_laws.specs.Links.{IsRimSide, IsFlooded}
 use Rattle.cell_laws.specs.LinkLaws.{AreConflicts, IsRimLaw}
 use Rattle.cell_laws.specs.InsertionLaws.{IsFanOf}
-use Rattle.cell_laws.specs.Edges as edges
+use Rattle.cell_laws.specs.Edges.{AreEdges}
 use Rattle.geo_sign.specs.Edges.{edge_start}
 use Rattle.geo_sign.proofs.Rewritings.{rewritten_back, same_power, same_vertex}
 use Rattle.cell_laws.proofs.Laws.{fan_law, vertex_law, cavity_law, rim_law, linked_law, edge_law}
-use Rattle.cavity.specs.Flood.{IsInFan, IsPassed, IsFlooding}
+use Rattle.cavity.specs.Flood.{HasFanFacet, IsPassed, IsFlooding}
 use Rattle.cavity.specs.Cavity.{IsCavity}
 use Rattle.cavity.proofs.Stores.{in_names, of_names, boxed, linked, cells, new_vertex}
 use Rattle.cavity.proofs.Growing.{contains_at, listed_at}
@@ -47,7 +47,7 @@ both v p t h k = absurd (omega (arith, ints, h, k))
 
 -- ---- edges
 
-pub fan_edges : (fan : List Facet) → edges.AreEdges (length fan) (fan_facet fan) → fans.AreEdges fan
+pub fan_edges : (fan : List Facet) → AreEdges (length fan) (fan_facet fan) → HasPairedEdges fan
 fan_edges fan h =
     record {
       turned = λ i e l m. let z = h.next i e l in
@@ -135,7 +135,7 @@ module _ (s : Store) (p from : ℕ) (found : List ℕ) (fan : List Facet) (store
       ⊎_elim (λ (z : (w : ℕ) × (next x k ≡ Some w) × Contains found w).
       let q : y ≡ z.0 = (let a : Some y ≡ Some z.0 = sym e ∙ z.1 in cc) in
       subst (λ (w : ℕ). Contains found w) (sym q) z.2)
-      (λ (z : IsInFan fan (facet_of (at x) k) (next x k)).
+      (λ (z : HasFanFacet fan (facet_of (at x) k) (next x k)).
       absurd (both (vertices_of s) p (at y) c ((f.rim z.facet z.facet_in).clear y (z.outer ∙ e)))) (passed x k h l)
 
   flooded : IsFlooded (vertices_of s) p (live_of s.slots) at next marked
@@ -157,22 +157,22 @@ module _ (s : Store) (p from : ℕ) (found : List ℕ) (fan : List Facet) (store
   -- ---- the fan
 
   law_rim : (x k : ℕ) (o : Option ℕ) → o ≡ next x k → ((y : ℕ) → o ≡ Some y → IsClearOf (vertices_of s) p (at y))
-      → IsRim (vertices_of s) p at next x k
+      → IsRimSide (vertices_of s) p at next x k
   law_rim x k None e h = inl (sym e)
   law_rim x k (Some y) e h = inr (y, sym e, h y refl)
 
-  fan_at : (i : ℕ) → i < length fan → IsFan (vertices_of s) p (fan_facet fan i).a (fan_facet fan i).b (fan_facet fan i).c
+  fan_at : (i : ℕ) → i < length fan → IsOnFan (vertices_of s) p (fan_facet fan i).a (fan_facet fan i).b (fan_facet fan i).c
   fan_at i l =
       let r = f.rim i l in
       let x = slice_index found r.cell in
       let h = contains_at found r.cell r.cell_in in
-      subst (λ (g : geo.DirectedFacet). IsFan (vertices_of s) p g.a g.b g.c) (sym r.facet)
+      subst (λ (g : geo.DirectedFacet). IsOnFan (vertices_of s) p g.a g.b g.c) (sym r.facet)
       (rims.fan x r.side (in_names s.slots x (f.live x h)) r.side_in (f.conflict x h)
       (law_rim x r.side (fan_outer fan i) r.outer r.clear))
 
   -- a facet of a found cell across which there is none or one that is clear of p
-  at_rim : (x k : ℕ) → Contains found x → k < 4 → IsRim (vertices_of s) p at next x k
-      → IsInFan fan (facet_of (at x) k) (next x k)
+  at_rim : (x k : ℕ) → Contains found x → k < 4 → IsRimSide (vertices_of s) p at next x k
+      → HasFanFacet fan (facet_of (at x) k) (next x k)
   at_rim x k h l r =
       ⊎_elim
       (λ (z : (y : ℕ) × (next x k ≡ Some y) × Contains found y).
@@ -183,9 +183,9 @@ module _ (s : Store) (p from : ℕ) (found : List ℕ) (fan : List Facet) (store
       let b : z.0 ≡ q.0 = cc in
       both (vertices_of s) p (at z.0) (f.conflict z.0 z.2) (subst (λ (w : ℕ). IsClearOf (vertices_of s) p (at w)) (sym b) q.2))
       r))
-      (λ (z : IsInFan fan (facet_of (at x) k) (next x k)). z) (passed x k h l)
+      (λ (z : HasFanFacet fan (facet_of (at x) k) (next x k)). z) (passed x k h l)
 
-  fan_all : (a b c : ℕ) → IsFan (vertices_of s) p a b c → (i : ℕ) × (i < length fan) × IsRotated (fan_facet fan i) (facet a b c)
+  fan_all : (a b c : ℕ) → IsOnFan (vertices_of s) p a b c → (i : ℕ) × (i < length fan) × IsRotated (fan_facet fan i) (facet a b c)
   fan_all a b c h =
       let r = rims.all a b c h in
       let z = at_rim r.at r.side (all r.at (of_names s.slots r.at r.listed) r.conflict) r.in_range r.rim in
@@ -197,7 +197,7 @@ module _ (s : Store) (p from : ℕ) (found : List ℕ) (fan : List Facet) (store
   outside None h = tt
   outside (Some y) h = λ l. both (vertices_of s) p (at y) (f.conflict y l) (h y refl)
 
-  store_rim : (i : ℕ) → i < length fan → fans.IsRim (links_of s.slots) found (fan_facet fan i) (fan_outer fan i)
+  store_rim : (i : ℕ) → i < length fan → IsRim (links_of s.slots) found (fan_facet fan i) (fan_outer fan i)
   store_rim i l =
       let r = f.rim i l in
       record {
@@ -218,7 +218,7 @@ module _ (s : Store) (p from : ℕ) (found : List ℕ) (fan : List Facet) (store
       → (i : ℕ) × (i < length fan) × IsRotated (facet_of (at id) k) (fan_facet fan i)
   store_all id k h l o =
       ⊎_elim (λ (z : (y : ℕ) × (next id k ≡ Some y) × Contains found y). absurd (inside z.0 (next id k) z.1 o z.2))
-      (λ (z : IsInFan fan (facet_of (at id) k) (next id k)). (z.facet, z.facet_in, inl z.is)) (passed id k h l)
+      (λ (z : HasFanFacet fan (facet_of (at id) k) (next id k)). (z.facet, z.facet_in, inl z.is)) (passed id k h l)
 
   some_facet : 0 < length fan
   some_facet =
@@ -233,11 +233,11 @@ module _ (s : Store) (p from : ℕ) (found : List ℕ) (fan : List Facet) (store
       linked_law (vertices_of s) (boxed s store_is) (live_of s.slots) at next (linked s store_is) (cells s delaunay) from
       (in_names s.slots from from_live)
 
-  held : (u : ℕ) → Has (vertices_of s) u → fans.IsInFan fan u ⊎ IsHeld (links_of s.slots) found u
+  held : (u : ℕ) → Has (vertices_of s) u → IsInFan fan u ⊎ IsHeld (links_of s.slots) found u
   held u h =
       let c = delaunay.cells from from_live in
       ⊎_elim
-      (λ (z : (i j k : ℕ) × IsFan (vertices_of s) p i j k × ((u ≡ i) ⊎ ((u ≡ j) ⊎ (u ≡ k)))).
+      (λ (z : (i j k : ℕ) × IsOnFan (vertices_of s) p i j k × ((u ≡ i) ⊎ ((u ≡ j) ⊎ (u ≡ k)))).
       let m = fan_all z.0 z.1 z.2 z.3 in
       let b = begins (fan_facet fan m.0) (facet z.0 z.1 z.2) u m.2 z.4 in
       inl (record { facet = m.0; opposite = b.0; facet_in = m.1; opposite_in = b.1; is = b.2 }))

@@ -21,7 +21,7 @@ use Rattle.tetra_store.specs.Stored.{live_of}
 use Rattle.tetra_store.proofs.Live.{has_live, listed_is_live}
 use Rattle.geo_sign.specs.Boxes.{IsBoxed, IsNew}
 use Rattle.cell_laws.specs.Lists.{IsIn, AreCells}
-use Rattle.cell_laws.specs.Links.{IsLinked}
+use Rattle.cell_laws.specs.Links.{AreLinked}
 use Rattle.cell_laws.proofs.RisingRows as rows
 
 -- ---- the list of live numbers
@@ -36,7 +36,7 @@ of_names slots id h = listed_is_live slots id (rows.listed (live_of slots) id h)
 pub boxed : (s : Store) → IsStore s → IsBoxed (vertices_of s)
 boxed s store = store.vertices.boxed
 
-pub linked : (s : Store) → IsStore s → IsLinked (vertices_of s) (live_of s.slots) (links_of s.slots).at (links_of s.slots).next
+pub linked : (s : Store) → IsStore s → AreLinked (vertices_of s) (live_of s.slots) (links_of s.slots).at (links_of s.slots).next
 linked s store =
     record {
       back = λ x k y h l e. let b = store.linked.back x k y (of_names s.slots x h) l e in

@@ -3,12 +3,12 @@
 --
 --   AreMarked stamps round cells             exactly the cells reached are marked
 --   facet_on f across                        a facet with the cell across it
---   IsReached, IsEntered, IsLeft             the three ways to cross a facet: the cell across was reached before; it is
+--   IsReached, IsNewlyReached, IsLeft        the three ways to cross a facet: the cell across was reached before; it is
 --                                            reached now; none in conflict is across, and the facet goes into the fan
 --   IsCrossed v links p f across c g c' g'   the facet f was crossed in one of the three ways, from cells c and fan g to
 --                                            c' and g'
 --   IsRimAt v links p cells fan n i          fan facet i is that of a side that was crossed
---   IsInFan fan f across                     the fan has the facet f, with this cell across
+--   HasFanFacet fan f across                 the fan has the facet f, with this cell across
 --   IsPassed cells fan f across              the cell across was reached, or the facet is in the fan
 --   IsFlooding v links p from cells fan n    the first n sides of the cells reached were crossed
 use Rattle.std.specs.Prelude.{ℕ, ◌≡◌, ◌<◌, ◌+◌, ◌*◌, ◌⊎◌, List, [], ◌∷◌, ◌++◌, Option, Some, length, slice_index, Contains}
@@ -40,7 +40,7 @@ pub record IsReached (across : Option ℕ) (cells : List ℕ) (fan : List Facet)
   pub fan_same : fan' ≡ fan
 
 -- the cell across is in conflict, and is reached now
-pub record IsEntered (v : Vertices) (links : Links) (p : ℕ) (across : Option ℕ) (cells : List ℕ) (fan : List Facet)
+pub record IsNewlyReached (v : Vertices) (links : Links) (p : ℕ) (across : Option ℕ) (cells : List ℕ) (fan : List Facet)
     (cells' : List ℕ) (fan' : List Facet) : Type 0 where
   pub cell : ℕ
   pub is : across ≡ Some cell
@@ -61,7 +61,7 @@ abbrev pub IsCrossed : (v : Vertices) (links : Links) (p : ℕ) (f : List ℕ) (
     (fan : List Facet) (cells' : List ℕ) (fan' : List Facet) → Type 0
 IsCrossed v links p f across cells fan cells' fan' =
     IsReached across cells fan cells' fan'
-    ⊎ (IsEntered v links p across cells fan cells' fan' ⊎ IsLeft v links p f across cells fan cells' fan')
+    ⊎ (IsNewlyReached v links p across cells fan cells' fan' ⊎ IsLeft v links p f across cells fan cells' fan')
 
 -- fan facet i is that of a side before side n, and across it is no cell in conflict
 pub record IsRimAt (v : Vertices) (links : Links) (p : ℕ) (cells : List ℕ) (fan : List Facet) (n i : ℕ) : Type 0 where
@@ -75,7 +75,7 @@ pub record IsRimAt (v : Vertices) (links : Links) (p : ℕ) (cells : List ℕ) (
   pub clear : (y : ℕ) → fan_outer fan i ≡ Some y → IsClearOf v p (links.at y)
 
 -- a fan facet is this one, with this cell across
-pub record IsInFan (fan : List Facet) (f : geo.DirectedFacet) (across : Option ℕ) : Type 0 where
+pub record HasFanFacet (fan : List Facet) (f : geo.DirectedFacet) (across : Option ℕ) : Type 0 where
   pub facet : ℕ
   pub facet_in : facet < length fan
   pub is : fan_facet fan facet ≡ f
@@ -83,7 +83,7 @@ pub record IsInFan (fan : List Facet) (f : geo.DirectedFacet) (across : Option �
 
 -- across a side is a cell that was reached, or its facet is in the fan
 abbrev pub IsPassed : (cells : List ℕ) (fan : List Facet) (f : geo.DirectedFacet) (across : Option ℕ) → Type 0
-IsPassed cells fan f across = ((y : ℕ) × (across ≡ Some y) × Contains cells y) ⊎ IsInFan fan f across
+IsPassed cells fan f across = ((y : ℕ) × (across ≡ Some y) × Contains cells y) ⊎ HasFanFacet fan f across
 
 -- The cells reached have the first one, are live, in conflict and distinct. Of the first n sides each has been dealt with, the
 -- fan has facets of such sides alone, and no facet twice.

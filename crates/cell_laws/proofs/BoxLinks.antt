@@ -15,7 +15,7 @@ use Rattle.geo_sign.specs.Vertices.{Vertices, Has, IsWall}
 use Rattle.geo_sign.specs.Boxes.{IsBoxed}
 use Rattle.cell_laws.specs.CellLaws.{CornerLaw, six}
 use Rattle.cell_laws.specs.LinkLaws.{BoxLaw, six_names, six_cell, six_next}
-use Rattle.cell_laws.specs.Links.{IsLinked, IsBackAt}
+use Rattle.cell_laws.specs.Links.{AreLinked, IsBackAt}
 use Rattle.cell_laws.specs.Lists.{IsIn, AreCells}
 use Rattle.geo_sign.specs.Writings.{IsRewritten}
 use Rattle.geo_sign.proofs.Rewritings.{carry_rewritten}
@@ -220,7 +220,7 @@ pub box_law : BoxLaw
 box_law v b f =
     let g = tied_generic v b in
     let c = cells v b f in
-    let l : IsLinked v six_names six_cell six_next =
+    let l : AreLinked v six_names six_cell six_next =
     record { back = λ x k y i h e. back x i k h y e; walls = λ x k i h e. walls v b x i k h e; apart = apart v b f } in
     record { boxed = b; linked = l; cells = c; listing = linked_listing v b g six_names six_cell six_next l c 0 (inl refl) }
 

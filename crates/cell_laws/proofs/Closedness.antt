@@ -13,7 +13,7 @@ use Rattle.geo_sign.specs.Vertices.{Vertices}
 use Rattle.geo_sign.specs.Boxes.{IsBoxed}
 use Rattle.cell_laws.specs.ClosedLaws.{edges_of, edge_count, facets_at, HasNoCorner, IsCutList, ClosedLaw}
 use Rattle.cell_laws.specs.LinkLaws.{IsNamedBack}
-use Rattle.cell_laws.specs.Links.{Side, IsLinked, IsBackAt}
+use Rattle.cell_laws.specs.Links.{Side, AreLinked, IsBackAt}
 use Rattle.cell_laws.specs.Lists.{IsIn, AreCells}
 use Rattle.geo_sign.proofs.Rotations.{turned_back, turned_turned}
 use Rattle.cell_laws.proofs.CutSides.{edges_turned, boundary, side_at, all_sides, side_listed, listed_side, sides_once}
@@ -25,7 +25,7 @@ use Rattle.cell_laws.proofs.Sums.{IsOnce, once_pairs, named_once, named_in, in_n
 use Rattle.cell_laws.proofs.Sums.{sum_plus, paired}
 
 module _ (v : Vertices) (b : IsBoxed v) (live : List ℕ) (cell : ℕ → Tetrahedron) (next : ℕ → ℕ → Option ℕ)
-    (l : IsLinked v live cell next) (cells : AreCells v live cell) (inside : ℕ → Bool)
+    (l : AreLinked v live cell next) (cells : AreCells v live cell) (inside : ℕ → Bool)
     (free : HasNoCorner live cell inside) where
   abbrev facet_at_side : Side → DirectedFacet
   facet_at_side s = facet_of (cell s.at) s.side

@@ -8,7 +8,7 @@ use Rattle.geo_sign.specs.Tetrahedron.{DirectedFacet, facet, facet_of, IsRotated
 use Rattle.geo_sign.specs.Vertices.{Vertices}
 use Rattle.geo_sign.specs.Edges.{edge_end, edge_start, over}
 use Rattle.cell_laws.specs.Edges.{AreEdges, HaveEdge, IsFanList}
-use Rattle.cell_laws.specs.Fans.{IsFan}
+use Rattle.cell_laws.specs.Fans.{IsOnFan}
 use Rattle.cell_laws.specs.InsertionLaws.{IsFanOf, SideLaw}
 use Rattle.geo_sign.specs.Writings.{IsRewritten, spin}
 use Rattle.geo_sign.proofs.Rotations.{rotated_after, rotated_back}
@@ -169,8 +169,8 @@ edge_turn q (suc zero) = inr (inr (refl, refl, refl))
 edge_turn q (suc (suc e)) = inl (refl, refl, refl)
 
 edge_fan :
-    (v : Vertices) (p : ℕ) → IsFanOf v p → (q : DirectedFacet) → IsFan v p q.a q.b q.c → (e : ℕ) →
-    IsFan v p (edge_start q e) (edge_end q e) (opposite q e)
+    (v : Vertices) (p : ℕ) → IsFanOf v p → (q : DirectedFacet) → IsOnFan v p q.a q.b q.c → (e : ℕ) →
+    IsOnFan v p (edge_start q e) (edge_end q e) (opposite q e)
 edge_fan v p l q h zero = l.turned q.a q.b q.c h
 edge_fan v p l q h (suc zero) = l.turned q.b q.c q.a (l.turned q.a q.b q.c h)
 edge_fan v p l q h (suc (suc e)) = h
@@ -194,9 +194,9 @@ fan_edges v p l n f h = record { next = next; apart = apart }
     apart i e j e' k m a b =
         let x = edge_fan v p l (f i) (h.fan i k) e in
         let y = edge_fan v p l (f j) (h.fan j m) e' in
-        let y' : IsFan v p (edge_start (f i) e) (edge_end (f i) e) (opposite (f j) e') =
-        subst (λ t. IsFan v p t (edge_end (f i) e) (opposite (f j) e')) (sym a)
-        (subst (λ t. IsFan v p (edge_start (f j) e') t (opposite (f j) e')) (sym b) y) in
+        let y' : IsOnFan v p (edge_start (f i) e) (edge_end (f i) e) (opposite (f j) e') =
+        subst (λ t. IsOnFan v p t (edge_end (f i) e) (opposite (f j) e')) (sym a)
+        (subst (λ t. IsOnFan v p (edge_start (f j) e') t (opposite (f j) e')) (sym b) y) in
         let c : opposite (f i) e ≡ opposite (f j) e' =
         l.once (edge_start (f i) e) (edge_end (f i) e) (opposite (f i) e) (opposite (f j) e') x y' in
         let t = edge_turn (f j) e' in

@@ -13,7 +13,7 @@ use Rattle.cell_laws.specs.ExampleLaws.{ExampleLaw, InsertedLaw}
 use Rattle.geo_sign.specs.Boxes.{with_vertex}
 use Rattle.geo_sign.proofs.SignTests.{below_true}
 use Rattle.cell_laws.specs.LinkLaws.{AreConflicts, six_names, six_cell, six_next}
-use Rattle.cell_laws.specs.Links.{IsLinked}
+use Rattle.cell_laws.specs.Links.{AreLinked}
 use Rattle.cell_laws.specs.Lists.{AreCells, IsIn}
 use Rattle.cell_laws.specs.Replacements.{IsAtRim, IsRimList, IsRenewed, IsRelinked}
 use Rattle.cell_laws.proofs.BoxLinks.{box_law, at_name, at_side}
@@ -173,7 +173,7 @@ cells = (box_law example example_boxed example_corners).cells
 apart : (i j : ℕ) → i < 12 → j < 12 → IsRotated (twelve_facet i) (twelve_facet j) → i ≡ j
 unfolding twelve_facet
 apart i j h k q =
-    let l : IsLinked example six_names six_cell six_next = (box_law example example_boxed example_corners).linked in
+    let l : AreLinked example six_names six_cell six_next = (box_law example example_boxed example_corners).linked in
     let e : at i ≡ at j = l.apart (at i) (at j) (side i) (side j) (listed i h) (listed j k) (in_range i h) (in_range j k) q in
     let q' : IsRotated (facet_of (six_cell (at j)) (side i)) (facet_of (six_cell (at j)) (side j)) =
     subst (λ x. IsRotated (facet_of (six_cell x) (side i)) (facet_of (six_cell (at j)) (side j))) e q in

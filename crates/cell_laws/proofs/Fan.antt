@@ -12,7 +12,7 @@ use Rattle.geo_sign.specs.Cells.{IsCell}
 use Rattle.geo_sign.specs.Tetrahedron.{tetrahedron}
 use Rattle.geo_sign.specs.Vertices.{Has, orientation_of, power_of, Vertices}
 use Rattle.geo_sign.specs.Boxes.{with_vertex}
-use Rattle.cell_laws.specs.Fans.{IsFan}
+use Rattle.cell_laws.specs.Fans.{IsOnFan}
 use Rattle.geo_sign.proofs.Exchanges.{exchanged_power, flat_b, flat_c, turned_orientation, turned_power}
 use Rattle.geo_sign.proofs.Rewritings.{spin_cell, swap_cell}
 use Rattle.cell_laws.proofs.Conflicts.{fan_faces, new_clear_before, new_clear_behind}
@@ -60,7 +60,7 @@ across_above v g a b c d e k l =
 
 -- p is before a fan facet
 pub fan_before :
-    (v : Vertices) (p : ℕ) → IsGeneric v → IsInner v p → (a b c : ℕ) → IsFan v p a b c → pos 0 <ℤ orientation_of v a b c p
+    (v : Vertices) (p : ℕ) → IsGeneric v → IsInner v p → (a b c : ℕ) → IsOnFan v p a b c → pos 0 <ℤ orientation_of v a b c p
 fan_before v p g i a b c f =
     ⊎_elim (λ (o : IsOuter v a b c). i.strict a b c f.apex f.cell.has_d f.cell.positive o)
     (λ (z : (e : ℕ) × IsCell v a c b e).
@@ -72,7 +72,7 @@ fan_before v p g i a b c f =
 
 -- the new cell over a fan facet
 pub fan_cell :
-    (v : Vertices) (p : ℕ) → IsGeneric v → IsInner v p → p < v.count → (a b c : ℕ) → IsFan v p a b c →
+    (v : Vertices) (p : ℕ) → IsGeneric v → IsInner v p → p < v.count → (a b c : ℕ) → IsOnFan v p a b c →
     IsCell (with_vertex v p) a b c p
 fan_cell v p g i h a b c f =
     record {
@@ -104,7 +104,7 @@ fan_cell v p g i h a b c f =
 -- and no other cell has the new vertex
 pub cell_fan :
     (v : Vertices) (p : ℕ) → IsGeneric v → IsInner v p → v.is_in p ≡ false → p < v.count → (a b c : ℕ) →
-    IsCell (with_vertex v p) a b c p → IsFan v p a b c
+    IsCell (with_vertex v p) a b c p → IsOnFan v p a b c
 cell_fan v p g i f h a b c t =
     let q = before_not v a b c p (above_not_zero (orientation_of v a b c p) t.positive) in
     let ha : Has v a = before v p a t.has_a (λ e. q.0 (sym e)) in
@@ -120,7 +120,7 @@ cell_fan v p g i f h a b c t =
           (v.high p) (v.high u);
     }))
   where
-    pick : ((u : ℕ) → Has v u → orientation_of v a b c u ≤ℤ pos 0) ⊎ ((d : ℕ) × IsCell v a b c d) → IsFan v p a b c
+    pick : ((u : ℕ) → Has v u → orientation_of v a b c u ≤ℤ pos 0) ⊎ ((d : ℕ) × IsCell v a b c d) → IsOnFan v p a b c
     pick (inl n) =
         let o : IsOuter v a c b =
         λ u k. (let e = turned_orientation (v.at a) (v.at b) (v.at c) (v.at u) in let m = n u k in omega (arith, ints, e, m)) in
@@ -154,8 +154,8 @@ cell_fan v p g i f h a b c t =
 -- ---- edges
 -- each directed edge's reverse is in the fan too
 pub fan_next :
-    (v : Vertices) (p : ℕ) → IsGeneric v → IsInner v p → v.is_in p ≡ false → p < v.count → (a b c : ℕ) → IsFan v p a b c →
-    (x : ℕ) × IsFan v p b a x
+    (v : Vertices) (p : ℕ) → IsGeneric v → IsInner v p → v.is_in p ≡ false → p < v.count → (a b c : ℕ) → IsOnFan v p a b c →
+    (x : ℕ) × IsOnFan v p b a x
 fan_next v p g i f h a b c k =
     let t : IsCell (with_vertex v p) a b c p = fan_cell v p g i h a b c k in
     let t' : IsCell (with_vertex v p) a p b c = turn_cell (with_vertex v p) a b c p t in
@@ -179,7 +179,7 @@ fan_next v p g i f h a b c k =
 
 -- and each directed edge is in one fan facet
 pub fan_once :
-    (v : Vertices) (p : ℕ) → IsGeneric v → IsInner v p → p < v.count → (a b c d : ℕ) → IsFan v p a b c → IsFan v p a b d → c ≡ d
+    (v : Vertices) (p : ℕ) → IsGeneric v → IsInner v p → p < v.count → (a b c d : ℕ) → IsOnFan v p a b c → IsOnFan v p a b d → c ≡ d
 fan_once v p g i h a b c d k l =
     one_over (with_vertex v p) g b a p c d (swap_cell (with_vertex v p) (tetrahedron a b c p) (fan_cell v p g i h a b c k))
     (swap_cell (with_vertex v p) (tetrahedron a b d p) (fan_cell v p g i h a b d l))

@@ -19,7 +19,7 @@ use Rattle.geo_sign.specs.Vertices.{Has, orientation_of, power_of, Vertices}
 use Rattle.geo_sign.specs.Places.{IsLyingIn, IsStrictlyIn}
 use Rattle.geo_sign.specs.Boxes.{IsInConflict}
 use Rattle.cell_laws.specs.Lifts.{lift_of}
-use Rattle.cell_laws.specs.Lists.{IsClosed, IsIn, IsListing}
+use Rattle.cell_laws.specs.Lists.{IsClosedInConflict, IsIn, IsListing}
 use Rattle.geo_sign.specs.Writings.{IsVertexOf, IsRewritten}
 use Rattle.geo_sign.proofs.Rewritings.{IsCellOf, orientation_at, power_at, same_cell, same_orientation, same_power}
 use Rattle.geo_sign.proofs.SignTests.{below_true, below_is}
@@ -110,7 +110,7 @@ move o e o' e' O E O' E' p q p' q' h =
 
 top :
     {X : Type 0} (v : Vertices) → IsGeneric v → (p : ℕ) (q : RationalPoint) → IsGoal v p q
-    → (live : List X) (cell : X → Tetrahedron) → IsListing v live cell → (marked : X → Bool) → IsClosed v p live cell marked
+    → (live : List X) (cell : X → Tetrahedron) → IsListing v live cell → (marked : X → Bool) → IsClosedInConflict v p live cell marked
     → (x : X) → IsBest (test v p cell marked) (λ y. neg_ℤ (lift_of v (cell y) q)) (λ y. orientation_at v (cell y)) live x
     → IsTop v p q live cell marked x
 top {X} v g p q goal live cell list marked closed x k =
@@ -176,7 +176,7 @@ top {X} v g p q goal live cell list marked closed x k =
 
 pub found_top :
     {X : Type 0} (v : Vertices) → IsGeneric v → (p : ℕ) (q : RationalPoint) → IsGoal v p q →
-    (live : List X) (cell : X → Tetrahedron) → IsListing v live cell → (marked : X → Bool) → IsClosed v p live cell marked →
+    (live : List X) (cell : X → Tetrahedron) → IsListing v live cell → (marked : X → Bool) → IsClosedInConflict v p live cell marked →
     (x : X) → IsIn live x → marked x ≡ true → IsInConflict v p (cell x) → (y : X) × IsTop v p q live cell marked y
 found_top {X} v g p q goal live cell list marked closed x i m c =
     ⊎_elim (λ n. absurd (true≢false (sym (ap₂ (λ i j. i && j) m (below_is (power_at v (cell x) p) c)) ∙ n x i)))
@@ -188,7 +188,7 @@ found_top {X} v g p q goal live cell list marked closed x i m c =
 -- what is not marked is closed too
 others_closed :
     {X : Type 0} (v : Vertices) (p : ℕ) (live : List X) (cell : X → Tetrahedron) (marked : X → Bool) →
-    IsClosed v p live cell marked → IsClosed v p live cell (λ t. not (marked t))
+    IsClosedInConflict v p live cell marked → IsClosedInConflict v p live cell (λ t. not (marked t))
 others_closed {X} v p live cell marked closed x y a b c d e i j m cx cy w w' = pick (marked y) refl
   where
     pick : (b : Bool) → marked y ≡ b → not (marked y) ≡ true
@@ -198,7 +198,7 @@ others_closed {X} v p live cell marked closed x y a b c d e i j m cx cy w w' = p
 -- marked cells in conflict that no step leaves are all cells in conflict
 pub flood :
     {X : Type 0} (v : Vertices) → IsGeneric v → (p : ℕ) (q : RationalPoint) → IsGoal v p q
-    → (live : List X) (cell : X → Tetrahedron) → IsListing v live cell → (marked : X → Bool) → IsClosed v p live cell marked
+    → (live : List X) (cell : X → Tetrahedron) → IsListing v live cell → (marked : X → Bool) → IsClosedInConflict v p live cell marked
     → (x : X) → IsIn live x → marked x ≡ true → IsInConflict v p (cell x) → (y : X) → IsIn live y → IsInConflict v p (cell y)
     → marked y ≡ true
 flood {X} v g p q goal live cell list marked closed x i m c y j d = pick (marked y) refl

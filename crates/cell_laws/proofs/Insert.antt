@@ -6,8 +6,8 @@ use Rattle.std.proofs.lemmas.Bool.{eqb-true, eqb-false}
 use Rattle.geo_sign.specs.Tetrahedron.{Tetrahedron, tetrahedron}
 use Rattle.geo_sign.specs.Vertices.{Vertices}
 use Rattle.geo_sign.specs.Boxes.{IsClearOf, with_vertex}
-use Rattle.cell_laws.specs.Fans.{IsFan}
-use Rattle.cell_laws.specs.Lists.{AreCells, IsFull, IsIn, IsMade, IsReplaced}
+use Rattle.cell_laws.specs.Fans.{IsOnFan}
+use Rattle.cell_laws.specs.Lists.{AreCells, IsFull, IsIn, IsMade, AreReplaced}
 use Rattle.geo_sign.specs.Writings.{IsVertexOf, IsRewritten, spin, swap}
 use Rattle.geo_sign.proofs.CellRows.{Led, first}
 use Rattle.geo_sign.proofs.Rewritings.{IsCellOf, rewritten_after, rewritten_back, same_cell, same_power}
@@ -54,13 +54,13 @@ made_cells {X} v p g i h live cell cells live' cell' made y j =
     (λ (z : (x : X) × IsIn live x × IsRewritten (cell x) (cell' y) × IsClearOf v p (cell x)).
     same_cell (with_vertex v p) (cell z.0) (cell' y) z.2
     (stays_cell v p (cell z.0).a (cell z.0).b (cell z.0).c (cell z.0).d (cells z.0 z.1) z.3))
-    (λ (z : (a b c : ℕ) × IsFan v p a b c × IsRewritten (tetrahedron a b c p) (cell' y)).
+    (λ (z : (a b c : ℕ) × IsOnFan v p a b c × IsRewritten (tetrahedron a b c p) (cell' y)).
     same_cell (with_vertex v p) (tetrahedron z.0 z.1 z.2 p) (cell' y) z.4 (fan_cell v p g i h z.0 z.1 z.2 z.3))
     (made y j)
 
 pub inserted : {X : Type 0} (v : Vertices) (p : ℕ) → IsGeneric v → IsInner v p → v.is_in p ≡ false → p < v.count
     → (live : List X) (cell : X → Tetrahedron) (live' : List X) (cell' : X → Tetrahedron) → IsFull v live cell
-    → IsReplaced v p live cell live' cell' → IsFull (with_vertex v p) live' cell'
+    → AreReplaced v p live cell live' cell' → IsFull (with_vertex v p) live' cell'
 inserted {X} v p g i f h live cell live' cell' full re =
     record {
       cells = made_cells v p g i h live cell full.cells live' cell' re.only;

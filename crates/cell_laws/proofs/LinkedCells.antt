@@ -10,9 +10,9 @@ use Rattle.geo_sign.specs.Cells.{IsCell}
 use Rattle.geo_sign.specs.Tetrahedron.{DirectedFacet, facet, facet_of, IsRotated, IsTurned, Tetrahedron, tetrahedron, vertex_of}
 use Rattle.geo_sign.specs.Vertices.{power_of, Vertices}
 use Rattle.geo_sign.specs.Boxes.{IsBoxed, IsInConflict}
-use Rattle.cell_laws.specs.Fans.{IsFan}
-use Rattle.cell_laws.specs.Links.{IsBackAt, IsFanAt, IsFlooded, IsLinked, IsRim}
-use Rattle.cell_laws.specs.Lists.{IsClosed, IsFull, IsIn, IsListing}
+use Rattle.cell_laws.specs.Fans.{IsOnFan}
+use Rattle.cell_laws.specs.Links.{IsBackAt, IsFanAt, IsFlooded, AreLinked, IsRimSide}
+use Rattle.cell_laws.specs.Lists.{IsClosedInConflict, IsFull, IsIn, IsListing}
 use Rattle.geo_sign.specs.Writings.{IsRewritten, spin}
 use Rattle.geo_sign.proofs.Exchanges.{spin_orientation}
 use Rattle.geo_sign.proofs.Rewritings.{IsCellOf, rewritten_after, rewritten_back, same_cell, same_power}
@@ -93,7 +93,7 @@ facet_of_same q r h =
 
 -- cells that are written with one facet first are one
 pub apart_same :
-    {X : Type 0} (v : Vertices) (live : List X) (cell : X → Tetrahedron) (next : X → ℕ → Option X) → IsLinked v live cell next
+    {X : Type 0} (v : Vertices) (live : List X) (cell : X → Tetrahedron) (next : X → ℕ → Option X) → AreLinked v live cell next
     → (x y : X) (a b c d e : ℕ) → IsIn live x → IsIn live y → IsRewritten (cell x) (tetrahedron a b c d)
     → IsRewritten (cell y) (tetrahedron a b c e) → x ≡ y
 apart_same v live cell next l x y a b c d e i j w w' =
@@ -122,7 +122,7 @@ ahead_spin v live cell t (inr z) = inr (z.0, z.1, z.2, two_spins (cell z.0) t.a 
 -- linked cells that are cells are all cells
 pub linked_listing :
     {X : Type 0} (v : Vertices) → IsBoxed v → IsGeneric v → (live : List X) (cell : X → Tetrahedron) (next : X → ℕ → Option X) →
-    IsLinked v live cell next → ((x : X) → IsIn live x → IsCellOf v (cell x)) → (x : X) → IsIn live x → IsListing v live cell
+    AreLinked v live cell next → ((x : X) → IsIn live x → IsCellOf v (cell x)) → (x : X) → IsIn live x → IsListing v live cell
 linked_listing {X} v box g live cell next l cells x i =
     record {
       full =
@@ -147,8 +147,8 @@ linked_listing {X} v box g live cell next l cells x i =
 -- a flood over the links is closed
 pub flooded_closed :
     {X : Type 0} (v : Vertices) → IsBoxed v → (p : ℕ) (live : List X) (cell : X → Tetrahedron) (next : X → ℕ → Option X) →
-    IsLinked v live cell next → ((x : X) → IsIn live x → IsCellOf v (cell x)) → (marked : X → Bool) →
-    IsFlooded v p live cell next marked → IsClosed v p live cell marked
+    AreLinked v live cell next → ((x : X) → IsIn live x → IsCellOf v (cell x)) → (marked : X → Bool) →
+    IsFlooded v p live cell next marked → IsClosedInConflict v p live cell marked
 flooded_closed {X} v box p live cell next l cells marked flooded x y a b c d e i j m cx cy w w' =
     by_sides Reached spun (cell x) (tetrahedron a b c d) w (λ k h. side k h (next x k) refl) e w'
   where
@@ -175,10 +175,10 @@ flooded_closed {X} v box p live cell next l cells marked flooded x y a b c d e i
 -- a facet of a cell in conflict with no neighbor in conflict is a fan facet
 pub link_fan :
     {X : Type 0} (v : Vertices) → IsBoxed v → IsGeneric v
-    → (p : ℕ) (live : List X) (cell : X → Tetrahedron) (next : X → ℕ → Option X) → IsLinked v live cell next
+    → (p : ℕ) (live : List X) (cell : X → Tetrahedron) (next : X → ℕ → Option X) → AreLinked v live cell next
     → ((x : X) → IsIn live x → IsCellOf v (cell x))
-    → (x : X) (k : ℕ) → IsIn live x → k < 4 → IsInConflict v p (cell x) → IsRim v p cell next x k
-    → IsFan v p (from_facet (cell x) k).a (from_facet (cell x) k).b (from_facet (cell x) k).c
+    → (x : X) (k : ℕ) → IsIn live x → k < 4 → IsInConflict v p (cell x) → IsRimSide v p cell next x k
+    → IsOnFan v p (from_facet (cell x) k).a (from_facet (cell x) k).b (from_facet (cell x) k).c
 link_fan {X} v box g p live cell next l cells x k i h cx rim =
     record {
       apex = f.d;
@@ -193,7 +193,7 @@ link_fan {X} v box g p live cell next l cells x k i h cx rim =
     fc : IsCellOf v f
     fc = same_cell v (cell x) f (facet_same (cell x) k) (cells x i)
 
-    outside : (e : ℕ) → IsCell v f.a f.c f.b e → IsRim v p cell next x k → pos 0 ≤ℤ power_of v f.a f.c f.b e p
+    outside : (e : ℕ) → IsCell v f.a f.c f.b e → IsRimSide v p cell next x k → pos 0 ≤ℤ power_of v f.a f.c f.b e p
     outside e z (inl n) = absurd (outer_none v f.a f.b f.c e (wall_outer v box f.a f.b f.c f.d fc (l.walls x k i h n)) z)
     outside e z (inr y) =
         let b : IsBackAt live cell (facet_of (cell x) k) y.0 = l.back x k y.0 i h y.1 in
@@ -204,7 +204,7 @@ link_fan {X} v box g p live cell next l cells x k i h cx rim =
         (subst (λ t. pos 0 ≤ℤ t) (sym (same_power v p (cell y.0) (tetrahedron f.a f.c f.b w.0) w.1)) y.2)
 
 abbrev pub IsFanFacet : Vertices → ℕ → DirectedFacet → Type 0
-IsFanFacet v p f = IsFan v p f.a f.b f.c
+IsFanFacet v p f = IsOnFan v p f.a f.b f.c
 
 pub fan_rotated : (v : Vertices) (p : ℕ) (f g : DirectedFacet) → IsRotated f g → IsFanFacet v p g → IsFanFacet v p f
 fan_rotated v p f g (inl e) h = subst (IsFanFacet v p) e h
@@ -214,7 +214,7 @@ fan_rotated v p f g (inr (inr e)) h = fan_spin v p f.c f.a f.b (subst (IsFanFace
 -- each fan facet is one of those
 pub fan_link :
     {X : Type 0} (v : Vertices) (p : ℕ) (live : List X) (cell : X → Tetrahedron) (next : X → ℕ → Option X) →
-    IsLinked v live cell next → IsFull v live cell → (a b c : ℕ) → IsFan v p a b c → IsFanAt v p live cell next a b c
+    AreLinked v live cell next → IsFull v live cell → (a b c : ℕ) → IsOnFan v p a b c → IsFanAt v p live cell next a b c
 fan_link {X} v p live cell next l full a b c h =
     let x = full.all a b c h.apex h.cell in
     let k = same_facet (cell x.0) (tetrahedron a b c h.apex) x.2 in
@@ -230,7 +230,7 @@ fan_link {X} v p live cell next l full a b c h =
   where
     rim :
         (x : X) (k : ℕ) → IsIn live x → k < 4 → (o : Option X) → next x k ≡ o →
-        IsFan v p (from_facet (cell x) k).a (from_facet (cell x) k).b (from_facet (cell x) k).c → IsRim v p cell next x k
+        IsOnFan v p (from_facet (cell x) k).a (from_facet (cell x) k).b (from_facet (cell x) k).c → IsRimSide v p cell next x k
     rim x k i m None e f = inl e
     rim x k i m (Some y) e f =
         let q = from_facet (cell x) k in

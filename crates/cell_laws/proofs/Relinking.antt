@@ -14,7 +14,7 @@ use Rattle.geo_sign.specs.Edges.{over, HasVertex}
 use Rattle.cell_laws.specs.Edges.{AreEdges, HaveEdge}
 use Rattle.geo_sign.specs.Boxes.{with_vertex}
 use Rattle.cell_laws.specs.LinkLaws.{RelinkLaw}
-use Rattle.cell_laws.specs.Links.{IsLinked, IsBackAt}
+use Rattle.cell_laws.specs.Links.{AreLinked, IsBackAt}
 use Rattle.cell_laws.specs.Lists.{IsIn}
 use Rattle.cell_laws.specs.Replacements.{IsRimFacet, IsRimList, IsRenewed, IsRelinked}
 use Rattle.geo_sign.specs.Writings.{IsVertexOf}
@@ -58,7 +58,7 @@ wall_rotated v f g (inr (inr e)) w = subst (IsWall v) (sym e) (wall_round v (fac
 record IsRenewal (v : Vertices) (p : ℕ) (live : List ℕ) (cell : ℕ → Tetrahedron) (next : ℕ → ℕ → Option ℕ) (removed : ℕ → Bool)
     (n : ℕ) (fan : ℕ → DirectedFacet) (outer : ℕ → Option ℕ) (fresh : ℕ → ℕ) (live' : List ℕ) (cell' : ℕ → Tetrahedron)
     (next' : ℕ → ℕ → Option ℕ) : Type 0 where
-  linked : IsLinked v live cell next
+  linked : AreLinked v live cell next
   absent : (x : ℕ) → IsIn live x → ¬ IsVertexOf (cell x) p
   rims : IsRimList live cell next removed n fan outer
   edges : AreEdges n fan
@@ -244,13 +244,13 @@ module _ (v : Vertices) (p : ℕ) (live : List ℕ) (cell : ℕ → Tetrahedron)
           sym g.2 ∙ news g.0 h.0 j k g.1 h.1 hj hk
           (said (over (fan g.0) p) (over (fan h.0) p) (cell_of x g.0 g.1 g.2) (cell_of y h.0 h.1 h.2)) ∙ h.2
 
-  relinked : IsLinked v live' cell' next'
+  relinked : AreLinked v live' cell' next'
   relinked = record { back = every_back; walls = every_wall; apart = every_apart }
 
 -- the walls are where they were
 linked_with :
-    (v : Vertices) (p : ℕ) (live : List ℕ) (cell : ℕ → Tetrahedron) (next : ℕ → ℕ → Option ℕ) → IsLinked v live cell next →
-    IsLinked (with_vertex v p) live cell next
+    (v : Vertices) (p : ℕ) (live : List ℕ) (cell : ℕ → Tetrahedron) (next : ℕ → ℕ → Option ℕ) → AreLinked v live cell next →
+    AreLinked (with_vertex v p) live cell next
 linked_with v p live cell next l =
     record {
       back = l.back;

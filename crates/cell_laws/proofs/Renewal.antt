@@ -5,7 +5,7 @@ use Rattle.geo_sign.specs.Tetrahedron.{Tetrahedron}
 use Rattle.geo_sign.specs.Vertices.{Vertices}
 use Rattle.geo_sign.specs.Boxes.{IsBoxed, with_vertex, IsNew}
 use Rattle.cell_laws.specs.LinkLaws.{RenewLaw, AreRims}
-use Rattle.cell_laws.specs.Links.{IsLinked}
+use Rattle.cell_laws.specs.Links.{AreLinked}
 use Rattle.cell_laws.specs.Lists.{IsIn, AreCells, IsMade}
 use Rattle.geo_sign.specs.Writings.{IsVertexOf}
 use Rattle.geo_sign.proofs.Rewritings.{IsCellOf}
@@ -44,7 +44,7 @@ renew_law v live cell next a p n removed c m fan outer rims x i t fresh live' ce
     given : AreRims v p live cell removed m fan
     given = rim_list_law v a.boxed p n live cell next a.linked a.cells removed c m fan outer rims x i t
 
-    linked : IsLinked (with_vertex v p) live' cell' next'
+    linked : AreLinked (with_vertex v p) live' cell' next'
     linked =
         (relink_law v p live cell next a.linked (λ w h. absent v p n (cell w) (a.cells w h)) removed m fan outer rims
         given.edges fresh live' cell' next' z).1

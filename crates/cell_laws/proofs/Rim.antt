@@ -18,7 +18,7 @@ use Rattle.geo_sign.specs.Cells.{IsCell}
 use Rattle.geo_sign.specs.Tetrahedron.{Tetrahedron, tetrahedron}
 use Rattle.geo_sign.specs.Vertices.{Has, orientation_of, power_of, Vertices}
 use Rattle.geo_sign.specs.Boxes.{with_vertex}
-use Rattle.cell_laws.specs.Fans.{IsFan}
+use Rattle.cell_laws.specs.Fans.{IsOnFan}
 use Rattle.cell_laws.specs.Lifts.{lift_of}
 use Rattle.geo_sign.specs.Writings.{IsVertexOf, IsRewritten}
 use Rattle.geo_sign.proofs.Rewritings.{IsCellOf, orientation_at, power_at, same_cell, same_orientation, same_power, same_vertex}
@@ -34,7 +34,7 @@ use Rattle.cell_laws.proofs.Order.{mul_positive}
 use Rattle.cell_laws.proofs.Regions.{IsConvex, IsGeneric, IsInner}
 use Rattle.cell_laws.proofs.Ways.{beside, same_lift}
 
-pub fan_spin : (v : Vertices) (p a b c : ℕ) → IsFan v p a b c → IsFan v p b c a
+pub fan_spin : (v : Vertices) (p a b c : ℕ) → IsOnFan v p a b c → IsOnFan v p b c a
 fan_spin v p a b c f =
     record {
       apex = f.apex;
@@ -77,7 +77,7 @@ step_away v g a b c d e q k z h =
     omega (arith, ints, t, m)
 
 abbrev Somewhere : Vertices → ℕ → Type 0
-Somewhere v p = (a b c : ℕ) × IsFan v p a b c
+Somewhere v p = (a b c : ℕ) × IsOnFan v p a b c
 
 lowest :
     (v : Vertices) → IsGeneric v → (p : ℕ) (q : RationalPoint) → pos 0 <ℤ q.over → (x : Certified v) →
@@ -95,7 +95,7 @@ lowest v g p q o x k =
     by_lt_z (pos 0) (beside v r.a r.b r.c q) (λ l. (r.a, r.b, r.c, fan r.a r.b r.c r.d ([], refl) l)) (λ t.
     absurd (omega (arith, ints, e, m, i, j, n, t))))))
   where
-    fan : (a b c d : ℕ) → IsRewritten x.0 (tetrahedron a b c d) → pos 0 <ℤ beside v a b c q → IsFan v p a b c
+    fan : (a b c d : ℕ) → IsRewritten x.0 (tetrahedron a b c d) → pos 0 <ℤ beside v a b c q → IsOnFan v p a b c
     fan a b c d w l =
         let f : IsCell v a b c d = same_cell v x.0 (tetrahedron a b c d) w x.1 in
         record {
@@ -143,7 +143,7 @@ fan_some v g p a b c d k h =
 -- a vertex is in a fan facet, or in a cell with which p is not in conflict
 abbrev pub IsKept : Vertices → (p u : ℕ) → Type 0
 IsKept v p u =
-    ((a b c : ℕ) × IsFan v p a b c × ((u ≡ a) ⊎ ((u ≡ b) ⊎ (u ≡ c))))
+    ((a b c : ℕ) × IsOnFan v p a b c × ((u ≡ a) ⊎ ((u ≡ b) ⊎ (u ≡ c))))
     ⊎ ((r : Tetrahedron) × IsCellOf v r × IsVertexOf r u × (pos 0 ≤ℤ power_at v r p))
 
 convex_with : (v : Vertices) (p : ℕ) → IsConvex v → IsConvex (with_vertex v p)

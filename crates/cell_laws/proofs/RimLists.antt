@@ -9,11 +9,11 @@ use Rattle.geo_sign.specs.Vertices.{Vertices, Has}
 use Rattle.geo_sign.specs.Boxes.{IsBoxed, IsNew, IsInConflict, IsClearOf}
 use Rattle.cell_laws.specs.CellLaws.{FacetLaw}
 use Rattle.cell_laws.specs.Edges.{IsFanList}
-use Rattle.cell_laws.specs.Fans.{IsFan}
+use Rattle.cell_laws.specs.Fans.{IsOnFan}
 use Rattle.cell_laws.specs.LinkLaws.{RimListLaw, IsRimLaw, AreConflicts, AreRims}
-use Rattle.cell_laws.specs.Links.{IsLinked, IsRim, IsFanAt}
+use Rattle.cell_laws.specs.Links.{AreLinked, IsRimSide, IsFanAt}
 use Rattle.cell_laws.specs.Lists.{IsIn, AreCells, IsFull}
-use Rattle.cell_laws.specs.Replacements.{IsOutside, IsAtRim, IsRimFacet, IsRimList}
+use Rattle.cell_laws.specs.Replacements.{IsNotRemoved, IsAtRim, IsRimFacet, IsRimList}
 use Rattle.geo_sign.specs.Writings.{IsVertexOf, IsRewritten}
 use Rattle.geo_sign.proofs.CellRows.{distinct}
 use Rattle.geo_sign.proofs.Rewritings.{IsCellOf, orientation_at, rewritten_after, rewritten_back, same_cell, same_power}
@@ -90,18 +90,18 @@ facet_law v b t r ht hr = record { cell = one_facet v b t r ht hr; side = λ j k
 
 -- ---- the facets at the rim are the fan's
 module _ (v : Vertices) (b : IsBoxed v) (p : ℕ) (new : IsNew v p) (live : List ℕ) (cell : ℕ → Tetrahedron)
-    (next : ℕ → ℕ → Option ℕ) (l : IsLinked v live cell next) (cells : AreCells v live cell) (removed : ℕ → Bool)
+    (next : ℕ → ℕ → Option ℕ) (l : AreLinked v live cell next) (cells : AreCells v live cell) (removed : ℕ → Bool)
     (c : AreConflicts v p live cell removed)
     (n : ℕ) (fan : ℕ → DirectedFacet) (outer : ℕ → Option ℕ) (r : IsRimList live cell next removed n fan outer) (x : ℕ)
     (i : IsIn live x) (m : removed x ≡ true) where
   rims : IsRimLaw v p live cell next
   rims = rim_law v b p live cell next l cells x i
 
-  rim_of : (x k : ℕ) → IsIn live x → k < 4 → IsAtRim next removed x k → IsRim v p cell next x k
+  rim_of : (x k : ℕ) → IsIn live x → k < 4 → IsAtRim next removed x k → IsRimSide v p cell next x k
   rim_of x k i m (inl e) = inl e
   rim_of x k i m (inr y) = inr (y.0, y.1, c.kept y.0 (l.back x k y.0 i m y.1).listed y.2)
 
-  at_rim : (x k : ℕ) → IsIn live x → k < 4 → IsRim v p cell next x k → IsAtRim next removed x k
+  at_rim : (x k : ℕ) → IsIn live x → k < 4 → IsRimSide v p cell next x k → IsAtRim next removed x k
   at_rim x k i m (inl e) = inl e
   at_rim x k i m (inr y) = inr (y.0, y.1, free (removed y.0) refl)
     where
@@ -114,14 +114,14 @@ module _ (v : Vertices) (b : IsBoxed v) (p : ℕ) (new : IsNew v p) (live : List
   taken x i h false e = absurd (let s = c.kept x i e in omega (arith, ints, s, h))
 
   -- a facet at the rim, as the cell has it, is the fan's, and so is each writing of it
-  each : (i : ℕ) → i < n → IsFan v p (fan i).a (fan i).b (fan i).c
+  each : (i : ℕ) → i < n → IsOnFan v p (fan i).a (fan i).b (fan i).c
   each i h =
       let f : IsRimFacet live cell next removed (fan i) (outer i) = r.each i h in
-      let o : IsAtRim next removed f.at f.side = subst (λ (z : Option ℕ). IsOutside removed z) (sym f.across) f.outside in
+      let o : IsAtRim next removed f.at f.side = subst (λ (z : Option ℕ). IsNotRemoved removed z) (sym f.across) f.outside in
       fan_rotated v p (fan i) (facet_of (cell f.at) f.side) (rotated_back (facet_of (cell f.at) f.side) (fan i) f.rotated)
       (rims.fan f.at f.side f.listed f.in_range (c.taken f.at f.listed f.taken) (rim_of f.at f.side f.listed f.in_range o))
 
-  every : (a b c : ℕ) → IsFan v p a b c → (i : ℕ) × (i < n) × IsRotated (fan i) (facet a b c)
+  every : (a b c : ℕ) → IsOnFan v p a b c → (i : ℕ) × (i < n) × IsRotated (fan i) (facet a b c)
   every a b c f =
       let z : IsFanAt v p live cell next a b c = rims.all a b c f in
       let y =
@@ -146,7 +146,7 @@ module _ (v : Vertices) (b : IsBoxed v) (p : ℕ) (new : IsNew v p) (live : List
       let t = cell x in
       let full : IsFull v live cell = (linked_law v b live cell next l cells x i).full in
       ⊎_elim
-      (λ (z : (i j k : ℕ) × IsFan v p i j k × ((u ≡ i) ⊎ ((u ≡ j) ⊎ (u ≡ k)))).
+      (λ (z : (i j k : ℕ) × IsOnFan v p i j k × ((u ≡ i) ⊎ ((u ≡ j) ⊎ (u ≡ k)))).
       let y = every z.0 z.1 z.2 z.3 in
       let w : HasVertex (fan y.0) u =
       in_rotated (facet z.0 z.1 z.2) (fan y.0) u (rotated_back (fan y.0) (facet z.0 z.1 z.2) y.2) z.4 in

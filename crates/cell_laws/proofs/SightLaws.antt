@@ -17,7 +17,7 @@ use Rattle.geo_sign.specs.Vertices.{Vertices}
 use Rattle.geo_sign.specs.Sights.{side_of, is_crossed, is_behind, is_cell_of}
 use Rattle.geo_sign.specs.Boxes.{IsBoxed}
 use Rattle.geo_sign.specs.Places.{IsInBox, IsLyingIn}
-use Rattle.cell_laws.specs.Links.{IsLinked, IsBackAt}
+use Rattle.cell_laws.specs.Links.{AreLinked, IsBackAt}
 use Rattle.cell_laws.specs.Lifts.{is_higher}
 use Rattle.cell_laws.specs.Lists.{IsIn, AreCells, count}
 use Rattle.geo_sign.specs.NearPlaces.{reversed, weight, towards_place, behind_place}
@@ -48,7 +48,7 @@ use Rattle.cell_laws.proofs.Walk.{walk_falls}
 -- a facet of a linked cell that a place of the box is behind has a cell across
 pub met_behind :
     (v : Vertices) → IsBoxed v → (live : List ℕ) (cell : ℕ → Tetrahedron) (next : ℕ → ℕ → Option ℕ) →
-    IsLinked v live cell next → AreCells v live cell → (q : RationalPoint) → IsInBox q → (x k : ℕ) → IsIn live x → k < 4 →
+    AreLinked v live cell next → AreCells v live cell → (q : RationalPoint) → IsInBox q → (x k : ℕ) → IsIn live x → k < 4 →
     side_of v (facet_of (cell x) k) q <ℤ pos 0 → (y : ℕ) × (next x k ≡ Some y) × IsBackAt live cell (facet_of (cell x) k) y
 met_behind v b live cell next l cells q h x k i m n = by (next x k) refl
   where

@@ -20,13 +20,13 @@ use Rattle.geo_sign.specs.Vertices.{Vertices, Has}
 use Rattle.geo_sign.specs.Sights.{is_crossed, is_towards, is_cell_of}
 use Rattle.geo_sign.specs.Boxes.{IsBoxed}
 use Rattle.cell_laws.specs.Lifts.{is_higher}
-use Rattle.cell_laws.specs.Links.{Side, IsLinked, IsBackAt}
+use Rattle.cell_laws.specs.Links.{Side, AreLinked, IsBackAt}
 use Rattle.cell_laws.specs.Lists.{IsIn, AreCells, IsListing, count, one_if}
 use Rattle.geo_sign.specs.Writings.{IsRewritten}
 use Rattle.geo_sign.specs.Places.{IsNearer}
 use Rattle.geo_sign.proofs.Bounds.{data_in_box}
-use Rattle.cell_laws.specs.Paths.{IsOnSight, is_that, entered, IsStep, IsPath, AreNearing}
-use Rattle.cell_laws.specs.WalkLaws.{PathLaw, IsPassed, IsWalk}
+use Rattle.cell_laws.specs.Paths.{IsOnSight, is_that, entered_facet, IsSightStep, IsSightPath, AreNearing}
+use Rattle.cell_laws.specs.WalkLaws.{PathLaw, IsPassedOnce, IsWalk}
 use Rattle.cell_laws.proofs.Complete.{IsGiven, all_given}
 use Rattle.cell_laws.proofs.Crossings.{left_turned}
 use Rattle.cell_laws.proofs.Heights.{tied_generic}
@@ -61,29 +61,29 @@ of_passage cell (x ∷ xs) z (inr h) = let r = of_passage cell xs z h in (r.0, i
 record AreGiven (v : Vertices) (live : List ℕ) (cell : ℕ → Tetrahedron) (next : ℕ → ℕ → Option ℕ) (p : ℕ)
     (s : Point) : Type 0 where
   boxed : IsBoxed v
-  linked : IsLinked v live cell next
+  linked : AreLinked v live cell next
   cells : AreCells v live cell
   has : Has v p
   within : IsWithin DATA_LIMIT s
 
 passed :
     (v : Vertices) (live : List ℕ) (cell : ℕ → Tetrahedron) (next : ℕ → ℕ → Option ℕ) (p : ℕ) (s : Point) →
-    AreGiven v live cell next p s → (x : ℕ) → IsIn live x → IsPassed v p (displaced s) (cell x)
+    AreGiven v live cell next p s → (x : ℕ) → IsIn live x → IsPassedOnce v p (displaced s) (cell x)
 passed v live cell next p s g x i = sight_law v g.boxed p g.has s g.within (cell x) (g.cells x i)
 
 -- the sight comes through the facet of a step
 step_crossed :
     (v : Vertices) (live : List ℕ) (cell : ℕ → Tetrahedron) (next : ℕ → ℕ → Option ℕ) (p : ℕ) (s : RationalPoint) (x : ℕ)
-    (c : Side) → IsStep v live cell next p s x c → is_crossed v p s (entered cell c) ≡ true
+    (c : Side) → IsSightStep v live cell next p s x c → is_crossed v p s (entered_facet cell c) ≡ true
 step_crossed v live cell next p s x c h =
-    crossed_is v p s (entered cell c)
-    (left_turned v p s (facet_of (cell x) h.leaving) (entered cell c) h.turned
+    crossed_is v p s (entered_facet cell c)
+    (left_turned v p s (facet_of (cell x) h.leaving) (entered_facet cell c) h.turned
     (left_of v p s (facet_of (cell x) h.leaving) h.left))
 
 -- ---- there is a way to the end
 abbrev HasPath :
     (v : Vertices) (live : List ℕ) (cell : ℕ → Tetrahedron) (next : ℕ → ℕ → Option ℕ) (p : ℕ) (s : RationalPoint) → ℕ → Type 0
-HasPath v live cell next p s x = (cs : List Side) × IsPath v live cell next p s x cs
+HasPath v live cell next p s x = (cs : List Side) × IsSightPath v live cell next p s x cs
 
 path_from :
     (v : Vertices) (live : List ℕ) (cell : ℕ → Tetrahedron) (next : ℕ → ℕ → Option ℕ) (p : ℕ) (s : Point) →
@@ -99,7 +99,7 @@ path_from v live cell next p s g (suc fuel) x i on f =
     let met = met_behind v g.boxed live cell next g.linked g.cells S box x z.0 i z.1 left.ahead in
     let back : IsBackAt live cell (facet_of (cell x) z.0) met.0 = met.2 in
     let c : Side = record { at = met.0; side = back.side } in
-    let step : IsStep v live cell next p S x c = record {
+    let step : IsSightStep v live cell next p S x c = record {
       leaving = z.0;
       leaving_below = z.1;
       left = z.2;
@@ -121,7 +121,7 @@ path_from v live cell next p s g (suc fuel) x i on f =
 one_path :
     (v : Vertices) (live : List ℕ) (cell : ℕ → Tetrahedron) (next : ℕ → ℕ → Option ℕ) (p : ℕ) (s : Point) →
     AreGiven v live cell next p s → (x : ℕ) (cs ds : List Side) → IsIn live x →
-    IsPath v live cell next p (displaced s) x cs → IsPath v live cell next p (displaced s) x ds → cs ≡ ds
+    IsSightPath v live cell next p (displaced s) x cs → IsSightPath v live cell next p (displaced s) x ds → cs ≡ ds
 one_path v live cell next p s g x [] [] i h k = refl
 one_path v live cell next p s g x [] (d ∷ ds) i h k =
     absurd ((passed v live cell next p s g x i).not_both k.0.leaving k.0.left h)
@@ -129,8 +129,8 @@ one_path v live cell next p s g x (c ∷ cs) [] i h k =
     absurd ((passed v live cell next p s g x i).not_both h.0.leaving h.0.left k)
 one_path v live cell next p s g x (c ∷ cs) (d ∷ ds) i h k =
     let S : RationalPoint = displaced s in
-    let t : IsStep v live cell next p S x c = h.0 in
-    let u : IsStep v live cell next p S x d = k.0 in
+    let t : IsSightStep v live cell next p S x c = h.0 in
+    let u : IsSightStep v live cell next p S x d = k.0 in
     let e : t.leaving ≡ u.leaving =
     (passed v live cell next p s g x i).one_exit t.leaving u.leaving t.leaving_below u.leaving_below t.left u.left in
     let a : c.at ≡ d.at = same_Some c.at d.at (sym t.across ∙ ap (next x) e ∙ u.across) in
@@ -141,28 +141,28 @@ one_path v live cell next p s g x (c ∷ cs) (d ∷ ds) i h k =
     (step_crossed v live cell next p S x c t) cross in
     let same : c ≡ d = same_side c d a b in
     let rest : cs ≡ ds =
-    one_path v live cell next p s g c.at cs ds t.listed h.1 (subst (λ (n : ℕ). IsPath v live cell next p S n ds) (sym a) k.1) in
+    one_path v live cell next p s g c.at cs ds t.listed h.1 (subst (λ (n : ℕ). IsSightPath v live cell next p S n ds) (sym a) k.1) in
     ap (λ z. z ∷ cs) same ∙ ap (λ z. d ∷ z) rest
 
 -- ---- what stands in it
 path_crossed :
     (v : Vertices) (live : List ℕ) (cell : ℕ → Tetrahedron) (next : ℕ → ℕ → Option ℕ) (p : ℕ) (s : RationalPoint) (x : ℕ)
-    (cs : List Side) → IsPath v live cell next p s x cs → (c : Side) → IsIn cs c →
-    IsIn live c.at × (c.side < 4) × (is_crossed v p s (entered cell c) ≡ true)
+    (cs : List Side) → IsSightPath v live cell next p s x cs → (c : Side) → IsIn cs c →
+    IsIn live c.at × (c.side < 4) × (is_crossed v p s (entered_facet cell c) ≡ true)
 path_crossed v live cell next p s x [] h c i = absurd i
 path_crossed v live cell next p s x (d ∷ ds) h c (inl e) =
-    let t : IsStep v live cell next p s x d = h.0 in
-    subst (λ (z : Side). IsIn live z.at × (z.side < 4) × (is_crossed v p s (entered cell z) ≡ true)) e
+    let t : IsSightStep v live cell next p s x d = h.0 in
+    subst (λ (z : Side). IsIn live z.at × (z.side < 4) × (is_crossed v p s (entered_facet cell z) ≡ true)) e
     (t.listed, t.side_below, step_crossed v live cell next p s x d t)
 path_crossed v live cell next p s x (d ∷ ds) h c (inr i) = path_crossed v live cell next p s d.at ds h.1 c i
 
 way_of :
     (v : Vertices) (live : List ℕ) (cell : ℕ → Tetrahedron) (next : ℕ → ℕ → Option ℕ) → AreCells v live cell →
-    (p : ℕ) (s : RationalPoint) (x : ℕ) (cs : List Side) → IsPath v live cell next p s x cs →
+    (p : ℕ) (s : RationalPoint) (x : ℕ) (cs : List Side) → IsSightPath v live cell next p s x cs →
     IsWay v p s (cell x) (passages cell cs)
 way_of v live cell next cells p s x [] h = λ k b. (strictly_of v s (cell x) h).at k
 way_of v live cell next cells p s x (c ∷ cs) h =
-    let t : IsStep v live cell next p s x c = h.0 in (
+    let t : IsSightStep v live cell next p s x c = h.0 in (
       record {
         is_cell = cells c.at t.listed;
         below = t.side_below;
@@ -177,8 +177,8 @@ way_of v live cell next cells p s x (c ∷ cs) h =
 path_all :
     (v : Vertices) (live : List ℕ) (cell : ℕ → Tetrahedron) (next : ℕ → ℕ → Option ℕ) (p : ℕ) (s : Point)
     → AreGiven v live cell next p s → (x : ℕ) (cs : List Side) → IsIn live x → is_towards v p (displaced s) (cell x) ≡ true
-    → IsPath v live cell next p (displaced s) x cs → (c : Side) → IsIn live c.at → c.side < 4
-    → is_crossed v p (displaced s) (entered cell c) ≡ true → IsIn cs c
+    → IsSightPath v live cell next p (displaced s) x cs → (c : Side) → IsIn live c.at → c.side < 4
+    → is_crossed v p (displaced s) (entered_facet cell c) ≡ true → IsIn cs c
 path_all v live cell next p s g x cs i tow h c j b cr =
     let S : RationalPoint = displaced s in
     let gen = tied_generic v g.boxed in
@@ -186,7 +186,7 @@ path_all v live cell next p s g x cs i tow h c j b cr =
     all_given v gen p S _ (scanner_free v g.boxed s (data_in_box s g.within)) (cell x) (passages cell cs) (g.cells x i)
     (towards_of v p S (cell x) (g.cells x i) tow) (way_of v live cell next g.cells p S x cs h) (cell c.at) c.side
     (g.cells c.at j) b
-    (crossed_of v p S (entered cell c) cr) in
+    (crossed_of v p S (entered_facet cell c) cr) in
     let z = of_passage cell cs given.0 given.1 in
     let d : Side = z.0 in
     let known = path_crossed v live cell next p S x cs h d z.1 in
@@ -201,7 +201,7 @@ path_all v live cell next p s g x cs i tow h c j b cr =
 
 path_nearing :
     (v : Vertices) (live : List ℕ) (cell : ℕ → Tetrahedron) (next : ℕ → ℕ → Option ℕ) → AreCells v live cell →
-    (p : ℕ) (s : RationalPoint) (x : ℕ) (cs : List Side) → IsPath v live cell next p s x cs → AreNearing v cell p s cs
+    (p : ℕ) (s : RationalPoint) (x : ℕ) (cs : List Side) → IsSightPath v live cell next p s x cs → AreNearing v cell p s cs
 path_nearing v live cell next cells p s x [] h = tt
 path_nearing v live cell next cells p s x (c ∷ cs) h = (
   λ d i. (first_before v p s (cell x) (passage cell c) (passages cell cs) (way_of v live cell next cells p s x (c ∷ cs) h)
@@ -238,8 +238,8 @@ count_once v cell p s (d ∷ ds) c h i = by (is_that c d) refl (λ j. count_once
     by true e rest =
         ap₂ (λ x y. x + y) (ap one_if e)
         (count_none ds c
-        (λ j. not_nearer v p s (entered cell d)
-        (subst (λ (z : Side). IsNearer v p s (entered cell d) (entered cell z)) (sym (that_is c d e)) (h.0 c j))))
+        (λ j. not_nearer v p s (entered_facet cell d)
+        (subst (λ (z : Side). IsNearer v p s (entered_facet cell d) (entered_facet cell z)) (sym (that_is c d e)) (h.0 c j))))
     by false e rest =
         ap₂ (λ x y. x + y) (ap one_if e)
         (rest (⊎_elim (λ (q : d ≡ c). absurd (true≢false (sym (that_itself c) ∙ ap (is_that c) (sym q) ∙ e)))
@@ -248,13 +248,13 @@ count_once v cell p s (d ∷ ds) c h i = by (is_that c d) refl (λ j. count_once
 path_counted :
     (v : Vertices) (live : List ℕ) (cell : ℕ → Tetrahedron) (next : ℕ → ℕ → Option ℕ) (p : ℕ) (s : Point)
     → AreGiven v live cell next p s → (x : ℕ) (cs : List Side) → IsIn live x → is_towards v p (displaced s) (cell x) ≡ true
-    → IsPath v live cell next p (displaced s) x cs → (c : Side) → IsIn live c.at → c.side < 4
-    → count (is_that c) cs ≡ one_if (is_crossed v p (displaced s) (entered cell c))
-path_counted v live cell next p s g x cs i tow h c j b = by (is_crossed v p (displaced s) (entered cell c)) refl
+    → IsSightPath v live cell next p (displaced s) x cs → (c : Side) → IsIn live c.at → c.side < 4
+    → count (is_that c) cs ≡ one_if (is_crossed v p (displaced s) (entered_facet cell c))
+path_counted v live cell next p s g x cs i tow h c j b = by (is_crossed v p (displaced s) (entered_facet cell c)) refl
   where
     by :
-        (d : Bool) → is_crossed v p (displaced s) (entered cell c) ≡ d →
-        count (is_that c) cs ≡ one_if (is_crossed v p (displaced s) (entered cell c))
+        (d : Bool) → is_crossed v p (displaced s) (entered_facet cell c) ≡ d →
+        count (is_that c) cs ≡ one_if (is_crossed v p (displaced s) (entered_facet cell c))
     by true e =
         count_once v cell p (displaced s) cs c (path_nearing v live cell next g.cells p (displaced s) x cs h)
         (path_all v live cell next p s g x cs i tow h c j b e) ∙ sym (ap one_if e)

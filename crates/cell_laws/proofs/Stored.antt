@@ -10,7 +10,7 @@ use Rattle.std.proofs.lemmas.List.{get_or-set_same, get_or-set_other}
 use Rattle.geo_sign.specs.Point.{Point, IsWithin, corner_point, origin}
 use Rattle.geo_sign.specs.declared.point.TheConstants.{DATA_LIMIT}
 use Rattle.geo_sign.specs.Tetrahedron.{Tetrahedron}
-use Rattle.geo_sign.specs.Vertices.{Vertices, point_of, vertices_of}
+use Rattle.geo_sign.specs.Vertices.{Vertices, point_of, boxed_vertices}
 use Rattle.geo_sign.specs.Cells.{IsCell}
 use Rattle.cell_laws.specs.LinkLaws.{AreAllCells}
 use Rattle.cell_laws.specs.Lists.{AreCells, one_if}
@@ -100,7 +100,7 @@ flag_set flags p h i = pick (eqb i p) refl
 
 all_cells :
     (points : List Point) (flags : List Bool) → ((u : ℕ) → u < 8 + length points → get_or flags u false ≡ true) →
-    (a b c d : ℕ) → IsCell (inserted_vertices points flags) a b c d → IsCell (vertices_of points) a b c d
+    (a b c d : ℕ) → IsCell (inserted_vertices points flags) a b c d → IsCell (boxed_vertices points) a b c d
 all_cells points flags f a b c d k =
     record {
       has_a = (k.has_a.0, refl);
@@ -113,7 +113,7 @@ all_cells points flags f a b c d k =
 
 cells_all :
     (points : List Point) (flags : List Bool) → ((u : ℕ) → u < 8 + length points → get_or flags u false ≡ true) →
-    (a b c d : ℕ) → IsCell (vertices_of points) a b c d → IsCell (inserted_vertices points flags) a b c d
+    (a b c d : ℕ) → IsCell (boxed_vertices points) a b c d → IsCell (inserted_vertices points flags) a b c d
 cells_all points flags f a b c d k =
     record {
       has_a = (k.has_a.0, f a k.has_a.0);
@@ -127,11 +127,11 @@ cells_all points flags f a b c d k =
 whole :
     (points : List Point) (flags : List Bool) → ((u : ℕ) → u < 8 + length points → get_or flags u false ≡ true) →
     (live : List ℕ) (cell : ℕ → Tetrahedron) (next : ℕ → ℕ → Option ℕ) →
-    AreAllCells (inserted_vertices points flags) live cell next → AreAllCells (vertices_of points) live cell next
+    AreAllCells (inserted_vertices points flags) live cell next → AreAllCells (boxed_vertices points) live cell next
 whole points flags f live cell next h =
     let b = h.boxed in
     let l = h.linked in
-    let cells : AreCells (vertices_of points) live cell =
+    let cells : AreCells (boxed_vertices points) live cell =
     λ x i. all_cells points flags f (cell x).a (cell x).b (cell x).c (cell x).d (h.cells x i) in
     record {
       boxed = record {

@@ -11,7 +11,7 @@ use Rattle.std.specs.List.{sum_by}
 use Rattle.geo_sign.specs.Tetrahedron.{Tetrahedron, DirectedFacet, facet_of, vertex_of}
 use Rattle.geo_sign.specs.Vertices.{Vertices}
 use Rattle.geo_sign.specs.Boxes.{IsBoxed}
-use Rattle.cell_laws.specs.Links.{Side, IsLinked}
+use Rattle.cell_laws.specs.Links.{Side, AreLinked}
 use Rattle.cell_laws.specs.Lists.{IsIn, AreCells, one_if}
 
 -- 1 where the edge from x to y goes from u to w, else 0
@@ -43,6 +43,6 @@ facets_at cell sides = map (λ (s : Side). facet_of (cell s.at) s.side) sides
 abbrev pub ClosedLaw : Type 0
 ClosedLaw =
     (v : Vertices) → IsBoxed v → (live : List ℕ) (cell : ℕ → Tetrahedron) (next : ℕ → ℕ → Option ℕ) →
-    IsLinked v live cell next → AreCells v live cell →
+    AreLinked v live cell next → AreCells v live cell →
     (inside : ℕ → Bool) → HasNoCorner live cell inside → (sides : List Side) → IsCutList live next inside sides → (u w : ℕ) →
     edge_count u w (facets_at cell sides) ≡ edge_count w u (facets_at cell sides)

@@ -7,11 +7,11 @@ use Rattle.std.specs.Prelude.{ℕ, ◌≡◌, ◌<◌}
 use Rattle.geo_sign.specs.Edges.{edge_end, edge_start}
 use Rattle.geo_sign.specs.Tetrahedron.{DirectedFacet, facet, IsRotated}
 use Rattle.geo_sign.specs.Vertices.{Vertices}
-use Rattle.cell_laws.specs.Fans.{IsFan}
+use Rattle.cell_laws.specs.Fans.{IsOnFan}
 
 pub record IsFanList (v : Vertices) (p n : ℕ) (f : ℕ → DirectedFacet) : Type 0 where
-  pub fan : (i : ℕ) → i < n → IsFan v p (f i).a (f i).b (f i).c
-  pub all : (a b c : ℕ) → IsFan v p a b c → (i : ℕ) × (i < n) × IsRotated (f i) (facet a b c)
+  pub fan : (i : ℕ) → i < n → IsOnFan v p (f i).a (f i).b (f i).c
+  pub all : (a b c : ℕ) → IsOnFan v p a b c → (i : ℕ) × (i < n) × IsRotated (f i) (facet a b c)
   pub once : (i j : ℕ) → i < n → j < n → IsRotated (f i) (f j) → i ≡ j
 
 pub record AreEdges (n : ℕ) (f : ℕ → DirectedFacet) : Type 0 where

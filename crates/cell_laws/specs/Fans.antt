@@ -1,12 +1,12 @@
 -- One vertex more: which cells it is in conflict with, and the facets over which it makes new cells.
 --
---   IsFan v p a b c         a facet between a cell in conflict with p and none, or one that p is not in conflict with
+--   IsOnFan v p a b c       a facet between a cell in conflict with p and none, or one that p is not in conflict with
 use Rattle.std.specs.Prelude.{ℕ, pos, ◌<ℤ◌, ◌≤ℤ◌}
 use Rattle.geo_sign.specs.Vertices.{Vertices, power_of}
 use Rattle.geo_sign.specs.Cells.{IsCell}
 
 -- the cell over the facet is in conflict with p, and no cell across it is
-pub record IsFan (v : Vertices) (p a b c : ℕ) : Type 0 where
+pub record IsOnFan (v : Vertices) (p a b c : ℕ) : Type 0 where
   pub apex : ℕ
   pub cell : IsCell v a b c apex
   pub conflict : power_of v a b c apex p <ℤ pos 0

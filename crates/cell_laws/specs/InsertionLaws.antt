@@ -13,23 +13,23 @@ use Rattle.geo_sign.specs.Vertices.{Vertices, Has, orientation_of, power_of}
 use Rattle.geo_sign.specs.Cells.{IsCell}
 use Rattle.geo_sign.specs.Writings.{IsVertexOf}
 use Rattle.geo_sign.specs.Boxes.{IsBoxed, with_vertex, IsNew, IsInConflict, IsClearOf}
-use Rattle.cell_laws.specs.Fans.{IsFan}
-use Rattle.cell_laws.specs.Lists.{IsIn, IsFull, IsListing, IsClosed, IsReplaced}
+use Rattle.cell_laws.specs.Fans.{IsOnFan}
+use Rattle.cell_laws.specs.Lists.{IsIn, IsFull, IsListing, IsClosedInConflict, AreReplaced}
 use Rattle.geo_sign.specs.Edges.{edge_start, edge_end, over}
 use Rattle.cell_laws.specs.Edges.{IsFanList, AreEdges, HaveEdge}
 
 -- the facets between the cells in conflict with p and all else, over which the cells with p will stand
 pub record IsFanOf (v : Vertices) (p : ℕ) : Type 0 where
   -- p is before each facet
-  pub before : (a b c : ℕ) → IsFan v p a b c → pos 0 <ℤ orientation_of v a b c p
-  pub cells : (a b c : ℕ) → IsFan v p a b c ↔ IsCell (with_vertex v p) a b c p
+  pub before : (a b c : ℕ) → IsOnFan v p a b c → pos 0 <ℤ orientation_of v a b c p
+  pub cells : (a b c : ℕ) → IsOnFan v p a b c ↔ IsCell (with_vertex v p) a b c p
   -- a facet written anew
-  pub turned : (a b c : ℕ) → IsFan v p a b c → IsFan v p b c a
+  pub turned : (a b c : ℕ) → IsOnFan v p a b c → IsOnFan v p b c a
   -- each directed edge's reverse is in the fan, and each directed edge once
-  pub next : (a b c : ℕ) → IsFan v p a b c → (x : ℕ) × IsFan v p b a x
-  pub once : (a b c d : ℕ) → IsFan v p a b c → IsFan v p a b d → c ≡ d
+  pub next : (a b c : ℕ) → IsOnFan v p a b c → (x : ℕ) × IsOnFan v p b a x
+  pub once : (a b c d : ℕ) → IsOnFan v p a b c → IsOnFan v p a b d → c ≡ d
   -- there is a facet where a cell is in conflict
-  pub some : (a b c d : ℕ) → IsCell v a b c d → power_of v a b c d p <ℤ pos 0 → (i j k : ℕ) × IsFan v p i j k
+  pub some : (a b c d : ℕ) → IsCell v a b c d → power_of v a b c d p <ℤ pos 0 → (i j k : ℕ) × IsOnFan v p i j k
 
 abbrev pub FanLaw : Type 0
 FanLaw = (v : Vertices) → IsBoxed v → (p : ℕ) → IsNew v p → IsFanOf v p
@@ -45,13 +45,13 @@ abbrev pub VertexLaw : Type 0
 VertexLaw =
     (v : Vertices) → IsBoxed v → (p : ℕ) → IsNew v p → (a b c d : ℕ) → IsCell v a b c d → power_of v a b c d p <ℤ pos 0 →
     (u : ℕ) → Has v u →
-    ((i j k : ℕ) × IsFan v p i j k × ((u ≡ i) ⊎ ((u ≡ j) ⊎ (u ≡ k)))) ⊎
+    ((i j k : ℕ) × IsOnFan v p i j k × ((u ≡ i) ⊎ ((u ≡ j) ⊎ (u ≡ k)))) ⊎
     ((t : Tetrahedron) × IsCell v t.a t.b t.c t.d × IsVertexOf t u × IsClearOf v p t)
 
 abbrev pub FloodLaw : Type 0
 FloodLaw =
     (v : Vertices) → IsBoxed v → (p : ℕ) → IsNew v p → (live : List ℕ) (cell : ℕ → Tetrahedron) → IsListing v live cell →
-    (marked : ℕ → Bool) → IsClosed v p live cell marked →
+    (marked : ℕ → Bool) → IsClosedInConflict v p live cell marked →
     (x : ℕ) → IsIn live x → marked x ≡ true → IsInConflict v p (cell x) → (y : ℕ) → IsIn live y → IsInConflict v p (cell y) →
     marked y ≡ true
 
@@ -59,7 +59,7 @@ abbrev pub InsertLaw : Type 0
 InsertLaw =
     (v : Vertices) → IsBoxed v → (p : ℕ) → IsNew v p →
     (live : List ℕ) (cell : ℕ → Tetrahedron) (live' : List ℕ) (cell' : ℕ → Tetrahedron) → IsFull v live cell →
-    IsReplaced v p live cell live' cell' →
+    AreReplaced v p live cell live' cell' →
     IsBoxed (with_vertex v p) × IsFull (with_vertex v p) live' cell'
 
 abbrev pub EdgeLaw : Type 0

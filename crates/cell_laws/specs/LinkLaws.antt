@@ -22,16 +22,16 @@ use Rattle.geo_sign.specs.Cells.{IsCell}
 use Rattle.geo_sign.specs.Boxes.{IsBoxed, with_vertex, IsNew, IsInConflict, IsClearOf}
 use Rattle.geo_sign.specs.Places.{IsLyingIn}
 use Rattle.cell_laws.specs.Edges.{IsFanList, AreEdges}
-use Rattle.cell_laws.specs.Fans.{IsFan}
+use Rattle.cell_laws.specs.Fans.{IsOnFan}
 use Rattle.cell_laws.specs.Lists.{IsIn, AreCells, IsListing, IsMade}
-use Rattle.cell_laws.specs.Links.{Side, IsLinked, IsFlooded, IsRim, IsFanAt}
+use Rattle.cell_laws.specs.Links.{Side, AreLinked, IsFlooded, IsRimSide, IsFanAt}
 use Rattle.cell_laws.specs.Replacements.{IsRimList, IsRimOf, IsReplacement}
 use Rattle.geo_sign.specs.Writings.{IsVertexOf}
 
 abbrev pub WallLaw : Type 0
 WallLaw =
     (v : Vertices) → IsBoxed v → (live : List ℕ) (cell : ℕ → Tetrahedron) (next : ℕ → ℕ → Option ℕ) →
-    IsLinked v live cell next → AreCells v live cell → (x k : ℕ) → IsIn live x → k < 4 →
+    AreLinked v live cell next → AreCells v live cell → (x k : ℕ) → IsIn live x → k < 4 →
     (next x k ≡ None) ↔ IsWall v (facet_of (cell x) k)
 
 -- y has the facet turned, and x across it
@@ -44,18 +44,18 @@ pub record IsNamedBack (cell : ℕ → Tetrahedron) (next : ℕ → ℕ → Opti
 abbrev pub BackLaw : Type 0
 BackLaw =
     (v : Vertices) → IsBoxed v → (live : List ℕ) (cell : ℕ → Tetrahedron) (next : ℕ → ℕ → Option ℕ) →
-    IsLinked v live cell next → AreCells v live cell → (x k y : ℕ) → IsIn live x → k < 4 → next x k ≡ Some y →
+    AreLinked v live cell next → AreCells v live cell → (x k y : ℕ) → IsIn live x → k < 4 → next x k ≡ Some y →
     IsNamedBack cell next x k y
 
 abbrev pub LinkedLaw : Type 0
 LinkedLaw =
     (v : Vertices) → IsBoxed v → (live : List ℕ) (cell : ℕ → Tetrahedron) (next : ℕ → ℕ → Option ℕ) →
-    IsLinked v live cell next → AreCells v live cell → (x : ℕ) → IsIn live x → IsListing v live cell
+    AreLinked v live cell next → AreCells v live cell → (x : ℕ) → IsIn live x → IsListing v live cell
 
 abbrev pub FloodedLaw : Type 0
 FloodedLaw =
     (v : Vertices) → IsBoxed v → (p : ℕ) → IsNew v p → (live : List ℕ) (cell : ℕ → Tetrahedron) (next : ℕ → ℕ → Option ℕ) →
-    IsLinked v live cell next → AreCells v live cell → (marked : ℕ → Bool) → IsFlooded v p live cell next marked →
+    AreLinked v live cell next → AreCells v live cell → (marked : ℕ → Bool) → IsFlooded v p live cell next marked →
     (x : ℕ) → IsIn live x → marked x ≡ true → IsInConflict v p (cell x) → (y : ℕ) → IsIn live y → IsInConflict v p (cell y) →
     marked y ≡ true
 
@@ -72,27 +72,27 @@ pub record AreConflicts (v : Vertices) (p : ℕ) (live : List ℕ) (cell : ℕ �
 abbrev pub CavityLaw : Type 0
 CavityLaw =
     (v : Vertices) → IsBoxed v → (p : ℕ) → IsNew v p → (live : List ℕ) (cell : ℕ → Tetrahedron) (next : ℕ → ℕ → Option ℕ) →
-    IsLinked v live cell next → AreCells v live cell → (marked : ℕ → Bool) → IsFlooded v p live cell next marked →
+    AreLinked v live cell next → AreCells v live cell → (marked : ℕ → Bool) → IsFlooded v p live cell next marked →
     ((x : ℕ) → IsIn live x → marked x ≡ true → IsInConflict v p (cell x)) → (x : ℕ) → IsIn live x → marked x ≡ true →
     AreConflicts v p live cell marked
 
 -- the fan of the definitions, which speaks of all cells, is what links show at the rim of the cells in conflict
 pub record IsRimLaw (v : Vertices) (p : ℕ) (live : List ℕ) (cell : ℕ → Tetrahedron) (next : ℕ → ℕ → Option ℕ) : Type 0 where
   pub fan :
-      (x k : ℕ) → IsIn live x → k < 4 → IsInConflict v p (cell x) → IsRim v p cell next x k →
-      IsFan v p (facet_of (cell x) k).a (facet_of (cell x) k).b (facet_of (cell x) k).c
-  pub all : (a b c : ℕ) → IsFan v p a b c → IsFanAt v p live cell next a b c
+      (x k : ℕ) → IsIn live x → k < 4 → IsInConflict v p (cell x) → IsRimSide v p cell next x k →
+      IsOnFan v p (facet_of (cell x) k).a (facet_of (cell x) k).b (facet_of (cell x) k).c
+  pub all : (a b c : ℕ) → IsOnFan v p a b c → IsFanAt v p live cell next a b c
 
 abbrev pub RimLaw : Type 0
 RimLaw =
     (v : Vertices) → IsBoxed v → (p : ℕ) (live : List ℕ) (cell : ℕ → Tetrahedron) (next : ℕ → ℕ → Option ℕ) →
-    IsLinked v live cell next → AreCells v live cell → (x : ℕ) → IsIn live x → IsRimLaw v p live cell next
+    AreLinked v live cell next → AreCells v live cell → (x : ℕ) → IsIn live x → IsRimLaw v p live cell next
 
 abbrev pub ReplaceLaw : Type 0
 ReplaceLaw =
     (v : Vertices) → IsBoxed v → (p : ℕ) → IsNew v p → (live : List ℕ) (cell : ℕ → Tetrahedron) → AreCells v live cell →
     (live' : List ℕ) (cell' : ℕ → Tetrahedron) (next' : ℕ → ℕ → Option ℕ) → IsMade v p live cell live' cell' →
-    IsLinked (with_vertex v p) live' cell' next' → (y : ℕ) → IsIn live' y →
+    AreLinked (with_vertex v p) live' cell' next' → (y : ℕ) → IsIn live' y →
     IsBoxed (with_vertex v p) × IsListing (with_vertex v p) live' cell'
 
 -- side i of the list, and past the end side 0 of the cell 0
@@ -101,7 +101,7 @@ side_of_list sides i = slice_index_or sides i (record { at = 0; side = 0 })
 
 abbrev pub RimOfLaw : Type 0
 RimOfLaw =
-    (v : Vertices) (live : List ℕ) (cell : ℕ → Tetrahedron) (next : ℕ → ℕ → Option ℕ) → IsLinked v live cell next →
+    (v : Vertices) (live : List ℕ) (cell : ℕ → Tetrahedron) (next : ℕ → ℕ → Option ℕ) → AreLinked v live cell next →
     AreCells v live cell → (removed : ℕ → Bool) (sides : List Side) → IsRimOf live next removed sides →
     IsRimList live cell next removed (length sides) (λ i. facet_of (cell (side_of_list sides i).at) (side_of_list sides i).side)
     (λ i. next (side_of_list sides i).at (side_of_list sides i).side)
@@ -122,24 +122,24 @@ pub record AreRims (v : Vertices) (p : ℕ) (live : List ℕ) (cell : ℕ → Te
 abbrev pub RimListLaw : Type 0
 RimListLaw =
     (v : Vertices) → IsBoxed v → (p : ℕ) → IsNew v p → (live : List ℕ) (cell : ℕ → Tetrahedron) (next : ℕ → ℕ → Option ℕ) →
-    IsLinked v live cell next → AreCells v live cell → (removed : ℕ → Bool) → AreConflicts v p live cell removed →
+    AreLinked v live cell next → AreCells v live cell → (removed : ℕ → Bool) → AreConflicts v p live cell removed →
     (n : ℕ) (fan : ℕ → DirectedFacet) (outer : ℕ → Option ℕ) → IsRimList live cell next removed n fan outer → (x : ℕ) →
     IsIn live x → removed x ≡ true → AreRims v p live cell removed n fan
 
 abbrev pub RelinkLaw : Type 0
 RelinkLaw =
-    (v : Vertices) (p : ℕ) (live : List ℕ) (cell : ℕ → Tetrahedron) (next : ℕ → ℕ → Option ℕ) → IsLinked v live cell next →
+    (v : Vertices) (p : ℕ) (live : List ℕ) (cell : ℕ → Tetrahedron) (next : ℕ → ℕ → Option ℕ) → AreLinked v live cell next →
     ((x : ℕ) → IsIn live x → ¬ IsVertexOf (cell x) p) →
     (removed : ℕ → Bool) (n : ℕ) (fan : ℕ → DirectedFacet) (outer : ℕ → Option ℕ) →
     IsRimList live cell next removed n fan outer → AreEdges n fan →
     (fresh : ℕ → ℕ) (live' : List ℕ) (cell' : ℕ → Tetrahedron) (next' : ℕ → ℕ → Option ℕ) →
     IsReplacement p live cell next removed n fan outer fresh live' cell' next' →
-    IsLinked v live' cell' next' × IsLinked (with_vertex v p) live' cell' next'
+    AreLinked v live' cell' next' × AreLinked (with_vertex v p) live' cell' next'
 
 -- what a store of all cells has, for its next insertion too
 pub record AreAllCells (v : Vertices) (live : List ℕ) (cell : ℕ → Tetrahedron) (next : ℕ → ℕ → Option ℕ) : Type 0 where
   pub boxed : IsBoxed v
-  pub linked : IsLinked v live cell next
+  pub linked : AreLinked v live cell next
   pub cells : AreCells v live cell
   pub listing : IsListing v live cell
 

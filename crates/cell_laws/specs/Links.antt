@@ -1,9 +1,9 @@
 -- Linked cells: x stands for the cell cell x, and next x k is the cell across its facet k.
 --
 --   Side                                  a name and a side of its cell
---   IsLinked v live cell next             neighbors have the facet turned, None stands on walls only, no facet stands twice
+--   AreLinked v live cell next            neighbors have the facet turned, None stands on walls only, no facet stands twice
 --   IsFlooded v p live cell next marked   a neighbor in conflict of a marked cell in conflict is marked
---   IsRim v p cell next x k               across facet k no neighbor is in conflict
+--   IsRimSide v p cell next x k           across facet k no neighbor is in conflict
 --   IsFanAt v p live cell next a b c      the facet a b c is that of a cell in conflict at a rim
 use Rattle.std.specs.Prelude.{ℕ, ◌<◌, ◌≡◌, ◌⊎◌, Bool, true, Option, Some, None, List}
 use Rattle.geo_sign.specs.Tetrahedron.{Tetrahedron, DirectedFacet, facet, facet_of, IsTurned, IsRotated}
@@ -22,7 +22,7 @@ pub record IsBackAt {X : Type 0} (live : List X) (cell : X → Tetrahedron) (f :
   pub in_range : side < 4
   pub turned : IsTurned f (facet_of (cell y) side)
 
-pub record IsLinked {X : Type 0} (v : Vertices) (live : List X) (cell : X → Tetrahedron)
+pub record AreLinked {X : Type 0} (v : Vertices) (live : List X) (cell : X → Tetrahedron)
     (next : X → ℕ → Option X) : Type 0 where
   pub back : (x : X) (k : ℕ) (y : X) → IsIn live x → k < 4 → next x k ≡ Some y → IsBackAt live cell (facet_of (cell x) k) y
   pub walls : (x : X) (k : ℕ) → IsIn live x → k < 4 → next x k ≡ None → IsWall v (facet_of (cell x) k)
@@ -36,8 +36,8 @@ IsFlooded {X} v p live cell next marked =
     (x : X) (k : ℕ) (y : X) → IsIn live x → marked x ≡ true → IsInConflict v p (cell x) → k < 4 → next x k ≡ Some y →
     IsInConflict v p (cell y) → marked y ≡ true
 
-abbrev pub IsRim : {X : Type 0} (v : Vertices) (p : ℕ) (cell : X → Tetrahedron) (next : X → ℕ → Option X) → X → ℕ → Type 0
-IsRim {X} v p cell next x k = (next x k ≡ None) ⊎ ((y : X) × (next x k ≡ Some y) × IsClearOf v p (cell y))
+abbrev pub IsRimSide : {X : Type 0} (v : Vertices) (p : ℕ) (cell : X → Tetrahedron) (next : X → ℕ → Option X) → X → ℕ → Type 0
+IsRimSide {X} v p cell next x k = (next x k ≡ None) ⊎ ((y : X) × (next x k ≡ Some y) × IsClearOf v p (cell y))
 
 -- a cell in conflict, and a side of it at the rim whose facet is a b c up to rotation
 pub record IsFanAt {X : Type 0} (v : Vertices) (p : ℕ) (live : List X) (cell : X → Tetrahedron) (next : X → ℕ → Option X)
@@ -47,5 +47,5 @@ pub record IsFanAt {X : Type 0} (v : Vertices) (p : ℕ) (live : List X) (cell :
   pub listed : IsIn live at
   pub in_range : side < 4
   pub conflict : IsInConflict v p (cell at)
-  pub rim : IsRim v p cell next at side
+  pub rim : IsRimSide v p cell next at side
   pub rotated : IsRotated (facet_of (cell at) side) (facet a b c)

@@ -4,8 +4,8 @@
 --   AreCells v live cell              each name stands for a cell
 --   IsFull, IsListing                 the names stand for all cells; and for each once
 --   IsJoined v live cell              with each cell the list has those across its facets
---   IsClosed v p live cell marked     no step between cells in conflict leaves the marked ones
---   IsMade, IsReplaced                the second list came from the first by taking out all cells in conflict with p and
+--   IsClosedInConflict v p live cell marked   no step between cells in conflict leaves the marked ones
+--   IsMade, AreReplaced               the second list came from the first by taking out all cells in conflict with p and
 --                                     putting in p over the fan's facets
 --   count f xs                        how many pass a test
 use Rattle.std.specs.Prelude.{ℕ, ◌≡◌, ◌⊎◌, ◌+◌, Bool, true, false, List, [], ◌∷◌}
@@ -14,7 +14,7 @@ use Rattle.geo_sign.specs.Vertices.{Vertices}
 use Rattle.geo_sign.specs.Cells.{IsCell}
 use Rattle.geo_sign.specs.Writings.{IsRewritten}
 use Rattle.geo_sign.specs.Boxes.{IsInConflict, IsClearOf}
-use Rattle.cell_laws.specs.Fans.{IsFan}
+use Rattle.cell_laws.specs.Fans.{IsOnFan}
 
 abbrev pub IsIn : {X : Type 0} → List X → X → Type 0
 IsIn [] t = ⊥
@@ -38,8 +38,8 @@ pub record IsJoined {X : Type 0} (v : Vertices) (live : List X) (cell : X → Te
       (y : X) × IsIn live y × IsRewritten (cell y) (tetrahedron a c b e)
 
 -- from each that is marked, each in conflict across a facet is marked
-abbrev pub IsClosed : {X : Type 0} (v : Vertices) (p : ℕ) (live : List X) (cell : X → Tetrahedron) → (X → Bool) → Type 0
-IsClosed {X} v p live cell marked =
+abbrev pub IsClosedInConflict : {X : Type 0} (v : Vertices) (p : ℕ) (live : List X) (cell : X → Tetrahedron) → (X → Bool) → Type 0
+IsClosedInConflict {X} v p live cell marked =
     (x y : X) (a b c d e : ℕ) → IsIn live x → IsIn live y → marked x ≡ true → IsInConflict v p (cell x) →
     IsInConflict v p (cell y) → IsRewritten (cell x) (tetrahedron a b c d) → IsRewritten (cell y) (tetrahedron a c b e) →
     marked y ≡ true
@@ -50,14 +50,14 @@ abbrev pub IsMade :
     Type 0
 IsMade {X} v p live cell live' cell' =
     (y : X) → IsIn live' y → ((x : X) × IsIn live x × IsRewritten (cell x) (cell' y) × IsClearOf v p (cell x)) ⊎
-    ((a b c : ℕ) × IsFan v p a b c × IsRewritten (tetrahedron a b c p) (cell' y))
+    ((a b c : ℕ) × IsOnFan v p a b c × IsRewritten (tetrahedron a b c p) (cell' y))
 
 -- and all of these are there
-pub record IsReplaced {X : Type 0} (v : Vertices) (p : ℕ) (live : List X) (cell : X → Tetrahedron) (live' : List X)
+pub record AreReplaced {X : Type 0} (v : Vertices) (p : ℕ) (live : List X) (cell : X → Tetrahedron) (live' : List X)
     (cell' : X → Tetrahedron) : Type 0 where
   pub only : IsMade v p live cell live' cell'
   pub stay : (x : X) → IsIn live x → IsClearOf v p (cell x) → (y : X) × IsIn live' y × IsRewritten (cell' y) (cell x)
-  pub come : (a b c : ℕ) → IsFan v p a b c → (y : X) × IsIn live' y × IsRewritten (cell' y) (tetrahedron a b c p)
+  pub come : (a b c : ℕ) → IsOnFan v p a b c → (y : X) × IsIn live' y × IsRewritten (cell' y) (tetrahedron a b c p)
 
 -- what one name adds to a count
 abbrev pub one_if : Bool → ℕ

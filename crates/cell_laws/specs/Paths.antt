@@ -1,10 +1,10 @@
 -- The way of a sight over linked cells: from the cell at its vertex p that is towards the place s, to the cell that holds s.
 --
 --   IsOnSight v p s t                     t is towards s at p, or the sight crosses one of its facets
---   entered cell c                        the facet of a crossing, which is the side at which the sight comes into a cell
+--   entered_facet cell c                  the facet of a crossing, which is the side at which the sight comes into a cell
 --   is_that c d                           d is the side c
---   IsStep v live cell next p s x c       the sight leaves the cell of x through the facet of c
---   IsPath v live cell next p s x cs      these are all facets that the sight crosses from the cell of x on
+--   IsSightStep v live cell next p s x c   the sight leaves the cell of x through the facet of c
+--   IsSightPath v live cell next p s x cs   these are all facets that the sight crosses from the cell of x on
 --   AreNearing v cell p s cs              each of the list is nearer than each later one
 use Rattle.std.specs.Prelude.{ℕ, ◌<◌, ◌≡◌, ◌⊎◌, ◌==◌, ◌&&◌, Bool, true, Option, Some, List, [], ◌∷◌}
 use Rattle.geo_sign.specs.Places.{IsNearer}
@@ -18,13 +18,13 @@ use Rattle.cell_laws.specs.Lists.{IsIn}
 abbrev pub IsOnSight : Vertices → (p : ℕ) → RationalPoint → Tetrahedron → Type 0
 IsOnSight v p s t = (is_towards v p s t ≡ true) ⊎ ((k : ℕ) × (k < 4) × (is_crossed v p s (facet_of t k) ≡ true))
 
-abbrev pub entered : (cell : ℕ → Tetrahedron) → Side → DirectedFacet
-entered cell c = facet_of (cell c.at) c.side
+abbrev pub entered_facet : (cell : ℕ → Tetrahedron) → Side → DirectedFacet
+entered_facet cell c = facet_of (cell c.at) c.side
 
 abbrev pub is_that : Side → Side → Bool
 is_that c d = (d.at == c.at) && (d.side == c.side)
 
-pub record IsStep (v : Vertices) (live : List ℕ) (cell : ℕ → Tetrahedron) (next : ℕ → ℕ → Option ℕ) (p : ℕ) (s : RationalPoint)
+pub record IsSightStep (v : Vertices) (live : List ℕ) (cell : ℕ → Tetrahedron) (next : ℕ → ℕ → Option ℕ) (p : ℕ) (s : RationalPoint)
     (x : ℕ) (c : Side) : Type 0 where
   pub leaving : ℕ
   pub leaving_below : leaving < 4
@@ -32,15 +32,15 @@ pub record IsStep (v : Vertices) (live : List ℕ) (cell : ℕ → Tetrahedron) 
   pub across : next x leaving ≡ Some c.at
   pub listed : IsIn live c.at
   pub side_below : c.side < 4
-  pub turned : IsTurned (facet_of (cell x) leaving) (entered cell c)
+  pub turned : IsTurned (facet_of (cell x) leaving) (entered_facet cell c)
 
-abbrev pub IsPath :
+abbrev pub IsSightPath :
     (v : Vertices) (live : List ℕ) (cell : ℕ → Tetrahedron) (next : ℕ → ℕ → Option ℕ) (p : ℕ) (s : RationalPoint) → ℕ →
     List Side → Type 0
-IsPath v live cell next p s x [] = is_cell_of v s (cell x) ≡ true
-IsPath v live cell next p s x (c ∷ cs) = IsStep v live cell next p s x c × IsPath v live cell next p s c.at cs
+IsSightPath v live cell next p s x [] = is_cell_of v s (cell x) ≡ true
+IsSightPath v live cell next p s x (c ∷ cs) = IsSightStep v live cell next p s x c × IsSightPath v live cell next p s c.at cs
 
 abbrev pub AreNearing : (v : Vertices) (cell : ℕ → Tetrahedron) (p : ℕ) (s : RationalPoint) → List Side → Type 0
 AreNearing v cell p s [] = Unit {0}
 AreNearing v cell p s (c ∷ cs) =
-    ((d : Side) → IsIn cs d → IsNearer v p s (entered cell c) (entered cell d)) × AreNearing v cell p s cs
+    ((d : Side) → IsIn cs d → IsNearer v p s (entered_facet cell c) (entered_facet cell d)) × AreNearing v cell p s cs

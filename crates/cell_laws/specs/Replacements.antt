@@ -14,11 +14,11 @@ use Rattle.cell_laws.specs.Links.{Side}
 use Rattle.cell_laws.specs.Lists.{IsIn}
 
 -- there is nothing there, or a cell that is not taken out
-abbrev pub IsOutside : (removed : ℕ → Bool) → Option ℕ → Type 0
-IsOutside removed o = (o ≡ None) ⊎ ((y : ℕ) × (o ≡ Some y) × (removed y ≡ false))
+abbrev pub IsNotRemoved : (removed : ℕ → Bool) → Option ℕ → Type 0
+IsNotRemoved removed o = (o ≡ None) ⊎ ((y : ℕ) × (o ≡ Some y) × (removed y ≡ false))
 
 abbrev pub IsAtRim : (next : ℕ → ℕ → Option ℕ) (removed : ℕ → Bool) → (x k : ℕ) → Type 0
-IsAtRim next removed x k = IsOutside removed (next x k)
+IsAtRim next removed x k = IsNotRemoved removed (next x k)
 
 -- f is a facet at the rim, and o is what is across
 pub record IsRimFacet (live : List ℕ) (cell : ℕ → Tetrahedron) (next : ℕ → ℕ → Option ℕ) (removed : ℕ → Bool)
@@ -30,7 +30,7 @@ pub record IsRimFacet (live : List ℕ) (cell : ℕ → Tetrahedron) (next : ℕ
   pub in_range : side < 4
   pub rotated : IsRotated (facet_of (cell at) side) f
   pub across : next at side ≡ o
-  pub outside : IsOutside removed o
+  pub outside : IsNotRemoved removed o
 
 pub record IsRimList (live : List ℕ) (cell : ℕ → Tetrahedron) (next : ℕ → ℕ → Option ℕ) (removed : ℕ → Bool) (n : ℕ)
     (fan : ℕ → DirectedFacet) (outer : ℕ → Option ℕ) : Type 0 where

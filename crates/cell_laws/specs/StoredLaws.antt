@@ -5,7 +5,7 @@
 --                                    vertices
 --   TiedLaw                          the power of vertices is that of numbered points by the tie rule
 --   ListedLaw                        what is in a list of names is contained in it
---   AreRows                          each name has one row of rising numbers, that of a cell, and each row of a cell is that of
+--   AreRowsOfCells                   each name has one row of rising numbers, that of a cell, and each row of a cell is that of
 --                                    one name
 --   RowLaw                           names that stand for all cells are so
 use Rattle.std.specs.Prelude.{ℕ, ◌<◌, ◌≡◌, ◌≢◌, ◌↔◌, ◌+◌, Bool, true, false, Option, List, length, get_or, set, All, AllPairs}
@@ -15,7 +15,7 @@ use Rattle.geo_sign.specs.Point.{Point, IsWithin}
 use Rattle.geo_sign.specs.declared.point.TheConstants.{DATA_LIMIT}
 use Rattle.geo_sign.specs.Tetrahedron.{Tetrahedron}
 use Rattle.geo_sign.specs.Tie.{tied_power}
-use Rattle.geo_sign.specs.Vertices.{Vertices, power_of, vertices_of}
+use Rattle.geo_sign.specs.Vertices.{Vertices, power_of, boxed_vertices}
 use Rattle.geo_sign.specs.Cells.{IsCell, IsRisingCell}
 use Rattle.cell_laws.specs.LinkLaws.{AreAllCells}
 use Rattle.cell_laws.specs.Lists.{IsIn, IsListing}
@@ -24,7 +24,7 @@ use Rattle.geo_sign.specs.RowLaws.{IsOneRow, IsRowOf}
 -- the box's corners and distinct data points, all in
 abbrev pub AllLaw : Type 0
 AllLaw =
-    (points : List Point) → All (IsWithin DATA_LIMIT) points → AllPairs (λ p q. p ≢ q) points → IsBoxed (vertices_of points)
+    (points : List Point) → All (IsWithin DATA_LIMIT) points → AllPairs (λ p q. p ≢ q) points → IsBoxed (boxed_vertices points)
 
 -- points with a flag each, corners first, are the vertices of the box that an insertion speaks of, at its start, after each
 -- vertex more, and with all of them in
@@ -36,12 +36,12 @@ pub record AreStored (points : List Point) (flags : List Bool) : Type 0 where
       (p : ℕ) → p < length flags → inserted_vertices points (set flags p true) ≡ with_vertex (inserted_vertices points flags) p
   pub all :
       ((u : ℕ) → u < 8 + length points → get_or flags u false ≡ true) → (a b c d : ℕ) →
-      IsCell (inserted_vertices points flags) a b c d ↔ IsCell (vertices_of points) a b c d
+      IsCell (inserted_vertices points flags) a b c d ↔ IsCell (boxed_vertices points) a b c d
   pub whole :
       ((u : ℕ) → u < 8 + length points → get_or flags u false ≡ true) →
       (live : List ℕ) (cell : ℕ → Tetrahedron) (next : ℕ → ℕ → Option ℕ) →
       AreAllCells (inserted_vertices points flags) live cell next →
-      AreAllCells (vertices_of points) live cell next
+      AreAllCells (boxed_vertices points) live cell next
 
 abbrev pub StoredLaw : Type 0
 StoredLaw = (points : List Point) (flags : List Bool) → AreStored points flags
@@ -55,10 +55,10 @@ abbrev pub ListedLaw : Type 0
 ListedLaw = (xs : List ℕ) (x : ℕ) → IsIn xs x ↔ Contains xs x
 
 -- names and rows stand for each other
-pub record AreRows (v : Vertices) (live : List ℕ) (cell : ℕ → Tetrahedron) : Type 0 where
+pub record AreRowsOfCells (v : Vertices) (live : List ℕ) (cell : ℕ → Tetrahedron) : Type 0 where
   pub row : (x : ℕ) → IsIn live x → (row : List ℕ) × IsOneRow (cell x) row × IsRisingCell v row
   pub name : (row : List ℕ) → IsRisingCell v row → (x : ℕ) × IsIn live x × IsRowOf (cell x) row
   pub one : (row : List ℕ) (x y : ℕ) → IsIn live x → IsIn live y → IsRowOf (cell x) row → IsRowOf (cell y) row → x ≡ y
 
 abbrev pub RowLaw : Type 0
-RowLaw = (v : Vertices) (live : List ℕ) (cell : ℕ → Tetrahedron) → IsListing v live cell → AreRows v live cell
+RowLaw = (v : Vertices) (live : List ℕ) (cell : ℕ → Tetrahedron) → IsListing v live cell → AreRowsOfCells v live cell

@@ -21,10 +21,10 @@ use Rattle.geo_sign.specs.Sights.{side_of, is_crossed, is_towards, is_behind, is
 use Rattle.geo_sign.specs.Boxes.{IsBoxed}
 use Rattle.geo_sign.specs.Places.{IsInBox, IsLyingIn}
 use Rattle.cell_laws.specs.Lifts.{is_higher}
-use Rattle.cell_laws.specs.Links.{Side, IsLinked}
+use Rattle.cell_laws.specs.Links.{Side, AreLinked}
 use Rattle.cell_laws.specs.Lists.{IsIn, AreCells, one_if, count}
 use Rattle.geo_sign.specs.NearPlaces.{towards_place, behind_place}
-use Rattle.cell_laws.specs.Paths.{IsOnSight, is_that, entered, IsPath, AreNearing}
+use Rattle.cell_laws.specs.Paths.{IsOnSight, is_that, entered_facet, IsSightPath, AreNearing}
 use Rattle.geo_sign.specs.Writings.{IsRewritten}
 
 -- ---- a walk to q
@@ -41,7 +41,7 @@ pub record IsWalk (v : Vertices) (live : List ℕ) (cell : ℕ → Tetrahedron) 
 abbrev pub StepLaw : Type 0
 StepLaw =
     (v : Vertices) → IsBoxed v → (live : List ℕ) (cell : ℕ → Tetrahedron) (next : ℕ → ℕ → Option ℕ) →
-    IsLinked v live cell next → AreCells v live cell → (q : RationalPoint) → IsInBox q → IsWalk v live cell next q
+    AreLinked v live cell next → AreCells v live cell → (q : RationalPoint) → IsInBox q → IsWalk v live cell next q
 
 -- ---- places near a data point
 -- p is moved a little towards the displaced scanner, or away from it: the side of any facet on which it then lies is the one on
@@ -102,7 +102,7 @@ VertexSightLaw = (v : Vertices) → IsBoxed v → (p : ℕ) → Has v p → (s :
 
 -- ---- along a sight
 -- a cell on a sight has one way out, which is a crossed facet, or has the scanner in it; and it has one way in at most
-pub record IsPassed (v : Vertices) (p : ℕ) (s : RationalPoint) (t : Tetrahedron) : Type 0 where
+pub record IsPassedOnce (v : Vertices) (p : ℕ) (s : RationalPoint) (t : Tetrahedron) : Type 0 where
   pub exit_or_end :
       IsOnSight v p s t → ((k : ℕ) × (k < 4) × (is_crossed v p s (turned (facet_of t k)) ≡ true)) ⊎ (is_cell_of v s t ≡ true)
   pub not_both : (k : ℕ) → is_crossed v p s (turned (facet_of t k)) ≡ true → ¬ (is_cell_of v s t ≡ true)
@@ -115,29 +115,29 @@ pub record IsPassed (v : Vertices) (p : ℕ) (s : RationalPoint) (t : Tetrahedro
 abbrev pub SightLaw : Type 0
 SightLaw =
     (v : Vertices) → IsBoxed v → (p : ℕ) → Has v p → (s : Point) → IsWithin DATA_LIMIT s → (t : Tetrahedron) →
-    IsCell v t.a t.b t.c t.d → IsPassed v p (displaced s) t
+    IsCell v t.a t.b t.c t.d → IsPassedOnce v p (displaced s) t
 
 -- from each cell on a sight one way leads on, over crossed facets, each nearer to p than the next; from the cell at p towards the
 -- scanner it has them all
 pub record HasPaths (v : Vertices) (live : List ℕ) (cell : ℕ → Tetrahedron) (next : ℕ → ℕ → Option ℕ) (p : ℕ)
     (s : RationalPoint) : Type 0 where
-  pub some : (x : ℕ) → IsIn live x → IsOnSight v p s (cell x) → (cs : List Side) × IsPath v live cell next p s x cs
+  pub some : (x : ℕ) → IsIn live x → IsOnSight v p s (cell x) → (cs : List Side) × IsSightPath v live cell next p s x cs
   pub one :
-      (x : ℕ) (cs ds : List Side) → IsIn live x → IsPath v live cell next p s x cs → IsPath v live cell next p s x ds → cs ≡ ds
+      (x : ℕ) (cs ds : List Side) → IsIn live x → IsSightPath v live cell next p s x cs → IsSightPath v live cell next p s x ds → cs ≡ ds
   pub crossed :
-      (x : ℕ) (cs : List Side) → IsPath v live cell next p s x cs → (c : Side) → IsIn cs c →
-      IsIn live c.at × (c.side < 4) × (is_crossed v p s (entered cell c) ≡ true)
+      (x : ℕ) (cs : List Side) → IsSightPath v live cell next p s x cs → (c : Side) → IsIn cs c →
+      IsIn live c.at × (c.side < 4) × (is_crossed v p s (entered_facet cell c) ≡ true)
   pub all :
-      (x : ℕ) (cs : List Side) → IsIn live x → is_towards v p s (cell x) ≡ true → IsPath v live cell next p s x cs →
-      (c : Side) → IsIn live c.at → c.side < 4 → is_crossed v p s (entered cell c) ≡ true → IsIn cs c
-  pub nearing : (x : ℕ) (cs : List Side) → IsPath v live cell next p s x cs → AreNearing v cell p s cs
+      (x : ℕ) (cs : List Side) → IsIn live x → is_towards v p s (cell x) ≡ true → IsSightPath v live cell next p s x cs →
+      (c : Side) → IsIn live c.at → c.side < 4 → is_crossed v p s (entered_facet cell c) ≡ true → IsIn cs c
+  pub nearing : (x : ℕ) (cs : List Side) → IsSightPath v live cell next p s x cs → AreNearing v cell p s cs
   -- so each facet stands in it once or not at all, as the sight crosses it or not
   pub counted :
-      (x : ℕ) (cs : List Side) → IsIn live x → is_towards v p s (cell x) ≡ true → IsPath v live cell next p s x cs →
-      (c : Side) → IsIn live c.at → c.side < 4 → count (is_that c) cs ≡ one_if (is_crossed v p s (entered cell c))
+      (x : ℕ) (cs : List Side) → IsIn live x → is_towards v p s (cell x) ≡ true → IsSightPath v live cell next p s x cs →
+      (c : Side) → IsIn live c.at → c.side < 4 → count (is_that c) cs ≡ one_if (is_crossed v p s (entered_facet cell c))
 
 abbrev pub PathLaw : Type 0
 PathLaw =
     (v : Vertices) → IsBoxed v → (live : List ℕ) (cell : ℕ → Tetrahedron) (next : ℕ → ℕ → Option ℕ) →
-    IsLinked v live cell next → AreCells v live cell → (p : ℕ) → Has v p → (s : Point) → IsWithin DATA_LIMIT s →
+    AreLinked v live cell next → AreCells v live cell → (p : ℕ) → Has v p → (s : Point) → IsWithin DATA_LIMIT s →
     HasPaths v live cell next p (displaced s)

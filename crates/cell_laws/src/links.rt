@@ -1,6 +1,6 @@
 //! Laws of linked cells, in the words of any store: a list of live names, the vertices of each name, and its neighbor at each side.
 //! They suppose that neighbors have the facet turned, that None stands on walls alone and that no directed facet stands twice
-//! (`IsLinked`), and most of them that each name stands for a cell (`AreCells`).
+//! (`AreLinked`), and most of them that each name stands for a cell (`AreCells`).
 
 ghost use Rattle.cell_laws.specs.ClosedLaws.{ClosedLaw};
 ghost use Rattle.cell_laws.specs.LinkLaws.{BoxLaw, WallLaw, BackLaw, LinkedLaw, FloodedLaw, FoundLaw, CavityLaw, RimLaw, ReplaceLaw, RimOfLaw, RimListLaw, RelinkLaw, RenewLaw};

@@ -26,7 +26,7 @@ use Rattle.cert_text.specs.Texts.{version_text, points_word, scanners_word, sigh
 use Rattle.cert_text.specs.Texts.{inside_word, flow_word, sink_word, end_line, cell_line, flow_line, sink_line, counts_text}
 use Rattle.cert_text.specs.Texts.{cert_text}
 use Rattle.cert_text.specs.Refusals.{cert_refusal, OrNoMemory, RefusedVersion, RefusedCounts, counts_line, AtEnd, AtSink}
-use Rattle.cert_text.specs.Refusals.{AtFlow, AtInside, AtCounts, AtCertificate, IsRefused}
+use Rattle.cert_text.specs.Refusals.{AtFlow, AtInside, AtCounts, AtCertificate, IsRefusedCertificate}
 use Rattle.cert_text.proofs.CertCodes.{cell_code, flow_code, sink_code, counts_code, counts_parts, cert_parts}
 use Rattle.cert_text.proofs.StampCodes.{version_code}
 use Rattle.cert_text.proofs.StampRefused.{version_same, version_passed}
@@ -175,19 +175,19 @@ good_not_refused c r text w e h =
     (λ _ t. AtInside (counts_line c.stamp + 6) t r) (counts_passed (counts_line c.stamp) _ r) i w.counts refl (λ k.
     lists_passed c (counts_line c.stamp + 6) r _ w k (lists_parts c)))
 
-pub refused_once : (text : List ℕ) (r s : CertRefusal) → IsRefused text r → IsRefused text s → r ≡ s
+pub refused_once : (text : List ℕ) (r s : CertRefusal) → IsRefusedCertificate text r → IsRefusedCertificate text s → r ≡ s
 refused_once text r s h k = h.2 ∙ (ap cert_refusal (certificate_once text h.0 k.0 h.1 k.1) ∙ sym k.2)
 
-pub printed_not_refused : (c : Claim) (r : CertRefusal) (text : List ℕ) → IsWellFormed c → text ≡ cert_text c → IsRefused text r
+pub printed_not_refused : (c : Claim) (r : CertRefusal) (text : List ℕ) → IsWellFormed c → text ≡ cert_text c → IsRefusedCertificate text r
     → ⊥
 printed_not_refused c r text w e h = good_not_refused c h.0 text w e h.1
 
 -- ---- what reading answers, by what its lines were refused for
 pub refused_so : (l : LineRefusal) (text : List ℕ) (r : CertRefusal) → r ≡ cert_refusal l → WithMemory l (AtCertificate text l)
-    → OrNoMemory r (IsRefused text r)
-refused_so l text r e h = subst (λ (s : CertRefusal). OrNoMemory s (IsRefused text s)) (sym e) (by l h)
+    → OrNoMemory r (IsRefusedCertificate text r)
+refused_so l text r e h = subst (λ (s : CertRefusal). OrNoMemory s (IsRefusedCertificate text s)) (sym e) (by l h)
   where
-    by : (m : LineRefusal) → WithMemory m (AtCertificate text m) → OrNoMemory (cert_refusal m) (IsRefused text (cert_refusal m))
+    by : (m : LineRefusal) → WithMemory m (AtCertificate text m) → OrNoMemory (cert_refusal m) (IsRefusedCertificate text (cert_refusal m))
     by (lines.BadLine n) k = (lines.BadLine n, k, refl)
     by (lines.Order n) k = (lines.Order n, k, refl)
     by lines.Cut k = (lines.Cut, k, refl)

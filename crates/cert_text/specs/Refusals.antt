@@ -11,7 +11,7 @@
 --   AtEnd                     from the last line on
 --   AtCounts                  from the first count on
 --   AtCertificate             the whole text, line by line
---   IsRefused text r          the text is refused so
+--   IsRefusedCertificate text r   the text is refused so
 use Rattle.std.specs.Prelude.{ℕ, ◌≡◌, ◌+◌, ◌-◌, ◌^◌, ◌++◌, Option, Some, None, List}
 use Rattle.line_text.specs.Numbers.{BeginsWithNone}
 use Rattle.line_text.specs.declared.refusal.LineRefusal.{LineRefusal}
@@ -97,5 +97,5 @@ AtCertificate text r =
     AtPart IsVersion version_text text (RefusedVersion text r) (λ stamp rest. AtCounts (counts_line stamp) rest r)
 
 -- the text is refused so: the first line, in order, that is cut, not of its form, out of order, or behind the end
-abbrev pub IsRefused : List ℕ → CertRefusal → Type 0
-IsRefused text r = (l : LineRefusal) × AtCertificate text l × (r ≡ cert_refusal l)
+abbrev pub IsRefusedCertificate : List ℕ → CertRefusal → Type 0
+IsRefusedCertificate text r = (l : LineRefusal) × AtCertificate text l × (r ≡ cert_refusal l)

@@ -11,7 +11,7 @@ ghost use Rattle.line_text.specs.Lists.{WithMemory, RefusedList, list_text, IsLi
 ghost use Rattle.geo_sign.specs.Rising.{IsBefore};
 ghost use Rattle.cert_text.specs.Certificates.{Claim, claim_of, FitCounts, IsWellFormed};
 ghost use Rattle.cert_text.specs.Texts.{counts_text, cert_text};
-ghost use Rattle.cert_text.specs.Refusals.{OrNoMemory, RefusedCounts, AtCertificate, IsRefused};
+ghost use Rattle.cert_text.specs.Refusals.{OrNoMemory, RefusedCounts, AtCertificate, IsRefusedCertificate};
 ghost use Rattle.cert_text.specs.declared.refusal.CertRefusal.{CertRefusal};
 ghost use Rattle.cert_text.specs.Headings.{counts_of};
 
@@ -172,7 +172,7 @@ fn read_lines(alloc: Global, bytes: &[u8]) -> Result<Certificate, LineRefusal>
 /// The certificate, or the first refusal as one of a certificate.
 fn read_or_refuse(alloc: Global, bytes: &[u8]) -> Result<Certificate, CertRefusal>
     ensures ok { IfOk result (λ cert. IsWellFormed (claim_of cert) × (bytes.now ≡ cert_text (claim_of cert))) }
-    ensures refused { IfErr result (λ r. OrNoMemory r (IsRefused bytes.now r)) }
+    ensures refused { IfErr result (λ r. OrNoMemory r (IsRefusedCertificate bytes.now r)) }
 {
     match read_lines(alloc, bytes) {
         Ok(cert) => Ok(cert),
@@ -191,8 +191,8 @@ fn read_or_refuse(alloc: Global, bytes: &[u8]) -> Result<Certificate, CertRefusa
 pub fn read_cert(alloc: Global, bytes: &[u8]) -> Result<Certificate, CertRefusal>
     ensures ok { IfOk result (λ cert. IsWellFormed (claim_of cert) × (bytes.now ≡ cert_text (claim_of cert))) }
     ensures printed { (c : Claim) → IsWellFormed c → bytes.now ≡ cert_text c → MatchResult result (λ cert. claim_of cert ≡ c) (λ r. r ≡ CertRefusal.NoMemory) }
-    ensures refused { IfErr result (λ r. OrNoMemory r (IsRefused bytes.now r)) }
-    ensures first { (r : CertRefusal) → IsRefused bytes.now r → IfErr result (λ s. OrNoMemory s (s ≡ r)) × IsErr result }
+    ensures refused { IfErr result (λ r. OrNoMemory r (IsRefusedCertificate bytes.now r)) }
+    ensures first { (r : CertRefusal) → IsRefusedCertificate bytes.now r → IfErr result (λ s. OrNoMemory s (s ≡ r)) × IsErr result }
 {
     read_or_refuse(alloc, bytes)
 }

@@ -10,7 +10,7 @@ use Rattle.std.proofs.lemmas.Bool.{cases_lt, le-ltb}
 use Rattle.std.proofs.lemmas.List.{get_or-set_same, get_or-set_other}
 use Rattle.geo_sign.specs.Point.{Point, origin}
 use Rattle.geo_sign.specs.Tie.{height}
-use Rattle.geo_sign.specs.Vertices as geo
+use Rattle.geo_sign.specs.Vertices.{boxed_vertices}
 use Rattle.geo_sign.specs.Vertices.{Vertices, corners}
 use Rattle.geo_sign.specs.Cells.{IsCell}
 use Rattle.geo_sign.proofs.Corners.{vertex_count}
@@ -76,7 +76,7 @@ counted n points inserted = record {
 
 to_points : (points : List Point) (inserted : List Bool)
     → ((u : ℕ) → u < 8 + length points → slice_index_or inserted u false ≡ true) → (a b c d : ℕ)
-    → IsCell (counted (8 + length points) points inserted) a b c d → IsCell (geo.vertices_of points) a b c d
+    → IsCell (counted (8 + length points) points inserted) a b c d → IsCell (boxed_vertices points) a b c d
 to_points points inserted h a b c d k = record {
   has_a = (k.has_a.0, refl);
   has_b = (k.has_b.0, refl);
@@ -88,7 +88,7 @@ to_points points inserted h a b c d k = record {
 
 of_points : (points : List Point) (inserted : List Bool)
     → ((u : ℕ) → u < 8 + length points → slice_index_or inserted u false ≡ true) → (a b c d : ℕ)
-    → IsCell (geo.vertices_of points) a b c d → IsCell (counted (8 + length points) points inserted) a b c d
+    → IsCell (boxed_vertices points) a b c d → IsCell (counted (8 + length points) points inserted) a b c d
 of_points points inserted h a b c d k =
     record {
       has_a = (k.has_a.0, h a k.has_a.0);
@@ -101,7 +101,7 @@ of_points points inserted h a b c d k =
 
 pub of_all : (s : Store) (points : List Point) → s.points ≡ corners ++ points
     → ((u : ℕ) → u < length s.points → slice_index_or s.inserted u false ≡ true) → IsDelaunay (vertices_of s) (links_of s.slots)
-    → IsDelaunay (geo.vertices_of points) (links_of s.slots)
+    → IsDelaunay (boxed_vertices points) (links_of s.slots)
 of_all s points e h delaunay =
     let h' : (u : ℕ) → u < 8 + length points → slice_index_or s.inserted u false ≡ true =
     λ u l. h u (let n = ap length e ∙ vertex_count points in omega arith) in

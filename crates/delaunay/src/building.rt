@@ -3,7 +3,7 @@
 ghost use Rattle.std.specs.Prelude.{◌≡◌, ◌<◌, ◌≤◌, ◌++◌, ℕ, true, false, IfOk, length, get_or, slice_index_or, nat_lt};
 ghost use Rattle.geo_sign.specs.Point.{origin, IsWithin};
 ghost use Rattle.geo_sign.specs.declared.point.TheConstants.{DATA_LIMIT};
-ghost use Rattle.geo_sign.specs.Vertices.{corners, vertices_of as all_vertices_of};
+ghost use Rattle.geo_sign.specs.Vertices.{corners, boxed_vertices};
 ghost use Rattle.tetra_store.specs.declared.boxed.TheConstants.{VERTEX_LIMIT};
 ghost use Rattle.tetra_store.specs.Links.{links_of};
 ghost use Rattle.tetra_store.specs.Store.{vertices_of};
@@ -32,7 +32,7 @@ pub fn build(alloc: Global, points: &[Point]) -> Result<Tetra, NoMemory>
     ensures points { IfOk result (λ t. t.points ≡ corners ++ points.now) }
     ensures inserted { IfOk result (λ t. (u : ℕ) → u < length t.points → slice_index_or t.inserted u false ≡ true) }
     ensures delaunay { IfOk result (λ t. IsDelaunay (vertices_of t) (links_of t.slots)) }
-    ensures cells { IfOk result (λ t. IsDelaunay (all_vertices_of points.now) (links_of t.slots)) }
+    ensures cells { IfOk result (λ t. IsDelaunay (boxed_vertices points.now) (links_of t.slots)) }
     ensures partition { IfOk result (λ t. IsPartition t) }
 {
     build_watched(alloc, points, &mut Silent)
@@ -50,7 +50,7 @@ pub fn build_watched<W: Watch>(
     ensures points { IfOk result (λ t. t.points ≡ corners ++ points.now) }
     ensures inserted { IfOk result (λ t. (u : ℕ) → u < length t.points → slice_index_or t.inserted u false ≡ true) }
     ensures delaunay { IfOk result (λ t. IsDelaunay (vertices_of t) (links_of t.slots)) }
-    ensures cells { IfOk result (λ t. IsDelaunay (all_vertices_of points.now) (links_of t.slots)) }
+    ensures cells { IfOk result (λ t. IsDelaunay (boxed_vertices points.now) (links_of t.slots)) }
     ensures partition { IfOk result (λ t. IsPartition t) }
 {
     watch.stage(Stage::Cells, points.len() as u64);
@@ -95,7 +95,7 @@ fn build_in_order<W: Watch>(
     ensures points { IfOk result (λ t. t.points ≡ corners ++ points.now) }
     ensures inserted { IfOk result (λ t. (u : ℕ) → u < length t.points → slice_index_or t.inserted u false ≡ true) }
     ensures delaunay { IfOk result (λ t. IsDelaunay (vertices_of t) (links_of t.slots)) }
-    ensures cells { IfOk result (λ t. IsDelaunay (all_vertices_of points.now) (links_of t.slots)) }
+    ensures cells { IfOk result (λ t. IsDelaunay (boxed_vertices points.now) (links_of t.slots)) }
     ensures partition { IfOk result (λ t. IsPartition t) }
 {
     let mut t = box_with(alloc, points)?;

@@ -11,7 +11,7 @@
 --   IsNotLeast net labels v             node v is inside, and outside by the least-inside labels
 --   AreWithinArcs net labels flow       no fixed node is inside, and no arc is over its capacity
 --   AreWithinLimits net labels flow     nor is a sink over its limit
---   IsCertified net labels flow         admissible labels that cost what a valid flow is worth
+--   IsOptimalPair net labels flow       admissible labels that cost what a valid flow is worth
 --   IsVerdict net labels flow verdict   the verdict: the first of these faults at its smallest node or arc, or Yes
 use Rattle.std.specs.Prelude.{ℕ, ◌≡◌, ◌≢◌, length, slice_index}
 use Rattle.flow_net.specs.declared.Net.{Net}
@@ -67,7 +67,7 @@ AreWithinLimits net labels flow =
     faults.AreWithinLimits (network_of net) (flag_at labels.inside) (slice_index flow.on_arc) (slice_index flow.on_sink)
 
 -- admissible labels that cost what a valid flow is worth
-pub record IsCertified (net : Net) (labels : Labels) (flow : Flow) : Type 0 where
+pub record IsOptimalPair (net : Net) (labels : Labels) (flow : Flow) : Type 0 where
   pub admissible : IsAdmissible net labels
   pub valid : IsValidFlow net flow
   pub equal : value_of net flow ≡ cost_of net labels
@@ -88,4 +88,4 @@ IsVerdict net labels flow (Unbalanced v entering leaving) =
     × (entering ≡ amount_in net.arcs flow.on_arc v) × (leaving ≡ total_out net flow v)
 IsVerdict net labels flow (NotEqual value cost) =
     IsAdmissible net labels × IsValidFlow net flow × (value ≡ value_of net flow) × (cost ≡ cost_of net labels) × (value ≢ cost)
-IsVerdict net labels flow (NotLeast v) = IsCertified net labels flow × IsFirst (length net.fixed) (IsNotLeast net labels) v
+IsVerdict net labels flow (NotLeast v) = IsOptimalPair net labels flow × IsFirst (length net.fixed) (IsNotLeast net labels) v

@@ -3,7 +3,7 @@
 ghost use Rattle.std.specs.Prelude.{◌≡◌, ◌↔◌, length, IfOk, IfSome, IfNone};
 ghost use Rattle.flow_net.specs.Flows.{IsValidFlow, IsLeastInside, value_of, cost_of};
 ghost use Rattle.flow_check.specs.Firsts.{IsFirst, NoneBelow};
-ghost use Rattle.flow_check.specs.Verdicts.{IsCertified, IsInsideAlone, IsNotLeast, IsVerdict};
+ghost use Rattle.flow_check.specs.Verdicts.{IsOptimalPair, IsInsideAlone, IsNotLeast, IsVerdict};
 
 use crate::balance::unbalanced;
 use crate::limits::{fixed_inside, limit_at, over_capacity, over_sink};
@@ -36,7 +36,7 @@ fn not_least(
     labels: &Labels,
     flow: &Flow,
 ) -> Result<Option<usize>, NoMemory>
-    requires { IsCertified net.now labels.now flow.now }
+    requires { IsOptimalPair net.now labels.now flow.now }
     ensures first { IfOk result (λ found. IfSome found (IsFirst (length net.now.fixed) (IsNotLeast net.now labels.now))) }
     ensures none { IfOk result (λ found. IfNone found (IsLeastInside net.now labels.now)) }
 {

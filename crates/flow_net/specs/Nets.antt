@@ -3,7 +3,7 @@
 --   no_arc         what a list of arcs has past its end
 --   arc_at         the arc at a place of a list
 --   flag_at        whether a list of flags has a node
---   IsReverse      one arc is the reverse of another and names it back
+--   IsReverseArc   one arc is the reverse of another and names it back
 --   IsValidArc     an arc fits its network
 --   AreValidArcs   each arc does
 --   IsValidNet     the parts make a valid network
@@ -25,7 +25,7 @@ abbrev pub flag_at : List Bool → ℕ → Bool
 flag_at flags v = slice_index_or flags v false
 
 -- the arc b is the reverse of arc a, whose place is j, and names it back
-pub record IsReverse (a : Arc) (j : ℕ) (b : Arc) : Type 0 where
+pub record IsReverseArc (a : Arc) (j : ℕ) (b : Arc) : Type 0 where
   pub from_is : b.from ≡ a.to
   pub to_is : b.to ≡ a.from
   pub back : b.pair ≡ Some j
@@ -40,7 +40,7 @@ pub record IsValidArc (fixed : List Bool) (arcs : List Arc) (j : ℕ) (a : Arc) 
   pub no_pair : ForNone a.pair (flag_at fixed a.from ≡ true)
   pub pair_free : ForSome a.pair (λ k. flag_at fixed a.from ≡ false)
   pub pair_in : ForSome a.pair (λ k. k < length arcs)
-  pub pair_is : ForSome a.pair (λ k. IsReverse a j (arc_at arcs k))
+  pub pair_is : ForSome a.pair (λ k. IsReverseArc a j (arc_at arcs k))
 
 -- each arc fits the network
 abbrev pub AreValidArcs : List Bool → List Arc → Type 0

@@ -1,13 +1,13 @@
 //! The test whether parts make a valid network. It stands on `Arc` alone.
 
 ghost use Rattle.std.specs.Prelude.{◌↔◌, ◌≤◌, ◌^◌, IsTrue, slice_index, EachIndex};
-ghost use Rattle.flow_net.specs.Nets.{AreValidArcs, IsReverse, IsValidArc, IsValidNet};
+ghost use Rattle.flow_net.specs.Nets.{AreValidArcs, IsReverseArc, IsValidArc, IsValidNet};
 
 use crate::{AMOUNT_LIMIT, Arc};
 
 /// Whether `other` is the reverse of `arc`, which has number `place`, and names it back.
 fn is_reverse(arc: &Arc, place: usize, other: &Arc) -> bool
-    ensures { IsTrue result ↔ IsReverse arc.now place other.now }
+    ensures { IsTrue result ↔ IsReverseArc arc.now place other.now }
 {
     other.from == arc.to && other.to == arc.from && other.pair == Some(place)
 }

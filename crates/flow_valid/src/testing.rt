@@ -3,7 +3,7 @@
 ghost use Rattle.std.specs.Prelude.{◌≡◌, ◌↔◌, length, IfOk, IsTrue};
 ghost use Rattle.flow_net.specs.NumberedFlows.{IsValidFlow};
 ghost use Rattle.flow_valid.specs.Totals.{AreTotals};
-ghost use Rattle.flow_valid.specs.Limits.{AreWithinArcs, AreWithinSinks, AreBalanced};
+ghost use Rattle.flow_valid.specs.Limits.{AreWithinCapacities, AreWithinSinks, AreBalanced};
 
 use crate::NoMemory;
 use crate::balance::{Totals, add_up};
@@ -13,7 +13,7 @@ use std::alloc::Global;
 /// Whether no more flows on each arc than its capacity.
 fn are_within_arcs<N: FlowNetwork>(net: &N, flow: &Flow) -> bool
     requires { length flow.now.on_arc ≡ (N.numbered net.now).arc_count }
-    ensures { IsTrue result ↔ AreWithinArcs (N.numbered net.now) flow.now }
+    ensures { IsTrue result ↔ AreWithinCapacities (N.numbered net.now) flow.now }
 {
     for (arc, amount) in flow.on_arc.as_slice().iter().enumerate() {
         if *amount > net.capacity(arc) {

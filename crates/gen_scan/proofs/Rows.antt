@@ -12,7 +12,7 @@ use Rattle.scan.specs.declared.scan.Seen.{Seen}
 use Rattle.scan.specs.ScanRows.{VertexRow, IsVertexRow, IsScan, sights_in, point_limit}
 use Rattle.scan.specs.Shown.{IsShown, shown_by}
 use Rattle.scan.proofs.ShownLemmas.{rows_are_shown}
-use Rattle.gen_scan.specs.Generated.{on_axis, on_face, spread, generator, row_of, rows_of_words, scanners, generated}
+use Rattle.gen_scan.specs.Generated.{on_axis, on_face, spread, generator, generated_row, rows_of_words, scanners, generated}
 use Rattle.gen_scan.proofs.Words.{point_in}
 
 abbrev IsSmall : ℤ → Type 0
@@ -35,7 +35,7 @@ side_small : (b : Bool) → IsSmall (cond b (pos 1000) (neg_ℤ (pos 1000)))
 side_small true = omega arith
 side_small false = omega arith
 
-row_valid : (number first second : ℕ) → IsVertexRow 6 (row_of number first second)
+row_valid : (number first second : ℕ) → IsVertexRow 6 (generated_row number first second)
 row_valid number first second = record {
   data_point =
       on_axis_within ((number % 6) / 2) (cond ((number % 6) % 2 == 0) (pos 1000) (neg_ℤ (pos 1000))) (spread first)
@@ -49,7 +49,7 @@ rows_valid : (number : ℕ) (words : List ℕ) → All (IsVertexRow 6) (rows_of_
 rows_valid number [] = All-nil (IsVertexRow 6)
 rows_valid number (first ∷ []) = All-nil (IsVertexRow 6)
 rows_valid number (first ∷ second ∷ words) =
-    All-cons (IsVertexRow 6) (row_of number first second) (rows_of_words (number + 1) words) (row_valid number first second)
+    All-cons (IsVertexRow 6) (generated_row number first second) (rows_of_words (number + 1) words) (row_valid number first second)
     (rows_valid (number + 1) words)
 
 one_sight_each : (number : ℕ) (words : List ℕ) → sights_in (rows_of_words number words) ≡ length (rows_of_words number words)
@@ -58,7 +58,7 @@ one_sight_each number (first ∷ []) = refl
 one_sight_each number (first ∷ second ∷ words) =
     omega (
       arith,
-      sum_by-cons (λ (row : VertexRow). length row.seen_by) (row_of number first second) (rows_of_words (number + 1) words),
+      sum_by-cons (λ (row : VertexRow). length row.seen_by) (generated_row number first second) (rows_of_words (number + 1) words),
       one_sight_each (number + 1) words,
     )
 

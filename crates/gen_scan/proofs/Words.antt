@@ -8,7 +8,7 @@ use Rattle.rand_pcg.specs.Pcg.{pcg32}
 use Rattle.scan.specs.declared.scan.Seen.{Seen}
 use Rattle.scan.specs.ScanRows.{VertexRow}
 use Rattle.scan.specs.Shown.{row_seen, seen_from}
-use Rattle.gen_scan.specs.Generated.{row_of, rows_of_words}
+use Rattle.gen_scan.specs.Generated.{generated_row, rows_of_words}
 
 -- the rows from a number on, of so many in all
 abbrev pub rows_left : ℕ → ℕ → Lcg → List VertexRow
@@ -16,7 +16,7 @@ rows_left number count g = rows_of_words number (first_words pcg32 ((count - num
 
 -- the row of a number, made of the next two words
 abbrev pub next_row : ℕ → Lcg → VertexRow
-next_row number g = row_of number (pcg32 g).0 (pcg32 (pcg32 g).1).0
+next_row number g = generated_row number (pcg32 g).0 (pcg32 (pcg32 g).1).0
 
 -- the generator behind these words
 abbrev pub behind_row : Lcg → Lcg

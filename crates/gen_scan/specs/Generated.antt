@@ -4,7 +4,7 @@
 --   on_face face distance u v     the place on a face's side, so far from the middle
 --   spread word                   the number from -1000 to 1000 that a word gives
 --   generator seed                the generator of words that a seed starts
---   row_of number first second    the row of this number, made of two words
+--   generated_row number first second   the row of this number, made of two words
 --   rows_of_words number words    a row for each two words, from this number on
 --   generated count seed          the scan
 use Rattle.std.specs.Prelude.{ℕ, ◌+◌, ◌*◌, ◌/◌, ◌%◌, ◌==◌, List, [], ◌∷◌, ℤ, pos, neg_ℤ, ◌-ℤ◌, if◌then◌else◌}
@@ -34,15 +34,15 @@ abbrev pub generator : ℕ → Lcg
 generator seed = started 64 multiplier_64 seed (increment_of 64 1)
 
 -- the row of this number: a point on the face whose turn it is, at two words, seen from before that face
-abbrev pub row_of : (number first second : ℕ) → VertexRow
-row_of number first second =
+abbrev pub generated_row : (number first second : ℕ) → VertexRow
+generated_row number first second =
     record { point = on_face (number % 6) (pos 1000) (spread first) (spread second); weight = 1; seen_by = number % 6 ∷ [] }
 
 -- a row for each two words, from this number on
 abbrev pub rows_of_words : ℕ → List ℕ → List VertexRow
 rows_of_words number [] = []
 rows_of_words number (first ∷ []) = []
-rows_of_words number (first ∷ second ∷ words) = row_of number first second ∷ rows_of_words (number + 1) words
+rows_of_words number (first ∷ second ∷ words) = generated_row number first second ∷ rows_of_words (number + 1) words
 
 -- a scanner before each face
 abbrev pub scanners : List Point

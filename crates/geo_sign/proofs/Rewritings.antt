@@ -11,7 +11,7 @@ use Rattle.geo_sign.specs.Cells.{IsCell}
 use Rattle.geo_sign.specs.Sights.{side_of, is_positive, is_negative, has_vertex, all_facets, all_facets_at, is_behind}
 use Rattle.geo_sign.specs.Sights.{is_towards, is_cell_of}
 use Rattle.geo_sign.specs.Places.{IsLyingIn, IsStrictlyIn}
-use Rattle.geo_sign.specs.Writings.{IsRewritten, IsVertexOf, moved, spin, swap}
+use Rattle.geo_sign.specs.Writings.{IsRewritten, IsVertexOf, after_steps, spin, swap}
 use Rattle.geo_sign.specs.FacetLaws.{FacetsAreRotated}
 use Rattle.geo_sign.specs.WritingLaws.{RewritingsAreAlike, IsRewrittenLaw}
 use Rattle.geo_sign.proofs.Exchanges.{spin_orientation, swap_orientation, spin_power, swap_power}
@@ -19,10 +19,10 @@ use Rattle.geo_sign.proofs.Rotations.{rotated_after, side_rotated}
 
 -- ---- what both steps keep
 pub carry : (P : Tetrahedron → Type 0) → ((t : Tetrahedron) → P t → P (spin t)) → ((t : Tetrahedron) → P t → P (swap t))
-    → (steps : List Bool) (t : Tetrahedron) → P t → P (moved steps t)
+    → (steps : List Bool) (t : Tetrahedron) → P t → P (after_steps steps t)
 carry P f g [] t h = h
-carry P f g (true ∷ steps) t h = f (moved steps t) (carry P f g steps t h)
-carry P f g (false ∷ steps) t h = g (moved steps t) (carry P f g steps t h)
+carry P f g (true ∷ steps) t h = f (after_steps steps t) (carry P f g steps t h)
+carry P f g (false ∷ steps) t h = g (after_steps steps t) (carry P f g steps t h)
 
 pub carry_rewritten : (P : Tetrahedron → Type 0) → ((t : Tetrahedron) → P t → P (spin t))
     → ((t : Tetrahedron) → P t → P (swap t)) → (t r : Tetrahedron) → IsRewritten t r → P t → P r
@@ -34,13 +34,13 @@ pub carry_value : {A : Type 0} (value : Tetrahedron → A) → ((t : Tetrahedron
 carry_value value f g t r e = carry_rewritten (λ x. value x ≡ value t) (λ x h. f x ∙ h) (λ x h. g x ∙ h) t r e refl
 
 -- ---- an equivalence
-pub moved_append : (u w : List Bool) (t : Tetrahedron) → moved (u ++ w) t ≡ moved u (moved w t)
+pub moved_append : (u w : List Bool) (t : Tetrahedron) → after_steps (u ++ w) t ≡ after_steps u (after_steps w t)
 moved_append [] w t = refl
 moved_append (true ∷ u) w t = ap spin (moved_append u w t)
 moved_append (false ∷ u) w t = ap swap (moved_append u w t)
 
 pub rewritten_after : (t r s : Tetrahedron) → IsRewritten t r → IsRewritten r s → IsRewritten t s
-rewritten_after t r s e f = (f.0 ++ e.0, moved_append f.0 e.0 t ∙ ap (moved f.0) e.1 ∙ f.1)
+rewritten_after t r s e f = (f.0 ++ e.0, moved_append f.0 e.0 t ∙ ap (after_steps f.0) e.1 ∙ f.1)
 
 -- three spins are none, and two swaps
 pub rewritten_back : (t r : Tetrahedron) → IsRewritten t r → IsRewritten r t

@@ -2,7 +2,7 @@
 --
 -- `expand e k` hands each product of e on to k, which puts it into a form, at once or after more factors. So what is asked
 -- of k is that it adds its product to the form's value, times a number v that stands for what k still multiplies by (Adds).
--- add_term does so for v = 1 (value-add_term, by cases on where the product belongs among the sorted ones), and where k does
+-- add_term does so for v = 1 (polynomial_value-add_term, by cases on where the product belongs among the sorted ones), and where k does
 -- for v, expand e k does for the value of e times v (adds-expand, by the structure of e; a product of two is that step
 -- twice). Begun with add_term at the form 0 this gives the value of e - f; where no product is left in that form it is zero
 -- (null_is_zero), so e and f are one number (ring).
@@ -11,7 +11,7 @@ use Rattle.std.proofs.Common.{List, [], ◌∷◌, Bool, true, false, ◌&&◌, 
 use Rattle.std.proofs.lemmas.Int.{ints}
 use lib.IntN.{*ℤ-one, zero-*ℤ, *ℤ-zero, *ℤ_comm, +ℤ_idl, +ℤ_idr, +ℤ_assoc}
 use Rattle.geo_sign.specs.Polynomial.{Polynomial, variable, constant, sum, difference, product, negation, normal, number_at}
-use Rattle.geo_sign.specs.Polynomial.{value}
+use Rattle.geo_sign.specs.Polynomial.{polynomial_value}
 use Rattle.geo_sign.specs.NormalForm.{Form, leaf, branch, form_value, monomial, insert_variable, single, add_term, is_zero}
 use Rattle.geo_sign.specs.NormalForm.{expand_form, expand, is_null, is_same_form}
 use Rattle.geo_sign.specs.PolynomialLaws.{IdentityLaw}
@@ -32,10 +32,10 @@ times_one : (k : ℤ) → k *ℤ pos 1 ≡ k
 unfolding lib.IntN.one
 times_one k = *ℤ-one k
 
-value-single : (x : List ℤ) (k : ℤ) (m : List ℕ) → form_value x (single k m) ≡ k *ℤ monomial x m
-value-single x k [] = sym (times_one k)
-value-single x k (i ∷ m) =
-    +ℤ_idr (number_at x i *ℤ form_value x (single k m)) ∙ ap (λ y. number_at x i *ℤ y) (value-single x k m)
+polynomial_value-single : (x : List ℤ) (k : ℤ) (m : List ℕ) → form_value x (single k m) ≡ k *ℤ monomial x m
+polynomial_value-single x k [] = sym (times_one k)
+polynomial_value-single x k (i ∷ m) =
+    +ℤ_idr (number_at x i *ℤ form_value x (single k m)) ∙ ap (λ y. number_at x i *ℤ y) (polynomial_value-single x k m)
     ∙ *ℤ_left (number_at x i) k (monomial x m)
 
 -- i * s + n with k * m added to s
@@ -53,15 +53,15 @@ add_past k m s n t e =
 add_front : (k i m s n : ℤ) → s ≡ k *ℤ m → i *ℤ s +ℤ n ≡ k *ℤ (i *ℤ m) +ℤ n
 add_front k i m s n e = ap (λ y. i *ℤ y +ℤ n) e ∙ ap (λ y. y +ℤ n) (*ℤ_left i k m)
 
-value-add_term : (x : List ℤ) (k : ℤ) (m : List ℕ) (t : Form)
+polynomial_value-add_term : (x : List ℤ) (k : ℤ) (m : List ℕ) (t : Form)
     → form_value x (add_term k m t) ≡ k *ℤ monomial x m +ℤ form_value x t
-value-add_term x k [] (leaf c) = ap (λ y. y +ℤ c) (sym (times_one k))
-value-add_term x k [] (branch i s n) =
+polynomial_value-add_term x k [] (leaf c) = ap (λ y. y +ℤ c) (sym (times_one k))
+polynomial_value-add_term x k [] (branch i s n) =
     add_past k (pos 1) (number_at x i *ℤ form_value x s) (form_value x n) (form_value x (add_term k [] n))
-    (value-add_term x k [] n)
-value-add_term x k (j ∷ m) (leaf c) =
-    add_front k (number_at x j) (monomial x m) (form_value x (single k m)) c (value-single x k m)
-value-add_term x k (j ∷ m) (branch i s n) =
+    (polynomial_value-add_term x k [] n)
+polynomial_value-add_term x k (j ∷ m) (leaf c) =
+    add_front k (number_at x j) (monomial x m) (form_value x (single k m)) c (polynomial_value-single x k m)
+polynomial_value-add_term x k (j ∷ m) (branch i s n) =
     let step : (b d : Bool) → (T b → j ≡ i)
     → form_value x
     (elim b [
@@ -80,7 +80,7 @@ value-add_term x k (j ∷ m) (branch i s n) =
           (λ v. number_at x i *ℤ form_value x (add_term k m s) +ℤ form_value x n
           ≡ k *ℤ (number_at x v *ℤ monomial x m) +ℤ (number_at x i *ℤ form_value x s +ℤ form_value x n)) (sym (h tt))
           (add_in k (number_at x i) (monomial x m) (form_value x s) (form_value x n) (form_value x (add_term k m s))
-          (value-add_term x k m s))
+          (polynomial_value-add_term x k m s))
       | false ↦
           λ h. elim d as
           (λ d. form_value x
@@ -88,10 +88,10 @@ value-add_term x k (j ∷ m) (branch i s n) =
           ≡ k *ℤ (number_at x j *ℤ monomial x m) +ℤ (number_at x i *ℤ form_value x s +ℤ form_value x n)) [
             | true ↦
                 add_front k (number_at x j) (monomial x m) (form_value x (single k m))
-                (number_at x i *ℤ form_value x s +ℤ form_value x n) (value-single x k m)
+                (number_at x i *ℤ form_value x s +ℤ form_value x n) (polynomial_value-single x k m)
             | false ↦
                 add_past k (number_at x j *ℤ monomial x m) (number_at x i *ℤ form_value x s) (form_value x n)
-                (form_value x (add_term k (j ∷ m) n)) (value-add_term x k (j ∷ m) n)
+                (form_value x (add_term k (j ∷ m) n)) (polynomial_value-add_term x k (j ∷ m) n)
           ]
     ]
     in step (eqb j i) (ltb j i) (eqb→eq j i)
@@ -159,7 +159,7 @@ adds-expand_form x (branch i s n) v k h c m t =
         ap (λ y. c *ℤ y) (*ℤ_assoc a m (s *ℤ v) ∙ *ℤ_left a m (s *ℤ v) ∙ ap (λ y. m *ℤ y) (sym (*ℤ_assoc a s v)))
 
 adds-add_term : (x : List ℤ) → Adds x (pos 1) add_term
-adds-add_term x c m t = value-add_term x c m t ∙ ap (λ y. c *ℤ y +ℤ form_value x t) (sym (times_one (monomial x m)))
+adds-add_term x c m t = polynomial_value-add_term x c m t ∙ ap (λ y. c *ℤ y +ℤ form_value x t) (sym (times_one (monomial x m)))
 
 -- 1 * (1 * (d * 1)) + 0
 plain : (d : ℤ) → pos 1 *ℤ (pos 1 *ℤ (d *ℤ pos 1)) +ℤ pos 0 ≡ d
@@ -168,28 +168,28 @@ plain d =
     ∙ *ℤ_comm (pos 1) (d *ℤ pos 1) ∙ times_one (d *ℤ pos 1) ∙ times_one d
 
 adds-expand : (x : List ℤ) (e : Polynomial) (v : ℤ) (k : ℤ → List ℕ → Form → Form) → Adds x v k
-    → Adds x (value x e *ℤ v) (expand e k)
+    → Adds x (polynomial_value x e *ℤ v) (expand e k)
 adds-expand x (variable i) v k h c m t =
     h c (insert_variable i m) t ∙ ap (λ y. c *ℤ (y *ℤ v) +ℤ form_value x t) (monomial-insert_variable x i m)
     ∙ var_step c (number_at x i) (monomial x m) v (form_value x t)
 adds-expand x (constant d) v k h c m t = h (c *ℤ d) m t ∙ number_step c d (monomial x m) v (form_value x t)
 adds-expand x (sum e f) v k h c m t =
     adds-expand x e v k h c m (expand f k c m t)
-    ∙ ap (λ y. c *ℤ (monomial x m *ℤ (value x e *ℤ v)) +ℤ y) (adds-expand x f v k h c m t)
-    ∙ sum_step c (monomial x m) (value x e) (value x f) v (form_value x t)
+    ∙ ap (λ y. c *ℤ (monomial x m *ℤ (polynomial_value x e *ℤ v)) +ℤ y) (adds-expand x f v k h c m t)
+    ∙ sum_step c (monomial x m) (polynomial_value x e) (polynomial_value x f) v (form_value x t)
 adds-expand x (difference e f) v k h c m t =
     adds-expand x e v k h c m (expand f k (neg_ℤ c) m t)
-    ∙ ap (λ y. c *ℤ (monomial x m *ℤ (value x e *ℤ v)) +ℤ y) (adds-expand x f v k h (neg_ℤ c) m t)
-    ∙ difference_step c (monomial x m) (value x e) (value x f) v (form_value x t)
+    ∙ ap (λ y. c *ℤ (monomial x m *ℤ (polynomial_value x e *ℤ v)) +ℤ y) (adds-expand x f v k h (neg_ℤ c) m t)
+    ∙ difference_step c (monomial x m) (polynomial_value x e) (polynomial_value x f) v (form_value x t)
 adds-expand x (product e f) v k h c m t =
-    adds-expand x e (value x f *ℤ v) (expand f k) (adds-expand x f v k h) c m t
-    ∙ ap (λ y. c *ℤ (monomial x m *ℤ y) +ℤ form_value x t) (sym (*ℤ_assoc (value x e) (value x f) v))
+    adds-expand x e (polynomial_value x f *ℤ v) (expand f k) (adds-expand x f v k h) c m t
+    ∙ ap (λ y. c *ℤ (monomial x m *ℤ y) +ℤ form_value x t) (sym (*ℤ_assoc (polynomial_value x e) (polynomial_value x f) v))
 adds-expand x (negation e) v k h c m t =
-    adds-expand x e v k h (neg_ℤ c) m t ∙ ap (λ y. y +ℤ form_value x t) (neg_front c (monomial x m) (value x e) v)
+    adds-expand x e v k h (neg_ℤ c) m t ∙ ap (λ y. y +ℤ form_value x t) (neg_front c (monomial x m) (polynomial_value x e) v)
 adds-expand x (normal e) v k h c m t =
     adds-expand_form x (expand e add_term (pos 1) [] (leaf (pos 0))) v k h c m t
     ∙ ap (λ y. c *ℤ (monomial x m *ℤ (y *ℤ v)) +ℤ form_value x t)
-    (adds-expand x e (pos 1) add_term (adds-add_term x) (pos 1) [] (leaf (pos 0)) ∙ plain (value x e))
+    (adds-expand x e (pos 1) add_term (adds-add_term x) (pos 1) [] (leaf (pos 0)) ∙ plain (polynomial_value x e))
 
 both : (a b : Bool) → T (a && b) → T a × T b
 both true b h = (tt, h)
@@ -203,15 +203,15 @@ null_is_zero x (branch i s n) h =
     ∙ ap (λ y. number_at x i *ℤ pos 0 +ℤ y) (null_is_zero x n p.1) ∙ ap (λ y. y +ℤ pos 0) (*ℤ-zero (number_at x i))
 
 -- the two sides are one number, whatever the variables stand for, where they multiply out to one sum
-pub ring : (x : List ℤ) (e f : Polynomial) → T (is_same_form e f) → value x e ≡ value x f
+pub ring : (x : List ℤ) (e f : Polynomial) → T (is_same_form e f) → polynomial_value x e ≡ polynomial_value x f
 ring x e f h =
     let zero_sum : form_value x (expand (difference e f) add_term (pos 1) [] (leaf (pos 0))) ≡ pos 0 =
     null_is_zero x (expand (difference e f) add_term (pos 1) [] (leaf (pos 0))) h in
     let whole : form_value x (expand (difference e f) add_term (pos 1) [] (leaf (pos 0)))
-    ≡ pos 1 *ℤ (pos 1 *ℤ ((value x e -ℤ value x f) *ℤ pos 1)) +ℤ pos 0 =
+    ≡ pos 1 *ℤ (pos 1 *ℤ ((polynomial_value x e -ℤ polynomial_value x f) *ℤ pos 1)) +ℤ pos 0 =
     adds-expand x (difference e f) (pos 1) add_term (adds-add_term x) (pos 1) [] (leaf (pos 0)) in
     let none : (a b : ℤ) → a -ℤ b ≡ pos 0 → a ≡ b = λ a b e. omega (arith, ints) in
-    none (value x e) (value x f) (sym (plain (value x e -ℤ value x f)) ∙ sym whole ∙ zero_sum)
+    none (polynomial_value x e) (polynomial_value x f) (sym (plain (polynomial_value x e -ℤ polynomial_value x f)) ∙ sym whole ∙ zero_sum)
 
 pub identity_law : IdentityLaw
 identity_law x e f h = ring x e f (subst (λ (b : Bool). T b) (sym h) tt)

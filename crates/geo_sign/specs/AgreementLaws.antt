@@ -12,7 +12,7 @@ use Rattle.std.specs.Prelude.{ℕ, ◌<◌, ◌≡◌, ◌↔◌, ◌+◌, Bool,
 use Rattle.geo_sign.specs.Point.{Point}
 use Rattle.geo_sign.specs.Rational.{RationalPoint}
 use Rattle.geo_sign.specs.Tetrahedron.{Tetrahedron, tetrahedron, DirectedFacet}
-use Rattle.geo_sign.specs.Vertices.{Vertices, Has, orientation_of, power_of, vertices_of}
+use Rattle.geo_sign.specs.Vertices.{Vertices, Has, orientation_of, power_of, boxed_vertices}
 use Rattle.geo_sign.specs.Cells.{IsCell, IsRisingCell, IsCellList, written}
 use Rattle.geo_sign.specs.Sights.{side_of, is_crossed, is_behind, is_towards, is_cell_of}
 use Rattle.geo_sign.specs.Places.{IsLyingIn, IsStrictlyIn}
@@ -76,4 +76,4 @@ SightsAgree = (v w : Vertices) → Agree v w → SightsAgreeOn v w
 abbrev pub AllInAgree : Type 0
 AllInAgree =
     (points : List Point) (flags : List Bool) → ((u : ℕ) → u < 8 + length points → get_or flags u false ≡ true)
-    → Agree (inserted_vertices points flags) (vertices_of points)
+    → Agree (inserted_vertices points flags) (boxed_vertices points)

@@ -9,7 +9,7 @@
 --     negation e            -e
 --     normal e              e itself, to be multiplied out before it is used, which shortens a long computation
 --   number_at numbers i   the number that variable i stands for: the one at place i of the list, and 0 past its end
---   value numbers e       what e is worth there
+--   polynomial_value numbers e   what e is worth there
 use Rattle.std.specs.Prelude.{ℕ, zero, suc, ℤ, pos, neg_ℤ, ◌+ℤ◌, ◌-ℤ◌, ◌*ℤ◌, List, [], ◌∷◌}
 
 -- a polynomial as it is written
@@ -29,11 +29,11 @@ number_at (x ∷ xs) zero = x
 number_at (x ∷ xs) (suc i) = number_at xs i
 
 -- what a polynomial is worth where its variables stand for these numbers
-abbrev pub value : List ℤ → Polynomial → ℤ
-value x (variable i) = number_at x i
-value x (constant c) = c
-value x (sum e f) = value x e +ℤ value x f
-value x (difference e f) = value x e -ℤ value x f
-value x (product e f) = value x e *ℤ value x f
-value x (negation e) = neg_ℤ (value x e)
-value x (normal e) = value x e
+abbrev pub polynomial_value : List ℤ → Polynomial → ℤ
+polynomial_value x (variable i) = number_at x i
+polynomial_value x (constant c) = c
+polynomial_value x (sum e f) = polynomial_value x e +ℤ polynomial_value x f
+polynomial_value x (difference e f) = polynomial_value x e -ℤ polynomial_value x f
+polynomial_value x (product e f) = polynomial_value x e *ℤ polynomial_value x f
+polynomial_value x (negation e) = neg_ℤ (polynomial_value x e)
+polynomial_value x (normal e) = polynomial_value x e

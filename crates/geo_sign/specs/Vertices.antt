@@ -5,7 +5,7 @@
 --   orientation_of, power_of    orientation and power of vertices by their numbers
 --   AreOnWall at f              three corners that agree in one coordinate
 --   IsWall vertices f           a facet on a wall of the box
---   vertices_of points          the box's corners and these points, all in, with the heights of the tie rule
+--   boxed_vertices points       the box's corners and these points, all in, with the heights of the tie rule
 use Rattle.std.specs.Prelude.{ℕ, ◌<◌, ◌≡◌, ◌⊎◌, ◌+◌, Bool, true, ℤ, List, [], ◌∷◌, ◌++◌, length, get_or}
 use Rattle.geo_sign.specs.Point.{Point, origin, corner_point}
 use Rattle.geo_sign.specs.Orientation.{orientation}
@@ -55,8 +55,8 @@ abbrev pub point_of : List Point → ℕ → Point
 point_of points u = get_or (corners ++ points) u origin
 
 -- the box's corners and these points, all of them in
-abbrev pub vertices_of : List Point → Vertices
-vertices_of points =
+abbrev pub boxed_vertices : List Point → Vertices
+boxed_vertices points =
     record {
       at = point_of points;
       high = λ u. height (8 + length points) u (point_of points u);

@@ -1,7 +1,7 @@
 -- The twelve ways to write a tetrahedron positively: the even rearrangements of its four vertices.
 --
 --   spin t, swap t       two steps that together reach all twelve
---   moved steps t        steps one after another
+--   after_steps steps t   steps one after another
 --   IsRewritten t r      r is t written anew
 --   IsVertexOf t u       u is one of the vertices of t
 use Rattle.std.specs.Prelude.{ℕ, ◌≡◌, ◌⊎◌, Bool, true, false, List, [], ◌∷◌}
@@ -16,14 +16,14 @@ abbrev pub swap : Tetrahedron → Tetrahedron
 swap t = tetrahedron t.b t.a t.d t.c
 
 -- steps one after another, the last of the list first; true is a spin
-abbrev pub moved : List Bool → Tetrahedron → Tetrahedron
-moved [] t = t
-moved (true ∷ steps) t = spin (moved steps t)
-moved (false ∷ steps) t = swap (moved steps t)
+abbrev pub after_steps : List Bool → Tetrahedron → Tetrahedron
+after_steps [] t = t
+after_steps (true ∷ steps) t = spin (after_steps steps t)
+after_steps (false ∷ steps) t = swap (after_steps steps t)
 
 -- some steps lead from t to r
 abbrev pub IsRewritten : Tetrahedron → Tetrahedron → Type 0
-IsRewritten t r = (steps : List Bool) × (moved steps t ≡ r)
+IsRewritten t r = (steps : List Bool) × (after_steps steps t ≡ r)
 
 -- u is one of the four vertices
 abbrev pub IsVertexOf : Tetrahedron → ℕ → Type 0

@@ -9,7 +9,7 @@ use Rattle.geo_sign.specs.Point.{Point, origin}
 use Rattle.geo_sign.specs.Orientation.{orientation}
 use Rattle.geo_sign.specs.Signs.{sign_of}
 use Rattle.geo_sign.specs.Tie.{height}
-use Rattle.geo_sign.specs.Vertices.{Vertices, orientation_of, power_of, corners, point_of, vertices_of}
+use Rattle.geo_sign.specs.Vertices.{Vertices, orientation_of, power_of, corners, point_of, boxed_vertices}
 use Rattle.geo_sign.specs.Cells.{IsCell, FormCell}
 use Rattle.geo_tie.specs.Rising.{all_at}
 use Rattle.geo_sign.proofs.Own.{last_exchanged}
@@ -69,7 +69,7 @@ form_flat points a b c d o =
     )
 
 -- ---- the corners and the points after them
-pub all_with_corners : (points : List Point) → all_at (corners ++ points) ≡ vertices_of points
+pub all_with_corners : (points : List Point) → all_at (corners ++ points) ≡ boxed_vertices points
 all_with_corners points =
     let e : length (corners ++ points) ≡ 8 + length points = omega arith in
     let counted : ℕ → Vertices =

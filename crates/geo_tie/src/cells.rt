@@ -2,7 +2,7 @@
 //! the incremental tetrahedrization is compared with.
 
 ghost use Rattle.std.specs.Prelude.{◌≡◌, ◌≢◌, ◌<◌, ◌≤◌, ◌+◌, ◌<ℤ◌, ◌≤ℤ◌, ◌↔◌, ◌++◌, ◌∷◌, [], pos, ℕ, IsTrue, IfOk, length};
-ghost use Rattle.geo_sign.specs.Vertices.{vertices_of, orientation_of, power_of, corners};
+ghost use Rattle.geo_sign.specs.Vertices.{boxed_vertices, orientation_of, power_of, corners};
 ghost use Rattle.geo_sign.specs.Cells.{FormCell, IsCellList};
 ghost use Rattle.geo_tie.specs.Rising.{all_at, IsCellListBefore};
 ghost use Rattle.geo_tie.specs.declared.cells.TheConstants.{PLAIN_LIMIT};
@@ -153,7 +153,7 @@ fn with_corners(alloc: Global, points: &[Point]) -> Result<Vec<Point>, NoMemory>
 /// listed once, by the rising numbers of its four vertices, and the list rises. The only error is want of memory.
 pub fn plain_cells(alloc: Global, points: &[Point]) -> Result<Vec<[u32; 4]>, NoMemory>
     requires few { length points.now ≤ PLAIN_LIMIT }
-    ensures { IfOk result (λ cells. IsCellList (vertices_of points.now) cells.items) }
+    ensures { IfOk result (λ cells. IsCellList (boxed_vertices points.now) cells.items) }
 {
     let vertices = with_corners(alloc, points)?;
     let mut cells = Vec::new(alloc);

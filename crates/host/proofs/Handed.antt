@@ -2,7 +2,7 @@
 use Rattle.std.proofs.Common.{◌≡◌, ℕ, zero, suc, ◌<◌, List, [], ◌∷◌, ◌++◌, length, refl, sym, ◌∙◌, arith}
 use mathlib.Core.Path.{fun_ext}
 use Rattle.host.specs.Files.{files_of, names_of_files, name_at, room_at, FilesApart}
-use Rattle.host.specs.Handed.{Handed, files_handed, names_handed, handed_name, NamesApart, IsKept}
+use Rattle.host.specs.Handed.{Handed, files_handed, names_handed, handed_name, NamesApart, IsMadeOf}
 use Rattle.host.specs.declared.files.MemFile.{MemFile}
 
 -- each of these files was made of what was handed in at its place
@@ -10,11 +10,11 @@ abbrev pub AreKept : ℕ → List MemFile → List Handed → Type 0
 AreKept room [] [] = Unit {0}
 AreKept room [] (handed ∷ all) = ⊥
 AreKept room (file ∷ files) [] = ⊥
-AreKept room (file ∷ files) (handed ∷ all) = IsKept room file handed × AreKept room files all
+AreKept room (file ∷ files) (handed ∷ all) = IsMadeOf room file handed × AreKept room files all
 
 -- one more file was made
 pub AreKept-push : (room : ℕ) (files : List MemFile) (all : List Handed) (file : MemFile) (handed : Handed)
-    → AreKept room files all → IsKept room file handed → AreKept room (files ++ file ∷ []) (all ++ handed ∷ [])
+    → AreKept room files all → IsMadeOf room file handed → AreKept room (files ++ file ∷ []) (all ++ handed ∷ [])
 AreKept-push room [] [] file handed kept is = (is, tt)
 AreKept-push room [] (first ∷ all) file handed kept is = absurd kept
 AreKept-push room (first ∷ files) [] file handed kept is = absurd kept

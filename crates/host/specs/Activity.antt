@@ -1,7 +1,7 @@
 -- What a host in memory does with its files at the moment.
 --
 --     is_reading, is_writing    whether a file is open for reading, for writing
---     left_of files activity    the bytes left of the file that is being read, none where none is
+--     bytes_left files activity   the bytes left of the file that is being read, none where none is
 --     target_of files activity  the name of the file that is being written, empty where none is
 --     told_by files activity said    what is told
 --     coherent                  the law of hosts: nothing is told of an open file where none is open
@@ -25,10 +25,10 @@ is_writing (Reading at start) = false
 is_writing (Writing at) = true
 
 -- the bytes left of the file that is being read
-abbrev pub left_of : List MemFile → Activity → List ℕ
-left_of files Idle = []
-left_of files (Reading at start) = drop start (bytes_at files at)
-left_of files (Writing at) = []
+abbrev pub bytes_left : List MemFile → Activity → List ℕ
+bytes_left files Idle = []
+bytes_left files (Reading at start) = drop start (bytes_at files at)
+bytes_left files (Writing at) = []
 
 -- the name of the file that is being written
 abbrev pub target_of : List MemFile → Activity → List ℕ
@@ -39,7 +39,7 @@ target_of files (Writing at) = name_at files at
 -- what is told
 abbrev pub told_by : List MemFile → Activity → List ℕ → Told
 told_by files activity said =
-    record { files = files_of files; left = left_of files activity; target = target_of files activity; said = said }
+    record { files = files_of files; left = bytes_left files activity; target = target_of files activity; said = said }
 
 -- what is told of an open file is empty where none is open
 pub coherent : (files : List MemFile) (activity : Activity) (said : List ℕ)

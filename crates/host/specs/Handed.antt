@@ -3,7 +3,7 @@
 --     Handed                       a name, and the bytes of its file if there is one
 --     files_handed, names_handed   the files by name; the names, in their order
 --     NamesApart files             no two names are one
---     IsKept room file handed      a file was made of what was handed in
+--     IsMadeOf room file handed    a file was made of what was handed in
 use Rattle.std.specs.Prelude.{◌≡◌, ◌≢◌, ℕ, zero, suc, ◌<◌, List, [], ◌∷◌, length, map, Vec, String, Option, None, string_bytes}
 use Rattle.std.specs.Prelude.{if◌then◌else◌}
 use Rattle.std.specs.Option.{option_map}
@@ -38,7 +38,7 @@ abbrev pub NamesApart : List Handed → Type 0
 NamesApart files = (i j : ℕ) → i < j → j < length files → handed_name files i ≢ handed_name files j
 
 -- a file was made of what was handed in
-pub record IsKept (room : ℕ) (file : MemFile) (handed : Handed) : Type 0 where
+pub record IsMadeOf (room : ℕ) (file : MemFile) (handed : Handed) : Type 0 where
   pub name : string_bytes file.name ≡ string_bytes handed.0
   pub bytes : content file ≡ option_map (λ bytes. bytes.items) handed.1
   pub holds : file.store.room ≡ room

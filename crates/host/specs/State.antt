@@ -9,8 +9,8 @@
 --     with_file, with_more      the files with one replaced or made, or with more bytes at its end
 --     opens_file, opens_none, takes, creates, stops_reading, appends, finishes, says
 --                                  the state after a call, each named for what it does
---     IsNext count buffer left  what a read puts into the buffer
---     IsFront count bytes       how many of the bytes a call may take
+--     IsNextPiece count buffer left  what a read puts into the buffer
+--     IsFrontCount count bytes   how many of the bytes a call may take
 use Rattle.std.specs.Prelude.{◌≡◌, ℕ, ◌≤◌, ◌<◌, ◌↔◌, List, [], ◌++◌, length, take, drop, Bool, true, false, if◌then◌else◌}
 use Rattle.std.specs.Prelude.{Option, Some, None, IsSome, IfSome, unwrap_or}
 use Rattle.host.specs.Counts.{next, Rose}
@@ -99,7 +99,7 @@ abbrev pub takes : ℕ → State → State
 takes count state = record state { told = after_change (λ told. record told { left = drop count told.left }) state.told }
 
 -- what is read: the next bytes, and none exactly at the end, if the buffer has room
-pub record IsNext (count : ℕ) (buffer : List ℕ) (left : List ℕ) : Type 0 where
+pub record IsNextPiece (count : ℕ) (buffer : List ℕ) (left : List ℕ) : Type 0 where
   pub enough : count ≤ length left
   pub bytes : take count buffer ≡ take count left
   pub at_end : 0 < length buffer → (count ≡ 0) ↔ (left ≡ [])
@@ -130,6 +130,6 @@ abbrev pub says : List ℕ → State → State
 says bytes state = record state { told = after_change (λ told. record told { said = told.said ++ bytes }) state.told }
 
 -- as many bytes as there are or fewer, and some unless there is none
-pub record IsFront (count : ℕ) (bytes : List ℕ) : Type 0 where
+pub record IsFrontCount (count : ℕ) (bytes : List ℕ) : Type 0 where
   pub within : count ≤ length bytes
   pub some : 0 < length bytes → 0 < count

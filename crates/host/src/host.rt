@@ -4,7 +4,7 @@
 //! tells, the count of its faults among them. Each call is one equation on the whole state, so what its contract
 //! does not name stays as it was.
 ghost use Rattle.std.specs.Prelude.{◌≡◌, ◌≤◌, length, take, false, IsTrue, IfOk, OnOk, OnErr, IfSome};
-ghost use Rattle.host.specs.State.{State, IsCoherent, HasFile, IsFront, IsNext, FailedFrom, opens_file, opens_none, takes, creates, stops_reading, appends, finishes, says};
+ghost use Rattle.host.specs.State.{State, IsCoherent, HasFile, IsFrontCount, IsNextPiece, FailedFrom, opens_file, opens_none, takes, creates, stops_reading, appends, finishes, says};
 
 /// A call of a host failed. The host has counted it as a fault.
 #[derive(Clone, Copy, Debug, PartialEq, Eq)]
@@ -34,7 +34,7 @@ pub trait Host {
     fn read(&mut self, buffer: &mut [u8]) -> Result<usize, Failed>
         requires { IsTrue (state self.old).reading }
         ensures within { IfOk result (λ count. count ≤ length buffer.new) }
-        ensures next_bytes { IfOk result (λ count. IfSome (state self.old).told (λ told. IsNext count buffer.new told.left)) }
+        ensures next_bytes { IfOk result (λ count. IfSome (state self.old).told (λ told. IsNextPiece count buffer.new told.left)) }
         ensures taken { IfOk result (λ count. state self.new ≡ takes count (state self.old)) }
         ensures failed { OnErr result (FailedFrom (state self.old) (state self.new)) };
 
@@ -51,7 +51,7 @@ pub trait Host {
     /// where there is one. After `Failed` nothing was added.
     fn append(&mut self, bytes: &[u8]) -> Result<usize, Failed>
         requires { IsTrue (state self.old).writing }
-        ensures front { IfOk result (λ count. IsFront count bytes.now) }
+        ensures front { IfOk result (λ count. IsFrontCount count bytes.now) }
         ensures added { IfOk result (λ count. state self.new ≡ appends (take count bytes.now) (state self.old)) }
         ensures failed { OnErr result (FailedFrom (state self.old) (state self.new)) };
 
@@ -64,7 +64,7 @@ pub trait Host {
     /// Says a front of the bytes: as many as the answer says, and at least one where there is one. After `Failed`
     /// nothing was said.
     fn say(&mut self, bytes: &[u8]) -> Result<usize, Failed>
-        ensures front { IfOk result (λ count. IsFront count bytes.now) }
+        ensures front { IfOk result (λ count. IsFrontCount count bytes.now) }
         ensures said { IfOk result (λ count. state self.new ≡ says (take count bytes.now) (state self.old)) }
         ensures failed { OnErr result (FailedFrom (state self.old) (state self.new)) };
 

@@ -5,7 +5,7 @@
 //! behind them that say exactly how far it moves, where it fails, and what it counts.
 ghost use Rattle.std.specs.Prelude.{◌≡◌, Some, IfSome, min, IsTrue, ◌+◌, ◌%◌, ◌≤◌, ◌<◌, ◌↔◌, ◌⊎◌, ℕ, true, false, None, IsErr, IfOk, OnOk, OnErr, All, Contains, length, take};
 ghost use Rattle.std.specs.Option.{option_map};
-ghost use Rattle.host.specs.State.{HasFile, IsFront, IsNext, FailedFrom, opens_file, opens_none, takes, creates, stops_reading, appends, finishes, says};
+ghost use Rattle.host.specs.State.{HasFile, IsFrontCount, IsNextPiece, FailedFrom, opens_file, opens_none, takes, creates, stops_reading, appends, finishes, says};
 ghost use Rattle.host.specs.Counts.{next, Rose};
 ghost use Rattle.host.specs.Files.{room_at, exists_at, bytes_at, FilesApart};
 ghost use Rattle.host.specs.declared.memory.Activity.TheVariants.{Reading, Writing};
@@ -98,7 +98,7 @@ impl Host for MemHost {
     fn read(&mut self, buffer: &mut [u8]) -> Result<usize, Failed>
         requires { IsTrue (state_of self.old).reading }
         ensures within { IfOk result (λ count. count ≤ length buffer.new) }
-        ensures next_bytes { IfOk result (λ count. IsNext count buffer.new (told_of self.old).left) }
+        ensures next_bytes { IfOk result (λ count. IsNextPiece count buffer.new (told_of self.old).left) }
         ensures taken { IfOk result (λ count. state_of self.new ≡ takes count (state_of self.old)) }
         ensures failed { OnErr result (FailedFrom (state_of self.old) (state_of self.new)) }
 
@@ -148,7 +148,7 @@ impl Host for MemHost {
     #[tactic(auto, using(crate::proofs::FileList::exists_lt))]
     fn append(&mut self, bytes: &[u8]) -> Result<usize, Failed>
         requires { IsTrue (state_of self.old).writing }
-        ensures front { IfOk result (λ count. IsFront count bytes.now) }
+        ensures front { IfOk result (λ count. IsFrontCount count bytes.now) }
         ensures added { IfOk result (λ count. state_of self.new ≡ appends (take count bytes.now) (state_of self.old)) }
         ensures failed { OnErr result (FailedFrom (state_of self.old) (state_of self.new)) }
 
@@ -191,7 +191,7 @@ impl Host for MemHost {
     }
 
     fn say(&mut self, bytes: &[u8]) -> Result<usize, Failed>
-        ensures front { IfOk result (λ count. IsFront count bytes.now) }
+        ensures front { IfOk result (λ count. IsFrontCount count bytes.now) }
         ensures said { IfOk result (λ count. state_of self.new ≡ says (take count bytes.now) (state_of self.old)) }
         ensures failed { OnErr result (FailedFrom (state_of self.old) (state_of self.new)) }
 

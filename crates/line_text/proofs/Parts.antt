@@ -9,7 +9,7 @@ use Rattle.std.proofs.Common.{length, append_assoc}
 use Rattle.std.specs.List.{flat_map}
 use Rattle.line_text.specs.Numbers.{counted, BeginsWithNone, IsBetween}
 use Rattle.line_text.specs.declared.refusal.LineRefusal.{LineRefusal}
-use Rattle.line_text.specs.Refusals.{line_after, RefusedWord, RefusedNumber, AreRows, AreCounted, IsRefusedRow, AtPart, AtWord}
+use Rattle.line_text.specs.Refusals.{line_after, RefusedWord, RefusedNumber, AreRows, AreCountedRows, IsRefusedRow, AtPart, AtWord}
 use Rattle.line_text.specs.Refusals.{AtNumber, AtRows, AtList, IsBehindEnd}
 use Rattle.line_text.specs.Lists.{RefusedList, list_text, IsList}
 use Rattle.line_text.proofs.Codes.{IsCode, behind_same, code_list, counted_between_code}
@@ -98,16 +98,16 @@ number_good shown word least greatest n a text rest r Next e form f next =
 
 -- ---- rows
 rows_code : {A : Type 0} (P : A → Type 0) (line_of : A → List ℕ) (order : Option (A → List ℕ)) (count : ℕ) → IsCode P line_of
-    → IsCode (AreCounted P order count) (flat_map line_of)
+    → IsCode (AreCountedRows P order count) (flat_map line_of)
 rows_code P line_of order count code =
     λ xs ys r s a b e. code_list P line_of code xs ys r s (a.0 ∙ sym b.0) (a.1).each (b.1).each e
 
 pub rows_once : {A : Type 0} (P : A → Type 0) (line_of : A → List ℕ) (order : Option (A → List ℕ)) → IsCode P line_of
     → (count n : ℕ) (text : List ℕ) (r s : LineRefusal) (K L : List A → List ℕ → Type 0)
     → AtRows P line_of order count n text r K → AtRows P line_of order count n text s L
-    → ((rows : List A) (rest : List ℕ) → AreCounted P order count rows → K rows rest → L rows rest → r ≡ s) → r ≡ s
+    → ((rows : List A) (rest : List ℕ) → AreCountedRows P order count rows → K rows rest → L rows rest → r ≡ s) → r ≡ s
 rows_once P line_of order code count n text r s K L =
-    part_once (AreCounted P order count) (flat_map line_of) (rows_code P line_of order count code) text
+    part_once (AreCountedRows P order count) (flat_map line_of) (rows_code P line_of order count code) text
     (IsRefusedRow P line_of order count n text r) (IsRefusedRow P line_of order count n text s) (r ≡ s) K L
     (row_same P line_of order code count n text r s)
     (λ h rows rest form front. row_not_good P line_of order code count n text rest rows r h form.0 form.1 front)
@@ -115,15 +115,15 @@ rows_once P line_of order code count n text r s K L =
 
 pub rows_passed : {A : Type 0} (P : A → Type 0) (line_of : A → List ℕ) (order : Option (A → List ℕ)) → IsCode P line_of
     → (count n : ℕ) (text rest : List ℕ) (rows : List A) (r : LineRefusal) (Next : List A → List ℕ → Type 0)
-    → AtRows P line_of order count n text r Next → AreCounted P order count rows → text ≡ flat_map line_of rows ++ rest
+    → AtRows P line_of order count n text r Next → AreCountedRows P order count rows → text ≡ flat_map line_of rows ++ rest
     → (Next rows rest → ⊥) → ⊥
 rows_passed P line_of order code count n text rest rows r Next =
-    part_passed (AreCounted P order count) (flat_map line_of) (rows_code P line_of order count code) text rest rows
+    part_passed (AreCountedRows P order count) (flat_map line_of) (rows_code P line_of order count code) text rest rows
     (IsRefusedRow P line_of order count n text r) Next
     (λ h some behind good is. row_not_good P line_of order code count n text behind some r h good.0 good.1 is)
 
 pub rows_good : {A : Type 0} (P : A → Type 0) (line_of : A → List ℕ) (order : Option (A → List ℕ)) (count n : ℕ)
-    (text rest : List ℕ) (rows : List A) (r : LineRefusal) (Next : List A → List ℕ → Type 0) → AreCounted P order count rows
+    (text rest : List ℕ) (rows : List A) (r : LineRefusal) (Next : List A → List ℕ → Type 0) → AreCountedRows P order count rows
     → text ≡ flat_map line_of rows ++ rest → Next rows rest → AtRows P line_of order count n text r Next
 rows_good P line_of order count n text rest rows r Next form front next =
     inr (record { value = rows; rest = rest; form = form; front = front; next = next })

@@ -1,6 +1,5 @@
 -- Numbers in lines.
 --
---   space, line_feed    the bytes that end a number within a line, and at its end
 --   ended n end         the decimal text of a number and the byte that ends it
 --   Lacks byte text     no byte of the text is this one
 --   BeginsWithNone      no text of a form stands at the front of this one
@@ -10,12 +9,7 @@
 --   IsSignedBetween     the same of a signed number
 use Rattle.std.specs.Prelude.{ℕ, ◌≡◌, ◌≢◌, ◌<◌, ◌≤◌, ℤ, ◌≤ℤ◌, List, [], ◌∷◌, ◌++◌, length, slice_index, decimal}
 use Rattle.std.specs.Fmt.{signed_decimal}
-
-abbrev pub space : ℕ
-space = 32
-
-abbrev pub line_feed : ℕ
-line_feed = 10
+pub use Rattle.num_text.specs.Separators.{space, line_feed}
 
 -- the decimal text of a number and the byte that ends it
 abbrev pub ended : ℕ → ℕ → List ℕ

@@ -58,8 +58,8 @@ pub record AreRows {A : Type 0} (IsForm : A → Type 0) (order : Option (A → L
   pub rising : Rise order rows
 
 -- so many rows
-abbrev pub AreCounted : {A : Type 0} → (A → Type 0) → Option (A → List ℕ) → ℕ → List A → Type 0
-AreCounted IsForm order count rows = (length rows ≡ count) × AreRows IsForm order rows
+abbrev pub AreCountedRows : {A : Type 0} → (A → Type 0) → Option (A → List ℕ) → ℕ → List A → Type 0
+AreCountedRows IsForm order count rows = (length rows ≡ count) × AreRows IsForm order rows
 
 -- line n is of the form, but its row does not rise above the row before it
 pub record IsOutOfOrder {A : Type 0} (IsForm : A → Type 0) (line_of : A → List ℕ) (order : Option (A → List ℕ)) (rows : List A)
@@ -114,7 +114,7 @@ AtNumber word least greatest n text r =
 abbrev pub AtRows : {A : Type 0} → (A → Type 0) → (A → List ℕ) → Option (A → List ℕ) → (count : ℕ) → ℕ → List ℕ → LineRefusal
     → (List A → List ℕ → Type 0) → Type 0
 AtRows IsForm line_of order count n text r =
-    AtPart (AreCounted IsForm order count) (flat_map line_of) text (IsRefusedRow IsForm line_of order count n text r)
+    AtPart (AreCountedRows IsForm order count) (flat_map line_of) text (IsRefusedRow IsForm line_of order count n text r)
 
 -- a list from line n on, with its length before it: what is said of the text behind it has that text's first line
 abbrev pub AtList : {A : Type 0} → (A → Type 0) → (A → List ℕ) → Option (A → List ℕ) → (word : List ℕ) → ℕ → List ℕ

@@ -3,7 +3,7 @@
 --   LeadsLower      a residual arc with room leads from a node to a found one of a lower level
 --   AreLeading      such arcs lead from the nodes that are written to have one
 --   IsOnward        a node has room at its sink, or such an arc leads from it
---   IsClosed        a residual arc for a found node leaves a found one, or has no room
+--   IsClosedArc     a residual arc for a found node leaves a found one, or has no room
 --   IsClosedBelow   those of arcs below a bound do
 --   AreLevels       the found nodes are those from which a sink with room can be reached
 use Rattle.std.specs.Prelude.{ℕ, ◌≡◌, ◌<◌, ◌≤◌, ◌⊎◌, Bool, true, false, List, length, slice_index}
@@ -33,13 +33,13 @@ abbrev pub IsOnward : NumberedNetwork → Flow → List Bool → List ℕ → �
 IsOnward net flow marked level v = HasRoom net flow v ⊎ LeadsLower net flow marked level v
 
 -- a residual arc that enters a found node leaves a found one, or has no room
-abbrev pub IsClosed : NumberedNetwork → Flow → List Bool → ResidualArc → Type 0
-IsClosed net flow marked r =
+abbrev pub IsClosedArc : NumberedNetwork → Flow → List Bool → ResidualArc → Type 0
+IsClosedArc net flow marked r =
     flag_at marked (head_of net r) ≡ true → flag_at marked (tail_of net r) ≡ false → room_of net flow r ≡ 0
 
 -- the residual arcs of arcs below a bound do
 abbrev pub IsClosedBelow : NumberedNetwork → Flow → List Bool → ℕ → Type 0
-IsClosedBelow net flow marked bound = (r : ResidualArc) → r.arc < bound → IsClosed net flow marked r
+IsClosedBelow net flow marked bound = (r : ResidualArc) → r.arc < bound → IsClosedArc net flow marked r
 
 -- the found nodes are those from which a sink with room can be reached
 pub record AreLevels (net : NumberedNetwork) (flow : Flow) (marked : List Bool) (level : List ℕ) : Type 0 where

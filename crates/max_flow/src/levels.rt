@@ -8,7 +8,7 @@ ghost use Rattle.flow_net.specs.Nets.{flag_at};
 ghost use Rattle.flow_net.specs.NumberedFlows.{IsValidFlow};
 ghost use Rattle.max_flow.specs.Residual.{tail_of, head_of, room_of};
 ghost use Rattle.max_flow.specs.Paths.{HasRoom};
-ghost use Rattle.max_flow.specs.Levels.{IsOnward, AreLeading, IsClosed, IsClosedBelow, AreLevels};
+ghost use Rattle.max_flow.specs.Levels.{IsOnward, AreLeading, IsClosedArc, IsClosedBelow, AreLevels};
 
 use crate::NoMemory;
 use crate::paths::has_room;
@@ -44,7 +44,7 @@ fn look<N: FlowNetwork>(
     requires arc { residual.arc < (N.numbered net.now).arc_count }
     requires leads { AreLeading (N.numbered net.now) flow.now marked.now level.now leads.old.items }
     ensures leads { AreLeading (N.numbered net.now) flow.now marked.now level.now leads.new.items }
-    ensures closed { result ≡ true → IsClosed (N.numbered net.now) flow.now marked.now residual }
+    ensures closed { result ≡ true → IsClosedArc (N.numbered net.now) flow.now marked.now residual }
 {
     if !can_lead(net, flow, marked, residual) {
         return true;

@@ -6,7 +6,7 @@ use Rattle.geo_sign.specs.Point.{Point}
 use Rattle.mesh_form.specs.declared.stage.Stage.{Stage}
 use Rattle.mesh_form.specs.declared.stage.Stage.TheVariants.{Fresh, Begun, Ended}
 use Rattle.mesh_form.specs.Received.{Received, IsFresh, HasPoints, HasFaces, HasPrefix, HasAll, with_point, with_face}
-use Rattle.mesh_form.specs.Received.{ended}
+use Rattle.mesh_form.specs.Received.{with_end}
 
 begun_not_ended : (s : Stage) → s ≡ Begun → s ≢ Ended
 begun_not_ended s b e = let f : Begun ≡ Ended = sym b ∙ e in cc
@@ -74,10 +74,10 @@ prefix_of_refused r s ps points fs faces h e f same =
     (subst (λ (gs : List (List ℕ)). HasPrefix r ps gs) f (prefix_of_faces r ps fs (length fs) h)))
 
 pub all_of_faces : (r s : Received) (ps points : List Point) (fs faces : List (List ℕ)) → HasFaces (length fs) r ps fs
-    → ps ≡ points → fs ≡ faces → s ≡ ended r → HasAll s points faces
+    → ps ≡ points → fs ≡ faces → s ≡ with_end r → HasAll s points faces
 all_of_faces r s ps points fs faces h e f same =
     let all_faces : r.faces ≡ fs = h.front ∙ take_all (length fs) fs (omega arith) in
-    let full : HasAll (ended r) ps fs = record {
+    let full : HasAll (with_end r) ps fs = record {
       stage = refl;
       all_points = h.all_points;
       all_faces = all_faces;
@@ -85,4 +85,4 @@ all_of_faces r s ps points fs faces h e f same =
       faces_due = h.due;
     } in
     subst (λ (x : Received). HasAll x points faces) (sym same)
-    (subst (λ (qs : List Point). HasAll (ended r) qs faces) e (subst (λ (gs : List (List ℕ)). HasAll (ended r) ps gs) f full))
+    (subst (λ (qs : List Point). HasAll (with_end r) qs faces) e (subst (λ (gs : List (List ℕ)). HasAll (with_end r) ps gs) f full))

@@ -4,8 +4,8 @@
 --   fresh, IsFresh       nothing was received, and no numbers are known
 --   TakesPoint r         a point may come: begun, and fewer points than are due
 --   TakesFace f r        the face may come: begun, all points there, fewer faces than are due
---   IsFull r             begun, and all that is due was received
---   begun, with_point, with_face, ended   what the calls of a form make of it
+--   HasAllDue r          begun, and all that is due was received
+--   begun, with_point, with_face, with_end   what the calls of a form make of it
 --   HasPoints k r points, HasFaces k r points faces   begun, so many of the points and no faces; all points and so many faces
 --   HasAll r points faces      ended, with exactly these points and faces
 --   HasPrefix r points faces   a front of the points, and behind all of them a front of the faces; not ended
@@ -49,7 +49,7 @@ pub record TakesFace (f : List ℕ) (r : Received) : Type 0 where
   pub face : IsFace (length r.points) f
 
 -- all that is due was received
-pub record IsFull (r : Received) : Type 0 where
+pub record HasAllDue (r : Received) : Type 0 where
   pub stage : r.stage ≡ Begun
   pub points : length r.points ≡ r.points_due
   pub faces : length r.faces ≡ r.faces_due
@@ -69,8 +69,8 @@ with_face f r =
     record { stage = r.stage; points_due = r.points_due; faces_due = r.faces_due; points = r.points; faces = r.faces ++ f ∷ [] }
 
 -- all is received
-abbrev pub ended : Received → Received
-ended r = record { stage = Ended; points_due = r.points_due; faces_due = r.faces_due; points = r.points; faces = r.faces }
+abbrev pub with_end : Received → Received
+with_end r = record { stage = Ended; points_due = r.points_due; faces_due = r.faces_due; points = r.points; faces = r.faces }
 
 -- begun, k of these points received, and no faces
 pub record HasPoints (k : ℕ) (r : Received) (points : List Point) : Type 0 where

@@ -3,7 +3,7 @@
 --   off_head, off_rest, v_word, f_word   the fixed parts of their lines
 --   off_counts n m          the line `n m 0`
 --   off_text points faces   OFF: its name, the counts, a line for each point, a line `3 a b c` for each face
---   vertex_line p           `v x y z`
+--   obj_vertex_line p       `v x y z`
 --   triangle_line f         `f a b c`, each number one higher, since OBJ counts from 1
 --   obj_text points faces   OBJ: the lines of the points and then of the faces
 use Rattle.std.specs.Prelude.{ℕ, ◌+◌, List, ◌++◌, length, codes, map}
@@ -36,8 +36,8 @@ off_text points faces =
     off_head ++ (off_counts (length points) (length faces) ++ (flat_map point_line points ++ flat_map face_line faces))
 
 -- v x y z
-abbrev pub vertex_line : Point → List ℕ
-vertex_line p = v_word ++ point_line p
+abbrev pub obj_vertex_line : Point → List ℕ
+obj_vertex_line p = v_word ++ point_line p
 
 -- f a b c, counted from 1
 abbrev pub triangle_line : List ℕ → List ℕ
@@ -45,4 +45,4 @@ triangle_line f = f_word ++ facet_fields (map (λ n. n + 1) f) line_feed
 
 -- a line for each point, a line for each face
 abbrev pub obj_text : List Point → List (List ℕ) → List ℕ
-obj_text points faces = flat_map vertex_line points ++ flat_map triangle_line faces
+obj_text points faces = flat_map obj_vertex_line points ++ flat_map triangle_line faces

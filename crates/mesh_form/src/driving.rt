@@ -1,7 +1,7 @@
 //! A mesh handed to a form.
 ghost use Rattle.std.specs.Prelude.{◌≡◌, ℕ, length, map, All, OnOk, OnErr};
 ghost use Rattle.mesh_ply.specs.Meshes.{IsFace, IsMesh};
-ghost use Rattle.mesh_form.specs.Received.{IsFresh, TakesPoint, TakesFace, IsFull, HasPoints, HasFaces, HasPrefix, HasAll, HasFront, begun, with_point, with_face, ended};
+ghost use Rattle.mesh_form.specs.Received.{IsFresh, TakesPoint, TakesFace, HasAllDue, HasPoints, HasFaces, HasPrefix, HasAll, HasFront, begun, with_point, with_face, with_end};
 
 use crate::form::Form;
 use geo_sign::Point;
@@ -37,8 +37,8 @@ fn hand_face(form: &mut Box<dyn Form>, face: [u32; 3]) -> Result<(), NoMemory>
 }
 
 fn end(form: &mut Box<dyn Form>) -> Result<(), NoMemory>
-    requires { IsFull (received form.old) }
-    ensures ended { OnOk result (received form.new ≡ ended (received form.old)) }
+    requires { HasAllDue (received form.old) }
+    ensures ended { OnOk result (received form.new ≡ with_end (received form.old)) }
     ensures kept { OnErr result (received form.new ≡ received form.old) }
     ensures kind { form.new.vtable ≡ form.old.vtable }
 {

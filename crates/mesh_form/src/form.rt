@@ -4,7 +4,7 @@
 //! the points and faces themselves. Each call is one equation on the whole of it, so what its contract does not name
 //! stays as it was.
 ghost use Rattle.std.specs.Prelude.{◌≡◌, ℕ, List, OnOk, OnErr};
-ghost use Rattle.mesh_form.specs.Received.{Received, IsFresh, TakesPoint, TakesFace, IsFull, begun, with_point, with_face, ended};
+ghost use Rattle.mesh_form.specs.Received.{Received, IsFresh, TakesPoint, TakesFace, HasAllDue, begun, with_point, with_face, with_end};
 ghost use Rattle.mesh_form.specs.declared.stage.Stage.TheVariants.{Ended};
 
 use geo_sign::Point;
@@ -40,8 +40,8 @@ pub trait Form: Drop {
 
     /// Ends the mesh. All points and faces that are due were received.
     fn end(&mut self) -> Result<(), NoMemory>
-        requires { IsFull (received self.old) }
-        ensures ended { OnOk result (received self.new ≡ ended (received self.old)) }
+        requires { HasAllDue (received self.old) }
+        ensures ended { OnOk result (received self.new ≡ with_end (received self.old)) }
         ensures kept { OnErr result (received self.new ≡ received self.old) };
 
     /// The text of an ended form.

@@ -1,7 +1,7 @@
 //! Wavefront OBJ as a form.
 ghost use Rattle.std.specs.Prelude.{◌≡◌, ◌++◌, [], ◌∷◌, OnOk, OnErr, length, take};
 ghost use Rattle.std.specs.List.{flat_map};
-ghost use Rattle.mesh_form.specs.Texts.{v_word, f_word, vertex_line, triangle_line, obj_text};
+ghost use Rattle.mesh_form.specs.Texts.{v_word, f_word, obj_vertex_line, triangle_line, obj_text};
 
 use crate::form::Form;
 use crate::receipt::Receipt;
@@ -26,7 +26,7 @@ fn face_word() -> &'static [u8]
 }
 
 fn push_vertex(out: &mut Vec<u8>, point: Point) -> Result<(), NoMemory>
-    ensures ok { OnOk result (out.new.items ≡ out.old.items ++ vertex_line point) }
+    ensures ok { OnOk result (out.new.items ≡ out.old.items ++ obj_vertex_line point) }
     ensures kept { OnErr result (take (length out.old.items) out.new.items ≡ out.old.items) }
 {
     out.extend_from_slice(vertex_word())?;
@@ -54,7 +54,7 @@ fn push_triangle(out: &mut Vec<u8>, face: [u32; 3]) -> Result<(), NoMemory>
 }
 
 fn push_vertices(out: &mut Vec<u8>, points: &[Point]) -> Result<(), NoMemory>
-    ensures ok { OnOk result (out.new.items ≡ out.old.items ++ flat_map vertex_line points.now) }
+    ensures ok { OnOk result (out.new.items ≡ out.old.items ++ flat_map obj_vertex_line points.now) }
     ensures kept { OnErr result (take (length out.old.items) out.new.items ≡ out.old.items) }
 {
     for point in points {

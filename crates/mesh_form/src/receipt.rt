@@ -27,7 +27,7 @@ impl Model for Receipt {
 impl Receipt {
     ghost use Rattle.std.specs.Prelude.{◌≡◌, OnOk, OnErr};
     ghost use Rattle.mesh_ply.specs.Meshes.{IsMesh};
-    ghost use Rattle.mesh_form.specs.Received.{IsFresh, TakesPoint, TakesFace, IsFull, fresh, begun, with_point, with_face, ended};
+    ghost use Rattle.mesh_form.specs.Received.{IsFresh, TakesPoint, TakesFace, HasAllDue, fresh, begun, with_point, with_face, with_end};
 
     /// Nothing received. It takes no memory.
     pub fn new(alloc: Global) -> Receipt
@@ -76,8 +76,8 @@ impl Receipt {
 
     /// All is received.
     pub fn end(&mut self)
-        requires { IsFull self.old }
-        ensures { self.new ≡ ended self.old }
+        requires { HasAllDue self.old }
+        ensures { self.new ≡ with_end self.old }
     {
         self.stage = Stage::Ended;
     }
@@ -86,7 +86,7 @@ impl Receipt {
     pub fn mesh(&self) -> &Mesh
         ensures points { result.now.points.items ≡ self.now.points }
         ensures faces { result.now.faces.items ≡ self.now.faces }
-        ensures valid { IsFull self.now → IsMesh result.now.points.items result.now.faces.items }
+        ensures valid { HasAllDue self.now → IsMesh result.now.points.items result.now.faces.items }
     {
         &self.mesh
     }

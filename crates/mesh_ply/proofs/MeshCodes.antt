@@ -10,7 +10,7 @@ use Rattle.line_text.proofs.Codes.{IsCode, behind_same, counted_code, code_list,
 use Rattle.line_text.proofs.SignedTokens.{signed_code}
 use Rattle.line_text.proofs.FacetForms.{facet_code}
 use Rattle.mesh_ply.specs.Meshes.{IsFace, IsMesh}
-use Rattle.mesh_ply.specs.Texts.{ply_line, format_line, vertex_word, x_line, y_line, z_line, face_word, list_line, header_end}
+use Rattle.mesh_ply.specs.Texts.{ply_line, ascii_format_line, vertex_word, x_line, y_line, z_line, face_word, list_line, header_end}
 use Rattle.mesh_ply.specs.Texts.{IsCoordinate, point_line, face_line, mesh_text, IsPrinted}
 use Rattle.geo_sign.specs.declared.point.TheConstants.{BOX_LIMIT}
 
@@ -55,7 +55,7 @@ face_code n few = code_fewer (IsFace n) IsFacetRow face_line (row_of_face n few)
 -- ---- the whole text
 pub lines_of : (ps : List Point) (fs : List (List ℕ)) (r : List ℕ)
     → mesh_text ps fs ++ r
-    ≡ ply_line ++ (format_line
+    ≡ ply_line ++ (ascii_format_line
     ++ (counted vertex_word (length ps)
     ++ (x_line ++ (y_line
     ++ (z_line ++ (counted face_word (length fs)
@@ -69,7 +69,7 @@ mesh_code ps qs fs gs r s a b e =
     let t = sym (lines_of ps fs r) ∙ e ∙ lines_of qs gs s in
     let n =
     counted_code vertex_word (length ps) (length qs) _ _ (omega (arith, a.valid.few_points)) (omega (arith, b.valid.few_points))
-    (behind_same format_line _ _ (behind_same ply_line _ _ t)) in
+    (behind_same ascii_format_line _ _ (behind_same ply_line _ _ t)) in
     let m =
     counted_code face_word (length fs) (length gs) _ _ (omega (arith, a.valid.few_faces)) (omega (arith, b.valid.few_faces))
     (behind_same z_line _ _ (behind_same y_line _ _ (behind_same x_line _ _ n.1))) in

@@ -12,12 +12,12 @@ use Rattle.geo_sign.specs.Point.{Point, IsWithin}
 use Rattle.line_text.specs.Numbers.{counted}
 use Rattle.line_text.specs.declared.refusal.LineRefusal.{LineRefusal}
 use Rattle.line_text.specs.declared.refusal.LineRefusal.TheVariants as lines
-use Rattle.line_text.specs.Refusals.{line_after, AreCounted, AtWord, AtNumber, IsBehindEnd}
+use Rattle.line_text.specs.Refusals.{line_after, AreCountedRows, AtWord, AtNumber, IsBehindEnd}
 use Rattle.line_text.specs.Lists.{WithMemory}
 use Rattle.line_text.proofs.Parts.{word_once, word_passed, number_once, number_passed, rows_once, rows_passed, rows_good}
 use Rattle.line_text.proofs.Parts.{end_once, end_passed}
 use Rattle.mesh_ply.specs.Meshes.{IsFace}
-use Rattle.mesh_ply.specs.Texts.{ply_line, format_line, vertex_word, x_line, y_line, z_line, face_word, list_line, header_end}
+use Rattle.mesh_ply.specs.Texts.{ply_line, ascii_format_line, vertex_word, x_line, y_line, z_line, face_word, list_line, header_end}
 use Rattle.mesh_ply.specs.Texts.{point_line, face_line, mesh_text, IsPrinted}
 use Rattle.mesh_ply.specs.declared.refusal.MeshRefusal.{MeshRefusal}
 use Rattle.mesh_ply.specs.declared.refusal.MeshRefusal.TheVariants.{NoMemory}
@@ -27,13 +27,13 @@ use Rattle.geo_sign.specs.declared.point.TheConstants.{BOX_LIMIT}
 
 -- ---- from one list on
 pub at_faces : (n m line : ℕ) (text rest : List ℕ) (points : List Point) (r : LineRefusal) → line ≡ line_after 10 n
-    → AreCounted (IsWithin BOX_LIMIT) None n points → text ≡ flat_map point_line points ++ rest → AtFaces n m line rest r
+    → AreCountedRows (IsWithin BOX_LIMIT) None n points → text ≡ flat_map point_line points ++ rest → AtFaces n m line rest r
     → AtPoints n m text r
 at_faces n m line text rest points r e form front next =
     rows_good (IsWithin BOX_LIMIT) point_line None n 10 text rest points r (λ _ t. AtFaces n m (line_after 10 n) t r) form front
     (subst (λ (k : ℕ). AtFaces n m k rest r) e next)
 
-pub at_end : (n m line k : ℕ) (text rest : List ℕ) (faces : List (List ℕ)) → AreCounted (IsFace n) None m faces
+pub at_end : (n m line k : ℕ) (text rest : List ℕ) (faces : List (List ℕ)) → AreCountedRows (IsFace n) None m faces
     → text ≡ flat_map face_line faces ++ rest → ¬ (rest ≡ []) → k ≡ line_after line m → AtFaces n m line text (lines.BadLine k)
 at_end n m line k text rest faces form front some e =
     rows_good (IsFace n) face_line None m line text rest faces (lines.BadLine k)
@@ -70,7 +70,7 @@ abbrev At3 : List ℕ → LineRefusal → Type 0
 At3 t r = AtNumber vertex_word 0 (2 ^ 32 - 1) 3 t r (λ n u. AtFaceCount n u r)
 
 abbrev At2 : List ℕ → LineRefusal → Type 0
-At2 t r = AtWord format_line 2 t r (λ u. At3 u r)
+At2 t r = AtWord ascii_format_line 2 t r (λ u. At3 u r)
 
 once_9 : (n m : ℕ) → n < 2 ^ 32 → (t : List ℕ) (r s : LineRefusal) → At9 n m t r → At9 n m t s → r ≡ s
 once_9 n m few t r s i j =
@@ -99,7 +99,7 @@ once_3 t r s i j =
     (λ n u few. once_4 n (omega (arith, few.1)) u r s)
 
 once_2 : (t : List ℕ) (r s : LineRefusal) → At2 t r → At2 t s → r ≡ s
-once_2 t r s i j = word_once format_line 2 t r s (λ u. At3 u r) (λ u. At3 u s) i j (λ u. once_3 u r s)
+once_2 t r s i j = word_once ascii_format_line 2 t r s (λ u. At3 u r) (λ u. At3 u s) i j (λ u. once_3 u r s)
 
 pub mesh_once : (t : List ℕ) (r s : LineRefusal) → AtMesh t r → AtMesh t s → r ≡ s
 mesh_once t r s i j = word_once ply_line 1 t r s (λ u. At2 u r) (λ u. At2 u s) i j (λ u. once_2 u r s)
@@ -109,8 +109,8 @@ rows_not_refused : (ps : List Point) (fs : List (List ℕ)) (r : LineRefusal) �
     → AtPoints (length ps) (length fs) (flat_map point_line ps ++ (flat_map face_line fs ++ [])) r → ⊥
 rows_not_refused ps fs r w h =
     let n : ℕ = length ps in
-    let points : AreCounted (IsWithin BOX_LIMIT) None n ps = (refl, record { each = w.boxed; rising = tt }) in
-    let faces : AreCounted (IsFace n) None (length fs) fs = (refl, record { each = w.valid.each; rising = tt }) in
+    let points : AreCountedRows (IsWithin BOX_LIMIT) None n ps = (refl, record { each = w.boxed; rising = tt }) in
+    let faces : AreCountedRows (IsFace n) None (length fs) fs = (refl, record { each = w.valid.each; rising = tt }) in
     rows_passed (IsWithin BOX_LIMIT) point_line None point_code n 10 (flat_map point_line ps ++ (flat_map face_line fs ++ []))
     (flat_map face_line fs ++ []) ps r (λ _ t. AtFaces n (length fs) (line_after 10 n) t r) h points refl (λ k.
     rows_passed (IsFace n) face_line None (face_code n w.valid.few_points) (length fs) (line_after 10 n)
@@ -119,14 +119,14 @@ rows_not_refused ps fs r w h =
 
 header_not_refused : (ps : List Point) (fs : List (List ℕ)) (r : LineRefusal) (rest : List ℕ) → length ps < 2 ^ 32
     → length fs < 2 ^ 32 → (AtPoints (length ps) (length fs) rest r → ⊥)
-    → AtMesh (ply_line ++ (format_line
+    → AtMesh (ply_line ++ (ascii_format_line
     ++ (counted vertex_word (length ps)
     ++ (x_line ++ (y_line ++ (z_line ++ (counted face_word (length fs) ++ (list_line ++ (header_end ++ rest))))))))) r → ⊥
 header_not_refused ps fs r rest few_points few_faces never h =
     let n : ℕ = length ps in
     let m : ℕ = length fs in
     word_passed ply_line 1 _ _ r (λ t. At2 t r) h refl (λ h2.
-    word_passed format_line 2 _ _ r (λ t. At3 t r) h2 refl (λ h3.
+    word_passed ascii_format_line 2 _ _ r (λ t. At3 t r) h2 refl (λ h3.
     number_passed vertex_word 0 (2 ^ 32 - 1) 3 n _ _ r (λ k t. AtFaceCount k t r) (omega arith) h3
     (omega arith, omega arith) refl (λ h4.
     word_passed x_line 4 _ _ r (λ t. At5 n t r) h4 refl (λ h5.

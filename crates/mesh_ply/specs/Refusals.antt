@@ -13,7 +13,7 @@ use Rattle.line_text.specs.Refusals.{line_after, AtWord, AtNumber, AtRows, IsBeh
 use Rattle.mesh_ply.specs.declared.refusal.MeshRefusal.{MeshRefusal}
 use Rattle.mesh_ply.specs.declared.refusal.MeshRefusal.TheVariants.{BadLine, MeshCut, NoMemory}
 use Rattle.mesh_ply.specs.Meshes.{IsFace}
-use Rattle.mesh_ply.specs.Texts.{ply_line, format_line, vertex_word, x_line, y_line, z_line, face_word, list_line, header_end}
+use Rattle.mesh_ply.specs.Texts.{ply_line, ascii_format_line, vertex_word, x_line, y_line, z_line, face_word, list_line, header_end}
 use Rattle.mesh_ply.specs.Texts.{point_line, face_line}
 use Rattle.geo_sign.specs.declared.point.TheConstants.{BOX_LIMIT}
 
@@ -48,7 +48,7 @@ AtFaceCount n text r =
 abbrev pub AtMesh : List ℕ → LineRefusal → Type 0
 AtMesh text r =
     AtWord ply_line 1 text r (λ a.
-    AtWord format_line 2 a r (λ b.
+    AtWord ascii_format_line 2 a r (λ b.
     AtNumber vertex_word 0 (2 ^ 32 - 1) 3 b r (λ n c.
     AtFaceCount n c r)))
 

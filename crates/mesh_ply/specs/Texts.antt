@@ -20,8 +20,8 @@ unfoldable pub ply_line : List ℕ
 ply_line = codes "ply\n"
 
 -- numbers stand as decimal text
-unfoldable pub format_line : List ℕ
-format_line = codes "format ascii 1.0\n"
+unfoldable pub ascii_format_line : List ℕ
+ascii_format_line = codes "format ascii 1.0\n"
 
 -- the number of points follows
 unfoldable pub vertex_word : List ℕ
@@ -53,7 +53,7 @@ header_end = codes "end_header\n"
 
 -- up to the number of vertices
 abbrev pub vertex_head : List ℕ
-vertex_head = ply_line ++ (format_line ++ vertex_word)
+vertex_head = ply_line ++ (ascii_format_line ++ vertex_word)
 
 -- from there up to the number of faces
 abbrev pub face_head : List ℕ

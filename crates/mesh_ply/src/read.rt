@@ -5,7 +5,7 @@
 ghost use Rattle.std.specs.Prelude.{◌≡◌, ◌<◌, ◌≤◌, ◌^◌, ◌++◌, ◌⊎◌, None, ℕ, List, IfOk, IfErr, IsErr, MatchResult, length};
 ghost use Rattle.std.specs.List.{flat_map};
 ghost use Rattle.geo_sign.specs.Point.{Point, IsWithin};
-ghost use Rattle.line_text.specs.Refusals.{AreCounted, IsRefusedRow};
+ghost use Rattle.line_text.specs.Refusals.{AreCountedRows, IsRefusedRow};
 ghost use Rattle.line_text.specs.Lists.{WithMemory};
 ghost use Rattle.mesh_ply.specs.Meshes.{IsFace};
 ghost use Rattle.mesh_ply.specs.Texts.{point_line, face_line, mesh_text, IsPrinted};
@@ -29,7 +29,7 @@ fn read_points(
     count: u64,
     line: u64,
 ) -> Result<(Vec<Point>, &[u8]), LineRefusal>
-    ensures ok { IfOk result (λ read. AreCounted (IsWithin BOX_LIMIT) None count read.0.items × (text.now ≡ flat_map point_line read.0.items ++ read.1.now)) }
+    ensures ok { IfOk result (λ read. AreCountedRows (IsWithin BOX_LIMIT) None count read.0.items × (text.now ≡ flat_map point_line read.0.items ++ read.1.now)) }
     ensures refused { IfErr result (λ r. WithMemory r (IsRefusedRow (IsWithin BOX_LIMIT) point_line None count line text.now r)) }
 {
     let mut rows: Vec<Point> = Vec::new(alloc);
@@ -58,7 +58,7 @@ fn read_faces(
     line: u64,
 ) -> Result<(Vec<[u32; 3]>, &[u8]), LineRefusal>
     requires { points < 2 ^ 32 }
-    ensures ok { IfOk result (λ read. AreCounted (IsFace points) None count read.0.items × (text.now ≡ flat_map face_line read.0.items ++ read.1.now)) }
+    ensures ok { IfOk result (λ read. AreCountedRows (IsFace points) None count read.0.items × (text.now ≡ flat_map face_line read.0.items ++ read.1.now)) }
     ensures refused { IfErr result (λ r. WithMemory r (IsRefusedRow (IsFace points) face_line None count line text.now r)) }
 {
     let mut rows: Vec<[u32; 3]> = Vec::new(alloc);
@@ -81,7 +81,7 @@ fn read_faces(
 /// The points and faces from line 10 on, and nothing behind them.
 fn read_rows(alloc: Global, text: &[u8], points: u64, faces: u64) -> Result<Mesh, LineRefusal>
     requires { points < 2 ^ 32 }
-    ensures ok { IfOk result (λ mesh. AreCounted (IsWithin BOX_LIMIT) None points mesh.points.items × AreCounted (IsFace points) None faces mesh.faces.items × (text.now ≡ flat_map point_line mesh.points.items ++ flat_map face_line mesh.faces.items)) }
+    ensures ok { IfOk result (λ mesh. AreCountedRows (IsWithin BOX_LIMIT) None points mesh.points.items × AreCountedRows (IsFace points) None faces mesh.faces.items × (text.now ≡ flat_map point_line mesh.points.items ++ flat_map face_line mesh.faces.items)) }
     ensures refused { IfErr result (λ r. WithMemory r (AtPoints points faces text.now r)) }
 {
     let (vertices, rest) = read_points(alloc, text, points, 10)?;

@@ -1,10 +1,10 @@
 //! The fixed parts of a mesh's text.
 
 ghost use Rattle.std.specs.Prelude.{◌≡◌};
-ghost use Rattle.mesh_ply.specs.Texts.{ply_line, format_line, vertex_word, x_line, y_line, z_line, face_word, list_line, header_end, vertex_head, face_head, head_end};
+ghost use Rattle.mesh_ply.specs.Texts.{ply_line, ascii_format_line, vertex_word, x_line, y_line, z_line, face_word, list_line, header_end, vertex_head, face_head, head_end};
 
 /// The header up to the number of vertices.
-#[tactic(auto, unfolding(crate::specs::Texts::ply_line, crate::specs::Texts::format_line, crate::specs::Texts::vertex_word))]
+#[tactic(auto, unfolding(crate::specs::Texts::ply_line, crate::specs::Texts::ascii_format_line, crate::specs::Texts::vertex_word))]
 pub fn header_to_vertices() -> &'static [u8]
     ensures { result.now ≡ vertex_head }
 {
@@ -34,9 +34,9 @@ pub fn first_line() -> &'static [u8]
     b"ply\n"
 }
 
-#[tactic(auto, unfolding(crate::specs::Texts::format_line))]
+#[tactic(auto, unfolding(crate::specs::Texts::ascii_format_line))]
 pub fn format() -> &'static [u8]
-    ensures { result.now ≡ format_line }
+    ensures { result.now ≡ ascii_format_line }
 {
     b"format ascii 1.0\n"
 }

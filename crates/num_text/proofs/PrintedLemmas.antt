@@ -19,7 +19,7 @@ use Rattle.std.proofs.lemmas.List.{take_all, drop_all, append-nil}
 use Rattle.std.proofs.lemmas.List.Sums.{position_or_len_is}
 use Rattle.num_text.specs.declared.refusal.NumRefusal.{NumRefusal}
 use Rattle.num_text.specs.WholeNumbers.{is_minus, behind_sign, are_digits, significant, signed, whole_of}
-use Rattle.num_text.specs.Decimals.{is_exponent_mark, is_point, DecimalParts, parts_of, scaled_parts, scaled_of}
+use Rattle.num_text.specs.Decimals.{is_exponent_mark, is_point, DecimalParts, decimal_parts, scaled_parts, scaled_of}
 use Rattle.num_text.proofs.DigitLemmas.{digit_there, whole_is, significant_value}
 use Rattle.num_text.specs.declared.decimal.TheConstants.{SCALED_LIMIT}
 
@@ -131,7 +131,7 @@ parts_from is_negative body = record {
 }
 
 parts_are : (token ds : List ℕ) (is_negative : Bool) (n : ℕ) → IsSigned token ds is_negative n
-    → parts_of token ≡ plain_parts is_negative ds
+    → decimal_parts token ≡ plain_parts is_negative ds
 unfolding parts_from
 parts_are token ds is_negative n s =
     let p = parts_plain ds s.digits in

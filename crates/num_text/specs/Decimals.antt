@@ -2,7 +2,7 @@
 --
 -- is_exponent_mark, is_point   the bytes `e` and `E`, and the byte `.`
 -- DecimalParts    a decimal's sign, digits before and behind the point, and exponent
--- parts_of        the parts of a token, cut at its first `e` or `E` and its first point
+-- decimal_parts   the parts of a token, cut at its first `e` or `E` and its first point
 -- is_decimal      the parts are those of a decimal
 -- is_long         it has more digits than are read
 -- exponent_of     the exponent without its sign
@@ -45,8 +45,8 @@ abbrev pub exponent_text_of : List ℕ → List ℕ
 exponent_text_of token = after_first is_exponent_mark (behind_sign token)
 
 -- the parts of a token
-abbrev pub parts_of : List ℕ → DecimalParts
-parts_of token = record {
+abbrev pub decimal_parts : List ℕ → DecimalParts
+decimal_parts token = record {
   is_negative = is_minus token;
   whole = before_first is_point (mantissa_of token);
   fraction = after_first is_point (mantissa_of token);
@@ -94,4 +94,4 @@ scaled_parts parts unit =
 
 -- the number of units that a token is, or the first reason why it is none
 unfoldable pub scaled_of : List ℕ → ℕ → Result ℤ NumRefusal
-scaled_of token unit = scaled_parts (parts_of token) unit
+scaled_of token unit = scaled_parts (decimal_parts token) unit

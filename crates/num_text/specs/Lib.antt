@@ -1,4 +1,5 @@
 pub mod WholeNumbers
 pub mod Decimals
 pub mod Steps
+pub mod Separators
 pub mod Views

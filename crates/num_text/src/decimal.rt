@@ -11,7 +11,7 @@ ghost use Rattle.std.specs.List.{list_all, position_or_len};
 ghost use Rattle.std.specs.Char.{is_ascii_digit};
 ghost use Rattle.std.specs.Str.Parse.{digits_value};
 ghost use Rattle.num_text.specs.WholeNumbers.{are_digits, significant};
-ghost use Rattle.num_text.specs.Decimals.{is_exponent_mark, is_point, parts_of, is_decimal, is_long, exponent_of, numerator, denominator, nearest, scaled_of};
+ghost use Rattle.num_text.specs.Decimals.{is_exponent_mark, is_point, decimal_parts, is_decimal, is_long, exponent_of, numerator, denominator, nearest, scaled_of};
 ghost use Rattle.num_text.specs.Steps.{within_limit};
 ghost use Rattle.num_text.specs.Views.{parts_view};
 ghost use Rattle.num_text.specs.declared.decimal.TheConstants.{SCALED_LIMIT, UNIT_LIMIT};
@@ -91,7 +91,7 @@ fn behind(text: &[u8], position: usize) -> &[u8]
 }
 
 fn split_parts<'a>(token: &'a [u8]) -> DecimalParts<'a>
-    ensures { parts_view result ≡ parts_of token.now }
+    ensures { parts_view result ≡ decimal_parts token.now }
 {
     let body = without_sign(token);
     let mark = exponent_mark_position(body);

@@ -2,7 +2,7 @@
 
 ghost use Rattle.std.specs.Prelude.{◌≡◌, ◌<◌, ◌≤◌, ◌++◌, IfOk, AllPairs, length};
 ghost use Rattle.flow_net.specs.Flows.{IsAdmissible};
-ghost use Rattle.geo_sign.specs.Vertices.{corners, vertices_of};
+ghost use Rattle.geo_sign.specs.Vertices.{corners, boxed_vertices};
 ghost use Rattle.geo_sign.specs.Rising.{IsBefore};
 ghost use Rattle.mesh_ply.specs.Meshes.{mesh_of, IsMesh};
 ghost use Rattle.visibility.specs.Cuts.{cut_facets};
@@ -79,10 +79,10 @@ pub fn plain_mesh(
     labels: &Labels,
 ) -> Result<Mesh, NoMemory>
     requires few { length points.now ≤ PLAIN_LIMIT }
-    requires network { IsNetworkAmong (vertices_of points.now) voted.now }
+    requires network { IsNetworkAmong (boxed_vertices points.now) voted.now }
     requires labels { IsAdmissible voted.now.net labels.now }
-    ensures points { IfOk result (λ mesh. mesh.points.items ≡ (mesh_of (corners ++ points.now) (cut_facets (vertices_of points.now) (complex_of voted.now) (test_of voted.now.cells labels.now.inside))).points) }
-    ensures faces { IfOk result (λ mesh. mesh.faces.items ≡ (mesh_of (corners ++ points.now) (cut_facets (vertices_of points.now) (complex_of voted.now) (test_of voted.now.cells labels.now.inside))).faces) }
+    ensures points { IfOk result (λ mesh. mesh.points.items ≡ (mesh_of (corners ++ points.now) (cut_facets (boxed_vertices points.now) (complex_of voted.now) (test_of voted.now.cells labels.now.inside))).points) }
+    ensures faces { IfOk result (λ mesh. mesh.faces.items ≡ (mesh_of (corners ++ points.now) (cut_facets (boxed_vertices points.now) (complex_of voted.now) (test_of voted.now.cells labels.now.inside))).faces) }
     ensures valid { IfOk result (λ mesh. IsMesh mesh.points.items mesh.faces.items) }
     ensures rising { IfOk result (λ mesh. AllPairs IsBefore mesh.faces.items) }
 {

@@ -16,7 +16,7 @@ use Rattle.ply_rows.specs.declared.place.Place.{Place}
 use Rattle.ply_rows.specs.declared.refusal.RowRefusal.{RowRefusal}
 use Rattle.ply_rows.specs.declared.refusal.RowRefusal.TheVariants.{BadCount, Cut, Trailing, NoMemory}
 use Rattle.ply_rows.specs.Tokens.{Token}
-use Rattle.ply_rows.specs.Texts.{Fails, count_in, count_of, items_of, text_field}
+use Rattle.ply_rows.specs.Texts.{Fails, count_in, count_or_refusal, items_of, text_field}
 use Rattle.ply_rows.specs.Binaries.{size_of, number_of, bytes_of, binary_field}
 use Rattle.ply_rows.specs.Rests.{Rest, text, raw, field_of, fields_of}
 use Rattle.ply_rows.specs.Readers.{IsFieldOf, EndsInside}
@@ -74,9 +74,9 @@ count_in-row : (at : Place) (z : ℤ) → IsOfRow (count_in at z)
 count_in-row at (pos n) = bad_if (nat_lt 4294967295 n) at n
 count_in-row at (negsuc n) = tt
 
-count_of-row : (at : Place) (r : Result ℤ NumRefusal) → IsOfRow (count_of at r)
-count_of-row at (Ok z) = count_in-row at z
-count_of-row at (Err e) = tt
+count_or_refusal-row : (at : Place) (r : Result ℤ NumRefusal) → IsOfRow (count_or_refusal at r)
+count_or_refusal-row at (Ok z) = count_in-row at z
+count_or_refusal-row at (Err e) = tt
 
 text_field-row : (at : Place) (shape : Shape) (tokens : List Token) → IsOfRow (text_field at shape tokens)
 unfolding text_field
@@ -84,7 +84,7 @@ text_field-row at (One scalar) [] = tt
 text_field-row at (Many count item) [] = tt
 text_field-row at (One scalar) (t ∷ tokens) = tt
 text_field-row at (Many count item) (t ∷ tokens) =
-    and_then (count_of at (whole_of t.bytes)) (λ n. items_of at n tokens) (count_of-row at (whole_of t.bytes))
+    and_then (count_or_refusal at (whole_of t.bytes)) (λ n. items_of at n tokens) (count_or_refusal-row at (whole_of t.bytes))
     (λ n. cut_if (nat_lt (length tokens) n) at _)
 
 bytes_of-row : (at : Place) (n : ℕ) (bytes : List ℕ) → IsOfRow (bytes_of at n bytes)

@@ -21,7 +21,7 @@ use Rattle.ply_rows.specs.declared.place.Field.{Field}
 use Rattle.ply_rows.specs.declared.place.Place.{Place}
 use Rattle.ply_rows.specs.declared.refusal.RowRefusal.TheVariants.{BadCount, Cut}
 use Rattle.ply_rows.specs.Tokens.{Token}
-use Rattle.ply_rows.specs.Texts.{count_in, count_of, items_of, field_of_items, text_field}
+use Rattle.ply_rows.specs.Texts.{count_in, count_or_refusal, items_of, field_of_items, text_field}
 use Rattle.ply_rows.specs.Binaries.{size_of, number_of, bytes_of, list_field, binary_field}
 use Rattle.ply_rows.specs.Rests.{Rest, text, raw, field_of, fields_of}
 use Rattle.ply_head.specs.declared.header.Property.{Property}
@@ -36,7 +36,7 @@ counted at (pos m) n e =
     let same : m ≡ n = same_done m n both.1 in
     (ap pos same, omega (arith, same, ltb-false 4294967295 m both.0))
 
-count_found : (at : Place) (r : Result ℤ NumRefusal) (n : ℕ) → count_of at r ≡ Ok n → (r ≡ done (pos n)) × (n ≤ 4294967295)
+count_found : (at : Place) (r : Result ℤ NumRefusal) (n : ℕ) → count_or_refusal at r ≡ Ok n → (r ≡ done (pos n)) × (n ≤ 4294967295)
 count_found at (Err e) n is = absurd cc
 count_found at (Ok z) n is = let both = counted at z n is in (ap done both.0, both.1)
 
@@ -63,7 +63,7 @@ text_found at (One scalar) (t ∷ tokens) field behind e =
       left_is = ap (λ (x : Field × List Token). text x.1) (sym same);
     }
 text_found at (Many count item) (t ∷ tokens) field behind e =
-    let read = bind_ok (count_of at (whole_of t.bytes)) (λ n. items_of at n tokens) (field, behind) e in
+    let read = bind_ok (count_or_refusal at (whole_of t.bytes)) (λ n. items_of at n tokens) (field, behind) e in
     let count_is = count_found at (whole_of t.bytes) read.0 read.1 in
     let enough =
     guarded (ltb (length tokens) read.0) (Cut at) (done (field_of_items (take read.0 tokens), drop read.0 tokens))

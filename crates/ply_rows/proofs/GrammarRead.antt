@@ -16,7 +16,7 @@ use Rattle.ply_rows.specs.declared.place.Field.{Field}
 use Rattle.ply_rows.specs.declared.place.Place.{Place}
 use Rattle.ply_rows.specs.declared.refusal.RowRefusal.{RowRefusal}
 use Rattle.ply_rows.specs.Tokens.{Token}
-use Rattle.ply_rows.specs.Texts.{count_in, count_of, items_of, field_of_items, text_field}
+use Rattle.ply_rows.specs.Texts.{count_in, count_or_refusal, items_of, field_of_items, text_field}
 use Rattle.ply_rows.specs.Binaries.{size_of, number_of, bytes_of, list_field, binary_field}
 use Rattle.ply_rows.specs.Rests.{Rest, text, raw, field_of, fields_of}
 use Rattle.ply_rows.specs.Grammar.{IsGroup, group_field, IsPiece, piece_field, Begins, BeginsRow}
@@ -47,7 +47,7 @@ group_read at (One scalar) (t ∷ items) behind is =
     ∙ ap (λ (n : ℕ). fields_and (record { place = t.place; size = n; items = 1 }) behind) (omega arith)
     ∙ ap (λ (ts : List Token). fields_and (field_of_items (t ∷ ts)) behind) (sym is)
 group_read at (Many count item) (t ∷ items) behind is =
-    ap (λ (r : Result ℤ NumRefusal). count_of at r >>= λ n. items_of at n (items ++ behind)) is.0
+    ap (λ (r : Result ℤ NumRefusal). count_or_refusal at r >>= λ n. items_of at n (items ++ behind)) is.0
     ∙ ap (λ (r : Result ℕ RowRefusal). r >>= λ n. items_of at n (items ++ behind)) (count_read at (length items) is.1)
     ∙ items_read at items behind
 

@@ -9,17 +9,17 @@ use Rattle.ply_rows.specs.declared.place.Place.{Place}
 use Rattle.ply_rows.specs.declared.refusal.RowRefusal.{RowRefusal}
 use Rattle.ply_rows.specs.declared.refusal.RowRefusal.TheVariants.{Cut, NoMemory}
 use Rattle.ply_rows.specs.Tokens.{Token}
-use Rattle.ply_rows.specs.Texts.{Fails, end_of, items_end, items_of}
+use Rattle.ply_rows.specs.Texts.{Fails, end_of_tokens, items_end, items_of}
 
-end_of-push : (place : ℕ) (ts : List Token) (t : Token) → end_of place (ts ++ t ∷ []) ≡ t.place + length t.bytes
-end_of-push place [] t = refl
-end_of-push place (s ∷ ts) t = end_of-push (s.place + length s.bytes) ts t
+end_of_tokens-push : (place : ℕ) (ts : List Token) (t : Token) → end_of_tokens place (ts ++ t ∷ []) ≡ t.place + length t.bytes
+end_of_tokens-push place [] t = refl
+end_of_tokens-push place (s ∷ ts) t = end_of_tokens-push (s.place + length s.bytes) ts t
 
 -- k of the tokens are read, up to a place, and these are left
 pub record AreRead (ts left : List Token) (place k end : ℕ) : Type 0 where
   pub within : k ≤ length ts
   pub left_is : left ≡ drop k ts
-  pub end_is : end ≡ end_of place (take k ts)
+  pub end_is : end ≡ end_of_tokens place (take k ts)
 
 pub one_read : (ts left more : List Token) (t : Token) (place k end behind : ℕ) → AreRead ts left place k end → left ≡ t ∷ more
     → t.place + length t.bytes ≡ behind → AreRead ts more place (k + 1) behind
@@ -32,8 +32,8 @@ one_read ts left more t place k end behind read is ends =
       within = omega arith;
       left_is = sym (ap (drop 1) here) ∙ drop-drop 1 k ts;
       end_is =
-          sym ends ∙ sym (end_of-push place (take k ts) t)
-          ∙ sym (ap (end_of place) (take_more ts k t lt ∙ ap (λ (u : Token). take k ts ++ u ∷ []) at));
+          sym ends ∙ sym (end_of_tokens-push place (take k ts) t)
+          ∙ sym (ap (end_of_tokens place) (take_more ts k t lt ∙ ap (λ (u : Token). take k ts ++ u ∷ []) at));
     }
 
 pub items_cut : (at : Place) (n : ℕ) (ts left : List Token) (place k end : ℕ) → AreRead ts left place k end → left ≡ [] → k < n
@@ -51,7 +51,7 @@ first_item at m t ts =
       | inl lt ↦ rw (lt-ltb (length (t ∷ ts)) (suc m) (omega arith), lt-ltb (length ts) m lt) refl
       | inr ge ↦
           rw (le-ltb (length (t ∷ ts)) (suc m) (omega arith), le-ltb (length ts) m ge)
-          (ap (λ (n : ℕ). with_first (suc n) t.place (end_of (t.place + length t.bytes) (take m ts), drop m ts))
+          (ap (λ (n : ℕ). with_first (suc n) t.place (end_of_tokens (t.place + length t.bytes) (take m ts), drop m ts))
           (length-take-le m ts ge))
     ]
 

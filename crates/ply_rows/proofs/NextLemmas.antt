@@ -8,7 +8,7 @@ use Rattle.ply_rows.specs.declared.refusal.RowRefusal.TheVariants.{NoMemory}
 use Rattle.ply_rows.specs.Rests.{Rest, fields_of}
 use Rattle.ply_rows.specs.Texts.{Fails}
 use Rattle.ply_rows.specs.Bodies.{BodyRows, row, refused, row_then, rows_from}
-use Rattle.ply_rows.specs.Readers.{Reader, NextRow, AreFieldsOf, IsRowOf}
+use Rattle.ply_rows.specs.Readers.{Reader, NextRow, AreFieldsOf, AreRowFields}
 use Rattle.ply_head.specs.declared.header.Header.{Header}
 use Rattle.std.proofs.lemmas.List.{get_or_default}
 use Rattle.ply_rows.proofs.RowLemmas.{FieldsRead}
@@ -74,7 +74,7 @@ row_refused why els e r properties tokens fields old next is fails none = (
 
 -- the fields that fit the properties are those of the row
 pub row_fits : (head : Header) (body : List ℕ) (e r : ℕ) (properties : List Property) (fields : List Field)
-    → IsNext head.elements e r properties → AreFieldsOf head.kind body properties fields → IsRowOf head body (row_at e r) fields
+    → IsNext head.elements e r properties → AreFieldsOf head.kind body properties fields → AreRowFields head body (row_at e r) fields
 row_fits head body e r properties fields next fits =
     let same : (d : Element) → next.el ≡ get_or head.elements e d =
     λ d. next.is ∙ get_or_default head.elements e next.el d next.within in

@@ -7,7 +7,8 @@ use Rattle.std.proofs.lemmas.List.{drop_more, drop_all, take-append-drop, length
 use Rattle.std.proofs.lemmas.List.{get_or-drop, get_or_default, take_rest}
 use Rattle.std.proofs.lemmas.Bool.{cases_lt}
 use Rattle.std.proofs.lemmas.List.Splits.{slice_split-cons_yes, slice_split_at, slice_split_none}
-use Rattle.ply_rows.specs.Tokens.{Token, is_white_space, has_bytes, placed, tokens_from, tokens_at}
+use Rattle.ply_head.specs.Lines.{has_bytes}
+use Rattle.ply_rows.specs.Tokens.{Token, is_white_space, placed, tokens_from, tokens_at}
 
 pub tokens_none : (place : ℕ) → tokens_from place [] ≡ []
 unfolding tokens_from
@@ -18,8 +19,9 @@ pub tokens_space : (place b : ℕ) (xs : List ℕ) → is_white_space b ≡ true
     → tokens_from place (b ∷ xs) ≡ tokens_from (place + 1) xs
 unfolding tokens_from
 tokens_space place b xs space =
-    ap (λ (parts : List (List ℕ)). filter has_bytes (placed place parts)) (slice_split-cons_yes is_white_space b xs space)
-    ∙ ap (λ (n : ℕ). filter has_bytes (placed n (slice_split is_white_space xs))) (omega arith)
+    ap (λ (parts : List (List ℕ)). filter (λ (token : Token). has_bytes token.bytes) (placed place parts))
+    (slice_split-cons_yes is_white_space b xs space)
+    ∙ ap (λ (n : ℕ). filter (λ (token : Token). has_bytes token.bytes) (placed n (slice_split is_white_space xs))) (omega arith)
 
 -- a token ends at white space
 pub tokens_token : (place : ℕ) (w : List ℕ) (b : ℕ) (rest : List ℕ) → 0 < length w → All (λ x. is_white_space x ≡ false) w
@@ -28,7 +30,7 @@ pub tokens_token : (place : ℕ) (w : List ℕ) (b : ℕ) (rest : List ℕ) → 
 unfolding tokens_from
 tokens_token place [] b rest some all space = absurd (omega arith)
 tokens_token place (x ∷ w) b rest some all space =
-    ap (λ (parts : List (List ℕ)). filter has_bytes (placed place parts))
+    ap (λ (parts : List (List ℕ)). filter (λ (token : Token). has_bytes token.bytes) (placed place parts))
     (slice_split_at is_white_space (x ∷ w) b rest all space)
 
 -- or at the end
@@ -37,7 +39,8 @@ pub tokens_last : (place : ℕ) (w : List ℕ) → 0 < length w → All (λ x. i
 unfolding tokens_from
 tokens_last place [] some all = absurd (omega arith)
 tokens_last place (x ∷ w) some all =
-    ap (λ (parts : List (List ℕ)). filter has_bytes (placed place parts)) (slice_split_none is_white_space (x ∷ w) all)
+    ap (λ (parts : List (List ℕ)). filter (λ (token : Token). has_bytes token.bytes) (placed place parts))
+    (slice_split_none is_white_space (x ∷ w) all)
 
 pub tokens_next : (body : List ℕ) (i : ℕ) → i < length body → is_white_space (get_or body i 0) ≡ true
     → tokens_at body i ≡ tokens_at body (i + 1)

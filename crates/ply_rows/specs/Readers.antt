@@ -7,7 +7,7 @@
 -- HasTokens      a list's field has as many tokens as items from its place on, in a text
 -- IsFieldOf      a field is one of a property
 -- AreFieldsOf    fields are those of properties, one for each
--- IsRowOf        fields are those of a row of the header
+-- AreRowFields   fields are those of a row of the header
 -- EndsInside     a trailing byte is one of the body
 use Rattle.std.specs.Prelude.{ℕ, ◌≡◌, ◌≤◌, ◌<◌, ◌+◌, ◌*◌, List, [], length, slice_index_or, Result, Ok, Err, Option, Some, None}
 use Rattle.ply_head.specs.declared.header.Header.{Header}
@@ -67,7 +67,7 @@ pub record AreFieldsOf (kind : Kind) (body : List ℕ) (properties : List Proper
       → IsFieldOf kind body (slice_index_or properties number p).shape (slice_index_or fields number f)
 
 -- the fields are those of a row that the header has
-pub record IsRowOf (head : Header) (body : List ℕ) (at : RowAt) (fields : List Field) : Type 0 where
+pub record AreRowFields (head : Header) (body : List ℕ) (at : RowAt) (fields : List Field) : Type 0 where
   pub element : at.element < length head.elements
   pub row : (e : Element) → at.row < (slice_index_or head.elements at.element e).count
   pub fields_are : (e : Element) → AreFieldsOf head.kind body (slice_index_or head.elements at.element e).properties fields

@@ -1,10 +1,10 @@
 -- The fields of a text, counted off its tokens.
 --
 -- Gives, Fails      what a call returned is what a definition says, unless memory ran out
--- end_of            where the last of some tokens ends
+-- end_of_tokens     where the last of some tokens ends
 -- field_of_items    the field that the items of a list make
 -- count_in          a whole number, as a number of items
--- count_of          a token that was read as a whole number, as a number of items
+-- count_or_refusal   a token that was read as a whole number, as a number of items
 -- items_of          the field of so many items, and the tokens behind them
 -- items_end         where so many tokens end, and the tokens behind them
 -- text_field        the field of a property, and the tokens behind it
@@ -32,16 +32,16 @@ Gives view (Ok x) read = read ≡ Ok (view x)
 Gives view (Err e) read = Fails e read
 
 -- the place behind the last of some tokens, or this place where there are none
-abbrev pub end_of : ℕ → List Token → ℕ
-end_of place [] = place
-end_of place (token ∷ tokens) = end_of (token.place + length token.bytes) tokens
+abbrev pub end_of_tokens : ℕ → List Token → ℕ
+end_of_tokens place [] = place
+end_of_tokens place (token ∷ tokens) = end_of_tokens (token.place + length token.bytes) tokens
 
 -- the field that the items of a list make: from the first to the end of the last
 abbrev pub field_of_items : List Token → Field
 field_of_items [] = record { place = 0; size = 0; items = 0 }
 field_of_items (token ∷ tokens) = record {
   place = token.place;
-  size = end_of (token.place + length token.bytes) tokens - token.place;
+  size = end_of_tokens (token.place + length token.bytes) tokens - token.place;
   items = length (token ∷ tokens);
 }
 
@@ -51,9 +51,9 @@ count_in at (pos n) = if nat_lt 4294967295 n then Err (BadCount at) else Ok n
 count_in at (negsuc n) = Err (BadCount at)
 
 -- a token that was read as a whole number, or was not, as a number of items
-abbrev pub count_of : Place → Result ℤ NumRefusal → Result ℕ RowRefusal
-count_of at (Ok number) = count_in at number
-count_of at (Err e) = Err (BadCount at)
+abbrev pub count_or_refusal : Place → Result ℤ NumRefusal → Result ℕ RowRefusal
+count_or_refusal at (Ok number) = count_in at number
+count_or_refusal at (Err e) = Err (BadCount at)
 
 -- the field of so many items, and the tokens behind them
 abbrev pub items_of : Place → ℕ → List Token → Result (Field × List Token) RowRefusal
@@ -62,11 +62,11 @@ items_of at n tokens = if nat_lt (length tokens) n then Err (Cut at) else Ok (fi
 -- where so many tokens end, and the tokens behind them
 abbrev pub items_end : Place → ℕ → ℕ → List Token → Result (ℕ × List Token) RowRefusal
 items_end at n place tokens =
-    if nat_lt (length tokens) n then Err (Cut at) else Ok (end_of place (take n tokens), drop n tokens)
+    if nat_lt (length tokens) n then Err (Cut at) else Ok (end_of_tokens place (take n tokens), drop n tokens)
 
 -- the field of a property in a text, and the tokens behind it: one token, or one that
 -- counts the items and then the items
 unfoldable pub text_field : Place → Shape → List Token → Result (Field × List Token) RowRefusal
 text_field at shape [] = Err (Cut at)
 text_field at (One scalar) (token ∷ tokens) = Ok (record { place = token.place; size = length token.bytes; items = 1 }, tokens)
-text_field at (Many count item) (token ∷ tokens) = count_of at (whole_of token.bytes) >>= λ n. items_of at n tokens
+text_field at (Many count item) (token ∷ tokens) = count_or_refusal at (whole_of token.bytes) >>= λ n. items_of at n tokens

@@ -5,8 +5,9 @@
 -- placed           parts of a text with their places
 -- tokens_from      the tokens of a text that begins at a place
 -- tokens_at        the tokens of a body from a place on
-use Rattle.std.specs.Prelude.{ℕ, ◌+◌, List, [], ◌∷◌, Bool, true, false, ◌==◌, ◌||◌, length, drop, filter}
+use Rattle.std.specs.Prelude.{ℕ, ◌+◌, List, [], ◌∷◌, Bool, ◌==◌, ◌||◌, length, drop, filter}
 use Rattle.std.specs.List.{slice_split}
+use Rattle.ply_head.specs.Lines.{has_bytes}
 
 -- space, tab, CR or LF
 abbrev pub is_white_space : ℕ → Bool
@@ -17,14 +18,6 @@ pub record Token : Type 0 where
   pub place : ℕ
   pub bytes : List ℕ
 
--- the run has a byte
-abbrev pub has_bytes : Token → Bool
-has_bytes token = some token.bytes
-  where
-    some : List ℕ → Bool
-    some [] = false
-    some (b ∷ bytes) = true
-
 -- parts that stand one behind another from a place on, with one byte between each two
 abbrev pub placed : ℕ → List (List ℕ) → List Token
 placed place [] = []
@@ -32,7 +25,7 @@ placed place (part ∷ parts) = record { place = place; bytes = part } ∷ place
 
 -- the runs of bytes other than white space, in a text that begins at a place
 unfoldable pub tokens_from : ℕ → List ℕ → List Token
-tokens_from place bytes = filter has_bytes (placed place (slice_split is_white_space bytes))
+tokens_from place bytes = filter (λ token. has_bytes token.bytes) (placed place (slice_split is_white_space bytes))
 
 -- the tokens of a body from a place on
 unfoldable pub tokens_at : List ℕ → ℕ → List Token

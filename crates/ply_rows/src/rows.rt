@@ -95,7 +95,7 @@ fn end_of_rows(kind: Kind, body: &[u8], place: usize) -> Result<(), RowRefusal>
 }
 
 impl<'a> Rows<'a> {
-    ghost use Rattle.ply_rows.specs.Readers.{NextRow, IsRowOf};
+    ghost use Rattle.ply_rows.specs.Readers.{NextRow, AreRowFields};
 
     /// A reader that stands before the first row of a body, which a header cuts.
     pub fn new(head: &'a Header, body: &'a [u8]) -> Rows<'a>
@@ -120,7 +120,7 @@ impl<'a> Rows<'a> {
     /// it was, so that the next call has the same answer, if memory does not run out.
     pub fn next_row(&mut self, out: &mut Vec<Field>) -> Result<Option<RowAt>, RowRefusal>
         ensures next { NextRow result out.new.items self.old self.new }
-        ensures row { IfOk result (λ found. IfSome found (λ at. IsRowOf self.old.head self.old.body at out.new.items)) }
+        ensures row { IfOk result (λ found. IfSome found (λ at. AreRowFields self.old.head self.old.body at out.new.items)) }
         ensures inside { EndsInside self.old.body result }
     {
         out.clear();

@@ -3,7 +3,7 @@
 ghost use Rattle.std.specs.Prelude.{◌≡◌, ◌≤◌, length, IfOk};
 ghost use Rattle.num_text.specs.WholeNumbers.{whole_of};
 ghost use Rattle.ply_rows.specs.Tokens.{tokens_at};
-ghost use Rattle.ply_rows.specs.Texts.{Gives, count_in, count_of, items_of, items_end, text_field};
+ghost use Rattle.ply_rows.specs.Texts.{Gives, count_in, count_or_refusal, items_of, items_end, text_field};
 ghost use Rattle.ply_head.specs.declared.header.Kind.TheVariants.{Ascii};
 ghost use Rattle.ply_rows.specs.Readers.{IsInside, HasTokens};
 
@@ -28,7 +28,7 @@ pub(crate) fn count_of_number(number: i64, at: Place) -> Result<u32, RowRefusal>
 
 /// The number of items that a token says.
 fn count_in_token(token: &[u8], at: Place) -> Result<u32, RowRefusal>
-    ensures { Gives (λ count. count) result (count_of at (whole_of token.now)) }
+    ensures { Gives (λ count. count) result (count_or_refusal at (whole_of token.now)) }
 {
     match whole(token) {
         Err(_) => Err(RowRefusal::BadCount(at)),

@@ -6,7 +6,7 @@ use Rattle.std.specs.Prelude.{ℕ, ◌≡◌, ◌<◌, ◌++◌, true, false, Li
 use Rattle.delaunay.specs.Partition.{IsPartition}
 use Rattle.flow_net.specs.declared.votes.Settings.{Settings}
 use Rattle.geo_sign.specs.RowLaws.{IsRowOf}
-use Rattle.geo_sign.specs.Vertices.{corners, vertices_of}
+use Rattle.geo_sign.specs.Vertices.{corners, boxed_vertices}
 use Rattle.scan.specs.Shown.{Shown}
 use Rattle.solution.specs.Scans.{points_of, scene_of_scan}
 use Rattle.tetra_store.specs.Delaunay.{IsDelaunay}
@@ -26,6 +26,6 @@ pub record AreRowsOf (slots : List (Option Cell)) (cells : List (List ℕ)) : Ty
 pub record IsStoreOf (scan : Shown) (settings : Settings) (s : Store) : Type 0 where
   pub points : s.points ≡ corners ++ points_of scan
   pub inserted : (u : ℕ) → u < length s.points → slice_index_or s.inserted u false ≡ true
-  pub delaunay : IsDelaunay (vertices_of (points_of scan)) (links_of s.slots)
+  pub delaunay : IsDelaunay (boxed_vertices (points_of scan)) (links_of s.slots)
   pub partition : IsPartition s
   pub cells : (complex : Complex) → IsComplexOf (scene_of_scan scan settings) complex → AreRowsOf s.slots complex.cells

@@ -11,7 +11,7 @@ use Rattle.std.proofs.lemmas.Bool.{false_from_ne_true}
 use Rattle.cert_text.specs.Certificates.{Claim}
 use Rattle.flow_check.specs.Verdicts.{IsVerdict, IsFixedInside as IsFixedInsideNet, IsOverCapacity as IsOverCapacityNet}
 use Rattle.flow_check.specs.Verdicts.{IsOverSink as IsOverSinkNet, IsUnbalanced as IsUnbalancedNet, IsNotLeast as IsNotLeastNet}
-use Rattle.flow_check.specs.Verdicts.{AreWithinArcs as AreWithinArcsNet, IsCertified as IsCertifiedNet}
+use Rattle.flow_check.specs.Verdicts.{AreWithinArcs as AreWithinArcsNet, IsOptimalPair}
 use Rattle.flow_check.specs.declared.verdict.Verdict.{Verdict}
 use Rattle.flow_check.specs.declared.verdict.Verdict.TheVariants as verdicts
 use Rattle.flow_net.specs.declared.Flow.{Flow}
@@ -126,7 +126,7 @@ module _ (s : Scene) (voted : Voted) (claim : Claim) (n : IsNetworkInAnyOrder s 
         h.within_caps;
   }
 
-  certified : IsCertifiedNet net labels flow → IsCertified s complex claim
+  certified : IsOptimalPair net labels flow → IsCertified s complex claim
   certified h =
       let alike : AgreeAsLabels s voted (is_inside claim) = labels_agree s voted (is_inside claim) n in
       let flows : AgreeAsFlows s voted (flow_on claim) (sink_at claim) =

@@ -17,15 +17,15 @@ use Rattle.solution.specs.Solutions.{stated, listed}
 use Rattle.std.specs.Str.{bytes_eq}
 use Rattle.std.proofs.lemmas.Slice.Eq.{bytes_eq-Decides}
 use Rattle.visibility.proofs.Indices.{not_before_itself}
-use Rattle.recon_check.specs.Claims.{is_among}
+use Rattle.recon_check.specs.Claims.{is_among_rows}
 use Rattle.recon_check.proofs.Walks.{stated_says}
 
 -- ---- what is among rows
-pub among_from : (rows : List (List ℕ)) (row : List ℕ) → Contains rows row → is_among rows row ≡ true
+pub among_from : (rows : List (List ℕ)) (row : List ℕ) → Contains rows row → is_among_rows rows row ≡ true
 among_from rows row h =
     list_any-from_Any (λ other. bytes_eq other row) rows (h.0, row, h.1, h.2, (bytes_eq-Decides row row).1 refl)
 
-pub among_means : (rows : List (List ℕ)) (row : List ℕ) → is_among rows row ≡ true → Contains rows row
+pub among_means : (rows : List (List ℕ)) (row : List ℕ) → is_among_rows rows row ≡ true → Contains rows row
 among_means rows row h =
     let found = Any-from_list_any (λ other. bytes_eq other row) rows h in
     subst (λ (r : List ℕ). Contains rows r) ((bytes_eq-Decides found.1 row).0 found.4) (found.0, found.2, found.3)
@@ -56,12 +56,12 @@ kept_passes test rows row h = All-contains (λ (r : List ℕ). test r ≡ true) 
 
 -- rising rows that are among rising keys are those of the keys that are among the rows
 pub among_kept : (rows keys : List (List ℕ)) → AllPairs IsBefore rows → AllPairs IsBefore keys → All (Contains keys) rows
-    → rows ≡ filter (is_among rows) keys
+    → rows ≡ filter (is_among_rows rows) keys
 among_kept rows keys rise keys_rise there =
-    rising_law rows (filter (is_among rows) keys) rise (AllPairs-filter IsBefore (is_among rows) keys keys_rise)
+    rising_law rows (filter (is_among_rows rows) keys) rise (AllPairs-filter IsBefore (is_among_rows rows) keys keys_rise)
     (λ row. (
-      λ h. kept_has (is_among rows) keys row (All-contains (Contains keys) rows row there h) (among_from rows row h),
-      λ h. among_means rows row (kept_passes (is_among rows) keys row h),
+      λ h. kept_has (is_among_rows rows) keys row (All-contains (Contains keys) rows row there h) (among_from rows row h),
+      λ h. among_means rows row (kept_passes (is_among_rows rows) keys row h),
     ))
 
 -- ---- rows that state amounts
@@ -88,9 +88,9 @@ stated_row about amount (row ∷ rows) rising (suc i) d l =
 -- a key with an amount has a row
 about_one : {Row : Type 0} (about : Row → List ℕ) (amount : Row → ℕ) (rows : List Row) (key : List ℕ)
     → stated about amount rows key ≢ 0 → Contains (map about rows) key
-about_one {Row} about amount rows key some = by (is_among (map about rows) key) refl
+about_one {Row} about amount rows key some = by (is_among_rows (map about rows) key) refl
   where
-    by : (b : Bool) → is_among (map about rows) key ≡ b → Contains (map about rows) key
+    by : (b : Bool) → is_among_rows (map about rows) key ≡ b → Contains (map about rows) key
     by true e = among_means (map about rows) key e
     by false e = absurd (some ((stated_says about amount).absent rows key (λ i l same.
         let there : Contains (map about rows) key = (

@@ -6,7 +6,7 @@ use Rattle.scan.specs.Shown.{Shown}
 use Rattle.visibility.specs.Scenes.{Scene}
 use Rattle.visibility.specs.Complexes.{Complex}
 use Rattle.recon_check.specs.Answers.{IsReason}
-use Rattle.recon_check.specs.Claims.{facets_of, cells_of, IsStray}
+use Rattle.recon_check.specs.Claims.{flow_facets, sink_cells, IsStray}
 use Rattle.recon_check.specs.Strays.{IsStrayFacet, IsStraySink}
 use Rattle.recon_check.specs.declared.answer.Reason.{Reason}
 use Rattle.recon_check.specs.declared.answer.Reason.TheVariants.{NoSuchFacet, NoSuchSink}
@@ -24,16 +24,16 @@ all_along keys keys' rows rows' a b h =
     (subst (λ (given : List (List ℕ)). All (Contains given) rows) a h)
 
 pub stray_facet : (scan : Shown) (s : Scene) (complex : Complex) (claim : Claim) (mesh : List ℕ) (facets given : List (List ℕ))
-    → facets ≡ complex.facets → given ≡ facets_of claim → All (Contains complex.cells) claim.inside
+    → facets ≡ complex.facets → given ≡ flow_facets claim → All (Contains complex.cells) claim.inside
     → (reason : Reason) → IsStrayFacet facets given reason → IsReason scan s complex claim mesh reason
 stray_facet scan s complex claim mesh facets given a b cells (NoSuchFacet k) h =
-    (cells, first_along facets complex.facets given (facets_of claim) k a b h)
+    (cells, first_along facets complex.facets given (flow_facets claim) k a b h)
 stray_facet scan s complex claim mesh facets given a b cells _ h = absurd h
 
 pub stray_sink : (scan : Shown) (s : Scene) (complex : Complex) (claim : Claim) (mesh : List ℕ) (cells given : List (List ℕ))
-    → cells ≡ complex.cells → given ≡ cells_of claim → All (Contains complex.cells) claim.inside
-    → All (Contains complex.facets) (facets_of claim) → (reason : Reason) → IsStraySink cells given reason
+    → cells ≡ complex.cells → given ≡ sink_cells claim → All (Contains complex.cells) claim.inside
+    → All (Contains complex.facets) (flow_facets claim) → (reason : Reason) → IsStraySink cells given reason
     → IsReason scan s complex claim mesh reason
 stray_sink scan s complex claim mesh cells given a b inside facets (NoSuchSink k) h =
-    (inside, facets, first_along cells complex.cells given (cells_of claim) k a b h)
+    (inside, facets, first_along cells complex.cells given (sink_cells claim) k a b h)
 stray_sink scan s complex claim mesh cells given a b inside facets _ h = absurd h

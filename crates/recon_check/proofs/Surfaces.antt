@@ -8,7 +8,7 @@ use Rattle.flow_net.specs.declared.votes.Settings.{Settings}
 use Rattle.flow_net.specs.Nets.{flag_at}
 use Rattle.flow_net.specs.Flows.{cost_of, IsLeastInside as IsLeastInsideNet}
 use Rattle.geo_sign.specs.Point.{Point}
-use Rattle.geo_sign.specs.Vertices.{Vertices, corners, vertices_of}
+use Rattle.geo_sign.specs.Vertices.{Vertices, corners, boxed_vertices}
 use Rattle.geo_sign.specs.Rising.{IsBefore}
 use Rattle.mesh_ply.specs.Meshes.{mesh_of}
 use Rattle.mesh_ply.specs.declared.mesh.Mesh.{Mesh}
@@ -47,10 +47,10 @@ test_agrees complex inside rising row there =
 pub surface_is : (scan : Shown) (settings : Settings) (network : Network) (claim : Claim) (labels : Labels) (mesh : Mesh)
     → IsNetworkOfScan scan settings network → labels ≡ labels_by network.counted.voted claim
     → mesh.points.items ≡ (mesh_of network.linked.points
-    (cut_facets (vertices_of (points_of scan)) (complex_of network.counted.voted)
+    (cut_facets (boxed_vertices (points_of scan)) (complex_of network.counted.voted)
     (test_of network.counted.voted.cells labels.inside))).points
     → mesh.faces.items ≡ (mesh_of network.linked.points
-    (cut_facets (vertices_of (points_of scan)) (complex_of network.counted.voted)
+    (cut_facets (boxed_vertices (points_of scan)) (complex_of network.counted.voted)
     (test_of network.counted.voted.cells labels.inside))).faces
     → surface_of mesh ≡ best_surface scan (complex_of network.counted.voted) (is_inside claim)
 surface_is scan settings network claim labels mesh is labels_are points_are faces_are =
@@ -68,7 +68,7 @@ surface_is scan settings network claim labels mesh is labels_are points_are face
     (test_agrees complex (is_inside claim) is.voted.complex_is.cells_are.rising))
   where
     v : Vertices
-    v = vertices_of (points_of scan)
+    v = boxed_vertices (points_of scan)
 
     complex : Complex
     complex = complex_of network.counted.voted

@@ -18,7 +18,7 @@ use Rattle.flow_net.specs.Faults.{IsFixedInside, IsOverCapacity, sink_limit, IsO
 use Rattle.flow_net.specs.Networks.{amount_in as entering_of}
 use Rattle.cert_text.specs.Stamps.{StampView}
 use Rattle.cert_text.specs.Certificates.{Claim, IsWellFormed}
-use Rattle.cert_text.specs.Refusals.{IsRefused}
+use Rattle.cert_text.specs.Refusals.{IsRefusedCertificate}
 use Rattle.cert_text.specs.Texts.{cert_text}
 use Rattle.cert_text.specs.declared.refusal.CertRefusal.{CertRefusal}
 use Rattle.cert_text.specs.declared.refusal.CertRefusal.TheVariants as refusals
@@ -42,7 +42,7 @@ use Rattle.recon_check.specs.Answers.{best_surface, surface_text, IsSolved, stat
 use Rattle.recon_check.specs.Answers.{IsReason, IsFault, IsFaultOver, IsFaultHere, HasCertificate, IsSolvedWith, IsAnswer}
 use Rattle.recon_check.specs.Stamps.{IsStampedFor}
 use Rattle.recon_check.proofs.OneStamp.{not_other, one_stamp}
-use Rattle.recon_check.specs.Claims.{is_inside, facets_of, cells_of, IsStray, AreThere, NoneOf}
+use Rattle.recon_check.specs.Claims.{is_inside, flow_facets, sink_cells, IsStray, AreThere, NoneOf}
 use Rattle.recon_check.specs.Differences.{IsFirstDifference}
 use Rattle.recon_check.specs.Faults.{IsWithinFacets, IsWithinLimits, IsCertified, IsBest}
 use Rattle.recon_check.specs.Laws.{OneAnswer}
@@ -78,8 +78,8 @@ level _ = 11
 -- what holds where there is no fault of the kind of a reason
 abbrev Passes : Shown → Scene → Complex → Claim → List ℕ → Reason → Type 0
 Passes scan s complex claim mesh (NoSuchCell k) = All (Contains complex.cells) claim.inside
-Passes scan s complex claim mesh (NoSuchFacet k) = All (Contains complex.facets) (facets_of claim)
-Passes scan s complex claim mesh (NoSuchSink k) = All (Contains complex.cells) (cells_of claim)
+Passes scan s complex claim mesh (NoSuchFacet k) = All (Contains complex.facets) (flow_facets claim)
+Passes scan s complex claim mesh (NoSuchSink k) = All (Contains complex.cells) (sink_cells claim)
 Passes scan s complex claim mesh (FixedInside cell) = IsAdmissible s complex (is_inside claim)
 Passes scan s complex claim mesh (OverCapacity facet flow cap) =
     NoneOf complex.facets (IsOverCapacity (network_over s complex) (flow_on claim))
@@ -112,8 +112,8 @@ fails scan s complex claim mesh (OtherUnit a b) h p = absurd h
 fails scan s complex claim mesh (OtherFixed a b) h p = absurd h
 fails scan s complex claim mesh (OtherCounts which a b) h p = absurd h
 fails scan s complex claim mesh (NoSuchCell k) h p = not_stray complex.cells claim.inside k p h
-fails scan s complex claim mesh (NoSuchFacet k) h p = not_stray complex.facets (facets_of claim) k p h.1
-fails scan s complex claim mesh (NoSuchSink k) h p = not_stray complex.cells (cells_of claim) k p h.2
+fails scan s complex claim mesh (NoSuchFacet k) h p = not_stray complex.facets (flow_facets claim) k p h.1
+fails scan s complex claim mesh (NoSuchSink k) h p = not_stray complex.cells (sink_cells claim) k p h.2
 fails scan s complex claim mesh (FixedInside cell) h p =
     not_first_of complex.cells cell (IsFixedInside (network_over s complex) (is_inside claim))
     (λ row there fault. let outside = p.none_fixed row there fault.0 in false≢true (sym outside ∙ fault.1)) h.1
@@ -223,7 +223,7 @@ by_first scan s complex claim mesh cells (NoSuchCell k) l = cells
 by_first scan s complex claim mesh cells _ l = absurd (omega arith)
 
 by_second : (scan : Shown) (s : Scene) (complex : Complex) (claim : Claim) (mesh : List ℕ)
-    → All (Contains complex.cells) claim.inside → All (Contains complex.facets) (facets_of claim) → (reason : Reason)
+    → All (Contains complex.cells) claim.inside → All (Contains complex.facets) (flow_facets claim) → (reason : Reason)
     → level reason < 2 → Passes scan s complex claim mesh reason
 unfolding level
 by_second scan s complex claim mesh cells facets (NoSuchFacet k) l = facets
@@ -289,9 +289,9 @@ same_kind scan s complex claim mesh (OtherCounts which a b) other e h k = absurd
 same_kind scan s complex claim mesh (NoSuchCell i) (NoSuchCell j) e h k =
     ap NoSuchCell (one_first (length claim.inside) i j (IsStray complex.cells claim.inside) h k)
 same_kind scan s complex claim mesh (NoSuchFacet i) (NoSuchFacet j) e h k =
-    ap NoSuchFacet (one_first (length (facets_of claim)) i j (IsStray complex.facets (facets_of claim)) h.1 k.1)
+    ap NoSuchFacet (one_first (length (flow_facets claim)) i j (IsStray complex.facets (flow_facets claim)) h.1 k.1)
 same_kind scan s complex claim mesh (NoSuchSink i) (NoSuchSink j) e h k =
-    ap NoSuchSink (one_first (length (cells_of claim)) i j (IsStray complex.cells (cells_of claim)) h.2 k.2)
+    ap NoSuchSink (one_first (length (sink_cells claim)) i j (IsStray complex.cells (sink_cells claim)) h.2 k.2)
 same_kind scan s complex claim mesh (FixedInside a) (FixedInside b) e h k =
     ap FixedInside (one_first_of complex.cells a b (IsFixedInside (network_over s complex) (is_inside claim)) h.1 k.1)
 same_kind scan s complex claim mesh (OverCapacity a flow cap) (OverCapacity b flow' cap') e h k =
@@ -499,7 +499,7 @@ refused_answer refusals.NoMemory = No CertCut
 
 record IsRefusedSo (cert : List ℕ) (answer : Answer) : Type 0 where
   refusal : CertRefusal
-  refused : IsRefused cert refusal
+  refused : IsRefusedCertificate cert refusal
   answer_is : answer ≡ refused_answer refusal
 
 refused_or_holds : (scan : Shown) (settings : Settings) (stamp : StampView) (mesh cert : List ℕ) (answer : Answer)

@@ -18,7 +18,7 @@ use Rattle.solution.specs.Solutions.{stated}
 use Rattle.std.specs.Str.{bytes_eq}
 use Rattle.std.proofs.lemmas.Slice.Eq.{bytes_eq-Decides}
 use Rattle.visibility.proofs.Indices.{not_before_itself}
-use Rattle.recon_check.specs.Claims.{is_among, IsStray}
+use Rattle.recon_check.specs.Claims.{is_among_rows, IsStray}
 
 -- a list differs from one that it comes before
 pub before_differs : (xs ys : List ℕ) → IsBefore xs ys → xs ≢ ys
@@ -175,7 +175,7 @@ walked_stray about say keys rows at found said l m walked = record {
 
 -- ---- what the rows of a certificate say
 -- whether a row is among others
-pub among_says : Says {Row = List ℕ} {X = Bool} (λ row. row) (λ row. true) false is_among
+pub among_says : Says {Row = List ℕ} {X = Bool} (λ row. row) (λ row. true) false is_among_rows
 among_says = record {
   absent = absent;
   other = other;
@@ -189,17 +189,17 @@ among_says = record {
     differs : (row key : List ℕ) → row ≢ key → bytes_eq row key ≡ false
     differs row key ne = false_from_ne_true (bytes_eq row key) (λ h. ne ((bytes_eq-Decides row key).0 h))
 
-    absent : (rows : List (List ℕ)) (key : List ℕ) → NoneAbout (λ row. row) rows key → is_among rows key ≡ false
+    absent : (rows : List (List ℕ)) (key : List ℕ) → NoneAbout (λ row. row) rows key → is_among_rows rows key ≡ false
     absent [] key none = refl
     absent (row ∷ rows) key none =
-        ap (λ (b : Bool). b || is_among rows key) (differs row key (none 0 (omega arith)))
+        ap (λ (b : Bool). b || is_among_rows rows key) (differs row key (none 0 (omega arith)))
         ∙ absent rows key (λ i l. none (suc i) (omega arith))
 
-    other : (rows : List (List ℕ)) (row key : List ℕ) → row ≢ key → is_among (rows ++ row ∷ []) key ≡ is_among rows key
+    other : (rows : List (List ℕ)) (row key : List ℕ) → row ≢ key → is_among_rows (rows ++ row ∷ []) key ≡ is_among_rows rows key
     other [] row key ne = ap (λ (b : Bool). b || false) (differs row key ne)
     other (r ∷ rows) row key ne = ap (λ (b : Bool). bytes_eq r key || b) (other rows row key ne)
 
-    first : (rows : List (List ℕ)) (row key : List ℕ) → row ≡ key → is_among (rows ++ row ∷ []) key ≡ true
+    first : (rows : List (List ℕ)) (row key : List ℕ) → row ≡ key → is_among_rows (rows ++ row ∷ []) key ≡ true
     first [] row key same =
         ap (λ (b : Bool). b || false) (subst (λ (k : List ℕ). bytes_eq row k ≡ true) same ((bytes_eq-Decides row row).1 refl))
     first (r ∷ rows) row key same = ap (λ (b : Bool). bytes_eq r key || b) (first rows row key same) ∙ either (bytes_eq r key)

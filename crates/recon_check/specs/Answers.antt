@@ -18,14 +18,14 @@
 use Rattle.std.specs.Prelude.{ℕ, ◌≡◌, ◌≢◌, ◌⊎◌, ◌++◌, Bool, List, [], ◌∷◌, All, Contains, length, ⊤}
 use Rattle.cert_text.specs.Stamps.{StampView}
 use Rattle.cert_text.specs.Certificates.{Claim, IsWellFormed}
-use Rattle.cert_text.specs.Refusals.{IsRefused}
+use Rattle.cert_text.specs.Refusals.{IsRefusedCertificate}
 use Rattle.cert_text.specs.Texts.{cert_text}
 use Rattle.cert_text.specs.declared.refusal.CertRefusal.TheVariants as refusals
 use Rattle.flow_check.specs.Firsts.{IsFirst}
 use Rattle.flow_net.specs.Faults.{IsFixedInside, IsOverCapacity, sink_limit, IsOverSink, total_out, IsUnbalanced, IsNotLeast}
 use Rattle.flow_net.specs.Networks.{amount_in as entering}
 use Rattle.flow_net.specs.declared.votes.Settings.{Settings}
-use Rattle.geo_sign.specs.Vertices.{corners, vertices_of}
+use Rattle.geo_sign.specs.Vertices.{corners, boxed_vertices}
 use Rattle.mesh_ply.specs.Meshes.{Surface, mesh_of}
 use Rattle.mesh_ply.specs.Texts.{mesh_text}
 use Rattle.solution.specs.Scans.{points_of, scene_of_scan}
@@ -37,7 +37,7 @@ use Rattle.visibility.specs.Complexes.{Complex}
 use Rattle.visibility.specs.Votes.{capacity, IsComplexOf}
 use Rattle.visibility.specs.Cuts.{network_over, cost, cut_facets, IsAdmissible}
 use Rattle.visibility.specs.Flows.{value, IsValidFlow}
-use Rattle.recon_check.specs.Claims.{is_inside, facets_of, cells_of, IsStray, AreThere, IsFirstOf}
+use Rattle.recon_check.specs.Claims.{is_inside, flow_facets, sink_cells, IsStray, AreThere, IsFirstOf}
 use Rattle.recon_check.specs.Differences.{IsFirstDifference}
 use Rattle.recon_check.specs.Faults.{IsWithinFacets, IsWithinLimits, IsCertified, IsBest}
 use Rattle.recon_check.specs.Stamps.{IsStampedFor, IsOtherStamp}
@@ -53,7 +53,7 @@ use Rattle.recon_check.specs.declared.answer.Which.TheVariants.{Points, Scanners
 -- the mesh of the facets of outside cells with an inside cell across
 abbrev pub best_surface : Shown → Complex → (List ℕ → Bool) → Surface
 best_surface scan complex inside =
-    mesh_of (corners ++ points_of scan) (cut_facets (vertices_of (points_of scan)) complex inside)
+    mesh_of (corners ++ points_of scan) (cut_facets (boxed_vertices (points_of scan)) complex inside)
 
 -- the text of a mesh
 abbrev pub surface_text : Surface → List ℕ
@@ -101,10 +101,10 @@ pub record IsOtherCount (scan : Shown) (settings : Settings) (claim : Claim) (wh
 abbrev pub IsReason : Shown → Scene → Complex → Claim → List ℕ → Reason → Type 0
 IsReason scan s complex claim mesh (NoSuchCell k) = IsFirst (length claim.inside) (IsStray complex.cells claim.inside) k
 IsReason scan s complex claim mesh (NoSuchFacet k) =
-    All (Contains complex.cells) claim.inside × IsFirst (length (facets_of claim)) (IsStray complex.facets (facets_of claim)) k
+    All (Contains complex.cells) claim.inside × IsFirst (length (flow_facets claim)) (IsStray complex.facets (flow_facets claim)) k
 IsReason scan s complex claim mesh (NoSuchSink k) =
-    All (Contains complex.cells) claim.inside × All (Contains complex.facets) (facets_of claim)
-    × IsFirst (length (cells_of claim)) (IsStray complex.cells (cells_of claim)) k
+    All (Contains complex.cells) claim.inside × All (Contains complex.facets) (flow_facets claim)
+    × IsFirst (length (sink_cells claim)) (IsStray complex.cells (sink_cells claim)) k
 IsReason scan s complex claim mesh (FixedInside cell) =
     AreThere complex claim × IsFirstOf complex.cells (IsFixedInside (network_over s complex) (is_inside claim)) cell
 IsReason scan s complex claim mesh (OverCapacity facet flow cap) =
@@ -174,9 +174,9 @@ pub record IsSolvedWith (scan : Shown) (settings : Settings) (mesh : List ℕ) (
 abbrev pub IsAnswer : Shown → Settings → StampView → (mesh cert : List ℕ) → Answer → Type 0
 IsAnswer scan settings stamp mesh cert (Yes inside faces least) =
     HasCertificate cert (λ claim. IsStampedFor stamp claim × IsSolvedWith scan settings mesh inside faces least claim)
-IsAnswer scan settings stamp mesh cert (No (CertLine n)) = IsRefused cert (refusals.BadLine n)
-IsAnswer scan settings stamp mesh cert (No (CertOrder n)) = IsRefused cert (refusals.Order n)
-IsAnswer scan settings stamp mesh cert (No CertCut) = IsRefused cert refusals.CertCut
+IsAnswer scan settings stamp mesh cert (No (CertLine n)) = IsRefusedCertificate cert (refusals.BadLine n)
+IsAnswer scan settings stamp mesh cert (No (CertOrder n)) = IsRefusedCertificate cert (refusals.Order n)
+IsAnswer scan settings stamp mesh cert (No CertCut) = IsRefusedCertificate cert refusals.CertCut
 IsAnswer scan settings stamp mesh cert (No reason) =
     HasCertificate cert (λ claim. IsFaultHere scan settings stamp mesh claim reason)
 

@@ -1,9 +1,9 @@
 -- What the rows of a certificate say of the cells and facets of a scan.
 --
---   is_among rows row            the row is one of a list
+--   is_among_rows rows row       the row is one of a list
 --   is_inside claim row          the certificate has the cell as inside
---   facets_of claim              the facets of its flow rows
---   cells_of claim               the cells of its sink rows
+--   flow_facets claim            the facets of its flow rows
+--   sink_cells claim             the cells of its sink rows
 --   IsStray keys rows k          row k is none of the keys
 --   AreThere complex claim       each row is about a cell, or about a facet that has a capacity
 --   IsFirstOf rows P row         the first of a list with a property
@@ -18,20 +18,20 @@ use Rattle.flow_check.specs.Firsts.{IsFirst}
 use Rattle.visibility.specs.Complexes.{Complex}
 
 -- the row is one of the list
-abbrev pub is_among : List (List ℕ) → List ℕ → Bool
-is_among rows row = list_any (λ other. bytes_eq other row) rows
+abbrev pub is_among_rows : List (List ℕ) → List ℕ → Bool
+is_among_rows rows row = list_any (λ other. bytes_eq other row) rows
 
 -- the certificate has the cell as inside
 abbrev pub is_inside : Claim → List ℕ → Bool
-is_inside claim = is_among claim.inside
+is_inside claim = is_among_rows claim.inside
 
 -- the facets of the certificate's flow rows
-abbrev pub facets_of : Claim → List (List ℕ)
-facets_of claim = map (λ (row : FlowRow). row.facet) claim.flow
+abbrev pub flow_facets : Claim → List (List ℕ)
+flow_facets claim = map (λ (row : FlowRow). row.facet) claim.flow
 
 -- the cells of its sink rows
-abbrev pub cells_of : Claim → List (List ℕ)
-cells_of claim = map (λ (row : SinkRow). row.cell) claim.sink
+abbrev pub sink_cells : Claim → List (List ℕ)
+sink_cells claim = map (λ (row : SinkRow). row.cell) claim.sink
 
 -- row k is none of the keys
 abbrev pub IsStray : (keys rows : List (List ℕ)) → ℕ → Type 0
@@ -40,8 +40,8 @@ IsStray keys rows k = ¬ Contains keys (slice_index_or rows k [])
 -- each inside row and each sink row is about a cell, and each flow row about a facet that has a capacity
 pub record AreThere (complex : Complex) (claim : Claim) : Type 0 where
   pub inside : All (Contains complex.cells) claim.inside
-  pub flow : All (Contains complex.facets) (facets_of claim)
-  pub sink : All (Contains complex.cells) (cells_of claim)
+  pub flow : All (Contains complex.facets) (flow_facets claim)
+  pub sink : All (Contains complex.cells) (sink_cells claim)
 
 -- the first of the list with the property
 pub record IsFirstOf (rows : List (List ℕ)) (P : List ℕ → Type 0) (row : List ℕ) : Type 0 where

@@ -6,7 +6,7 @@
 ghost use Rattle.std.specs.Prelude.{◌≡◌, ◌≢◌, ◌<◌, [], IfOk, IfErr, IfSome, IfNone, All, AllPairs, Contains, OnOk, length, map, slice_index_or};
 ghost use Rattle.geo_sign.specs.Rising.{IsBefore};
 ghost use Rattle.solution.specs.Solutions.{stated};
-ghost use Rattle.recon_check.specs.Claims.{is_among};
+ghost use Rattle.recon_check.specs.Claims.{is_among_rows};
 ghost use Rattle.recon_check.specs.Stops.{StopsFor};
 ghost use Rattle.recon_check.specs.Strays.{IsStrayCell, IsStrayFacet, IsStraySink};
 
@@ -30,7 +30,7 @@ fn row_about<R: Row>(rows: &[R], place: usize, key: &[u32]) -> Option<R>
 pub fn inside_flags(alloc: Global, cells: &[[u32; 4]], rows: &[[u32; 4]]) -> Result<Vec<bool>, Stop>
     requires cells { AllPairs IsBefore cells.now }
     requires rows { AllPairs IsBefore rows.now }
-    ensures flags { IfOk result (λ flags. flags.items ≡ map (is_among rows.now) cells.now) }
+    ensures flags { IfOk result (λ flags. flags.items ≡ map (is_among_rows rows.now) cells.now) }
     ensures there { OnOk result (All (Contains cells.now) rows.now) }
     ensures stray { IfErr result (StopsFor (IsStrayCell cells.now rows.now)) }
 {

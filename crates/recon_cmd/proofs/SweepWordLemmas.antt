@@ -12,7 +12,7 @@ use Rattle.flow_net.specs.declared.votes.TheConstants.{WEIGHT_LIMIT}
 use Rattle.ply_head.specs.Optional.{◌>>=◌}
 use Rattle.sweep.specs.Entries.{smoothing_of}
 use Rattle.recon_cmd.specs.Exports.{ExportNames, export_names, export_of}
-use Rattle.recon_cmd.specs.Options.{Options, number_in, options_of}
+use Rattle.recon_cmd.specs.Options.{Options, number_between, options_of}
 use Rattle.recon_cmd.specs.Sweeps.{SweepAsked, asked_with, entries_behind, entries_of, sweep_behind, sweep_keys, sweep_of}
 use Rattle.recon_cmd.specs.Words.{are_names}
 use Rattle.recon_cmd.specs.declared.words.export.ExportWords.{ExportWords}
@@ -77,8 +77,8 @@ too_few name (a ∷ b ∷ c ∷ d ∷ e ∷ words) n few = absurd (omega (arith,
 pub sweep_at : {S : Type 0} (name : S → List ℕ) (words : List S) (n : ℕ) (word input from step count : S)
     (least rise entries : ℕ) (o : Option SweepAsked) → 5 ≤ length words → word ≡ get_or words 0 word
     → input ≡ get_or words 1 input → from ≡ get_or words 2 from → step ≡ get_or words 3 step → count ≡ get_or words 4 count
-    → bytes_eq (name word) (codes "sweep") ≡ true → Some least ≡ number_in 0 WEIGHT_LIMIT (name from)
-    → Some rise ≡ number_in 1 WEIGHT_LIMIT (name step) → Some entries ≡ number_in 1 64 (name count) → entries ≡ n
+    → bytes_eq (name word) (codes "sweep") ≡ true → Some least ≡ number_between 0 WEIGHT_LIMIT (name from)
+    → Some rise ≡ number_between 1 WEIGHT_LIMIT (name step) → Some entries ≡ number_between 1 64 (name count) → entries ≡ n
     → o ≡ sweep_behind (name input) least rise entries (map name (take (length words - 5) (drop 5 words)))
     → o ≡ sweep_of n (map name words)
 sweep_at name [] n word input from step count least rise entries o some e0 e1 e2 e3 e4 is f s c same behind =
@@ -98,19 +98,19 @@ sweep_at name (v0 ∷ v1 ∷ v2 ∷ v3 ∷ v4 ∷ rest) n word input from step c
     ∙ (ap (λ (x : List ℕ). sweep_behind x least rise entries (map name rest)) (ap name e1)
     ∙ (ap (λ (k : ℕ). sweep_behind (name v1) least rise k (map name rest)) same
     ∙ sym (ap (λ (t : Bool). chain t first second third) (ap (λ (v : _). bytes_eq (name v) (codes "sweep")) (sym e0) ∙ is)
-    ∙ (ap (λ (m : Option ℕ). chain true m second third) (sym (f ∙ ap (λ (v : _). number_in 0 WEIGHT_LIMIT (name v)) e2))
-    ∙ (ap (λ (m : Option ℕ). chain true (Some least) m third) (sym (s ∙ ap (λ (v : _). number_in 1 WEIGHT_LIMIT (name v)) e3))
-    ∙ (ap (λ (m : Option ℕ). chain true (Some least) (Some rise) m) (sym (c ∙ ap (λ (v : _). number_in 1 64 (name v)) e4))
+    ∙ (ap (λ (m : Option ℕ). chain true m second third) (sym (f ∙ ap (λ (v : _). number_between 0 WEIGHT_LIMIT (name v)) e2))
+    ∙ (ap (λ (m : Option ℕ). chain true (Some least) m third) (sym (s ∙ ap (λ (v : _). number_between 1 WEIGHT_LIMIT (name v)) e3))
+    ∙ (ap (λ (m : Option ℕ). chain true (Some least) (Some rise) m) (sym (c ∙ ap (λ (v : _). number_between 1 64 (name v)) e4))
     ∙ ap (λ (t : Bool). cond t (sweep_behind (name v1) least rise n (map name rest)) None) (eq-eqb entries n same))))))))
   where
     first : Option ℕ
-    first = number_in 0 WEIGHT_LIMIT (name v2)
+    first = number_between 0 WEIGHT_LIMIT (name v2)
 
     second : Option ℕ
-    second = number_in 1 WEIGHT_LIMIT (name v3)
+    second = number_between 1 WEIGHT_LIMIT (name v3)
 
     third : Option ℕ
-    third = number_in 1 64 (name v4)
+    third = number_between 1 64 (name v4)
 
     chain : Bool → (first second third : Option ℕ) → Option SweepAsked
     chain t first second third =

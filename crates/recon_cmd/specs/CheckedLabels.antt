@@ -17,7 +17,7 @@ use Rattle.solid_query.specs.Laws.{HasPoint}
 use Rattle.solid_query.specs.Queries.{points_in}
 use Rattle.recon_cmd.specs.Answers.{read_as}
 use Rattle.recon_cmd.specs.CheckLaws.{ChecksOn}
-use Rattle.recon_cmd.specs.Laws.{RunsOn}
+use Rattle.recon_cmd.specs.Laws.{RunsOnFile}
 use Rattle.recon_cmd.specs.Options.{Options}
 use Rattle.recon_cmd.specs.QueryLines.{labels_text}
 use Rattle.recon_cmd.specs.Words.{QueryNames, SurfaceNames, ask}
@@ -45,7 +45,7 @@ CheckedIsAsked =
     (names : SurfaceNames) (output : Option (List ℕ)) (options : Options) (bytes mesh : List ℕ) (claim : Claim)
     (before after : State) (asked : QueryNames) (queries : List ℕ) (start end : State)
     → IsWellFormed claim → ChecksOn names output options bytes mesh (cert_text claim) Done before after
-    → (runs : RunsOn (ask asked options) asked.input bytes Done start end) → runs.told.files asked.points ≡ Some queries
+    → (runs : RunsOnFile (ask asked options) asked.input bytes Done start end) → runs.told.files asked.points ≡ Some queries
     → (labels : List Bool) × AreReadOff options bytes claim queries labels × HoldsText end asked.output (labels_text labels)
 
 -- so whoever reads labels off a checked certificate has those that `ask` writes

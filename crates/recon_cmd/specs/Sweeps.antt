@@ -32,7 +32,7 @@ use Rattle.sweep.specs.Entries.{CostsAt, HaveEntries, HaveEntryFronts, given_by,
 use Rattle.recon_cmd.specs.Answers.{Answer, ScanAnswer, read_as}
 use Rattle.recon_cmd.specs.Exports.{ExportFits}
 use Rattle.recon_cmd.specs.Lines.{labelled}
-use Rattle.recon_cmd.specs.Options.{Options, number_in, options_of}
+use Rattle.recon_cmd.specs.Options.{Options, number_between, options_of}
 use Rattle.recon_cmd.specs.OptionViews.{options_view}
 use Rattle.recon_cmd.specs.Outcome.{Run}
 use Rattle.recon_cmd.specs.Steps.{CarriesOut}
@@ -75,15 +75,15 @@ sweep_of forms (word ∷ input ∷ from ∷ step ∷ count ∷ words) =
   where
     understood : Option SweepAsked
     understood = do
-      least ← number_in 0 WEIGHT_LIMIT from
-      rise ← number_in 1 WEIGHT_LIMIT step
-      entries ← number_in 1 64 count
+      least ← number_between 0 WEIGHT_LIMIT from
+      rise ← number_between 1 WEIGHT_LIMIT step
+      entries ← number_between 1 64 count
       if entries == forms then sweep_behind input least rise forms words else None
 sweep_of forms words = None
 
 -- how many forms the words behind `sweep` ask for: as many as the fourth says, 1 to 64, and else none
 abbrev pub entries_behind : List (List ℕ) → ℕ
-entries_behind (input ∷ from ∷ step ∷ count ∷ words) = unwrap_or (number_in 1 64 count) 0
+entries_behind (input ∷ from ∷ step ∷ count ∷ words) = unwrap_or (number_between 1 64 count) 0
 entries_behind words = 0
 
 -- the same of words of which the first is `sweep`

@@ -3,7 +3,7 @@
 ghost use Rattle.std.specs.Prelude.{◌≡◌, false, Some, IfOk};
 ghost use Rattle.recon_cmd.specs.Answers.{file_limit};
 ghost use Rattle.recon_cmd.specs.Replies.{line_bytes, texts_of};
-ghost use Rattle.recon_cmd.specs.Steps.{CarriesOut, IsReplied, ReadsFor, StopsFor};
+ghost use Rattle.recon_cmd.specs.Steps.{CarriesOut, IsReplied, ReadsFor, CountsFaults};
 ghost use Rattle.recon_cmd.specs.Words.{asked};
 ghost use Rattle.recon_cmd.specs.declared.answer.Stop.TheVariants as stops;
 
@@ -100,7 +100,7 @@ pub fn reply_to<'a, H: Host, W: Watch>(
     ensures replied { limit ≡ file_limit → IfOk result (λ reply. IsReplied (asked command.now) reply (H.state host.old)) }
     ensures reads { limit ≡ file_limit → ReadsFor (Some (asked command.now)) (H.state host.old) (H.state host.new) }
     ensures closed { (H.state host.new).writing ≡ false }
-    ensures cause { StopsFor result (H.state host.old).faults (H.state host.new).faults }
+    ensures cause { CountsFaults result (H.state host.old).faults (H.state host.new).faults }
 {
     match command {
         Command::Cells(names, options) => reply_to_cells(alloc, host, names, options, limit, watch),

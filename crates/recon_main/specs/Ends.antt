@@ -11,7 +11,7 @@
 --     RunsOrIdles words status ..         one of the two
 --     words_behind_name args              the words but the first
 --     EndsOn args status before after     the program ended so on what the system handed in as words
---     fresh                               a host that was not used
+--     fresh_state                         a host that was not used
 --     EndsOver args status                the program ended so on these words, over that host
 --     EndsAfterARun status                it ended so on some words
 use Rattle.std.specs.Prelude.{◌≡◌, ◌≢◌, ◌⊎◌, ℕ, ◌-◌, ◌<◌, List, [], ◌∷◌, length, map, drop, slice_index_or, Result, Ok, Err}
@@ -115,12 +115,12 @@ EndsOn (Err error) code before after =
     ⊎ ((error_kind error ≢ OutOfMemory) × RunsOn [] code before after)
 
 -- a host with no file open and no call so far, which tells no bytes
-abbrev pub fresh : State
-fresh = record { told = None; faults = 0; opens = 0; reading = false; writing = false }
+abbrev pub fresh_state : State
+fresh_state = record { told = None; faults = 0; opens = 0; reading = false; writing = false }
 
 -- the system handed in this as words, and over a fresh host the program ended on it so
 abbrev pub EndsOver : Result (IntoIter (String Global) Global) Error → ℕ → Type 0
-EndsOver args code = (after : State) × EndsOn args code fresh after
+EndsOver args code = (after : State) × EndsOn args code fresh_state after
 
 -- the system handed in something as words, and the program ended on it so
 abbrev pub EndsAfterARun : ℕ → Type 0

@@ -1,6 +1,6 @@
 -- What the real outside is seen as: it tells no bytes, but what its open files tell.
 --
---     state_of host             its counts and whether files are open
+--     real_state host           its counts and whether files are open
 --     left_of remaining host    the bytes left of the file that is read, where such files tell them
 --     held_of contents host     the bytes of the file that is written, where such files tell them
 use Rattle.std.specs.Prelude.{ℕ, List, Option, None}
@@ -9,8 +9,8 @@ use Rattle.host.specs.State.{State}
 use Rattle.recon_main.specs.declared.real.RealHost.{RealHost}
 
 -- the counts and the open files; no bytes are told
-abbrev pub state_of : {R F : Type 0} → RealHost R F → State
-state_of host = record {
+abbrev pub real_state : {R F : Type 0} → RealHost R F → State
+real_state host = record {
   told = None;
   faults = host.faults;
   opens = host.opens;

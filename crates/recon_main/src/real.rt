@@ -8,7 +8,7 @@
 //! file is open for writing, since where standard error is closed that file may have taken its number.
 ghost use Rattle.std.specs.Prelude.{false, true, ◌≡◌, ◌≤◌, ◌<◌, IfOk, OnOk, OnErr, IsErr, IfSome, IsTrue, length, take, Ok};
 ghost use Rattle.std.specs.Io.KnownBytes.{ReadConsumes, WriteAppends};
-ghost use Rattle.host.specs.State.{IsFront, IsNext, FailedFrom, takes, appends};
+ghost use Rattle.host.specs.State.{IsFrontCount, IsNextPiece, FailedFrom, takes, appends};
 ghost use Rattle.host.specs.Counts.{Rose, next};
 
 use crate::advice::{NO_FACE, USES, cure_of, has_no_face};
@@ -52,13 +52,13 @@ fn sync<F: OpenFile>(file: &F) -> io::Result<()> {
 }
 
 impl<R: Files + Print + Eprint + AllocGlobal + Drop> RealHost<R, R::File> {
-    ghost use Rattle.recon_main.specs.Real.{state_of};
+    ghost use Rattle.recon_main.specs.Real.{real_state};
 
     /// With no file open, and no fault so far.
     pub fn new(rt: R) -> Self
-        ensures writing { (state_of result).writing ≡ false }
-        ensures reading { (state_of result).reading ≡ false }
-        ensures counts { ((state_of result).faults ≡ 0) × ((state_of result).opens ≡ 0) }
+        ensures writing { (real_state result).writing ≡ false }
+        ensures reading { (real_state result).reading ≡ false }
+        ensures counts { ((real_state result).faults ≡ 0) × ((real_state result).opens ≡ 0) }
     {
         RealHost {
             rt,
@@ -74,7 +74,7 @@ impl<R: Files + Print + Eprint + AllocGlobal + Drop> RealHost<R, R::File> {
 
     /// The words begin with the command at this place among [`USES`], or with none.
     pub fn begin(&mut self, command: Option<usize>)
-        ensures { state_of self.new ≡ state_of self.old }
+        ensures { real_state self.new ≡ real_state self.old }
     {
         self.command = command;
     }
@@ -139,9 +139,9 @@ impl<R: Files + Print + Eprint + AllocGlobal + Drop> RealHost<R, R::File> {
 }
 
 impl<R: Files + Print + Eprint + AllocGlobal + Drop> Host for RealHost<R, R::File> {
-    ghost use Rattle.recon_main.specs.Real.{state_of, left_of, held_of};
+    ghost use Rattle.recon_main.specs.Real.{real_state, left_of, held_of};
 
-    ghost state = { state_of };
+    ghost state = { real_state };
 
     fn open(&mut self, name: &str) -> Result<(), Failed> {
         self.opens = self.opens.saturating_add(1);
@@ -155,11 +155,11 @@ impl<R: Files + Print + Eprint + AllocGlobal + Drop> Host for RealHost<R, R::Fil
 
     /// All clauses but the last are those of `Host`; the last is what the file gave.
     fn read(&mut self, buffer: &mut [u8]) -> Result<usize, Failed>
-        requires { IsTrue (state_of self.old).reading }
+        requires { IsTrue (real_state self.old).reading }
         ensures within { IfOk result (λ count. count ≤ length buffer.new) }
-        ensures next_bytes { IfOk result (λ count. IfSome (state_of self.old).told (λ told. IsNext count buffer.new told.left)) }
-        ensures taken { IfOk result (λ count. state_of self.new ≡ takes count (state_of self.old)) }
-        ensures failed { OnErr result (FailedFrom (state_of self.old) (state_of self.new)) }
+        ensures next_bytes { IfOk result (λ count. IfSome (real_state self.old).told (λ told. IsNextPiece count buffer.new told.left)) }
+        ensures taken { IfOk result (λ count. real_state self.new ≡ takes count (real_state self.old)) }
+        ensures failed { OnErr result (FailedFrom (real_state self.old) (real_state self.new)) }
         ensures given { ReadConsumes (left_of R.File.remaining self.old) (left_of R.File.remaining self.new) result buffer.new }
     {
         let Some(file) = &mut self.reading else {
@@ -181,10 +181,10 @@ impl<R: Files + Print + Eprint + AllocGlobal + Drop> Host for RealHost<R, R::Fil
 
     /// All clauses but the last are those of `Host`; the last is what the file took.
     fn append(&mut self, bytes: &[u8]) -> Result<usize, Failed>
-        requires { IsTrue (state_of self.old).writing }
-        ensures front { IfOk result (λ count. IsFront count bytes.now) }
-        ensures added { IfOk result (λ count. state_of self.new ≡ appends (take count bytes.now) (state_of self.old)) }
-        ensures failed { OnErr result (FailedFrom (state_of self.old) (state_of self.new)) }
+        requires { IsTrue (real_state self.old).writing }
+        ensures front { IfOk result (λ count. IsFrontCount count bytes.now) }
+        ensures added { IfOk result (λ count. real_state self.new ≡ appends (take count bytes.now) (real_state self.old)) }
+        ensures failed { OnErr result (FailedFrom (real_state self.old) (real_state self.new)) }
         ensures given { WriteAppends (held_of R.File.contents self.old) (held_of R.File.contents self.new) result bytes.now }
     {
         let Some(file) = &mut self.writing else {

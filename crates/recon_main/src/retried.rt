@@ -6,7 +6,7 @@ ghost use Rattle.std.specs.Prelude.{◌≢◌, IfErr, IfOk};
 ghost use Rattle.std.specs.IoError.{error_kind};
 ghost use Rattle.std.specs.Io.{ReadsAtMost};
 ghost use Rattle.std.specs.Io.KnownBytes.{ReadConsumes, WriteAppends};
-ghost use Rattle.host.specs.State.{IsFront};
+ghost use Rattle.host.specs.State.{IsFrontCount};
 
 use std::io::{ErrorKind, Read, Write};
 use std::rt::Files;
@@ -67,7 +67,7 @@ pub fn read_retried<F: Read>(reader: &mut F, buffer: &mut [u8]) -> io::Result<us
 ///
 /// The answer is how many of these bytes the writer took. After an error it took none.
 pub fn write_retried<W: Write>(writer: &mut W, bytes: &[u8]) -> io::Result<usize>
-    ensures front { IfOk result (λ count. IsFront count bytes.now) }
+    ensures front { IfOk result (λ count. IsFrontCount count bytes.now) }
     ensures taken { WriteAppends (W.contents writer.old) (W.contents writer.new) result bytes.now }
     ensures patient { IfErr result (λ error. error_kind error ≢ ErrorKind.Interrupted) }
 {

@@ -17,8 +17,8 @@ use Rattle.geo_sign.specs.Point.{Point}
 use Rattle.scan.specs.declared.scan.Seen.{Seen}
 use Rattle.scan.specs.ScanRows.{VertexRow}
 use Rattle.scan.specs.Shown.{Shown, IsNoEarlier}
-use Rattle.scan.specs.PlainForm.{header, vertex_line, scanner_line, is_once, is_wide, text_in_form, of_row, row_of}
-use Rattle.scan.specs.PlainForm.{vertices_from, rows_of, scan_text}
+use Rattle.scan.specs.PlainForm.{header, vertex_line, scanner_line, is_once, is_wide, text_in_form, of_row, row_showing}
+use Rattle.scan.specs.PlainForm.{vertices_from, rows_showing, scan_text}
 
 -- ---- the sights of one row
 
@@ -125,7 +125,7 @@ vertices_append number [] more seen = ap (λ (n : ℕ). vertices_from n more see
     plus_zero : (n : ℕ) → n ≡ n + 0
     plus_zero n = omega arith
 vertices_append number (p ∷ points) more seen =
-    ap (λ (rows : List VertexRow). row_of p (of_row number seen) ∷ rows)
+    ap (λ (rows : List VertexRow). row_showing p (of_row number seen) ∷ rows)
     (vertices_append (number + 1) points more seen
     ∙ ap (λ (n : ℕ). vertices_from (number + 1) points seen ++ vertices_from n more seen) (next number (length points)))
   where
@@ -134,14 +134,14 @@ vertices_append number (p ∷ points) more seen =
 
 -- the rows so far, with one more
 one_more_row : (points : List Point) (seen : List Seen) (i : ℕ) (p : Point) → i < length points → p ≡ get_or points i p
-    → vertices_from 0 (take (i + 1) points) seen ≡ vertices_from 0 (take i points) seen ++ row_of p (of_row i seen) ∷ []
+    → vertices_from 0 (take (i + 1) points) seen ≡ vertices_from 0 (take i points) seen ++ row_showing p (of_row i seen) ∷ []
 one_more_row points seen i p lt is =
     let so_many : length (take i points) ≡ i = length-take-le i points (omega arith) in
     ap (λ (ps : List Point). vertices_from 0 ps seen) (take_more points i p lt)
     ∙ vertices_append 0 (take i points) (get_or points i p ∷ []) seen
-    ∙ ap (λ (q : Point). vertices_from 0 (take i points) seen ++ row_of q (of_row (0 + length (take i points)) seen) ∷ [])
+    ∙ ap (λ (q : Point). vertices_from 0 (take i points) seen ++ row_showing q (of_row (0 + length (take i points)) seen) ∷ [])
     (sym is)
-    ∙ ap (λ (n : ℕ). vertices_from 0 (take i points) seen ++ row_of p (of_row n seen) ∷ []) (omega (arith, so_many))
+    ∙ ap (λ (n : ℕ). vertices_from 0 (take i points) seen ++ row_showing p (of_row n seen) ∷ []) (omega (arith, so_many))
 
 -- one more line of the vertex rows
 pub one_more_line : (wide : Bool) (points : List Point) (seen : List Seen) (start end i : ℕ) (p : Point) (sights : List Seen)
@@ -149,14 +149,14 @@ pub one_more_line : (wide : Bool) (points : List Point) (seen : List Seen) (star
     → i < length points → p ≡ get_or points i p → AllPairs IsNoEarlier seen → IsCut seen start i → IsRun seen start end i
     → sights ≡ take (end - start) (drop start seen)
     → now ≡ first ++ flat_map (vertex_line wide) (vertices_from 0 (take i points) seen)
-    → next ≡ now ++ vertex_line wide (row_of p sights)
+    → next ≡ now ++ vertex_line wide (row_showing p sights)
     → next ≡ first ++ flat_map (vertex_line wide) (vertices_from 0 (take (i + 1) points) seen)
 one_more_line wide points seen start end i p sights first now next lt is_point in_order cut run sights_are so_far printed =
     printed
-    ∙ ap (λ (ss : List Seen). now ++ vertex_line wide (row_of p ss))
+    ∙ ap (λ (ss : List Seen). now ++ vertex_line wide (row_showing p ss))
     (sights_are ∙ sym (row_between seen start end i in_order cut run))
-    ∙ ap (λ (text : List ℕ). text ++ vertex_line wide (row_of p (of_row i seen))) so_far
-    ∙ flat_map_more (vertex_line wide) first (vertices_from 0 (take i points) seen) (row_of p (of_row i seen))
+    ∙ ap (λ (text : List ℕ). text ++ vertex_line wide (row_showing p (of_row i seen))) so_far
+    ∙ flat_map_more (vertex_line wide) first (vertices_from 0 (take i points) seen) (row_showing p (of_row i seen))
     ∙ ap (λ (rows : List VertexRow). first ++ flat_map (vertex_line wide) rows) (sym (one_more_row points seen i p lt is_point))
 
 -- ---- the form that is due
@@ -167,31 +167,31 @@ AllOnce points seen = list_all is_once (vertices_from 0 points seen) ≡ true
 
 pub once_more : (points : List Point) (seen : List Seen) (start end i : ℕ) (p : Point) (sights : List Seen) → i < length points
     → p ≡ get_or points i p → AllPairs IsNoEarlier seen → IsCut seen start i → IsRun seen start end i
-    → sights ≡ take (end - start) (drop start seen) → is_once (row_of p sights) ≡ true → AllOnce (take i points) seen
+    → sights ≡ take (end - start) (drop start seen) → is_once (row_showing p sights) ≡ true → AllOnce (take i points) seen
     → AllOnce (take (i + 1) points) seen
 once_more points seen start end i p sights lt is_point in_order cut run sights_are once so_far =
-    let here : is_once (row_of p (of_row i seen)) ≡ true =
-    ap (λ (ss : List Seen). is_once (row_of p ss)) (row_between seen start end i in_order cut run ∙ sym sights_are) ∙ once in
+    let here : is_once (row_showing p (of_row i seen)) ≡ true =
+    ap (λ (ss : List Seen). is_once (row_showing p ss)) (row_between seen start end i in_order cut run ∙ sym sights_are) ∙ once in
     ap (λ (rows : List VertexRow). list_all is_once rows) (one_more_row points seen i p lt is_point)
-    ∙ list_all-append is_once (vertices_from 0 (take i points) seen) (row_of p (of_row i seen) ∷ [])
-    ∙ ap (λ (b : Bool). b && (is_once (row_of p (of_row i seen)) && true)) so_far
+    ∙ list_all-append is_once (vertices_from 0 (take i points) seen) (row_showing p (of_row i seen) ∷ [])
+    ∙ ap (λ (b : Bool). b && (is_once (row_showing p (of_row i seen)) && true)) so_far
     ∙ ap (λ (b : Bool). b && true) here
 
 pub not_once : (points : List Point) (seen : List Seen) (start end i : ℕ) (p : Point) (sights : List Seen) → i < length points
     → p ≡ get_or points i p → AllPairs IsNoEarlier seen → IsCut seen start i → IsRun seen start end i
-    → sights ≡ take (end - start) (drop start seen) → is_once (row_of p sights) ≡ false → AllOnce (take i points) seen
+    → sights ≡ take (end - start) (drop start seen) → is_once (row_showing p sights) ≡ false → AllOnce (take i points) seen
     → is_wide (vertices_from 0 points seen) ≡ true
 not_once points seen start end i p sights lt is_point in_order cut run sights_are other so_far =
-    let here : is_once (row_of p (of_row i seen)) ≡ false =
-    ap (λ (ss : List Seen). is_once (row_of p ss)) (row_between seen start end i in_order cut run ∙ sym sights_are) ∙ other in
+    let here : is_once (row_showing p (of_row i seen)) ≡ false =
+    ap (λ (ss : List Seen). is_once (row_showing p ss)) (row_between seen start end i in_order cut run ∙ sym sights_are) ∙ other in
     let rest = vertices_from (0 + length (take (i + 1) points)) (drop (i + 1) points) seen in
     ap (λ (ps : List Point). is_wide (vertices_from 0 ps seen)) (sym (take-append-drop (i + 1) points))
     ∙ ap is_wide
     (vertices_append 0 (take (i + 1) points) (drop (i + 1) points) seen
     ∙ ap (λ (rows : List VertexRow). rows ++ rest) (one_more_row points seen i p lt is_point))
-    ∙ ap is_wide (append_assoc (vertices_from 0 (take i points) seen) (row_of p (of_row i seen) ∷ []) rest)
-    ∙ ap not (list_all-append is_once (vertices_from 0 (take i points) seen) (row_of p (of_row i seen) ∷ rest))
-    ∙ ap (λ (b : Bool). not (b && (is_once (row_of p (of_row i seen)) && list_all is_once rest))) so_far
+    ∙ ap is_wide (append_assoc (vertices_from 0 (take i points) seen) (row_showing p (of_row i seen) ∷ []) rest)
+    ∙ ap not (list_all-append is_once (vertices_from 0 (take i points) seen) (row_showing p (of_row i seen) ∷ rest))
+    ∙ ap (λ (b : Bool). not (b && (is_once (row_showing p (of_row i seen)) && list_all is_once rest))) so_far
     ∙ ap (λ (b : Bool). not (b && list_all is_once rest)) here
 
 -- ---- the parts of a text
@@ -217,4 +217,4 @@ parts_printed shown wide n m old with_header with_vertices new due n_is m_is fir
     ∙ append_assoc old (header wide n m) (vertices ++ others)
     ∙ ap (λ (k : ℕ). old ++ (header wide k m ++ (vertices ++ others))) (n_is ∙ sym (vertices_count 0 shown.points shown.seen))
     ∙ ap (λ (k : ℕ). old ++ (header wide (length rows) k ++ (vertices ++ others))) m_is
-    ∙ ap (λ (b : Bool). old ++ text_in_form b (rows_of shown)) due
+    ∙ ap (λ (b : Bool). old ++ text_in_form b (rows_showing shown)) due

@@ -32,9 +32,10 @@ use Rattle.ply_rows.specs.Texts.{field_of_items}
 use Rattle.ply_rows.specs.Items.{items_in}
 use Rattle.scan.specs.declared.refusal.ScanRefusal.{ScanRefusal}
 use Rattle.scan.specs.declared.refusal.ScanRefusal.TheVariants.{NoSuchScanner, BadWeight, TooManySights}
-use Rattle.scan.specs.PlainForm.{space, coordinates, line, numbers_of, vertex_line, scanner_line}
+use Rattle.num_text.specs.Separators.{space}
+use Rattle.scan.specs.PlainForm.{coordinates, line, numbers_behind_point, vertex_line, scanner_line}
 use Rattle.scan.specs.ScanRows.{VertexRow, ScanRows, sights_in, scanner_limit, sight_limit, weight_limit}
-use Rattle.scan.specs.Found.{Body, told, coordinate_of, number_in, point_of, weighed, weight_said, few_sights, one_of, each_of}
+use Rattle.scan.specs.Found.{Body, told, coordinate_of, number_in, point_in_columns, weighed, weight_said, few_sights, one_of, each_of}
 use Rattle.scan.specs.Found.{scanner_named, scanners_said, vertex_said, scanner_said, row_said, no_rows, one_vertex}
 use Rattle.scan.specs.Found.{one_scanner, found_in}
 use Rattle.scan.proofs.PrintedHeads.{first_axes, printed_scanners, printed_plan}
@@ -106,8 +107,8 @@ scaled_word at bytes z is small =
 
 point_said : (bytes : List ℕ) (at : RowAt) (place : ℕ) (p : Point) (more : List Field) (rest : List ℕ)
     → StandAt bytes place p rest → IsWithin DATA_LIMIT p
-    → point_of (text_body bytes) at (point_fields place p more) first_axes ≡ Ok p
-unfolding point_of coordinate_of
+    → point_in_columns (text_body bytes) at (point_fields place p more) first_axes ≡ Ok p
+unfolding point_in_columns coordinate_of
 point_said bytes at place p more rest stand within =
     rw (
       scaled_word _ _ p.x (x_stands bytes place p rest stand) within.x_within,
@@ -220,7 +221,7 @@ weight_there row w least most = ap (λ (b : Bool). cond b (Err (BadWeight row (p
 
 abbrev LineAt : Bool → List ℕ → ℕ → List ℕ → VertexRow → Type 0
 LineAt wide bytes place rest row =
-    StandAt bytes place row.point (end_byte (numbers_of wide row) ∷ behind (numbers_of wide row) rest)
+    StandAt bytes place row.point (end_byte (numbers_behind_point wide row) ∷ behind (numbers_behind_point wide row) rest)
 
 abbrev IsRead : Bool → List ℕ → ℕ → ℕ → ℕ → ℕ → VertexRow → Type 0
 IsRead wide bytes scanners before number place row =
@@ -257,7 +258,7 @@ wide_read bytes scanners before number place row rest stand printed few fit =
     items_read bytes (list_place place row) ks rest (scanners_fit scanners ks few printed.is.scanners_there) listed in
     rw (
       point_said bytes (row_at 0 number) place p (seen_fields true place row)
-          (end_byte (numbers_of true row) ∷ behind (numbers_of true row) rest) stand printed.is.data_point,
+          (end_byte (numbers_behind_point true row) ∷ behind (numbers_behind_point true row) rest) stand printed.is.data_point,
       whole_word _ _ row.weight (first_stands bytes (end_place place p) row.weight (length ks ∷ ks) rest numbers)
           (omega (arith, printed.is.most_weight)),
       weight_there number row.weight printed.is.least_weight printed.is.most_weight,
@@ -318,12 +319,12 @@ vertices_found wide bytes scanners before place number front (row ∷ rows) tail
     let sights = sum_by-cons (λ (r : VertexRow). length r.seen_by) row rows in
     let read =
     vertex_read wide bytes scanners before number place row text
-    (line_stands bytes place front row.point (numbers_of wide row) text here at) printed few (omega (arith, fit, sights)) in
+    (line_stands bytes place front row.point (numbers_behind_point wide row) text here at) printed few (omega (arith, fit, sights)) in
     let later =
     vertices_found wide bytes scanners (before + sights_in (row ∷ [])) (vertex_end wide place row) (number + 1)
     (front ++ vertex_line wide row) rows tail more end others
     (here ∙ sym (append_assoc front (vertex_line wide row) text))
-    (omega (arith, at, line_length place row.point (numbers_of wide row), length-append front (vertex_line wide row)))
+    (omega (arith, at, line_length place row.point (numbers_behind_point wide row), length-append front (vertex_line wide row)))
     (All-tail (IsPrinted wide scanners) row rows are) few
     (omega (arith, fit, sights, sum_by-cons (λ (r : VertexRow). length r.seen_by) row [])) found in
     rw (read, later) refl
@@ -353,7 +354,7 @@ lines_length wide place (row ∷ rows) =
     omega (
       arith,
       lines_length wide (vertex_end wide place row) rows,
-      line_length place row.point (numbers_of wide row),
+      line_length place row.point (numbers_behind_point wide row),
       length-append (vertex_line wide row) (flat_map (vertex_line wide) rows),
     )
 

@@ -15,7 +15,8 @@ use Rattle.std.proofs.lemmas.List.Elements.{All-head, All-tail}
 use Rattle.geo_sign.specs.Point.{Point, IsWithin}
 use Rattle.ply_rows.specs.Tokens.{Token, is_white_space, tokens_from}
 use Rattle.ply_rows.proofs.TokenLemmas.{tokens_token}
-use Rattle.scan.specs.PlainForm.{space, line_feed, coordinates, spaced, line}
+use Rattle.num_text.specs.Separators.{space, line_feed}
+use Rattle.scan.specs.PlainForm.{coordinates, spaced, line}
 use Rattle.geo_sign.specs.declared.point.TheConstants.{DATA_LIMIT}
 
 -- ---- printed numbers are tokens

@@ -15,8 +15,8 @@ use Rattle.geo_sign.specs.Point.{Point, IsWithin}
 use Rattle.geo_sign.specs.declared.point.TheConstants.{DATA_LIMIT}
 use Rattle.scan.specs.declared.scan.Seen.{Seen}
 use Rattle.scan.specs.ScanRows.{VertexRow, IsVertexRow, IsScan, weight_limit}
-use Rattle.scan.specs.Shown.{Shown, sights_of, row_seen, seen_from, shown_by, IsSeen, IsNoEarlier, WeighsAlike, IsShown}
-use Rattle.scan.specs.PlainForm.{of_row, weight_of, row_of, vertices_from, rows_of}
+use Rattle.scan.specs.Shown.{Shown, sights_in_row, row_seen, seen_from, shown_by, IsSeen, IsNoEarlier, WeighsAlike, IsShown}
+use Rattle.scan.specs.PlainForm.{of_row, weight_of, row_showing, vertices_from, rows_showing}
 use Rattle.scan.proofs.ShownLemmas.{shown, length-seen_from}
 
 -- ---- the first row's sights, and the others
@@ -97,9 +97,9 @@ same_vertices : (number from : ℕ) (points : List Point) (seen : List Seen) →
     → vertices_from from points (others_of number seen) ≡ vertices_from from points seen
 same_vertices number from [] seen lt = refl
 same_vertices number from (p ∷ points) seen lt =
-    ap (λ (ss : List Seen). row_of p ss ∷ vertices_from (from + 1) points (others_of number seen))
+    ap (λ (ss : List Seen). row_showing p ss ∷ vertices_from (from + 1) points (others_of number seen))
     (same_of_row number from seen (λ same. omega (arith, same)))
-    ∙ ap (λ (rows : List VertexRow). row_of p (of_row from seen) ∷ rows)
+    ∙ ap (λ (rows : List VertexRow). row_showing p (of_row from seen) ∷ rows)
     (same_vertices number (from + 1) points seen (omega arith))
 
 -- ---- what the rows show
@@ -119,12 +119,12 @@ a_sight row scanner weight = record { row = row; scanner = scanner; weight = wei
 -- sights of one row and one weight
 same_sights : (number weight : ℕ) (seen : List Seen) → All (λ (s : Seen). s.row ≡ number) seen
     → All (λ (s : Seen). s.weight ≡ weight) seen
-    → sights_of number weight (map (λ (s : Seen). s.scanner) seen) ≡ seen
+    → sights_in_row number weight (map (λ (s : Seen). s.scanner) seen) ≡ seen
 same_sights number weight [] rows weights = refl
 same_sights number weight (s ∷ seen) rows weights =
-    ap (λ (n : ℕ). a_sight n s.scanner weight ∷ sights_of number weight (map (λ (t : Seen). t.scanner) seen))
+    ap (λ (n : ℕ). a_sight n s.scanner weight ∷ sights_in_row number weight (map (λ (t : Seen). t.scanner) seen))
     (sym (All-head (λ (s : Seen). s.row ≡ number) s seen rows))
-    ∙ ap (λ (w : ℕ). a_sight s.row s.scanner w ∷ sights_of number weight (map (λ (t : Seen). t.scanner) seen))
+    ∙ ap (λ (w : ℕ). a_sight s.row s.scanner w ∷ sights_in_row number weight (map (λ (t : Seen). t.scanner) seen))
     (sym (All-head (λ (s : Seen). s.weight ≡ weight) s seen weights))
     ∙ ap (λ (ss : List Seen). s ∷ ss)
     (same_sights number weight seen (All-tail (λ (s : Seen). s.row ≡ number) s seen rows)
@@ -152,7 +152,7 @@ seen_again number (p ∷ points) seen from there in_order alike =
     let first = of_row number seen in
     let others = others_of number seen in
     let rows = of_this_row number seen in
-    let here : row_seen number (row_of p first) ≡ first =
+    let here : row_seen number (row_showing p first) ≡ first =
     same_sights number (weight_of first) first rows
     (weigh_alike number first rows (AllPairs-filter WeighsAlike (is_of number) seen alike)) in
     let behind = seen_again (number + 1) points others (others_later number seen from)
@@ -171,7 +171,7 @@ points_again number [] seen = refl
 points_again number (p ∷ points) seen = ap (λ (ps : List Point). p ∷ ps) (points_again (number + 1) points seen)
 
 -- the rows of what is shown show it
-pub rows_show : (all : Shown) → IsShown all → shown_by (rows_of all) ≡ all
+pub rows_show : (all : Shown) → IsShown all → shown_by (rows_showing all) ≡ all
 rows_show all is =
     ap (λ (ps : List Point). shown ps all.scanners (seen_from 0 (vertices_from 0 all.points all.seen)))
     (points_again 0 all.points all.seen)
@@ -189,7 +189,7 @@ weight_fits points scanners (s ∷ seen) are =
     (first.least_weight, first.most_weight)
 
 row_valid : (points scanners : ℕ) (p : Point) (seen : List Seen) → IsWithin DATA_LIMIT p → All (IsSeen points scanners) seen
-    → IsVertexRow scanners (row_of p seen)
+    → IsVertexRow scanners (row_showing p seen)
 row_valid points scanners p seen within are =
     let fits = weight_fits points scanners seen are in
     record {
@@ -203,12 +203,12 @@ rows_valid : (number count scanners : ℕ) (points : List Point) (seen : List Se
     → All (IsSeen count scanners) seen → All (IsVertexRow scanners) (vertices_from number points seen)
 rows_valid number count scanners [] seen within are = All-nil (IsVertexRow scanners)
 rows_valid number count scanners (p ∷ points) seen within are =
-    All-cons (IsVertexRow scanners) (row_of p (of_row number seen)) (vertices_from (number + 1) points seen)
+    All-cons (IsVertexRow scanners) (row_showing p (of_row number seen)) (vertices_from (number + 1) points seen)
     (row_valid count scanners p (of_row number seen) (All-head (IsWithin DATA_LIMIT) p points within)
     (All-filter (is_of number) (IsSeen count scanners) seen are))
     (rows_valid (number + 1) count scanners points seen (All-tail (IsWithin DATA_LIMIT) p points within) are)
 
-pub rows_are_scan : (all : Shown) → IsShown all → IsScan (rows_of all)
+pub rows_are_scan : (all : Shown) → IsShown all → IsScan (rows_showing all)
 rows_are_scan all is =
     let rows = vertices_from 0 all.points all.seen in
     let again = rows_show all is in

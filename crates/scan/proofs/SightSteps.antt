@@ -16,7 +16,7 @@ use Rattle.scan.specs.declared.refusal.ScanRefusal.{ScanRefusal}
 use Rattle.scan.specs.declared.refusal.ScanRefusal.TheVariants as refusals
 use Rattle.scan.specs.declared.scan.Seen.{Seen}
 use Rattle.scan.specs.ScanRefusals.{Fails}
-use Rattle.scan.specs.Shown.{sights_of}
+use Rattle.scan.specs.Shown.{sights_in_row}
 use Rattle.scan.specs.Found.{Body, values_in, each_of}
 
 abbrev Named : Type 0
@@ -27,7 +27,7 @@ Sights = Result (List Seen) ScanRefusal
 
 -- sights, and then those of a row from the scanners that it names
 abbrev pub seen_behind : List Seen → ℕ → ℕ → Named → Sights
-seen_behind seen row weight named = named >>= λ ks. done (seen ++ sights_of row weight ks)
+seen_behind seen row weight named = named >>= λ ks. done (seen ++ sights_in_row row weight ks)
 
 abbrev a_sight : ℕ → ℕ → ℕ → Seen
 a_sight row weight k = record { row = row; scanner = k; weight = weight }
@@ -37,7 +37,7 @@ with_first k named = named >>= λ others. Ok (k ∷ others)
 
 one_more : (seen : List Seen) (row weight k : ℕ) (named : Named)
     → seen_behind (seen ++ a_sight row weight k ∷ []) row weight named ≡ seen_behind seen row weight (with_first k named)
-one_more seen row weight k (Ok others) = ap done (append_assoc seen (a_sight row weight k ∷ []) (sights_of row weight others))
+one_more seen row weight k (Ok others) = ap done (append_assoc seen (a_sight row weight k ∷ []) (sights_in_row row weight others))
 one_more seen row weight k (Err why) = refl
 
 first_read : (read : List ℕ → Result ℕ ScanRefusal) (items others : List (List ℕ)) (first : List ℕ) → items ≡ first ∷ others

@@ -2,7 +2,7 @@
 -- it was written.
 --
 --   Shown              the points, the scanners' places, and what was seen
---   sights_of n w ks   the sights of the row with the number n, of weight w, from the scanners ks
+--   sights_in_row n w ks   the sights of the row with the number n, of weight w, from the scanners ks
 --   row_seen n row     the sights of the row with the number n, in the order of its scanners
 --   seen_from n rows   the sights of rows that are numbered from n on, row by row
 --   shown_by rows      what the rows of a scan show
@@ -22,12 +22,12 @@ pub record Shown : Type 0 where
   pub seen : List Seen
 
 -- sights of the row with this number: one from each of these scanners, of this weight
-abbrev pub sights_of : ℕ → ℕ → List ℕ → List Seen
-sights_of number weight seen_by = map (λ (k : ℕ). record { row = number; scanner = k; weight = weight }) seen_by
+abbrev pub sights_in_row : ℕ → ℕ → List ℕ → List Seen
+sights_in_row number weight seen_by = map (λ (k : ℕ). record { row = number; scanner = k; weight = weight }) seen_by
 
 -- the sights of the row with this number
 abbrev pub row_seen : ℕ → VertexRow → List Seen
-row_seen number row = sights_of number row.weight row.seen_by
+row_seen number row = sights_in_row number row.weight row.seen_by
 
 -- the sights of rows that are numbered from a number on, row by row
 abbrev pub seen_from : ℕ → List VertexRow → List Seen

@@ -23,7 +23,7 @@ use Rattle.cell_laws.proofs.Sides.{opposite_or_on}
 use Rattle.cell_laws.proofs.SightTests.{crossed_of, towards_of, strictly_of}
 use Rattle.cell_laws.proofs.SightLaws.{left_of}
 use Rattle.cell_laws.specs.Paths.{IsOnSight}
-use Rattle.cell_laws.specs.WalkLaws.{IsPassed}
+use Rattle.cell_laws.specs.WalkLaws.{IsPassedOnce}
 use Rattle.geo_sign.specs.Writings as writings
 use Rattle.std.proofs.Common.{List, [], ◌∷◌, length, set, get_or, slice_index, ap, ◌∙◌}
 use Rattle.geo_sign.specs.Point.{Point, origin}
@@ -156,7 +156,7 @@ on_sight v p s t k (inl h) = inr (k, h.0, h.1)
 on_sight v p s t k (inr h) = inl h.1
 
 -- the scanner is behind the one side that is left, so the sight goes out there
-pub goes_out : (v : Vertices) (p : ℕ) (s : RationalPoint) (t : Tetrahedron) (m k : ℕ) → IsPassed v p s t → IsEntered v p s t m
+pub goes_out : (v : Vertices) (p : ℕ) (s : RationalPoint) (t : Tetrahedron) (m k : ℕ) → IsPassedOnce v p s t → IsEntered v p s t m
     → ((j : ℕ) → IsExit v p s t j → j ≡ k) → side_of v (facet_of t k) s <ℤ pos 0 → IsExit v p s t k
 goes_out v p s t m k h e only b =
     ⊎_elim
@@ -166,7 +166,7 @@ goes_out v p s t m k h e only b =
     (h.exit_or_end (on_sight v p s t m e))
 
 -- it is not, so the scanner is in the cell
-pub ends_here : (v : Vertices) (p : ℕ) (s : RationalPoint) (t : Tetrahedron) (m k : ℕ) → IsPassed v p s t → IsEntered v p s t m
+pub ends_here : (v : Vertices) (p : ℕ) (s : RationalPoint) (t : Tetrahedron) (m k : ℕ) → IsPassedOnce v p s t → IsEntered v p s t m
     → ((j : ℕ) → IsExit v p s t j → j ≡ k) → ¬ (side_of v (facet_of t k) s <ℤ pos 0) → is_cell_of v s t ≡ true
 ends_here v p s t m k h e only b =
     ⊎_elim

@@ -18,8 +18,8 @@ use Rattle.geo_sign.specs.Vertices.{Has}
 use Rattle.cell_laws.specs.Lifts.{is_higher}
 use Rattle.cell_laws.specs.Links.{Side}
 use Rattle.cell_laws.specs.Lists.{count, one_if}
-use Rattle.cell_laws.specs.Paths.{entered, IsStep, IsPath}
-use Rattle.cell_laws.specs.WalkLaws.{IsPassed, HasPaths, IsWalk}
+use Rattle.cell_laws.specs.Paths.{entered_facet, IsSightStep, IsSightPath}
+use Rattle.cell_laws.specs.WalkLaws.{IsPassedOnce, HasPaths, IsWalk}
 use Rattle.cell_laws.proofs.Crossings.{left_turned}
 use Rattle.cell_laws.proofs.RimSides.{same_side}
 use Rattle.cell_laws.proofs.Scanners.{near_law}
@@ -46,7 +46,7 @@ pub record IsGiven (s : Store) (p : ℕ) (o : Point) : Type 0 where
   pub data_point : IsWithin DATA_LIMIT o
 
 pub passed : (s : Store) (p : ℕ) (o : Point) → IsGiven s p o → (x : ℕ) → IsLive (links_of s.slots) x
-    → IsPassed (vertices_of s) p (displaced o) ((links_of s.slots).at x)
+    → IsPassedOnce (vertices_of s) p (displaced o) ((links_of s.slots).at x)
 passed s p o g x l =
     sight_law (vertices_of s) g.store.vertices.boxed p g.inserted o g.data_point ((links_of s.slots).at x)
     (g.delaunay.cells x l)
@@ -59,10 +59,10 @@ paths s p o g =
 
 abbrev pub IsPathOf : Store → (p : ℕ) → Point → ℕ → List Side → Type 0
 IsPathOf s p o x cs =
-    IsPath (vertices_of s) (live_of s.slots) (links_of s.slots).at (links_of s.slots).next p (displaced o) x cs
+    IsSightPath (vertices_of s) (live_of s.slots) (links_of s.slots).at (links_of s.slots).next p (displaced o) x cs
 
 abbrev pub IsStepOf : Store → (p : ℕ) → Point → ℕ → Side → Type 0
-IsStepOf s p o x c = IsStep (vertices_of s) (live_of s.slots) (links_of s.slots).at (links_of s.slots).next p (displaced o) x c
+IsStepOf s p o x c = IsSightStep (vertices_of s) (live_of s.slots) (links_of s.slots).at (links_of s.slots).next p (displaced o) x c
 
 -- ---- the first of four tests
 first_some : (f : ℕ → Bool) (k : ℕ) → first_of (f 0) (f 1) (f 2) (f 3) ≡ Some k → (k < 4) × (f k ≡ true)
@@ -176,7 +176,7 @@ step_is s p o g x k y m l h e b n c t =
     let z = comes_in s p o g.store x k y m l h e b n in
     let f = facet_of (links.at x) t.leaving in
     let here =
-    crossed_is v p q (entered links.at c) (left_turned v p q f (entered links.at c) t.turned (left_of v p q f t.left)) in
+    crossed_is v p q (entered_facet links.at c) (left_turned v p q f (entered_facet links.at c) t.turned (left_of v p q f t.left)) in
     let there : is_crossed v p q (facet_of (links.at y) c.side) ≡ true =
     subst (λ (u : ℕ). is_crossed v p q (facet_of (links.at u) c.side) ≡ true) at here in
     same_side c (record { at = y; side = m }) at ((passed s p o g y z.0).one_entry c.side m t.side_below b there z.1)

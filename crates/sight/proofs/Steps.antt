@@ -16,7 +16,7 @@ use Rattle.geo_sign.proofs.Rotations.{turned_turned, turned_back}
 use Rattle.cell_laws.specs.Links.{Side}
 use Rattle.cell_laws.specs.Lists.{IsIn}
 use Rattle.cell_laws.specs.Paths.{IsOnSight}
-use Rattle.cell_laws.specs.WalkLaws.{IsPassed}
+use Rattle.cell_laws.specs.WalkLaws.{IsPassedOnce}
 use Rattle.cell_laws.proofs.Scanners.{near_law}
 use Rattle.cell_laws.proofs.SightLaws.{left_of}
 use Rattle.tetra_store.specs.Links.{links_of, tetrahedron_from, IsLive, IsBack}
@@ -199,8 +199,8 @@ pub ahead_there : (s : Store) (p : ℕ) (o : Point) (x : ℕ) (v : List ℕ) (k 
     → IsExit (vertices_of s) p (displaced o) (tetrahedron_from v) j
 ahead_there s p o x v k j e h w end n only =
     let q : RationalPoint = displaced o in let t = tetrahedron_from v in
-    let pass : IsPassed (vertices_of s) p q t =
-    subst (λ (r : Tetrahedron). IsPassed (vertices_of s) p q r) w.loaded (passed s p o (given s p o x v k h w) x w.live) in
+    let pass : IsPassedOnce (vertices_of s) p q t =
+    subst (λ (r : Tetrahedron). IsPassedOnce (vertices_of s) p q r) w.loaded (passed s p o (given s p o x v k h w) x w.live) in
     ⊎_elim
     (λ (z : (i : ℕ) × (i < 4) × (is_crossed (vertices_of s) p q (turned (facet_of t i)) ≡ true)).
     let y : IsExit (vertices_of s) p q t z.0 = record { side_in = z.1; left = z.2 } in

@@ -1,9 +1,9 @@
 -- The facet through which a sight came into a cell, kept from cell to cell.
 --
---   IsSeen points w p n i     i is the image of vertex n
+--   IsVertexImage points w p n i   i is the image of vertex n
 --   AreSeen points w p f      the images of a front are those of its vertices
---   IsFront points w p t k f  it is facet k of t, where there is a facet k
---   IsPassed t k j i numbers  the facet of side j in the other direction is the front with vertex k of t in the place of its
+--   IsFrontOf points w p t k f  it is facet k of t, where there is a facet k
+--   IsNextFront t k j i numbers  the facet of side j in the other direction is the front with vertex k of t in the place of its
 --                             vertex i; or there is no facet k
 use Rattle.std.specs.Prelude.{ℕ, ◌≡◌, ◌<◌, ◌⊎◌, List, length, set, slice_index, slice_index_or, get_or}
 use Rattle.geo_sign.specs.declared.point.TheConstants.{BOX_LIMIT}
@@ -15,23 +15,23 @@ use Rattle.sight.specs.declared.image.Image.{Image}
 use Rattle.sight.specs.Images.{IsImage, no_image}
 
 -- the image of a vertex that there is
-pub record IsSeen (points : List Point) (w : Screen) (p : Point) (n : ℕ) (i : Image) : Type 0 where
+pub record IsVertexImage (points : List Point) (w : Screen) (p : Point) (n : ℕ) (i : Image) : Type 0 where
   pub known : n < length points
   pub within : IsWithin BOX_LIMIT (get_or points n origin)
   pub image : IsImage w p (get_or points n origin) i
 
 -- each of the three
 abbrev pub AreSeen : List Point → Screen → Point → Front → Type 0
-AreSeen points w p f = (j : ℕ) → j < 3 → IsSeen points w p (slice_index f.vertices j) (slice_index_or f.images j no_image)
+AreSeen points w p f = (j : ℕ) → j < 3 → IsVertexImage points w p (slice_index f.vertices j) (slice_index_or f.images j no_image)
 
 -- from any of its vertices on
-pub record IsFront (points : List Point) (w : Screen) (p : Point) (t : Tetrahedron) (k : ℕ) (f : Front) : Type 0 where
+pub record IsFrontOf (points : List Point) (w : Screen) (p : Point) (t : Tetrahedron) (k : ℕ) (f : Front) : Type 0 where
   pub three : length f.vertices ≡ 3
   pub three_images : length f.images ≡ 3
   pub facet : k < 4 → IsRotated (facet_of t k) (facet_at f.vertices)
   pub seen : AreSeen points w p f
 
 -- how the front of a cell becomes that of the next
-abbrev pub IsPassed : Tetrahedron → (k j i : ℕ) → List ℕ → Type 0
-IsPassed t k j i numbers =
+abbrev pub IsNextFront : Tetrahedron → (k j i : ℕ) → List ℕ → Type 0
+IsNextFront t k j i numbers =
     ((k ≡ 4) × (i ≡ 3)) ⊎ ((k < 4) × (i < 3) × IsTurned (facet_of t j) (facet_at (set numbers i (vertex_of t k))))

@@ -28,7 +28,7 @@ use Rattle.geo_sign.specs.Tetrahedron.{Tetrahedron, facet_at, facet_of, turned}
 use Rattle.geo_sign.specs.Vertices.{Vertices, Has}
 use Rattle.cell_laws.specs.Links.{Side}
 use Rattle.cell_laws.specs.Lists.{IsIn, count, one_if}
-use Rattle.cell_laws.specs.Paths.{is_that, entered, IsPath, AreNearing}
+use Rattle.cell_laws.specs.Paths.{is_that, entered_facet, IsSightPath, AreNearing}
 use Rattle.geo_sign.specs.Tetrahedron.{facet_at}
 use Rattle.tetra_store.specs.Links.{Links, links_of, tetrahedron_from, IsLive}
 use Rattle.tetra_store.specs.Store.{Store, vertices_of}
@@ -38,7 +38,7 @@ use Rattle.sight.specs.declared.along.Crossing.{Crossing}
 use Rattle.sight.specs.declared.exit.Front.{Front}
 use Rattle.sight.specs.Exits.{IsEntered}
 use Rattle.sight.specs.declared.image.Screen.{Screen}
-use Rattle.sight.specs.Fronts.{IsFront}
+use Rattle.sight.specs.Fronts.{IsFrontOf}
 use Rattle.sight.specs.Images.{IsScreen}
 
 -- the sight from a vertex to the scanner at a point, through the cells of a store
@@ -121,15 +121,15 @@ pub record IsSight (w : Walk) : Type 0 where
   pub live : IsLive (links_of w.store.slots) w.at
   pub towards : is_towards (vertices_of w.store) w.vertex (displaced w.scanner) ((links_of w.store.slots).at w.at) ≡ true
   -- each facet is between the cell reached and the next one, and the last cell is the scanner's
-  pub path : IsPath (vertices_of w.store) (live_of w.store.slots) (links_of w.store.slots).at (links_of w.store.slots).next
+  pub path : IsSightPath (vertices_of w.store) (live_of w.store.slots) (links_of w.store.slots).at (links_of w.store.slots).next
       w.vertex (displaced w.scanner) w.at w.to_come
   pub crossed : (c : Side) → IsIn w.to_come c
       → IsLive (links_of w.store.slots) c.at × (c.side < 4)
-      × (is_crossed (vertices_of w.store) w.vertex (displaced w.scanner) (entered (links_of w.store.slots).at c) ≡ true)
+      × (is_crossed (vertices_of w.store) w.vertex (displaced w.scanner) (entered_facet (links_of w.store.slots).at c) ≡ true)
   -- each facet stands in the list once or not at all, as the sight crosses it or not
   pub counted : (c : Side) → IsLive (links_of w.store.slots) c.at → c.side < 4
       → count (is_that c) w.to_come
-      ≡ one_if (is_crossed (vertices_of w.store) w.vertex (displaced w.scanner) (entered (links_of w.store.slots).at c))
+      ≡ one_if (is_crossed (vertices_of w.store) w.vertex (displaced w.scanner) (entered_facet (links_of w.store.slots).at c))
   -- each is nearer to the vertex than each later one
   pub nearing : AreNearing (vertices_of w.store) (links_of w.store.slots).at w.vertex (displaced w.scanner) w.to_come
 
@@ -164,7 +164,7 @@ pub record IsAhead (s : Store) (p : ℕ) (o point : Point) (w : Screen) (v : Lis
   pub start : point ≡ get_or s.points p origin
   pub within : IsWithin BOX_LIMIT point
   pub screen : IsScreen w (step point o)
-  pub came : IsFront s.points w point (tetrahedron_from v) k front
+  pub came : IsFrontOf s.points w point (tetrahedron_from v) k front
 
 -- the scanner lies in the live cell e
 pub record IsEndCell (s : Store) (o : Point) (e : ℕ) : Type 0 where

@@ -24,7 +24,7 @@ ghost use Rattle.tetra_store.specs.Links.{tetrahedron_from};
 ghost use Rattle.tetra_store.specs.Store.{vertices_of};
 ghost use Rattle.std.specs.Option.{ForSome};
 ghost use Rattle.sight.specs.Exits.{left_behind, left_by, IsEntered, IsExit};
-ghost use Rattle.sight.specs.Fronts.{IsSeen, AreSeen, IsFront, IsPassed};
+ghost use Rattle.sight.specs.Fronts.{IsVertexImage, AreSeen, IsFrontOf, IsNextFront};
 ghost use Rattle.sight.specs.Images.{along, no_image, IsScreen, IsImage};
 ghost use Rattle.sight.specs.Walks.{IsWalking, IsEndCell};
 
@@ -167,7 +167,7 @@ fn behind_by_images(
     requires p_within { IsWithin BOX_LIMIT p }
     requires screen { IsScreen screen.now (step p s) }
     requires seen { AreSeen t.now.points screen.now p front.now }
-    requires image { IsSeen t.now.points screen.now p fourth image }
+    requires image { IsVertexImage t.now.points screen.now p fourth image }
     ensures side { result < 3 }
     ensures left { result ≡ left_by (side (get_or t.now.points vertex origin) (get_or t.now.points (slice_index front.now.vertices 0) origin) (get_or t.now.points fourth origin) (displaced s)) (side (get_or t.now.points vertex origin) (get_or t.now.points (slice_index front.now.vertices 1) origin) (get_or t.now.points fourth origin) (displaced s)) (side (get_or t.now.points vertex origin) (get_or t.now.points (slice_index front.now.vertices 2) origin) (get_or t.now.points fourth origin) (displaced s)) }
 {
@@ -228,10 +228,10 @@ fn ahead(
     requires p_within { IsWithin BOX_LIMIT p }
     requires screen { IsScreen screen.now (step p s) }
     requires entered { IsEntered (vertices_of t.now) vertex (displaced s) (tetrahedron_from v) entered }
-    requires front { IsFront t.now.points screen.now p (tetrahedron_from v) entered front.now }
+    requires front { IsFrontOf t.now.points screen.now p (tetrahedron_from v) entered front.now }
     ensures side { result.side < 4 }
-    ensures image { result.behind < 3 → IsSeen t.now.points screen.now p (slice_index v entered) result.image }
-    ensures only { (k : ℕ) → IsExit (vertices_of t.now) vertex (displaced s) (tetrahedron_from v) k → (k ≡ result.side) × IsPassed (tetrahedron_from v) entered k result.behind front.now.vertices }
+    ensures image { result.behind < 3 → IsVertexImage t.now.points screen.now p (slice_index v entered) result.image }
+    ensures only { (k : ℕ) → IsExit (vertices_of t.now) vertex (displaced s) (tetrahedron_from v) k → (k ≡ result.side) × IsNextFront (tetrahedron_from v) entered k result.behind front.now.vertices }
 {
     if entered == NO_SIDE {
         return WayOut {
@@ -268,8 +268,8 @@ fn exit_side(
     requires p_within { IsWithin BOX_LIMIT p }
     requires screen { IsScreen screen.now (step p s) }
     requires entered { IsEntered (vertices_of t.now) vertex (displaced s) (tetrahedron_from v) entered }
-    requires front { IsFront t.now.points screen.now p (tetrahedron_from v) entered front.now }
-    ensures some { IfSome result (λ x. IsExit (vertices_of t.now) vertex (displaced s) (tetrahedron_from v) x.side × IsPassed (tetrahedron_from v) entered x.side x.behind front.now.vertices × (x.behind < 3 → IsSeen t.now.points screen.now p (slice_index v entered) x.image)) }
+    requires front { IsFrontOf t.now.points screen.now p (tetrahedron_from v) entered front.now }
+    ensures some { IfSome result (λ x. IsExit (vertices_of t.now) vertex (displaced s) (tetrahedron_from v) x.side × IsNextFront (tetrahedron_from v) entered x.side x.behind front.now.vertices × (x.behind < 3 → IsVertexImage t.now.points screen.now p (slice_index v entered) x.image)) }
     ensures none { IfNone result (is_cell_of (vertices_of t.now) (displaced s) (tetrahedron_from v) ≡ true) }
 {
     t.facts();
@@ -300,9 +300,9 @@ pub(crate) fn exit(
     requires start { p ≡ get_or t.now.points vertex origin }
     requires p_within { IsWithin BOX_LIMIT p }
     requires screen { IsScreen screen.now (step p s) }
-    requires front { IsFront t.now.points screen.now p (tetrahedron_from v) entered front.now }
+    requires front { IsFrontOf t.now.points screen.now p (tetrahedron_from v) entered front.now }
     requires end { ForSome end (λ e. IsEndCell t.now s e) }
-    ensures some { IfSome result (λ x. IsExit (vertices_of t.now) vertex (displaced s) (tetrahedron_from v) x.side × IsPassed (tetrahedron_from v) entered x.side x.behind front.now.vertices × (x.behind < 3 → IsSeen t.now.points screen.now p (slice_index v entered) x.image)) }
+    ensures some { IfSome result (λ x. IsExit (vertices_of t.now) vertex (displaced s) (tetrahedron_from v) x.side × IsNextFront (tetrahedron_from v) entered x.side x.behind front.now.vertices × (x.behind < 3 → IsVertexImage t.now.points screen.now p (slice_index v entered) x.image)) }
     ensures none { IfNone result (is_cell_of (vertices_of t.now) (displaced s) (tetrahedron_from v) ≡ true) }
 {
     t.facts();
@@ -324,7 +324,7 @@ fn vertex_seen(t: &Tetra, screen: &Screen, p: Point, vertex: u32) -> Image
     requires p_within { IsWithin BOX_LIMIT p }
     requires right { IsWithin (2 ^ 24) (along screen.now.right) }
     requires up { IsWithin (2 ^ 24) (along screen.now.up) }
-    ensures { IsSeen t.now.points screen.now p vertex result }
+    ensures { IsVertexImage t.now.points screen.now p vertex result }
 {
     seen_at(screen, p, t.point(vertex))
 }
@@ -380,8 +380,8 @@ pub(crate) fn go_through(
     requires three { length front.old.vertices ≡ 3 }
     requires images { length front.old.images ≡ 3 }
     requires seen { AreSeen t.now.points screen.now p front.old }
-    requires passed { IsPassed (tetrahedron_from v) entered exit.side exit.behind front.old.vertices }
-    requires image { exit.behind < 3 → IsSeen t.now.points screen.now p (slice_index v entered) exit.image }
+    requires passed { IsNextFront (tetrahedron_from v) entered exit.side exit.behind front.old.vertices }
+    requires image { exit.behind < 3 → IsVertexImage t.now.points screen.now p (slice_index v entered) exit.image }
     ensures three { length front.new.vertices ≡ 3 }
     ensures images { length front.new.images ≡ 3 }
     ensures turned { IsTurned (facet_of (tetrahedron_from v) exit.side) (facet_at front.new.vertices) }

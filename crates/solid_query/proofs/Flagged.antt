@@ -12,11 +12,11 @@ use Rattle.tetra_store.specs.Store.{Store}
 use Rattle.visibility.specs.Laws.{test_of}
 use Rattle.vote_net.specs.Counts.{row_of}
 use Rattle.vote_net.specs.declared.network.Counted.{Counted}
-use Rattle.solid_query.specs.Solids.{IsNetworkOfScan}
+use Rattle.solid_query.specs.Solids.{IsNetworkOverCells}
 
 -- of the network of a scan
 module _ (scan : Shown) (settings : Settings) (s : Store) (counted : Counted)
-    (made : IsNetworkOfScan scan settings s counted) where
+    (made : IsNetworkOverCells scan settings s counted) where
   pub ids_are : AreAllLive s.slots counted.ids.items
   ids_are =
       let listing = made.network.listing in

@@ -15,7 +15,7 @@ use Rattle.geo_sign.specs.Rational.{RationalPoint, displaced}
 use Rattle.geo_sign.specs.RowLaws.{IsPositive}
 use Rattle.geo_sign.specs.Sights.{is_cell_of}
 use Rattle.geo_sign.specs.Tetrahedron.{Tetrahedron}
-use Rattle.geo_sign.specs.Vertices as all
+use Rattle.geo_sign.specs.Vertices.{boxed_vertices}
 use Rattle.geo_sign.specs.Vertices.{Vertices, corners}
 use Rattle.geo_sign.specs.Writings.{IsRewritten}
 use Rattle.geo_sign.specs.declared.point.TheConstants.{DATA_LIMIT}
@@ -44,14 +44,14 @@ one_cell v cells q boxed are within row other c d h k =
 
 -- the test looks at nothing but where the vertices are
 same_test : (s : Store) (points : List Point) → s.points ≡ corners ++ points → (q : RationalPoint) (t : Tetrahedron)
-    → is_cell_of (vertices_of s) q t ≡ is_cell_of (all.vertices_of points) q t
+    → is_cell_of (vertices_of s) q t ≡ is_cell_of (boxed_vertices points) q t
 unfolding is_cell_of
 same_test s points e q t = ap (λ (places : List Point). is_cell_of (vertices_at places s.inserted) q t) e
 
 module _ (scan : Shown) (settings : Settings) (s : Store) (flags : List Bool)
     (solid : IsSolid scan settings s flags) where
   abbrev v : Vertices
-  v = all.vertices_of (points_of scan)
+  v = boxed_vertices (points_of scan)
 
   -- the label of the row is the flag of the live cell
   label_of : (q : Point) (flag : Bool) → IsWithin DATA_LIMIT q → IsFlaggedAs s flags q flag

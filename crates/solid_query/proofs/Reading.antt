@@ -4,7 +4,7 @@ use Rattle.std.proofs.Common.{Result, Ok, Err, Bor, map, append_assoc}
 use Rattle.std.specs.Result.{IsErrAnd}
 use Rattle.std.proofs.lemmas.List.{append-nil, drop_all, drop_more, get_or-map}
 use Rattle.geo_sign.specs.Point.{Point}
-use Rattle.solid_query.specs.Queries.{coordinate, point_of, before, points_from, Fails, Gives}
+use Rattle.solid_query.specs.Queries.{token_coordinate, point_or_refusal, before, points_from, Fails, Gives}
 use Rattle.solid_query.specs.declared.refusal.QueryRefusal.{QueryRefusal}
 use Rattle.solid_query.specs.declared.refusal.QueryRefusal.TheVariants.{BadToken, LongNumber, OutOfRange, Uneven, TooMany, NoMemory}
 
@@ -47,8 +47,9 @@ module _ (unit k : ℕ) (tokens : List (List ℕ)) (points : List Point) (l : 3 
     (so_far : points_from unit 0 tokens ≡ onto points (points_from unit (3 * k) (drop (3 * k) tokens))) where
   abbrev next : Result Point QueryRefusal
   next =
-      point_of (coordinate unit (3 * k) (get_or tokens (3 * k) [])) (coordinate unit (3 * k + 1) (get_or tokens (3 * k + 1) []))
-      (coordinate unit (3 * k + 2) (get_or tokens (3 * k + 2) []))
+      point_or_refusal (token_coordinate unit (3 * k) (get_or tokens (3 * k) []))
+      (token_coordinate unit (3 * k + 1) (get_or tokens (3 * k + 1) []))
+      (token_coordinate unit (3 * k + 2) (get_or tokens (3 * k + 2) []))
 
   -- the next point stands before the points behind it
   split : points_from unit 0 tokens ≡ onto points (before next (points_from unit (3 * k + 3) (drop (3 * k + 3) tokens)))
@@ -77,23 +78,23 @@ all_read unit n tokens points l e =
 
 -- the point of three tokens, as the code holds them
 pub as_held : (unit n : ℕ) (tokens : List (Bor (List ℕ))) (d : Bor (List ℕ)) → n + 2 < length tokens
-    → point_of (coordinate unit n (get_or (map (λ token. token.now) tokens) n []))
-    (coordinate unit (n + 1) (get_or (map (λ token. token.now) tokens) (n + 1) []))
-    (coordinate unit (n + 2) (get_or (map (λ token. token.now) tokens) (n + 2) []))
-    ≡ point_of (coordinate unit n (get_or tokens n d).now) (coordinate unit (n + 1) (get_or tokens (n + 1) d).now)
-    (coordinate unit (n + 2) (get_or tokens (n + 2) d).now)
+    → point_or_refusal (token_coordinate unit n (get_or (map (λ token. token.now) tokens) n []))
+    (token_coordinate unit (n + 1) (get_or (map (λ token. token.now) tokens) (n + 1) []))
+    (token_coordinate unit (n + 2) (get_or (map (λ token. token.now) tokens) (n + 2) []))
+    ≡ point_or_refusal (token_coordinate unit n (get_or tokens n d).now) (token_coordinate unit (n + 1) (get_or tokens (n + 1) d).now)
+    (token_coordinate unit (n + 2) (get_or tokens (n + 2) d).now)
 as_held unit n tokens d l =
     let now : Bor (List ℕ) → List ℕ = λ token. token.now in
     let y : List ℕ = get_or (map now tokens) (n + 1) [] in
     let z : List ℕ = get_or (map now tokens) (n + 2) [] in
-    ap (λ (x : List ℕ). point_of (coordinate unit n x) (coordinate unit (n + 1) y) (coordinate unit (n + 2) z))
+    ap (λ (x : List ℕ). point_or_refusal (token_coordinate unit n x) (token_coordinate unit (n + 1) y) (token_coordinate unit (n + 2) z))
     (get_or-map now tokens n d [] (omega arith))
     ∙ ap (λ (t : List ℕ).
-    point_of (coordinate unit n (get_or tokens n d).now) (coordinate unit (n + 1) t) (coordinate unit (n + 2) z))
+    point_or_refusal (token_coordinate unit n (get_or tokens n d).now) (token_coordinate unit (n + 1) t) (token_coordinate unit (n + 2) z))
     (get_or-map now tokens (n + 1) d [] (omega arith))
     ∙ ap (λ (t : List ℕ).
-    point_of (coordinate unit n (get_or tokens n d).now) (coordinate unit (n + 1) (get_or tokens (n + 1) d).now)
-    (coordinate unit (n + 2) t)) (get_or-map now tokens (n + 2) d [] l)
+    point_or_refusal (token_coordinate unit n (get_or tokens n d).now) (token_coordinate unit (n + 1) (get_or tokens (n + 1) d).now)
+    (token_coordinate unit (n + 2) t)) (get_or-map now tokens (n + 2) d [] l)
 
 -- a refusal is what reading gives, or memory ran out
 pub fails : {Y : Type 0} (why : QueryRefusal) (read : Result Y QueryRefusal) → read ≡ Err why → Fails why read

@@ -10,7 +10,7 @@ use Rattle.geo_sign.proofs.Rewritings.{same_cell_of}
 use Rattle.geo_sign.specs.Cells.{written}
 use Rattle.geo_sign.specs.Point.{Point, origin}
 use Rattle.geo_sign.specs.Rational.{displaced}
-use Rattle.geo_sign.specs.Vertices as all
+use Rattle.geo_sign.specs.Vertices.{boxed_vertices}
 use Rattle.geo_sign.specs.Vertices.{Vertices}
 use Rattle.geo_sign.specs.Sights.{is_cell_of}
 use Rattle.solution.specs.Scans.{points_of, scene_of_scan}
@@ -33,7 +33,7 @@ same_label v cells inside other q a b agree h k =
 pub labels_are_unique_law : LabelsAreUnique
 labels_are_unique_law scan settings points labels others a b =
     let s : Scene = scene_of_scan scan settings in
-    let v : Vertices = all.vertices_of (points_of scan) in
+    let v : Vertices = boxed_vertices (points_of scan) in
     let complexes : b.complex ≡ a.complex = one_complex s b.complex a.complex b.complex_is a.complex_is in
     let least : IsLeastInside s a.complex b.inside = subst (λ (c : Complex). IsLeastInside s c b.inside) complexes b.least in
     let agree : (row : List ℕ) → Contains a.complex.cells row → a.inside row ≡ b.inside row =
@@ -81,7 +81,7 @@ labels_are_certified_law scan settings mesh claim points labels solution are k l
     subst (λ (c : Complex). IsLeastInside s c solution.inside) complexes solution.least in
     let listed_inside : claim.inside ≡ filter solution.inside cells =
     solution.certificate.inside_is ∙ ap (λ (c : Complex). filter solution.inside c.cells) complexes in
-    let label : IsLabelOf (all.vertices_of (points_of scan)) cells are.inside q (get_or labels k false) = are.each k l in
+    let label : IsLabelOf (boxed_vertices (points_of scan)) cells are.inside q (get_or labels k false) = are.each k l in
     let there : get_or labels k false ≡ true → HasPoint scan (filter solution.inside cells) q =
     λ e.
     let inside : solution.inside label.cell ≡ true =

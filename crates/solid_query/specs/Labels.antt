@@ -10,7 +10,7 @@ use Rattle.geo_sign.specs.Cells.{written}
 use Rattle.geo_sign.specs.Point.{Point, origin}
 use Rattle.geo_sign.specs.Rational.{displaced}
 use Rattle.geo_sign.specs.Sights.{is_cell_of}
-use Rattle.geo_sign.specs.Vertices as all
+use Rattle.geo_sign.specs.Vertices.{boxed_vertices}
 use Rattle.geo_sign.specs.Vertices.{Vertices}
 use Rattle.scan.specs.Shown.{Shown}
 use Rattle.solution.specs.Scans.{points_of, scene_of_scan}
@@ -39,7 +39,7 @@ pub record AreLabels (scan : Shown) (settings : Settings) (points : List Point) 
   pub least : IsLeastInside (scene_of_scan scan settings) complex inside
   pub count : length labels ≡ length points
   pub each : (k : ℕ) → k < length points
-      → IsLabelOf (all.vertices_of (points_of scan)) complex.cells inside (slice_index_or points k origin) (flag_at labels k)
+      → IsLabelOf (boxed_vertices (points_of scan)) complex.cells inside (slice_index_or points k origin) (flag_at labels k)
 
 -- the one of the cells with these numbers in which the displaced point lies has this label
 pub record IsLabelAt (s : Store) (ids : List ℕ) (inside : List Bool) (q : Point) (label : Bool) : Type 0 where

@@ -14,7 +14,7 @@ use Rattle.geo_sign.specs.Cells.{IsCellList, written}
 use Rattle.geo_sign.specs.Point.{Point, IsWithin, origin}
 use Rattle.geo_sign.specs.Rational.{displaced}
 use Rattle.geo_sign.specs.Sights.{is_cell_of}
-use Rattle.geo_sign.specs.Vertices.{Vertices, vertices_of}
+use Rattle.geo_sign.specs.Vertices.{Vertices, boxed_vertices}
 use Rattle.geo_sign.specs.declared.point.TheConstants.{DATA_LIMIT}
 use Rattle.mesh_ply.specs.Meshes.{Surface}
 use Rattle.scan.specs.Shown.{Shown}
@@ -38,7 +38,7 @@ PointsHaveLabels =
 -- the displaced point lies in one of these cells of the scan
 abbrev pub HasPoint : Shown → (cells : List (List ℕ)) → Point → Type 0
 HasPoint scan cells q =
-    Any (λ row. is_cell_of (vertices_of (points_of scan)) (displaced q) (written (vertices_of (points_of scan)) row) ≡ true) cells
+    Any (λ row. is_cell_of (boxed_vertices (points_of scan)) (displaced q) (written (boxed_vertices (points_of scan)) row) ≡ true) cells
 
 -- whichever flow the certificate states
 abbrev pub LabelsAreCertified : Type 0

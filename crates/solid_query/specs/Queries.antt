@@ -1,9 +1,9 @@
 -- Points as a text of decimals.
 --
 --   tokens_of bytes          the runs of bytes other than white space
---   told n number            the number of units that token n is, or why it is none
---   coordinate unit n token  the same, of the token
---   point_of x y z           the point of three coordinates, or the first refusal among them
+--   units_or_refusal n number   the number of units that token n is, or why it is none
+--   token_coordinate unit n token  the same, of the token
+--   point_or_refusal x y z   the point of three coordinates, or the first refusal among them
 --   points_from unit n ..    the points of these tokens, the first of which is token n, or the first refusal among them
 --   points_in bytes unit     the points that a text is, or why it is none
 --   Gives                    what a call returned is what a definition says, unless memory ran out
@@ -24,21 +24,21 @@ abbrev pub tokens_of : List ℕ → List (List ℕ)
 tokens_of bytes = filter (λ token. not (length token == 0)) (slice_split is_white_space bytes)
 
 -- the number of units that token n is, or why it is none
-abbrev pub told : ℕ → Result ℤ NumRefusal → Result ℤ QueryRefusal
-told n (Ok units) = Ok units
-told n (Err numbers.NotANumber) = Err (BadToken n)
-told n (Err numbers.LongNumber) = Err (LongNumber n)
-told n (Err numbers.OutOfRange) = Err (OutOfRange n)
+abbrev pub units_or_refusal : ℕ → Result ℤ NumRefusal → Result ℤ QueryRefusal
+units_or_refusal n (Ok units) = Ok units
+units_or_refusal n (Err numbers.NotANumber) = Err (BadToken n)
+units_or_refusal n (Err numbers.LongNumber) = Err (LongNumber n)
+units_or_refusal n (Err numbers.OutOfRange) = Err (OutOfRange n)
 
-abbrev pub coordinate : (unit n : ℕ) → List ℕ → Result ℤ QueryRefusal
-coordinate unit n token = told n (scaled_of token unit)
+abbrev pub token_coordinate : (unit n : ℕ) → List ℕ → Result ℤ QueryRefusal
+token_coordinate unit n token = units_or_refusal n (scaled_of token unit)
 
 -- the point of three coordinates, or the first refusal among them
-abbrev pub point_of : (x y z : Result ℤ QueryRefusal) → Result Point QueryRefusal
-point_of (Ok x) (Ok y) (Ok z) = Ok (point x y z)
-point_of (Ok x) (Ok y) (Err why) = Err why
-point_of (Ok x) (Err why) z = Err why
-point_of (Err why) y z = Err why
+abbrev pub point_or_refusal : (x y z : Result ℤ QueryRefusal) → Result Point QueryRefusal
+point_or_refusal (Ok x) (Ok y) (Ok z) = Ok (point x y z)
+point_or_refusal (Ok x) (Ok y) (Err why) = Err why
+point_or_refusal (Ok x) (Err why) z = Err why
+point_or_refusal (Err why) y z = Err why
 
 -- a point, and the points behind it, or the first refusal
 abbrev pub before : Result Point QueryRefusal → Result (List Point) QueryRefusal → Result (List Point) QueryRefusal
@@ -49,7 +49,7 @@ before (Err why) points = Err why
 -- three tokens are a point; the first of these is token n
 abbrev pub points_from : (unit n : ℕ) → List (List ℕ) → Result (List Point) QueryRefusal
 points_from unit n (x ∷ y ∷ z ∷ tokens) =
-    before (point_of (coordinate unit n x) (coordinate unit (n + 1) y) (coordinate unit (n + 2) z))
+    before (point_or_refusal (token_coordinate unit n x) (token_coordinate unit (n + 1) y) (token_coordinate unit (n + 2) z))
     (points_from unit (n + 3) tokens)
 points_from unit n tokens = Ok []
 

@@ -1,6 +1,6 @@
 -- The linked cells of a scan, with labels by their numbers.
 --
---   IsNetworkOfScan scan settings s counted   the linked cells, and the network over them
+--   IsNetworkOverCells scan settings s counted   the linked cells, and the network over them
 --   IsSolid scan settings s flags             the linked cells, and which are inside
 --   IsFlaggedAs s flags q flag                the cell in which the displaced point lies has this flag
 --   AreFlagged s flags points found           the same of points, one each
@@ -24,7 +24,7 @@ use Rattle.vote_net.specs.Counts.{AreCellsOf, AreIdsOf, row_of}
 use Rattle.vote_net.specs.declared.network.Counted.{Counted}
 
 -- the Delaunay cells of the box's corners and the scan's distinct points, and the network over them
-pub record IsNetworkOfScan (scan : Shown) (settings : Settings) (s : Store) (counted : Counted) : Type 0 where
+pub record IsNetworkOverCells (scan : Shown) (settings : Settings) (s : Store) (counted : Counted) : Type 0 where
   pub points : s.points ≡ corners ++ points_of scan
   pub delaunay : IsDelaunay (vertices_of s) (links_of s.slots)
   pub cells : AreCellsOf (scene_of_scan scan settings) s.slots

@@ -5,7 +5,7 @@ ghost use Rattle.geo_sign.specs.declared.point.TheConstants.{DATA_LIMIT};
 ghost use Rattle.geo_sign.specs.Point.{IsWithin};
 ghost use Rattle.num_text.specs.declared.decimal.TheConstants.{UNIT_LIMIT};
 ghost use Rattle.ply_rows.specs.Tokens.{is_white_space as is_white_space_in};
-ghost use Rattle.solid_query.specs.Queries.{coordinate as coordinate_in, point_of, points_among, points_from, points_in, told as told_in, tokens_of as tokens_in, Gives};
+ghost use Rattle.solid_query.specs.Queries.{token_coordinate, point_or_refusal, points_among, points_from, points_in, units_or_refusal, tokens_of as tokens_in, Gives};
 
 use crate::NoMemory;
 use crate::refusal::QueryRefusal;
@@ -45,7 +45,7 @@ fn tokens_of<'a>(alloc: Global, bytes: &'a [u8]) -> Result<Vec<&'a [u8]>, NoMemo
 
 /// The number of units that a token with this number is, or why it is none.
 fn told(number: u32, units: Result<i64, NumRefusal>) -> Result<i64, QueryRefusal>
-    ensures { result ≡ told_in number units }
+    ensures { result ≡ units_or_refusal number units }
 {
     match units {
         Ok(units) => Ok(units),
@@ -59,7 +59,7 @@ fn told(number: u32, units: Result<i64, NumRefusal>) -> Result<i64, QueryRefusal
 fn coordinate(unit: u32, number: u32, token: &[u8]) -> Result<i64, QueryRefusal>
     requires at_least_one { 1 ≤ unit }
     requires at_most_a_million { unit ≤ UNIT_LIMIT }
-    ensures said { result ≡ coordinate_in unit number token.now }
+    ensures said { result ≡ token_coordinate unit number token.now }
     ensures data { IfOk result (λ units. unsigned_abs units ≤ DATA_LIMIT) }
 {
     told(number, scaled(token, unit))
@@ -70,7 +70,7 @@ fn point_at(unit: u32, number: u32, x: &[u8], y: &[u8], z: &[u8]) -> Result<Poin
     requires at_least_one { 1 ≤ unit }
     requires at_most_a_million { unit ≤ UNIT_LIMIT }
     requires number { number + 2 < 2 ^ 32 }
-    ensures said { result ≡ point_of (coordinate_in unit number x.now) (coordinate_in unit (number + 1) y.now) (coordinate_in unit (number + 2) z.now) }
+    ensures said { result ≡ point_or_refusal (token_coordinate unit number x.now) (token_coordinate unit (number + 1) y.now) (token_coordinate unit (number + 2) z.now) }
     ensures data { IfOk result (IsWithin DATA_LIMIT) }
 {
     let x = coordinate(unit, number, x)?;

@@ -2,7 +2,7 @@
 
 ghost use Rattle.std.specs.Prelude.{IfOk};
 ghost use Rattle.scan.specs.Views.{shown_of};
-ghost use Rattle.solid_query.specs.Solids.{IsNetworkOfScan, IsSolid};
+ghost use Rattle.solid_query.specs.Solids.{IsNetworkOverCells, IsSolid};
 
 use crate::NoMemory;
 use delaunay::build_watched;
@@ -33,7 +33,7 @@ pub(crate) fn network<W: Watch>(
     settings: Settings,
     watch: &mut W,
 ) -> Result<(Tetra, Counted), NoMemory>
-    ensures { IfOk result (λ made. IsNetworkOfScan (shown_of scan.now) settings made.0 made.1) }
+    ensures { IfOk result (λ made. IsNetworkOverCells (shown_of scan.now) settings made.0 made.1) }
 {
     let seen = seen_in(alloc, scan)?;
     let tetra = build_watched(alloc, &seen.points, watch)?;

@@ -14,7 +14,7 @@ use Rattle.std.proofs.lemmas.List.{get_or_append_left, get_or_push}
 use Rattle.std.proofs.lemmas.List.Elements.{All-push}
 use Rattle.std.proofs.lemmas.List.Sums.{sum_by-append, sum_by-cons}
 use Rattle.geo_sign.specs.Point.{Point}
-use Rattle.solid_slice.specs.Cuts.{is_cut, is_cut_at}
+use Rattle.solid_slice.specs.Cuts.{is_cut_face, is_cut_at}
 use Rattle.solid_slice.specs.Loops.{IsLoop, AreLoops}
 use Rattle.solid_slice.specs.Walks.{IsSuccession, is_visited, visits, IsBetweenLoops}
 use Rattle.solid_slice.proofs.Counts.{one_if, hit_yes}
@@ -127,9 +127,9 @@ rings_more points faces h next old visited visited' rings ring start r loop firs
 
 -- before the first loop just the faces that are not cut count as visited
 visited_first : (points : List Point) (faces : List (List ℕ)) (h : ℤ) (uncut : List Bool) (f : ℕ)
-    → uncut ≡ map (λ face. not (is_cut points h face)) faces → is_visited uncut f ≡ not (is_cut_at points faces h f)
+    → uncut ≡ map (λ face. not (is_cut_face points h face)) faces → is_visited uncut f ≡ not (is_cut_at points faces h f)
 visited_first points faces h uncut f e =
-    let test = λ (face : List ℕ). not (is_cut points h face) in
+    let test = λ (face : List ℕ). not (is_cut_face points h face) in
     ap (λ (t : List Bool). get_or t f true) e
     ∙ elim (cases_lt f (length faces)) [
       | inl l ↦ get_or-map test faces f [] true l
@@ -138,12 +138,12 @@ visited_first points faces h uncut f e =
     ]
 
 pub rings_none : (points : List Point) (faces : List (List ℕ)) (h : ℤ) (next : List ℕ) (uncut : List Bool)
-    → uncut ≡ map (λ face. not (is_cut points h face)) faces → IsSuccession points faces h next
+    → uncut ≡ map (λ face. not (is_cut_face points h face)) faces → IsSuccession points faces h next
     → AreRings points faces h next uncut uncut [] 0
 rings_none points faces h next uncut e s =
     record {
       between = record {
-        size = ap (λ (t : List Bool). length t) e ∙ length-map faces (λ face. not (is_cut points h face));
+        size = ap (λ (t : List Bool). length t) e ∙ length-map faces (λ face. not (is_cut_face points h face));
         uncut = λ f cut. visited_first points faces h uncut f e ∙ ap not cut;
         whole = λ f seen. by f (is_cut_at points faces h f) refl seen;
       };
@@ -163,7 +163,7 @@ rings_none points faces h next uncut e s =
 
 -- all faces were visited
 pub rings_all : (points : List Point) (faces : List (List ℕ)) (h : ℤ) (next : List ℕ) (uncut visited : List Bool)
-    (rings : List (List ℕ)) (n : ℕ) → length faces ≤ n → uncut ≡ map (λ face. not (is_cut points h face)) faces
+    (rings : List (List ℕ)) (n : ℕ) → length faces ≤ n → uncut ≡ map (λ face. not (is_cut_face points h face)) faces
     → AreRings points faces h next uncut visited rings n → AreLoops points faces h rings
 rings_all points faces h next uncut visited rings n le e r =
     record {

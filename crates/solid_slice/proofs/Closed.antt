@@ -9,9 +9,9 @@ use Rattle.std.proofs.lemmas.Bool.Decides.{nat_tests}
 use Rattle.std.proofs.lemmas.List.Elements.{All-head, All-tail}
 use Rattle.std.proofs.lemmas.List.Sums.{sum_by-cons}
 use Rattle.geo_sign.specs.Tetrahedron.{facet_at}
-use Rattle.cell_laws.specs.ClosedLaws.{edges_of, edge_count as edges_in}
+use Rattle.cell_laws.specs.ClosedLaws.{edges_of, edge_count}
 use Rattle.mesh_ply.specs.Meshes.{IsFace}
-use Rattle.solid_slice.specs.Edges.{has_edge, edge_count}
+use Rattle.solid_slice.specs.Edges.{has_edge, faces_with_edge}
 use Rattle.solid_slice.specs.Laws.{ClosedIsSliced}
 use Rattle.solid_slice.proofs.Counts.{one_if}
 use Rattle.solid_slice.proofs.Uniqueness.{balanced_is_sliced}
@@ -26,7 +26,7 @@ edges_of_face n u v (a ∷ b ∷ c ∷ []) (low, small, other, _, _) = grind (ar
 
 -- of all faces
 edges_of_faces : (n u v : ℕ) (faces : List (List ℕ)) → All (IsFace n) faces
-    → edges_in u v (map facet_at faces) ≡ edge_count u v faces
+    → edge_count u v (map facet_at faces) ≡ faces_with_edge u v faces
 edges_of_faces n u v [] each = refl
 edges_of_faces n u v (face ∷ faces) each =
     omega (

@@ -15,9 +15,9 @@ use Rattle.geo_sign.specs.Point.{Point}
 use Rattle.mesh_ply.specs.Meshes.{IsFace, below}
 use Rattle.mesh_ply.proofs.Vertices.{filter_below_more}
 use Rattle.solid_slice.specs.Edges.{has_edge}
-use Rattle.solid_slice.specs.Cuts.{is_above, is_cut, face_at, is_cut_at, IsUpEdge, IsDownEdge}
+use Rattle.solid_slice.specs.Cuts.{is_above, is_cut_face, face_at, is_cut_at, IsUpEdge, IsDownEdge}
 use Rattle.solid_slice.specs.Pairs.{key_of, key_of_pair}
-use Rattle.solid_slice.specs.Crossings.{goes_up, key_of_crossing, the_crossed, crossings_at, listed, is_upward, is_downward}
+use Rattle.solid_slice.specs.Crossings.{goes_up, key_of_crossing, the_crossed, crossings_at, faces_of_pair, is_upward, is_downward}
 use Rattle.solid_slice.specs.Crossings.{AreCrossings}
 use Rattle.solid_slice.specs.declared.pair.Pair.{Pair}
 use Rattle.solid_slice.specs.declared.crossings.Crossing.{Crossing}
@@ -27,7 +27,7 @@ use Rattle.solid_slice.proofs.FaceEdges.{key_parts}
 
 -- A face with an edge between a vertex above and one below is cut.
 pub cut_by_edge : (points : List Point) (h : ℤ) (face : List ℕ) (u v : ℕ) → has_edge u v face ≡ true
-    → is_above points h u ≡ false → is_above points h v ≡ true → is_cut points h face ≡ true
+    → is_above points h u ≡ false → is_above points h v ≡ true → is_cut_face points h face ≡ true
 cut_by_edge points h face u v e low high =
     let above = is_above points h in
     let some = (ends_in above face u v e).1 high in
@@ -35,7 +35,7 @@ cut_by_edge points h face u v e low high =
     ap (λ (p : Bool). p && list_any (λ w. not (is_above points h w)) face) some ∙ others
 
 pub cut_by_down_edge : (points : List Point) (h : ℤ) (face : List ℕ) (u v : ℕ) → has_edge v u face ≡ true
-    → is_above points h u ≡ false → is_above points h v ≡ true → is_cut points h face ≡ true
+    → is_above points h u ≡ false → is_above points h v ≡ true → is_cut_face points h face ≡ true
 cut_by_down_edge points h face u v e low high =
     let above = is_above points h in
     let some = (ends_in above face v u e).0 high in
@@ -48,7 +48,7 @@ pub cut_within : (points : List Point) (faces : List (List ℕ)) (h : ℤ) (f : 
 cut_within points faces h f cut =
     elim (cases_lt f (length faces)) [
       | inl l ↦ l
-      | inr l ↦ absurd (false≢true (sym (ap (is_cut points h) (get_or_past faces f [] l)) ∙ cut))
+      | inr l ↦ absurd (false≢true (sym (ap (is_cut_face points h) (get_or_past faces f [] l)) ∙ cut))
     ]
 
 pub goes_parts : (points : List Point) (h : ℤ) (u v : ℕ) (b : Bool) → (goes_up points h u v && b) ≡ true
@@ -97,31 +97,31 @@ down_key points h face s t u v l m down =
 
 -- one crossing more
 listed_more : (k : ℕ) (xs : List Crossing) (p : Pair) (f : ℕ) (b : Bool) → (key_of_pair p == k) ≡ b
-    → listed k (xs ++ crossings_at (Some p) f) ≡ listed k xs ++ cond b (f ∷ []) []
+    → faces_of_pair k (xs ++ crossings_at (Some p) f) ≡ faces_of_pair k xs ++ cond b (f ∷ []) []
 listed_more k xs p f b e =
     let test = λ (c : Crossing). key_of_crossing c == k in
     let one : Crossing = record { edge = p; face = f } in
     ap (map the_crossed) (filter-append test xs (one ∷ []))
     ∙ (map-append the_crossed (filter test xs) (filter test (one ∷ []))
-    ∙ (ap (λ (q : Bool). listed k xs ++ map the_crossed (cond q (one ∷ []) [])) e
-    ∙ ap (λ (t : List ℕ). listed k xs ++ t) (last b)))
+    ∙ (ap (λ (q : Bool). faces_of_pair k xs ++ map the_crossed (cond q (one ∷ []) [])) e
+    ∙ ap (λ (t : List ℕ). faces_of_pair k xs ++ t) (last b)))
   where
     last : (b : Bool) → map the_crossed (cond b (record { edge = p; face = f } ∷ []) []) ≡ cond b (f ∷ []) []
     last true = refl
     last false = refl
 
 none_more : (k : ℕ) (xs : List Crossing) (f : ℕ) (b : Bool) → b ≡ false
-    → listed k (xs ++ []) ≡ listed k xs ++ cond b (f ∷ []) []
+    → faces_of_pair k (xs ++ []) ≡ faces_of_pair k xs ++ cond b (f ∷ []) []
 none_more k xs f b e =
-    ap (listed k) (append-nil xs)
-    ∙ (sym (append-nil (listed k xs)) ∙ ap (λ (q : Bool). listed k xs ++ cond q (f ∷ []) []) (sym e))
+    ap (faces_of_pair k) (append-nil xs)
+    ∙ (sym (append-nil (faces_of_pair k xs)) ∙ ap (λ (q : Bool). faces_of_pair k xs ++ cond q (f ∷ []) []) (sym e))
 
 module _ (points : List Point) (faces : List (List ℕ)) (h : ℤ) (i : ℕ) (o : IsFace (2 ^ 32) (face_at faces i)) (u v : ℕ)
     (small : v < 2 ^ 32) (xs : List Crossing) where
   pub up_more : (e : Option Pair) → IfSome e (λ p. IsUpEdge points h (face_at faces i) p.first p.second)
-      → IfNone e (is_cut points h (face_at faces i) ≡ false)
-      → listed (key_of u v) xs ≡ filter (is_upward points faces h u v) (below i)
-      → listed (key_of u v) (xs ++ crossings_at e i) ≡ filter (is_upward points faces h u v) (below (i + 1))
+      → IfNone e (is_cut_face points h (face_at faces i) ≡ false)
+      → faces_of_pair (key_of u v) xs ≡ filter (is_upward points faces h u v) (below i)
+      → faces_of_pair (key_of u v) (xs ++ crossings_at e i) ≡ filter (is_upward points faces h u v) (below (i + 1))
   up_more (Some p) up uncut e =
       listed_more (key_of u v) xs p i (is_upward points faces h u v i)
       (up_key points h (face_at faces i) p.first p.second u v
@@ -137,9 +137,9 @@ module _ (points : List Point) (faces : List (List ℕ)) (h : ℤ) (i : ℕ) (o 
       ∙ sym (filter_below_more (is_upward points faces h u v) i))
 
   pub down_more : (e : Option Pair) → IfSome e (λ p. IsDownEdge points h (face_at faces i) p.second p.first)
-      → IfNone e (is_cut points h (face_at faces i) ≡ false)
-      → listed (key_of u v) xs ≡ filter (is_downward points faces h u v) (below i)
-      → listed (key_of u v) (xs ++ crossings_at e i) ≡ filter (is_downward points faces h u v) (below (i + 1))
+      → IfNone e (is_cut_face points h (face_at faces i) ≡ false)
+      → faces_of_pair (key_of u v) xs ≡ filter (is_downward points faces h u v) (below i)
+      → faces_of_pair (key_of u v) (xs ++ crossings_at e i) ≡ filter (is_downward points faces h u v) (below (i + 1))
   down_more (Some p) down uncut e =
       listed_more (key_of u v) xs p i (is_downward points faces h u v i)
       (down_key points h (face_at faces i) p.first p.second u v
@@ -159,9 +159,9 @@ pub crossings_more : (points points1 points2 : List Point) (faces items : List (
     (ups downs ups' downs' : List Crossing) (up down : Option Pair) → points1 ≡ points → points2 ≡ points → items ≡ faces
     → IsFace (2 ^ 32) (face_at faces i)
     → IfSome up (λ p. IsUpEdge points1 h (get_or items i []) p.first p.second)
-    → IfNone up (is_cut points1 h (get_or items i []) ≡ false)
+    → IfNone up (is_cut_face points1 h (get_or items i []) ≡ false)
     → IfSome down (λ p. IsDownEdge points2 h (get_or items i []) p.second p.first)
-    → IfNone down (is_cut points2 h (get_or items i []) ≡ false)
+    → IfNone down (is_cut_face points2 h (get_or items i []) ≡ false)
     → ups' ≡ ups ++ crossings_at up i → downs' ≡ downs ++ crossings_at down i → AreCrossings points faces h i ups downs
     → AreCrossings points faces h (i + 1) ups' downs'
 crossings_more points points1 points2 faces items h i ups downs ups' downs' up down e1 e2 ef o up_some up_none down_some
@@ -170,19 +170,19 @@ crossings_more points points1 points2 faces items h i ups downs ups' downs' up d
     subst (λ (ps : List Point). IfSome up (λ p. IsUpEdge ps h (face_at faces i) p.first p.second)) e1
     (subst (λ (fs : List (List ℕ)). IfSome up (λ p. IsUpEdge points1 h (get_or fs i []) p.first p.second)) ef up_some) in
     let up_none' =
-    subst (λ (ps : List Point). IfNone up (is_cut ps h (face_at faces i) ≡ false)) e1
-    (subst (λ (fs : List (List ℕ)). IfNone up (is_cut points1 h (get_or fs i []) ≡ false)) ef up_none) in
+    subst (λ (ps : List Point). IfNone up (is_cut_face ps h (face_at faces i) ≡ false)) e1
+    (subst (λ (fs : List (List ℕ)). IfNone up (is_cut_face points1 h (get_or fs i []) ≡ false)) ef up_none) in
     let down_some' =
     subst (λ (ps : List Point). IfSome down (λ p. IsDownEdge ps h (face_at faces i) p.second p.first)) e2
     (subst (λ (fs : List (List ℕ)). IfSome down (λ p. IsDownEdge points2 h (get_or fs i []) p.second p.first)) ef down_some) in
     let down_none' =
-    subst (λ (ps : List Point). IfNone down (is_cut ps h (face_at faces i) ≡ false)) e2
-    (subst (λ (fs : List (List ℕ)). IfNone down (is_cut points2 h (get_or fs i []) ≡ false)) ef down_none) in
+    subst (λ (ps : List Point). IfNone down (is_cut_face ps h (face_at faces i) ≡ false)) e2
+    (subst (λ (fs : List (List ℕ)). IfNone down (is_cut_face points2 h (get_or fs i []) ≡ false)) ef down_none) in
     record {
       upward =
-          λ u v l. ap (listed (key_of u v)) eu ∙ up_more points faces h i o u v l ups up up_some' up_none' (c.upward u v l);
+          λ u v l. ap (faces_of_pair (key_of u v)) eu ∙ up_more points faces h i o u v l ups up up_some' up_none' (c.upward u v l);
       downward =
-          λ u v l. ap (listed (key_of u v)) ed
+          λ u v l. ap (faces_of_pair (key_of u v)) ed
           ∙ down_more points faces h i o u v l downs down down_some' down_none' (c.downward u v l);
     }
 

@@ -2,7 +2,7 @@
 use Rattle.std.proofs.Common.{ℕ, ◌≡◌, ◌<◌, ◌≤◌, ap, sym, ◌∙◌, arith, List, length, get_or, take, map}
 use Rattle.std.specs.List.Sorted.{IsNonDecreasingBy}
 use Rattle.std.proofs.lemmas.List.{get_or_default, take_all}
-use Rattle.solid_slice.specs.Pairs.{key_of_pair, key_count, AreRising, IsFirstDifference}
+use Rattle.solid_slice.specs.Pairs.{key_of_pair, key_count, AreRising, IsFirstUnequalPair}
 use Rattle.solid_slice.specs.declared.pair.Pair.{Pair}
 use Rattle.solid_slice.proofs.Counts.{differ_at, hits_same}
 
@@ -13,7 +13,7 @@ no_pair = record { first = 0; second = 0 }
 pub first_there : (there back : List Pair) (n : ℕ) → IsNonDecreasingBy key_of_pair there → IsNonDecreasingBy key_of_pair back
     → AreRising there → map key_of_pair (take n there) ≡ map key_of_pair (take n back) → n < length there
     → (n < length back → key_of_pair (get_or there n no_pair) < key_of_pair (get_or back n no_pair))
-    → IsFirstDifference there back (get_or there n no_pair) × ((get_or there n no_pair).first < (get_or there n no_pair).second)
+    → IsFirstUnequalPair there back (get_or there n no_pair) × ((get_or there n no_pair).first < (get_or there n no_pair).second)
 first_there there back n s t rising same l above =
     let a = get_or there n no_pair in
     let d =
@@ -25,7 +25,7 @@ first_there there back n s t rising same l above =
 pub first_back : (there back : List Pair) (n : ℕ) → IsNonDecreasingBy key_of_pair there → IsNonDecreasingBy key_of_pair back
     → AreRising back → map key_of_pair (take n there) ≡ map key_of_pair (take n back) → n < length back
     → (n < length there → key_of_pair (get_or back n no_pair) < key_of_pair (get_or there n no_pair))
-    → IsFirstDifference there back (get_or back n no_pair) × ((get_or back n no_pair).first < (get_or back n no_pair).second)
+    → IsFirstUnequalPair there back (get_or back n no_pair) × ((get_or back n no_pair).first < (get_or back n no_pair).second)
 first_back there back n s t rising same l above =
     let d = first_there back there n t s rising (sym same) l above in
     (record { differ = λ e. d.0.differ (sym e); same = λ k m. sym (d.0.same k m) }, d.1)

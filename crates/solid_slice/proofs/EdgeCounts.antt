@@ -8,20 +8,20 @@ use Rattle.std.proofs.lemmas.List.Elements.{All-tail}
 use Rattle.std.proofs.lemmas.List.Sorted.{sum_by-IsPermutation}
 use Rattle.std.proofs.lemmas.List.Sums.{sum_by-cons, sum_by_more, count_by-le-length}
 use Rattle.mesh_ply.specs.Meshes.{IsFace}
-use Rattle.solid_slice.specs.Edges.{has_edge, edge_count, ComesFirst, IsBalanced, IsUnbalanced}
-use Rattle.solid_slice.specs.Pairs.{key_of, key_of_pair, key_count, HasGained, IsPairOf, IsFirstDifference}
+use Rattle.solid_slice.specs.Edges.{has_edge, faces_with_edge, ComesFirst, IsBalanced, IsFirstUnbalanced}
+use Rattle.solid_slice.specs.Pairs.{key_of, key_of_pair, key_count, HasGained, IsPairOf, IsFirstUnequalPair}
 use Rattle.solid_slice.specs.declared.pair.Pair.{Pair}
 use Rattle.solid_slice.proofs.Counts.{one_if}
 use Rattle.solid_slice.proofs.FaceEdges.{edge_within, face_among_more}
 
 -- one face more
 pub edge_count_more : (u v : ℕ) (faces : List (List ℕ)) (i : ℕ) (d : List ℕ) → i < length faces
-    → edge_count u v (take (i + 1) faces) ≡ edge_count u v (take i faces) + one_if (has_edge u v (get_or faces i d))
+    → faces_with_edge u v (take (i + 1) faces) ≡ faces_with_edge u v (take i faces) + one_if (has_edge u v (get_or faces i d))
 edge_count_more u v faces i d l = sum_by_more (λ f. one_if (has_edge u v f)) faces i d l
 
 -- an edge that has a vertex beyond all does not occur
 pub edge_count_past : (u v n : ℕ) (faces : List (List ℕ)) → All (IsFace n) faces → ((u < n) × (v < n) → ⊥)
-    → edge_count u v faces ≡ 0
+    → faces_with_edge u v faces ≡ 0
 edge_count_past u v n [] o past = refl
 edge_count_past u v n (f ∷ faces) o past =
     omega (
@@ -39,7 +39,7 @@ module _ (faces : List (List ℕ)) (there back : List Pair) (each : All (IsFace 
     (pairs : IsPairOf faces there back) where
   -- a pair whose number the two lists have equally often is balanced
   balanced_at : (u v : ℕ) → u < v → (v < 2 ^ 32 → key_count (key_of u v) there ≡ key_count (key_of u v) back)
-      → edge_count u v faces ≡ edge_count v u faces
+      → faces_with_edge u v faces ≡ faces_with_edge v u faces
   balanced_at u v l same =
       elim (cases_lt v (2 ^ 32)) [
         | inl m ↦ sym (pairs.there_count u v l m) ∙ (same m ∙ pairs.back_count u v l m)
@@ -57,13 +57,13 @@ module _ (faces : List (List ℕ)) (there back : List Pair) (each : All (IsFace 
           | inl m ↦ sym (balanced_at v u m (λ _. same (key_of v u)))
           | inr m ↦
               let e : u ≡ v = omega arith in
-              ap (λ (w : ℕ). edge_count u w faces) (sym e) ∙ ap (λ (w : ℕ). edge_count w u faces) e
+              ap (λ (w : ℕ). faces_with_edge u w faces) (sym e) ∙ ap (λ (w : ℕ). faces_with_edge w u faces) e
         ]
       ]
 
   -- the first difference is the smallest pair that is not balanced, and m and n are its counts
-  pub unbalanced : (p : Pair) (m n : ℕ) → p.second < 2 ^ 32 → p.first < p.second → IsFirstDifference there back p
-      → m ≡ key_count (key_of_pair p) there → n ≡ key_count (key_of_pair p) back → IsUnbalanced faces p.first p.second m n
+  pub unbalanced : (p : Pair) (m n : ℕ) → p.second < 2 ^ 32 → p.first < p.second → IsFirstUnequalPair there back p
+      → m ≡ key_count (key_of_pair p) there → n ≡ key_count (key_of_pair p) back → IsFirstUnbalanced faces p.first p.second m n
   unbalanced p m n small rising d em en =
       record {
         rising = rising;
@@ -77,7 +77,7 @@ module _ (faces : List (List ℕ)) (there back : List Pair) (each : All (IsFace 
                 | inl m ↦ sym (before b a m (turned a b m first))
                 | inr m ↦
                     let e : a ≡ b = omega arith in
-                    ap (λ (w : ℕ). edge_count a w faces) (sym e) ∙ ap (λ (w : ℕ). edge_count w a faces) e
+                    ap (λ (w : ℕ). faces_with_edge a w faces) (sym e) ∙ ap (λ (w : ℕ). faces_with_edge w a faces) e
               ]
             ];
       }
@@ -90,7 +90,7 @@ module _ (faces : List (List ℕ)) (there back : List Pair) (each : All (IsFace 
       smaller a b l (inl m) = omega arith
       smaller a b l (inr m) = omega (arith, m.0, m.1)
 
-      before : (a b : ℕ) → a < b → ComesFirst a b p.first p.second → edge_count a b faces ≡ edge_count b a faces
+      before : (a b : ℕ) → a < b → ComesFirst a b p.first p.second → faces_with_edge a b faces ≡ faces_with_edge b a faces
       before a b l first = balanced_at a b l (λ m. d.same (key_of a b) (smaller a b m first))
 
 -- one face more
@@ -134,5 +134,5 @@ pub each_among : (n : ℕ) (faces : List (List ℕ)) → n < 2 ^ 32 → All (IsF
 each_among n faces l o = λ k d m. face_among_more n (2 ^ 32) (get_or faces k d) (omega arith) (o k d m)
 
 -- a count of pairs is at most the number of faces
-pub few : (faces : List (List ℕ)) (u v : ℕ) → edge_count u v faces ≤ length faces
+pub few : (faces : List (List ℕ)) (u v : ℕ) → faces_with_edge u v faces ≤ length faces
 few faces u v = count_by-le-length (has_edge u v) faces

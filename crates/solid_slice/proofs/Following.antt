@@ -11,7 +11,7 @@ use Rattle.std.proofs.lemmas.List.{get_or_push, take-take}
 use Rattle.std.proofs.lemmas.List.Elements.{All-push}
 use Rattle.std.proofs.lemmas.List.Sums.{sum_by_push, sum_by_more, sum_by-take-le, sum_by-set}
 use Rattle.geo_sign.specs.Point.{Point}
-use Rattle.solid_slice.specs.Edges.{has_edge, edge_count}
+use Rattle.solid_slice.specs.Edges.{has_edge, faces_with_edge}
 use Rattle.solid_slice.specs.Cuts.{is_above, face_at, is_cut_at}
 use Rattle.solid_slice.specs.Loops.{IsNext, IsLoop}
 use Rattle.solid_slice.specs.Walks.{IsSuccession, is_visited, visits, IsBetweenLoops}
@@ -47,10 +47,10 @@ one_before points faces h f g n a b =
     let edge : has_edge a.upper a.lower (face_at faces g) ≡ true =
     ap (λ (u : ℕ). has_edge u a.lower (face_at faces g)) e.1
     ∙ (ap (λ (u : ℕ). has_edge b.upper u (face_at faces g)) e.0 ∙ b.down.edge) in
-    let rank : edge_count a.upper a.lower (take g faces) ≡ edge_count a.lower a.upper (take n faces) =
-    ap (λ (u : ℕ). edge_count u a.lower (take g faces)) e.1 ∙ (ap (λ (u : ℕ). edge_count b.upper u (take g faces)) e.0 ∙ (b.rank
-    ∙ (ap (λ (u : ℕ). edge_count u b.upper (take n faces)) (sym e.0)
-    ∙ ap (λ (u : ℕ). edge_count a.lower u (take n faces)) (sym e.1)))) in
+    let rank : faces_with_edge a.upper a.lower (take g faces) ≡ faces_with_edge a.lower a.upper (take n faces) =
+    ap (λ (u : ℕ). faces_with_edge u a.lower (take g faces)) e.1 ∙ (ap (λ (u : ℕ). faces_with_edge b.upper u (take g faces)) e.0 ∙ (b.rank
+    ∙ (ap (λ (u : ℕ). faces_with_edge u b.upper (take n faces)) (sym e.0)
+    ∙ ap (λ (u : ℕ). faces_with_edge a.lower u (take n faces)) (sym e.1)))) in
     same_rank (has_edge a.upper a.lower) faces f g (edge_of_face a.upper a.lower faces f a.down.edge)
     (edge_of_face a.upper a.lower faces g edge) a.down.edge edge (a.rank ∙ sym rank)
 
@@ -64,11 +64,11 @@ one_after points faces h f g n a b =
     let edge : has_edge a.lower a.upper (face_at faces n) ≡ true =
     ap (λ (u : ℕ). has_edge u a.upper (face_at faces n)) e.1
     ∙ (ap (λ (u : ℕ). has_edge b.lower u (face_at faces n)) e.0 ∙ b.up.edge) in
-    let rank : edge_count a.lower a.upper (take n faces) ≡ edge_count a.upper a.lower (take f faces) =
-    ap (λ (u : ℕ). edge_count u a.upper (take n faces)) e.1
-    ∙ (ap (λ (u : ℕ). edge_count b.lower u (take n faces)) e.0 ∙ (sym b.rank
-    ∙ (ap (λ (u : ℕ). edge_count u b.lower (take f faces)) (sym e.0)
-    ∙ ap (λ (u : ℕ). edge_count a.upper u (take f faces)) (sym e.1)))) in
+    let rank : faces_with_edge a.lower a.upper (take n faces) ≡ faces_with_edge a.upper a.lower (take f faces) =
+    ap (λ (u : ℕ). faces_with_edge u a.upper (take n faces)) e.1
+    ∙ (ap (λ (u : ℕ). faces_with_edge b.lower u (take n faces)) e.0 ∙ (sym b.rank
+    ∙ (ap (λ (u : ℕ). faces_with_edge u b.lower (take f faces)) (sym e.0)
+    ∙ ap (λ (u : ℕ). faces_with_edge a.upper u (take f faces)) (sym e.1)))) in
     same_rank (has_edge a.lower a.upper) faces g n (edge_of_face a.lower a.upper faces g a.up.edge)
     (edge_of_face a.lower a.upper faces n edge)
     a.up.edge edge (sym a.rank ∙ sym rank)

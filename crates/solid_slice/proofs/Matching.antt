@@ -15,11 +15,11 @@ use Rattle.std.proofs.lemmas.List.Sums.{length-filter}
 use Rattle.geo_sign.specs.Point.{Point}
 use Rattle.mesh_ply.specs.Meshes.{IsFace, below}
 use Rattle.mesh_ply.proofs.Vertices.{length_below, get_or-below}
-use Rattle.solid_slice.specs.Edges.{has_edge, edge_count, IsBalanced}
+use Rattle.solid_slice.specs.Edges.{has_edge, faces_with_edge, IsBalanced}
 use Rattle.solid_slice.specs.Cuts.{is_above, face_at, is_cut_at}
 use Rattle.solid_slice.specs.Loops.{IsNext}
 use Rattle.solid_slice.specs.Pairs.{key_of}
-use Rattle.solid_slice.specs.Crossings.{goes_up, key_of_crossing, the_crossed, listed, is_upward, is_downward, AreCrossings}
+use Rattle.solid_slice.specs.Crossings.{goes_up, key_of_crossing, the_crossed, faces_of_pair, is_upward, is_downward, AreCrossings}
 use Rattle.solid_slice.specs.declared.crossings.Crossing.{Crossing}
 use Rattle.solid_slice.proofs.Counts.{hits, hits_same, same_keys}
 use Rattle.solid_slice.proofs.FaceEdges.{down_edge_of, edge_within}
@@ -30,7 +30,7 @@ abbrev pub no_crossing : Crossing
 no_crossing = record { edge = record { first = 0; second = 0 }; face = 0 }
 
 -- The crossing at place i of a list that has, for its key, the faces that pass the test, in order.
-at_place : (q : ℕ → Bool) (n k i : ℕ) (xs : List Crossing) → listed k xs ≡ filter q (below n) → i < length xs
+at_place : (q : ℕ → Bool) (n k i : ℕ) (xs : List Crossing) → faces_of_pair k xs ≡ filter q (below n) → i < length xs
     → key_of_crossing (get_or xs i no_crossing) ≡ k
     → ((get_or xs i no_crossing).face < n) × (q (get_or xs i no_crossing).face ≡ true)
     × (count_by q (below (get_or xs i no_crossing).face) ≡ hits key_of_crossing k (take i xs))
@@ -74,10 +74,10 @@ module _ (points : List Point) (faces : List (List ℕ)) (h : ℤ) (ups downs : 
       let before : hits key_of_crossing (key_of u v) (take i downs) ≡ hits key_of_crossing (key_of u v) (take i ups) =
       hits_same key_of_crossing (key_of u v) (take i downs) (take i ups)
       (sym (take-map key_of_crossing i downs) ∙ (ap (take i) (sym same) ∙ take-map key_of_crossing i ups)) in
-      let f_rank : count_by (is_downward points faces h u v) (below f) ≡ edge_count v u (take f faces) =
+      let f_rank : count_by (is_downward points faces h u v) (below f) ≡ faces_with_edge v u (take f faces) =
       ap (λ (t : Bool). count_by (λ m. t && has_edge v u (face_at faces m)) (below f)) goes
       ∙ count_taken (has_edge v u) faces f (omega (arith, down.0)) in
-      let g_rank : count_by (is_upward points faces h u v) (below g) ≡ edge_count u v (take g faces) =
+      let g_rank : count_by (is_upward points faces h u v) (below g) ≡ faces_with_edge u v (take g faces) =
       ap (λ (t : Bool). count_by (λ m. t && has_edge u v (face_at faces m)) (below g)) goes
       ∙ count_taken (has_edge u v) faces g (omega (arith, up.0)) in
       record {
@@ -142,7 +142,7 @@ module _ (points : List Point) (faces : List (List ℕ)) (h : ℤ) (ups downs : 
           ∙ (up ∙ (up' ∙ (both b u v n (omega arith) all_taken
           ∙ (sym down' ∙ (sym down ∙ ap (λ (m : ℕ). hits key_of_crossing m downs) (sym parts))))))
         where
-          sized : (k : ℕ) (xs : List Crossing) (q : ℕ → Bool) (n : ℕ) → listed k xs ≡ filter q (below n)
+          sized : (k : ℕ) (xs : List Crossing) (q : ℕ → Bool) (n : ℕ) → faces_of_pair k xs ≡ filter q (below n)
               → hits key_of_crossing k xs ≡ count_by q (below n)
           sized k xs q n e =
               let test = λ (c : Crossing). key_of_crossing c == k in
@@ -160,8 +160,8 @@ module _ (points : List Point) (faces : List (List ℕ)) (h : ℤ) (ups downs : 
           both false u v n l e = refl
           both true u v n l e =
               count_taken (has_edge u v) faces n l
-              ∙ (ap (edge_count u v) e
-              ∙ (balanced u v ∙ (ap (edge_count v u) (sym e) ∙ sym (count_taken (has_edge v u) faces n l))))
+              ∙ (ap (faces_with_edge u v) e
+              ∙ (balanced u v ∙ (ap (faces_with_edge v u) (sym e) ∙ sym (count_taken (has_edge v u) faces n l))))
 
 -- a face that has an edge is one of the faces
 pub edge_of_face : (u v : ℕ) (faces : List (List ℕ)) (f : ℕ) → has_edge u v (face_at faces f) ≡ true → f < length faces

@@ -14,11 +14,11 @@ use Rattle.std.proofs.lemmas.List.Elements.{All-append, All-head, All-tail}
 use Rattle.std.proofs.lemmas.List.Sums.{sum_by-append, get_or-le-sum_by}
 use Rattle.geo_sign.specs.Point.{Point}
 use Rattle.mesh_ply.specs.Meshes.{point_at}
-use Rattle.solid_slice.specs.Cuts.{is_above, face_at, is_cut_at, IsUpEdge, along, rise, IsStep}
-use Rattle.solid_slice.specs.Edges.{ComesFirst, IsBalanced, IsUnbalanced}
+use Rattle.solid_slice.specs.Cuts.{is_above, face_at, is_cut_at, IsUpEdge, at_height, rise, IsStep}
+use Rattle.solid_slice.specs.Edges.{ComesFirst, IsBalanced, IsFirstUnbalanced}
 use Rattle.solid_slice.specs.Laws.{SliceIsOne, RefusalIsOne, BalancedIsSliced}
 use Rattle.solid_slice.specs.Loops.{IsNext, IsLoop, the_face, AreLoops}
-use Rattle.solid_slice.specs.Refusals.{IsRefused}
+use Rattle.solid_slice.specs.Refusals.{IsRefusedSlice}
 use Rattle.solid_slice.specs.declared.refusal.SliceRefusal.{SliceRefusal}
 use Rattle.solid_slice.specs.declared.refusal.SliceRefusal.TheVariants.{Unbalanced, NoMemory}
 use Rattle.solid_slice.specs.declared.step.Step.{Step}
@@ -197,11 +197,11 @@ module _ (points : List Point) (faces : List (List ℕ)) (h : ℤ) where
       let p : point_at points a.lower ≡ point_at points b.lower = ap (point_at points) ends.0 in
       let q : point_at points a.upper ≡ point_at points b.upper = ap (point_at points) ends.1 in
       let along_same : (c : Point → ℤ)
-      → along h (point_at points a.lower) (point_at points a.upper) (c (point_at points a.lower)) (c (point_at points a.upper))
-      ≡ along h (point_at points b.lower) (point_at points b.upper) (c (point_at points b.lower))
+      → at_height h (point_at points a.lower) (point_at points a.upper) (c (point_at points a.lower)) (c (point_at points a.upper))
+      ≡ at_height h (point_at points b.lower) (point_at points b.upper) (c (point_at points b.lower))
       (c (point_at points b.upper)) =
-      λ c. ap (λ (v : Point). along h v (point_at points a.upper) (c v) (c (point_at points a.upper))) p
-      ∙ ap (λ (v : Point). along h (point_at points b.lower) v (c (point_at points b.lower)) (c v)) q in
+      λ c. ap (λ (v : Point). at_height h v (point_at points a.upper) (c v) (c (point_at points a.upper))) p
+      ∙ ap (λ (v : Point). at_height h (point_at points b.lower) v (c (point_at points b.lower)) (c v)) q in
       let x : s.x ≡ t.x = a.x ∙ (along_same (λ v. v.x) ∙ sym b.x) in
       let y : s.y ≡ t.y = a.y ∙ (along_same (λ v. v.y) ∙ sym b.y) in
       let d : s.d ≡ t.d =
@@ -250,7 +250,7 @@ cases_first u v s t =
     by_second e (inr _) (inl l) = inr (inl (inr (sym e, l)))
     by_second e (inr l) (inr m) = inr (inr (e, omega arith))
 
-module _ (faces : List (List ℕ)) (u v m n s t k l : ℕ) (a : IsUnbalanced faces u v m n) (b : IsUnbalanced faces s t k l) where
+module _ (faces : List (List ℕ)) (u v m n s t k l : ℕ) (a : IsFirstUnbalanced faces u v m n) (b : IsFirstUnbalanced faces s t k l) where
   -- two smallest pairs whose counts differ are one
   same_pair : ComesFirst u v s t ⊎ (ComesFirst s t u v ⊎ ((u ≡ s) × (v ≡ t))) → (u ≡ s) × (v ≡ t)
   same_pair (inl first) = absurd (a.differ (a.there ∙ (b.smallest u v first ∙ sym a.back)))
@@ -268,7 +268,7 @@ module _ (faces : List (List ℕ)) (u v m n s t k l : ℕ) (a : IsUnbalanced fac
 pub refusal_is_one : RefusalIsOne
 refusal_is_one = λ faces refusal other. by faces refusal other
   where
-    by : (faces : List (List ℕ)) (refusal other : SliceRefusal) → IsRefused faces refusal → IsRefused faces other
+    by : (faces : List (List ℕ)) (refusal other : SliceRefusal) → IsRefusedSlice faces refusal → IsRefusedSlice faces other
         → refusal ≢ NoMemory → other ≢ NoMemory → refusal ≡ other
     by faces NoMemory other a b some some' = absurd (some refl)
     by faces (Unbalanced u v m n) NoMemory a b some some' = absurd (some' refl)
@@ -277,6 +277,6 @@ refusal_is_one = λ faces refusal other. by faces refusal other
 pub balanced_is_sliced : BalancedIsSliced
 balanced_is_sliced = λ faces balanced refusal. by faces balanced refusal
   where
-    by : (faces : List (List ℕ)) → IsBalanced faces → (refusal : SliceRefusal) → IsRefused faces refusal → refusal ≡ NoMemory
+    by : (faces : List (List ℕ)) → IsBalanced faces → (refusal : SliceRefusal) → IsRefusedSlice faces refusal → refusal ≡ NoMemory
     by faces balanced NoMemory a = refl
     by faces balanced (Unbalanced u v m n) a = absurd (a.differ (a.there ∙ (balanced u v ∙ sym a.back)))

@@ -4,7 +4,7 @@
 --   key_of_crossing c            the number of a crossing's edge
 --   the_crossed c                its face
 --   crossings_at edge f          the crossing of face f on this edge, if there is one
---   listed k crossings           the faces of the crossings whose edge has this number
+--   faces_of_pair k crossings    the faces of the crossings whose edge has this number
 --   AreCrossings points faces h n ups downs   the crossings of the first n faces, upwards and downwards
 use Rattle.std.specs.Prelude.{ℕ, ◌≡◌, ◌<◌, ◌^◌, ◌==◌, ◌&&◌, not, Bool, Option, None, Some, List, [], ◌∷◌, map, filter, ℤ}
 use Rattle.geo_sign.specs.Point.{Point}
@@ -30,8 +30,8 @@ crossings_at None f = []
 crossings_at (Some edge) f = record { edge = edge; face = f } ∷ []
 
 -- the faces of the crossings whose edge has this number
-abbrev pub listed : ℕ → List Crossing → List ℕ
-listed k crossings = map the_crossed (filter (λ c. key_of_crossing c == k) crossings)
+abbrev pub faces_of_pair : ℕ → List Crossing → List ℕ
+faces_of_pair k crossings = map the_crossed (filter (λ c. key_of_crossing c == k) crossings)
 
 -- face f goes up through the height on the edge from u to v
 abbrev pub is_upward : List Point → List (List ℕ) → ℤ → (u v f : ℕ) → Bool
@@ -43,5 +43,5 @@ is_downward points faces h u v f = goes_up points h u v && has_edge v u (face_at
 
 -- by edge, in face order
 pub record AreCrossings (points : List Point) (faces : List (List ℕ)) (h : ℤ) (n : ℕ) (ups downs : List Crossing) : Type 0 where
-  pub upward : (u v : ℕ) → v < 2 ^ 32 → listed (key_of u v) ups ≡ filter (is_upward points faces h u v) (below n)
-  pub downward : (u v : ℕ) → v < 2 ^ 32 → listed (key_of u v) downs ≡ filter (is_downward points faces h u v) (below n)
+  pub upward : (u v : ℕ) → v < 2 ^ 32 → faces_of_pair (key_of u v) ups ≡ filter (is_upward points faces h u v) (below n)
+  pub downward : (u v : ℕ) → v < 2 ^ 32 → faces_of_pair (key_of u v) downs ≡ filter (is_downward points faces h u v) (below n)

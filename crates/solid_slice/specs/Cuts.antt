@@ -1,12 +1,12 @@
 -- Faces that the height h + 1/2 cuts. No vertex has this height.
 --
 --   is_above points h v           whether vertex v is above the height
---   is_cut points h face          whether the face has vertices above and below
+--   is_cut_face points h face     whether the face has vertices above and below
 --   face_at faces f, is_cut_at points faces h f   face number f, and whether it is cut
 --   IsUpEdge points h face u v    the edge from u to v is one of the face's, and goes up through the height
 --   IsDownEdge points h face u v  it is one of the face's, and goes down through it
 --   rise u v, climb h u           twice the heights from u to v, and from u to h + 1/2
---   along h u v from to           the coordinate where the edge from u to v has the height, times its rise
+--   at_height h u v from to       the coordinate where the edge from u to v has the height, times its rise
 --   IsStep points faces h s       the step's point is that of its face: the one on the face's up edge
 use Rattle.std.specs.Prelude.{ℕ, ◌≡◌, ◌&&◌, not, Bool, true, false, List, [], slice_index_or, ℤ, pos, ◌+ℤ◌, ◌-ℤ◌, ◌*ℤ◌}
 use Rattle.std.specs.Int.Signed.{lt_z}
@@ -21,15 +21,15 @@ abbrev pub is_above : List Point → ℤ → ℕ → Bool
 is_above points h v = lt_z h (point_at points v).z
 
 -- whether the face has vertices above and below
-abbrev pub is_cut : List Point → ℤ → List ℕ → Bool
-is_cut points h face = list_any (is_above points h) face && list_any (λ v. not (is_above points h v)) face
+abbrev pub is_cut_face : List Point → ℤ → List ℕ → Bool
+is_cut_face points h face = list_any (is_above points h) face && list_any (λ v. not (is_above points h v)) face
 
 -- face number f
 abbrev pub face_at : List (List ℕ) → ℕ → List ℕ
 face_at faces f = slice_index_or faces f []
 
 abbrev pub is_cut_at : List Point → List (List ℕ) → ℤ → ℕ → Bool
-is_cut_at points faces h f = is_cut points h (face_at faces f)
+is_cut_at points faces h f = is_cut_face points h (face_at faces f)
 
 -- the face's edge from u below to v above
 pub record IsUpEdge (points : List Point) (h : ℤ) (face : List ℕ) (u v : ℕ) : Type 0 where
@@ -52,14 +52,14 @@ abbrev pub climb : ℤ → Point → ℤ
 climb h u = (pos 2 *ℤ h +ℤ pos 1) -ℤ pos 2 *ℤ u.z
 
 -- the coordinate at the height, where the edge from u to v goes from one coordinate to another: times the edge's rise
-abbrev pub along : ℤ → (u v : Point) → (from to : ℤ) → ℤ
-along h u v from to = from *ℤ rise u v +ℤ (to -ℤ from) *ℤ climb h u
+abbrev pub at_height : ℤ → (u v : Point) → (from to : ℤ) → ℤ
+at_height h u v from to = from *ℤ rise u v +ℤ (to -ℤ from) *ℤ climb h u
 
 -- the step's point is where its face's up edge has the height
 pub record IsStep (points : List Point) (faces : List (List ℕ)) (h : ℤ) (s : Step) : Type 0 where
   pub lower : ℕ
   pub upper : ℕ
   pub up : IsUpEdge points h (face_at faces s.face) lower upper
-  pub x : s.x ≡ along h (point_at points lower) (point_at points upper) (point_at points lower).x (point_at points upper).x
-  pub y : s.y ≡ along h (point_at points lower) (point_at points upper) (point_at points lower).y (point_at points upper).y
+  pub x : s.x ≡ at_height h (point_at points lower) (point_at points upper) (point_at points lower).x (point_at points upper).x
+  pub y : s.y ≡ at_height h (point_at points lower) (point_at points upper) (point_at points lower).y (point_at points upper).y
   pub d : s.d ≡ rise (point_at points lower) (point_at points upper)

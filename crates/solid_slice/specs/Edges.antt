@@ -2,10 +2,10 @@
 --
 --   is_edge u v a b        whether the edge from u to v is that from a to b
 --   has_edge u v face      whether the edge from u to v is one of the face's three, each from one of its vertices to the next
---   edge_count u v faces   how many faces have it
+--   faces_with_edge u v faces   how many faces have it
 --   IsBalanced faces       each directed edge occurs as often as its reverse
 --   ComesFirst a b u v     the pair of numbers a, b is before u, v
---   IsUnbalanced faces from to m n   the smallest pair whose two counts differ, with both counts
+--   IsFirstUnbalanced faces from to m n   the smallest pair whose two counts differ, with both counts
 use Rattle.std.specs.Prelude.{ℕ, ◌≡◌, ◌≢◌, ◌<◌, ◌==◌, ◌&&◌, ◌||◌, ◌⊎◌, Bool, false, List, [], ◌∷◌, count_by}
 
 -- whether the edge from u to v is that from a to b
@@ -18,21 +18,21 @@ has_edge u v (a ∷ b ∷ c ∷ []) = is_edge u v a b || (is_edge u v b c || is_
 has_edge u v _ = false
 
 -- how many faces have the edge from u to v
-abbrev pub edge_count : (u v : ℕ) → List (List ℕ) → ℕ
-edge_count u v faces = count_by (has_edge u v) faces
+abbrev pub faces_with_edge : (u v : ℕ) → List (List ℕ) → ℕ
+faces_with_edge u v faces = count_by (has_edge u v) faces
 
 -- each directed edge occurs as often as its reverse
 abbrev pub IsBalanced : List (List ℕ) → Type 0
-IsBalanced faces = (u v : ℕ) → edge_count u v faces ≡ edge_count v u faces
+IsBalanced faces = (u v : ℕ) → faces_with_edge u v faces ≡ faces_with_edge v u faces
 
 -- the pair a, b is before u, v
 abbrev pub ComesFirst : (a b u v : ℕ) → Type 0
 ComesFirst a b u v = (a < u) ⊎ ((a ≡ u) × (b < v))
 
 -- The two counts of this pair differ, and those of each pair before it do not. So the first number is below the second.
-pub record IsUnbalanced (faces : List (List ℕ)) (from to m n : ℕ) : Type 0 where
+pub record IsFirstUnbalanced (faces : List (List ℕ)) (from to m n : ℕ) : Type 0 where
   pub rising : from < to
-  pub there : m ≡ edge_count from to faces
-  pub back : n ≡ edge_count to from faces
+  pub there : m ≡ faces_with_edge from to faces
+  pub back : n ≡ faces_with_edge to from faces
   pub differ : m ≢ n
-  pub smallest : (a b : ℕ) → ComesFirst a b from to → edge_count a b faces ≡ edge_count b a faces
+  pub smallest : (a b : ℕ) → ComesFirst a b from to → faces_with_edge a b faces ≡ faces_with_edge b a faces

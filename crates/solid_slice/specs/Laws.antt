@@ -11,7 +11,7 @@ use Rattle.geo_sign.specs.Tetrahedron.{facet_at}
 use Rattle.cell_laws.specs.ClosedLaws.{edge_count}
 use Rattle.mesh_ply.specs.Meshes.{IsMesh}
 use Rattle.solid_slice.specs.Edges.{IsBalanced}
-use Rattle.solid_slice.specs.Refusals.{IsRefused}
+use Rattle.solid_slice.specs.Refusals.{IsRefusedSlice}
 use Rattle.solid_slice.specs.Slices.{IsSlice}
 use Rattle.solid_slice.specs.declared.refusal.SliceRefusal.{SliceRefusal}
 use Rattle.solid_slice.specs.declared.refusal.SliceRefusal.TheVariants.{NoMemory}
@@ -26,13 +26,13 @@ SliceIsOne =
 -- a mesh has one refusal, but for want of memory
 abbrev pub RefusalIsOne : Type 0
 RefusalIsOne =
-    (faces : List (List ℕ)) (refusal other : SliceRefusal) → IsRefused faces refusal → IsRefused faces other
+    (faces : List (List ℕ)) (refusal other : SliceRefusal) → IsRefusedSlice faces refusal → IsRefusedSlice faces other
     → refusal ≢ NoMemory
     → other ≢ NoMemory → refusal ≡ other
 
 -- nothing but want of memory refuses these faces
 abbrev pub LacksMemoryAlone : List (List ℕ) → Type 0
-LacksMemoryAlone faces = (refusal : SliceRefusal) → IsRefused faces refusal → refusal ≡ NoMemory
+LacksMemoryAlone faces = (refusal : SliceRefusal) → IsRefusedSlice faces refusal → refusal ≡ NoMemory
 
 -- each directed edge occurs as often as its reverse, so no pair is told whose two counts differ
 abbrev pub BalancedIsSliced : Type 0

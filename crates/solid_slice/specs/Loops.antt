@@ -9,7 +9,7 @@ use Rattle.std.specs.Prelude.{ℕ, ◌≡◌, ◌+◌, ◌-◌, ◌<◌, ◌≤�
 use Rattle.std.specs.Prelude.{count_by, if◌then◌else◌, ℤ}
 use Rattle.std.specs.List.{concat}
 use Rattle.geo_sign.specs.Point.{Point}
-use Rattle.solid_slice.specs.Edges.{edge_count}
+use Rattle.solid_slice.specs.Edges.{faces_with_edge}
 use Rattle.solid_slice.specs.Cuts.{face_at, is_cut_at, IsUpEdge, IsDownEdge}
 use Rattle.solid_slice.specs.declared.step.Step.{Step}
 use Rattle.solid_slice.specs.declared.step.Ring.{Ring}
@@ -21,7 +21,7 @@ pub record IsNext (points : List Point) (faces : List (List ℕ)) (h : ℤ) (f g
   pub lower : ℕ
   pub down : IsDownEdge points h (face_at faces f) upper lower
   pub up : IsUpEdge points h (face_at faces g) lower upper
-  pub rank : edge_count upper lower (take f faces) ≡ edge_count lower upper (take g faces)
+  pub rank : faces_with_edge upper lower (take f faces) ≡ faces_with_edge lower upper (take g faces)
 
 -- each face is the next of the one before, round the ring, and the smallest is first
 pub record IsLoop (points : List Point) (faces : List (List ℕ)) (h : ℤ) (ring : List ℕ) : Type 0 where

@@ -5,9 +5,9 @@
 --   HasGained hits pairs more            each pair whose first number is the smaller, once more where the test says so
 --   IsPairOf faces there back            each such pair as often as faces have the edge there, and as often as back
 --   AreRising pairs                      in each pair the first number is the smaller
---   IsFirstDifference there back p       the least pair that one list has more often than the other
+--   IsFirstUnequalPair there back p      the least pair that one list has more often than the other
 use Rattle.std.specs.Prelude.{ℕ, ◌≡◌, ◌≢◌, ◌+◌, ◌*◌, ◌<◌, ◌^◌, ◌==◌, Bool, List, count_by, All, if◌then◌else◌}
-use Rattle.solid_slice.specs.Edges.{edge_count}
+use Rattle.solid_slice.specs.Edges.{faces_with_edge}
 use Rattle.solid_slice.specs.declared.pair.Pair.{Pair}
 
 -- above the number of each pair before
@@ -27,14 +27,14 @@ HasGained hits pairs more =
 
 -- each pair u, v as often as faces have the edge from u to v, and as often as they have that back
 pub record IsPairOf (faces : List (List ℕ)) (there back : List Pair) : Type 0 where
-  pub there_count : (u v : ℕ) → u < v → v < 2 ^ 32 → key_count (key_of u v) there ≡ edge_count u v faces
-  pub back_count : (u v : ℕ) → u < v → v < 2 ^ 32 → key_count (key_of u v) back ≡ edge_count v u faces
+  pub there_count : (u v : ℕ) → u < v → v < 2 ^ 32 → key_count (key_of u v) there ≡ faces_with_edge u v faces
+  pub back_count : (u v : ℕ) → u < v → v < 2 ^ 32 → key_count (key_of u v) back ≡ faces_with_edge v u faces
 
 -- the smaller number first
 abbrev pub AreRising : List Pair → Type 0
 AreRising pairs = All (λ p. p.first < p.second) pairs
 
 -- the two lists have this pair unequally often, and each before it equally often
-pub record IsFirstDifference (there back : List Pair) (p : Pair) : Type 0 where
+pub record IsFirstUnequalPair (there back : List Pair) (p : Pair) : Type 0 where
   pub differ : key_count (key_of_pair p) there ≢ key_count (key_of_pair p) back
   pub same : (k : ℕ) → k < key_of_pair p → key_count k there ≡ key_count k back

@@ -7,9 +7,9 @@
 ghost use Rattle.std.specs.Prelude.{◌≡◌, ◌≢◌, ◌<◌, ◌≤◌, ◌^◌, ℕ, OnOk, IfOk, IfErr, IfSome, IfNone, All, length};
 ghost use Rattle.std.specs.List.Sorted.{IsNonDecreasingBy};
 ghost use Rattle.mesh_ply.specs.Meshes.{IsFace, IsMesh};
-ghost use Rattle.solid_slice.specs.Edges.{is_edge, has_edge, edge_count, IsBalanced};
-ghost use Rattle.solid_slice.specs.Pairs.{key_of_pair, key_count, HasGained, IsPairOf, AreRising, IsFirstDifference};
-ghost use Rattle.solid_slice.specs.Refusals.{IsRefused};
+ghost use Rattle.solid_slice.specs.Edges.{is_edge, has_edge, faces_with_edge, IsBalanced};
+ghost use Rattle.solid_slice.specs.Pairs.{key_of_pair, key_count, HasGained, IsPairOf, AreRising, IsFirstUnequalPair};
+ghost use Rattle.solid_slice.specs.Refusals.{IsRefusedSlice};
 
 use crate::pair::{Pair, sort_pairs};
 use crate::{Mesh, NoMemory, SliceRefusal};
@@ -95,7 +95,7 @@ fn first_difference(there: &[Pair], back: &[Pair]) -> Option<Pair>
     requires back_sorted { IsNonDecreasingBy key_of_pair back.now }
     requires there_rising { AreRising there.now }
     requires back_rising { AreRising back.now }
-    ensures some { IfSome result (λ p. IsFirstDifference there.now back.now p × (p.first < p.second)) }
+    ensures some { IfSome result (λ p. IsFirstUnequalPair there.now back.now p × (p.first < p.second)) }
     ensures none { IfNone result ((k : ℕ) → key_count k there.now ≡ key_count k back.now) }
 {
     for (at, pair) in there.iter().enumerate() {
@@ -130,7 +130,7 @@ fn count(pairs: &[Pair], pair: Pair) -> usize
 pub(crate) fn check_balance(alloc: Global, mesh: &Mesh) -> Result<(), SliceRefusal>
     requires { IsMesh mesh.now.points.items mesh.now.faces.items }
     ensures balanced { IfOk result (λ _. IsBalanced mesh.now.faces.items) }
-    ensures refused { IfErr result (λ refusal. IsRefused mesh.now.faces.items refusal) }
+    ensures refused { IfErr result (λ refusal. IsRefusedSlice mesh.now.faces.items refusal) }
 {
     let sides = sorted_sides(alloc, &mesh.faces)?;
     match first_difference(&sides.there, &sides.back) {

@@ -4,7 +4,7 @@ ghost use Rattle.std.specs.Prelude.{◌≡◌, ◌++◌, ℕ, OnOk, IfOk, length
 ghost use Rattle.std.specs.List.Sorted.{IsNonDecreasingBy};
 ghost use Rattle.mesh_ply.specs.Meshes.{IsMesh};
 ghost use Rattle.solid_slice.specs.Edges.{IsBalanced};
-ghost use Rattle.solid_slice.specs.Crossings.{crossings_at, key_of_crossing, listed, AreCrossings};
+ghost use Rattle.solid_slice.specs.Crossings.{crossings_at, key_of_crossing, faces_of_pair, AreCrossings};
 
 use crate::height::{down_edge, up_edge};
 use crate::pair::Pair;
@@ -54,7 +54,7 @@ fn crossings_of(alloc: Global, mesh: &Mesh, height: i32) -> Result<Crossings, No
 /// Puts crossings in the order of their edges, those of one edge in face order.
 fn sort_crossings(list: &mut Vec<Crossing>) -> Result<(), NoMemory>
     ensures sorted { OnOk result (IsNonDecreasingBy key_of_crossing list.new.items) }
-    ensures stable { OnOk result ((k : ℕ) → listed k list.new.items ≡ listed k list.old.items) }
+    ensures stable { OnOk result ((k : ℕ) → faces_of_pair k list.new.items ≡ faces_of_pair k list.old.items) }
 {
     list.sort_by_key(|crossing| crossing.edge.key())?;
     Ok(())

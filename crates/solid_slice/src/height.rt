@@ -2,7 +2,7 @@
 
 ghost use Rattle.std.specs.Prelude.{◌≡◌, ◌+◌, ◌<◌, ◌≤◌, ◌^◌, IfSome, IfNone, true, false, length, unsigned_abs, ◌+ℤ◌, ◌-ℤ◌, ◌*ℤ◌};
 ghost use Rattle.mesh_ply.specs.Meshes.{IsFace, IsMesh, point_at};
-ghost use Rattle.solid_slice.specs.Cuts.{is_above, is_cut, is_cut_at, IsUpEdge, IsDownEdge, IsStep, along, rise};
+ghost use Rattle.solid_slice.specs.Cuts.{is_above, is_cut_face, is_cut_at, IsUpEdge, IsDownEdge, IsStep, at_height, rise};
 
 use crate::Mesh;
 use crate::pair::Pair;
@@ -21,7 +21,7 @@ fn is_vertex_above(points: &[Point], height: i32, vertex: u32) -> bool
 pub(crate) fn up_edge(points: &[Point], height: i32, face: [u32; 3]) -> Option<Pair>
     requires { IsFace (length points.now) face }
     ensures some { IfSome result (λ e. IsUpEdge points.now height face e.first e.second) }
-    ensures none { IfNone result (is_cut points.now height face ≡ false) }
+    ensures none { IfNone result (is_cut_face points.now height face ≡ false) }
 {
     let [a, b, c] = face;
     let over_a = is_vertex_above(points, height, a);
@@ -53,7 +53,7 @@ pub(crate) fn up_edge(points: &[Point], height: i32, face: [u32; 3]) -> Option<P
 pub(crate) fn down_edge(points: &[Point], height: i32, face: [u32; 3]) -> Option<Pair>
     requires { IsFace (length points.now) face }
     ensures some { IfSome result (λ e. IsDownEdge points.now height face e.second e.first) }
-    ensures none { IfNone result (is_cut points.now height face ≡ false) }
+    ensures none { IfNone result (is_cut_face points.now height face ≡ false) }
 {
     let [a, b, c] = face;
     up_edge(points, height, [a, c, b])
@@ -62,7 +62,7 @@ pub(crate) fn down_edge(points: &[Point], height: i32, face: [u32; 3]) -> Option
 /// Whether a face has vertices above and below.
 pub(crate) fn is_face_cut(points: &[Point], height: i32, face: [u32; 3]) -> bool
     requires { IsFace (length points.now) face }
-    ensures { result ≡ is_cut points.now height face }
+    ensures { result ≡ is_cut_face points.now height face }
 {
     let [a, b, c] = face;
     let over_a = is_vertex_above(points, height, a);
@@ -89,8 +89,8 @@ fn step_on(points: &[Point], height: i32, edge: Pair, face: u32) -> Step
     requires upper { edge.second < length points.now }
     requires from_below { is_above points.now height edge.first ≡ false }
     requires to_above { is_above points.now height edge.second ≡ true }
-    ensures x { result.x ≡ along height (point_at points.now edge.first) (point_at points.now edge.second) (point_at points.now edge.first).x (point_at points.now edge.second).x }
-    ensures y { result.y ≡ along height (point_at points.now edge.first) (point_at points.now edge.second) (point_at points.now edge.first).y (point_at points.now edge.second).y }
+    ensures x { result.x ≡ at_height height (point_at points.now edge.first) (point_at points.now edge.second) (point_at points.now edge.first).x (point_at points.now edge.second).x }
+    ensures y { result.y ≡ at_height height (point_at points.now edge.first) (point_at points.now edge.second) (point_at points.now edge.first).y (point_at points.now edge.second).y }
     ensures d { result.d ≡ rise (point_at points.now edge.first) (point_at points.now edge.second) }
     ensures face { result.face ≡ face }
 {

@@ -2,7 +2,7 @@
 
 ghost use Rattle.std.specs.Prelude.{◌≡◌, ◌+◌, ◌<◌, ◌==◌, ℕ, true, false, not, IfOk, All, map, count_by, slice_index};
 ghost use Rattle.mesh_ply.specs.Meshes.{IsMesh};
-ghost use Rattle.solid_slice.specs.Cuts.{is_cut, IsStep};
+ghost use Rattle.solid_slice.specs.Cuts.{is_cut_face, IsStep};
 ghost use Rattle.solid_slice.specs.Loops.{the_face, ring_faces, IsLoop, AreLoops};
 ghost use Rattle.solid_slice.specs.Walks.{IsSuccession, is_visited, visits, IsBetweenLoops};
 
@@ -46,7 +46,7 @@ fn follow(
 /// A list of the faces that are not cut.
 fn uncut_faces(alloc: Global, mesh: &Mesh, height: i32) -> Result<Vec<bool>, NoMemory>
     requires { IsMesh mesh.now.points.items mesh.now.faces.items }
-    ensures { IfOk result (λ uncut. uncut.items ≡ map (λ face. not (is_cut mesh.now.points.items height face)) mesh.now.faces.items) }
+    ensures { IfOk result (λ uncut. uncut.items ≡ map (λ face. not (is_cut_face mesh.now.points.items height face)) mesh.now.faces.items) }
 {
     let mut uncut = Vec::new(alloc);
     for face in &mesh.faces {
@@ -65,7 +65,7 @@ fn loops_of(
 ) -> Result<Vec<Ring>, NoMemory>
     requires valid { IsMesh mesh.now.points.items mesh.now.faces.items }
     requires next { IsSuccession mesh.now.points.items mesh.now.faces.items height next.now }
-    requires uncut { visited.old ≡ map (λ face. not (is_cut mesh.now.points.items height face)) mesh.now.faces.items }
+    requires uncut { visited.old ≡ map (λ face. not (is_cut_face mesh.now.points.items height face)) mesh.now.faces.items }
     ensures loops { IfOk result (λ rings. AreLoops mesh.now.points.items mesh.now.faces.items height (map ring_faces rings.items)) }
     ensures points { IfOk result (λ rings. All (λ ring. All (IsStep mesh.now.points.items mesh.now.faces.items height) ring.steps.items) rings.items) }
 {

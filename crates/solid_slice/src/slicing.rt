@@ -4,7 +4,7 @@ ghost use Rattle.std.specs.Prelude.{◌≤◌, IfOk, IfErr, length, map, sum_by}
 ghost use Rattle.mesh_ply.specs.Meshes.{IsMesh};
 ghost use Rattle.solid_slice.specs.Edges.{IsBalanced};
 ghost use Rattle.solid_slice.specs.Slices.{steps_of, IsSlice};
-ghost use Rattle.solid_slice.specs.Refusals.{IsRefused};
+ghost use Rattle.solid_slice.specs.Refusals.{IsRefusedSlice};
 
 use crate::balance::check_balance;
 use crate::crossings::matched_crossings;
@@ -27,7 +27,7 @@ pub fn slice(alloc: Global, mesh: &Mesh, height: i32) -> Result<Vec<Ring>, Slice
     ensures balanced { IfOk result (λ _. IsBalanced mesh.now.faces.items) }
     ensures slice { IfOk result (λ rings. IsSlice mesh.now.points.items mesh.now.faces.items height (map steps_of rings.items)) }
     ensures few { IfOk result (λ rings. sum_by (λ ring. length ring) (map steps_of rings.items) ≤ length mesh.now.faces.items) }
-    ensures refused { IfErr result (λ refusal. IsRefused mesh.now.faces.items refusal) }
+    ensures refused { IfErr result (λ refusal. IsRefusedSlice mesh.now.faces.items refusal) }
 {
     check_balance(alloc, mesh)?;
     let crossings = matched_crossings(alloc, mesh, height)?;

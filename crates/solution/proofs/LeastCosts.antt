@@ -9,7 +9,7 @@ use Rattle.geo_sign.specs.Boxes.{IsBoxed}
 use Rattle.geo_sign.specs.Cells.{IsCellList, written}
 use Rattle.geo_sign.specs.Point.{origin}
 use Rattle.geo_sign.specs.Sights.{is_behind}
-use Rattle.geo_sign.specs.Vertices.{vertices_of}
+use Rattle.geo_sign.specs.Vertices.{boxed_vertices}
 use Rattle.merge.specs.Merging.{index_among}
 use Rattle.merge.proofs.Distinct.{distinct}
 use Rattle.scan.specs.Shown.{Shown, IsSeen, IsShown}
@@ -18,26 +18,27 @@ use Rattle.visibility.specs.Laws.{HasOneBehind}
 use Rattle.visibility.specs.Scenes.{scanner_point}
 use Rattle.visibility.proofs.SightCosts.{least_cost_is_small}
 use Rattle.solution.specs.Laws.{LeastCostLaw}
-use Rattle.solution.specs.Scans.{points_of, point_at, sight_of, scene_of_scan}
+use Rattle.mesh_ply.specs.Meshes.{point_at}
+use Rattle.solution.specs.Scans.{points_of, sight_of, scene_of_scan}
 use Rattle.solution.proofs.ScanScenes.{points_within}
 use Rattle.solution.proofs.SightLists.{no_sight, seen_at, index_below, sight_count, sight_list}
 
-boxed : (scan : Shown) → IsShown scan → IsBoxed (vertices_of (points_of scan))
+boxed : (scan : Shown) → IsShown scan → IsBoxed (boxed_vertices (points_of scan))
 boxed scan is = all_law (points_of scan) (points_within scan is) (distinct scan.points)
 
 -- a sight has one cell behind it
-one_behind : (scan : Shown) (cells : List (List ℕ)) → IsShown scan → IsCellList (vertices_of (points_of scan)) cells
+one_behind : (scan : Shown) (cells : List (List ℕ)) → IsShown scan → IsCellList (boxed_vertices (points_of scan)) cells
     → (seen : Seen) → IsSeen (length scan.points) (length scan.scanners) seen → (sight : Sight) → sight_of scan seen ≡ sight
     → count_by
-    (λ row. is_behind (vertices_of (points_of scan)) sight.vertex (scanner_point scan.scanners sight.scanner)
-    (written (vertices_of (points_of scan)) row)) cells ≡ 1
+    (λ row. is_behind (boxed_vertices (points_of scan)) sight.vertex (scanner_point scan.scanners sight.scanner)
+    (written (boxed_vertices (points_of scan)) row)) cells ≡ 1
 one_behind scan cells is list seen there sight e =
     subst (λ (s : Sight).
-    count_by (λ row. is_behind (vertices_of (points_of scan)) s.vertex (scanner_point scan.scanners s.scanner)
-    (written (vertices_of (points_of scan)) row)) cells ≡ 1) e
-    ((row_sight_law (vertices_of (points_of scan)) (boxed scan is) cells list (get_or scan.scanners seen.scanner origin)
+    count_by (λ row. is_behind (boxed_vertices (points_of scan)) s.vertex (scanner_point scan.scanners s.scanner)
+    (written (boxed_vertices (points_of scan)) row)) cells ≡ 1) e
+    ((row_sight_law (boxed_vertices (points_of scan)) (boxed scan is) cells list (get_or scan.scanners seen.scanner origin)
     (is.scanners seen.scanner origin there.scanner)).behind
-    (8 + index_among (points_of scan) (point_at scan seen.row)) (omega (arith, index_below scan seen.row there.row), refl)
+    (8 + index_among (points_of scan) (point_at scan.points seen.row)) (omega (arith, index_below scan seen.row there.row), refl)
     (omega arith))
 
 pub least_cost_law : LeastCostLaw

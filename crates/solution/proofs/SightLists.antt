@@ -13,7 +13,8 @@ use Rattle.scan.specs.Shown.{Shown, IsSeen, IsShown}
 use Rattle.scan.specs.Views.{shown_of}
 use Rattle.scan.specs.declared.scan.Scan.{Scan}
 use Rattle.scan.specs.declared.scan.Seen.{Seen}
-use Rattle.solution.specs.Scans.{points_of, point_at, sight_of, sights_of, scene_of_scan}
+use Rattle.mesh_ply.specs.Meshes.{point_at}
+use Rattle.solution.specs.Scans.{points_of, sight_of, sights_of, scene_of_scan}
 
 abbrev pub no_sight : Seen
 no_sight = record { row = 0; scanner = 0; weight = 0 }
@@ -22,12 +23,12 @@ no_sight = record { row = 0; scanner = 0; weight = 0 }
 
 -- a row's index is that of its point
 pub index_below : (scan : Shown) (row : ℕ) → row < length scan.points
-    → index_among (points_of scan) (point_at scan row) < length (points_of scan)
+    → index_among (points_of scan) (point_at scan.points row) < length (points_of scan)
 index_below scan row l = (each_stands scan.points row origin l).0
 
 index_at : (scan : Shown) (of_row : List ℕ) (row : ℕ) → of_row ≡ map (index_among (points_of scan)) scan.points
     → row < length scan.points
-    → get_or of_row row 0 ≡ index_among (points_of scan) (point_at scan row)
+    → get_or of_row row 0 ≡ index_among (points_of scan) (point_at scan.points row)
 index_at scan of_row row indices l =
     ap (λ (list : List ℕ). get_or list row 0) indices ∙ get_or-map (index_among (points_of scan)) scan.points row origin 0 l
 

@@ -1,14 +1,14 @@
 -- What a scan shows, as a scene: its points as vertices, and its sights of them.
 --
 --   points_of scan               where the points are, once each
---   point_at scan row            where the point of a row is
 --   sight_of scan seen           a sight as one of a vertex
 --   sights_of scan               the sights, in the order of their rows
 --   scene_of_scan scan settings  corners and points as vertices, scanners, sights, and the weights
-use Rattle.std.specs.Prelude.{ℕ, ◌+◌, List, map, slice_index_or}
+use Rattle.std.specs.Prelude.{◌+◌, List, map}
 use Rattle.flow_net.specs.declared.votes.Settings.{Settings}
 use Rattle.flow_net.specs.declared.votes.Sight.{Sight}
-use Rattle.geo_sign.specs.Point.{Point, origin}
+use Rattle.geo_sign.specs.Point.{Point}
+use Rattle.mesh_ply.specs.Meshes.{point_at}
 use Rattle.merge.specs.Merging.{distinct_points, index_among}
 use Rattle.scan.specs.Shown.{Shown}
 use Rattle.scan.specs.declared.scan.Seen.{Seen}
@@ -18,14 +18,10 @@ use Rattle.visibility.specs.Scenes.{Scene, scene_of}
 abbrev pub points_of : Shown → List Point
 points_of scan = distinct_points scan.points
 
--- where the point of a row is
-abbrev pub point_at : Shown → ℕ → Point
-point_at scan row = slice_index_or scan.points row origin
-
 -- a sight of the row's point from its scanner, of its weight: the first point is vertex 8, after the box's eight corners
 abbrev pub sight_of : Shown → Seen → Sight
 sight_of scan seen =
-    record { vertex = 8 + index_among (points_of scan) (point_at scan seen.row); scanner = seen.scanner; weight = seen.weight }
+    record { vertex = 8 + index_among (points_of scan) (point_at scan.points seen.row); scanner = seen.scanner; weight = seen.weight }
 
 -- the sights, row by row, and within a row in the order of its scanners: equal ones stand as often as they were seen
 abbrev pub sights_of : Shown → List Sight

@@ -14,7 +14,7 @@ use Rattle.cert_text.specs.Certificates.{Claim}
 use Rattle.cert_text.specs.declared.certificate.FlowRow.{FlowRow}
 use Rattle.cert_text.specs.declared.certificate.SinkRow.{SinkRow}
 use Rattle.flow_net.specs.declared.votes.Settings.{Settings}
-use Rattle.geo_sign.specs.Vertices.{corners, vertices_of}
+use Rattle.geo_sign.specs.Vertices.{corners, boxed_vertices}
 use Rattle.mesh_ply.specs.Meshes.{Surface, mesh_of}
 use Rattle.mesh_ply.specs.declared.mesh.Mesh.{Mesh}
 use Rattle.scan.specs.Shown.{Shown}
@@ -83,7 +83,7 @@ pub record IsSolution (scan : Shown) (settings : Settings) (mesh : Surface) (cla
   pub inside : List ℕ → Bool
   pub complex_is : IsComplexOf (scene_of_scan scan settings) complex
   pub least : IsLeastInside (scene_of_scan scan settings) complex inside
-  pub mesh_is : mesh ≡ mesh_of (corners ++ points_of scan) (cut_facets (vertices_of (points_of scan)) complex inside)
+  pub mesh_is : mesh ≡ mesh_of (corners ++ points_of scan) (cut_facets (boxed_vertices (points_of scan)) complex inside)
   pub counts : HasCounts claim scan settings
   pub certificate : IsCertificate (scene_of_scan scan settings) complex inside claim
 

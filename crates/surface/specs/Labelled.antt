@@ -1,6 +1,6 @@
 -- Labels of a store's cells, at the numbers that cells have in it, and the mesh that they cut.
 --
---   AreOnce ids                               no number stands twice
+--   AreDistinctNumbers ids                    no number stands twice
 --   AreAllLive slots ids                      all live cells, each once
 --   NoneHasCorner slots inside                no cell inside has a corner of the box
 --   IsCutFacet slots inside facet             a facet of an outside cell with an inside cell across
@@ -30,14 +30,14 @@ use Rattle.vote_net.specs.Gathered.{key_of_side}
 use Rattle.vote_net.specs.Tables.{facet_of_side}
 
 -- equal numbers stand at one index
-abbrev pub AreOnce : List ℕ → Type 0
-AreOnce ids = (i j : ℕ) → i < length ids → j < length ids → slice_index ids i ≡ slice_index ids j → i ≡ j
+abbrev pub AreDistinctNumbers : List ℕ → Type 0
+AreDistinctNumbers ids = (i j : ℕ) → i < length ids → j < length ids → slice_index ids i ≡ slice_index ids j → i ≡ j
 
 -- the numbers of all live cells, each once
 pub record AreAllLive (slots : List (Option Cell)) (ids : List ℕ) : Type 0 where
   pub live : (k : ℕ) → k < length ids → IsLive (links_of slots) (slice_index ids k)
   pub all : (id : ℕ) → IsLive (links_of slots) id → Contains ids id
-  pub once : AreOnce ids
+  pub once : AreDistinctNumbers ids
 
 -- live cells with a corner are outside
 abbrev pub NoneHasCorner : List (Option Cell) → List Bool → Type 0

@@ -13,7 +13,7 @@ use Rattle.visibility.specs.Complexes.{Complex}
 use Rattle.visibility.specs.Cuts.{cost, cut_facets, IsLeastInside}
 use Rattle.visibility.specs.Scenes.{Scene}
 use Rattle.visibility.proofs.Ordered.{one_complex}
-use Rattle.sweep.specs.Entries.{CostsLeast, IsBest, IsSurfaceOf}
+use Rattle.sweep.specs.Entries.{CostsLeast, AreBestLabels, IsSurfaceOf}
 use Rattle.sweep.specs.FreshBuilds.{FreshBuildLaw}
 
 agree : (s : Scene) (complex : Complex) (inside other : List ℕ → Bool) → IsLeastInside s complex inside
@@ -22,19 +22,20 @@ agree s complex inside other a b row there =
     same_bools (inside row) (other row) (a.within other b.least_cost row there) (b.within inside a.least_cost row there)
 
 -- two best labels are over one complex
-over : (s : Scene) (complex other : Complex) (inside far : List ℕ → Bool) → IsBest s complex inside → IsBest s other far
-    → IsBest s complex far
+over : (s : Scene) (complex other : Complex) (inside far : List ℕ → Bool) → AreBestLabels s complex inside → AreBestLabels s other far
+    → AreBestLabels s complex far
 over s complex other inside far a b =
-    subst (λ (c : Complex). IsBest s c far) (one_complex s other complex b.complex_is a.complex_is) b
+    subst (λ (c : Complex). AreBestLabels s c far) (one_complex s other complex b.complex_is a.complex_is) b
 
-same_facets : (s : Scene) (complex other : Complex) (inside far : List ℕ → Bool) → IsBest s complex inside → IsBest s other far
+same_facets : (s : Scene) (complex other : Complex) (inside far : List ℕ → Bool) → AreBestLabels s complex inside
+    → AreBestLabels s other far
     → cut_facets s.vertices complex inside ≡ cut_facets s.vertices other far
 same_facets s complex other inside far a b =
     cut_same s complex inside far a.complex_is
     (agree s complex inside far a.least (over s complex other inside far a b).least)
     ∙ ap (λ (c : Complex). cut_facets s.vertices c far) (sym (one_complex s other complex b.complex_is a.complex_is))
 
-same_cost : (s : Scene) (complex other : Complex) (inside far : List ℕ → Bool) → IsBest s complex inside → IsBest s other far
+same_cost : (s : Scene) (complex other : Complex) (inside far : List ℕ → Bool) → AreBestLabels s complex inside → AreBestLabels s other far
     → cost s complex inside ≡ cost s other far
 same_cost s complex other inside far a b =
     let o = over s complex other inside far a b in
@@ -56,7 +57,7 @@ one_cost s n m a b = a.cost_is ∙ (same_cost s a.complex b.complex a.inside b.i
 pub fresh_build_law : FreshBuildLaw
 fresh_build_law scan settings mesh claim built =
     let s : Scene = scene_of_scan scan settings in
-    let best : IsBest s built.complex built.inside = record { complex_is = built.complex_is; least = built.least } in
+    let best : AreBestLabels s built.complex built.inside = record { complex_is = built.complex_is; least = built.least } in
     record {
       mesh_is = λ other surface.
           surface.mesh_is

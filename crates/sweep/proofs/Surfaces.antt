@@ -25,7 +25,7 @@ use Rattle.visibility.specs.Votes.{IsComplexOf}
 use Rattle.visibility.proofs.ListingAgreements.{with_rising}
 use Rattle.visibility.proofs.Networks.{node_count}
 use Rattle.vote_net.specs.Counts.{AreIdsOf}
-use Rattle.sweep.specs.Entries.{CostsLeast, IsBest, IsSurfaceOf}
+use Rattle.sweep.specs.Entries.{CostsLeast, AreBestLabels, IsSurfaceOf}
 use Rattle.sweep.specs.Swept.{IsKept}
 use Rattle.sweep.proofs.Scenes.{scene_kept}
 
@@ -50,7 +50,7 @@ module _ (points scanners : List Point) (sights : List Sight) (settings : Settin
   abbrev inside : List ℕ → Bool
   inside = test_of voted.cells labels.inside
 
-  best : IsBest scene rising inside
+  best : AreBestLabels scene rising inside
   best =
       record {
         complex_is = kept.network.listing.complex_is;

@@ -1,6 +1,6 @@
 -- What the best surface of a scene is and costs, and what forms receive of the surfaces of a sweep.
 --
---   IsBest s complex inside       the least-inside labels of least cost, over all cells of the scene
+--   AreBestLabels s complex inside   the least-inside labels of least cost, over all cells of the scene
 --   CostsLeast s n                the number is what they cost
 --   IsSurfaceOf s points mesh     the mesh is that of the facets of outside cells with an inside cell across
 --   Given                         points, scanners and sights
@@ -27,7 +27,7 @@ use Rattle.visibility.specs.Votes.{IsComplexOf}
 
 -- all cells of the scene and all facets that have a capacity, and labels of least cost whose inside is contained in that of all
 -- labels of that cost
-pub record IsBest (s : Scene) (complex : Complex) (inside : List ℕ → Bool) : Type 0 where
+pub record AreBestLabels (s : Scene) (complex : Complex) (inside : List ℕ → Bool) : Type 0 where
   pub complex_is : IsComplexOf s complex
   pub least : IsLeastInside s complex inside
 
@@ -35,7 +35,7 @@ pub record IsBest (s : Scene) (complex : Complex) (inside : List ℕ → Bool) :
 pub record CostsLeast (s : Scene) (n : ℕ) : Type 0 where
   pub complex : Complex
   pub inside : List ℕ → Bool
-  pub best : IsBest s complex inside
+  pub best : AreBestLabels s complex inside
   pub cost_is : n ≡ cost s complex inside
 
 -- the mesh is that of the facets of outside cells with an inside cell across, by these labels; the vertices are the corners of
@@ -43,7 +43,7 @@ pub record CostsLeast (s : Scene) (n : ℕ) : Type 0 where
 pub record IsSurfaceOf (s : Scene) (points : List Point) (mesh : Surface) : Type 0 where
   pub complex : Complex
   pub inside : List ℕ → Bool
-  pub best : IsBest s complex inside
+  pub best : AreBestLabels s complex inside
   pub mesh_is : mesh ≡ mesh_of (corners ++ points) (cut_facets s.vertices complex inside)
 
 -- the distinct points, the scanners and the sights

@@ -13,7 +13,7 @@ use Rattle.std.proofs.lemmas.List.{get_or_default}
 use Rattle.std.proofs.lemmas.List.Elements.{Contains-get_or}
 use Rattle.std.proofs.lemmas.Bool.{cases_lt, eq-eqb, false≢true, and_from}
 use Rattle.std.proofs.lemmas.Map.Keys.{IsDistinct-IsPermutation, apart_from_distinct}
-use Rattle.tetra_store.specs.Edges.{key_of, no_edge, edge_at, IsReverse, HasPair}
+use Rattle.tetra_store.specs.Edges.{key_of_edge, no_edge, edge_at, IsReverse, HasPair}
 use Rattle.tetra_store.proofs.Joins.{fan_from, fan_to, fan_distinct, same_place, same_place_flips, ends_of}
 use Rattle.geo_sign.specs.Tetrahedron.{Tetrahedron, facet_of, IsTurned}
 use Rattle.tetra_store.specs.declared.link.Cell.{Cell}
@@ -23,7 +23,7 @@ use Rattle.tetra_store.specs.Links.{Links, slot_at, links_of, vertices_in, next_
 use Rattle.geo_sign.specs.Edges.{edge_start, edge_end}
 use Rattle.tetra_store.specs.Fan.{fan_facet, fan_outer}
 use Rattle.tetra_store.specs.Steps.{new_cell, ArePut, IsNamed, IsRenamed, AreNamed, IsFacing, AreFacing, IsFanEdge, edge_of}
-use Rattle.tetra_store.specs.Steps.{AreFanEdges, AreJoined, CanJoin, CanGrow, IsMated, IsGrown}
+use Rattle.tetra_store.specs.Steps.{AreFanEdges, AreJoined, CanJoinEdges, CanGrow, IsMated, IsGrown}
 
 -- the place of a number in a list
 pub place_in : (ids : List ℕ) (x : ℕ) → Contains ids x → (i : ℕ) × (i < length ids) × (slice_index ids i ≡ x)
@@ -59,7 +59,7 @@ module _ (old new : List (Option Cell)) (fan : List Facet) (p : ℕ) (ids : List
 -- the edges of a fan can be joined
 pub fan_joins : (s1 s0 : List (Option Cell)) (b : Links) (fan : List Facet) (p : ℕ) (ids : List ℕ) (edges sorted : List Edge)
     → ArePut s0 s1 (new_cell fan p) ids → length ids ≡ length fan → AreNamed (links_of s1) b fan ids (length fan)
-    → AreFanEdges fan ids edges (length fan) → IsPermutation edges sorted → CanGrow (links_of s0) fan → CanJoin b sorted
+    → AreFanEdges fan ids edges (length fan) → IsPermutation edges sorted → CanGrow (links_of s0) fan → CanJoinEdges b sorted
 fan_joins s1 s0 b fan p ids edges sorted put n named fe moved can = record {
   pairs = record { some = some; only = only };
   once = λ x y h k c s.
@@ -125,7 +125,7 @@ fan_joins s1 s0 b fan p ids edges sorted put n named fe moved can = record {
           ∙ (same_place_flips (edge_at sorted q) (edge_at sorted m) ∙ t))
     ]
 
-    only : (m q : ℕ) → m < length sorted → q < length sorted → m ≢ q → key_of (edge_at sorted m) ≡ key_of (edge_at sorted q)
+    only : (m q : ℕ) → m < length sorted → q < length sorted → m ≢ q → key_of_edge (edge_at sorted m) ≡ key_of_edge (edge_at sorted q)
         → IsReverse (edge_at sorted m) (edge_at sorted q)
     only m q l k ne e =
         let x = edge_at sorted m in

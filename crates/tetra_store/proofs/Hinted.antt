@@ -8,9 +8,9 @@ use Rattle.std.specs.List.Sorted.{IsPermutation}
 use Rattle.std.proofs.lemmas.List.Sorted.{Contains-permutation}
 use Rattle.tetra_store.specs.declared.edge.Edge.{Edge}
 use Rattle.tetra_store.specs.Links.{Links}
-use Rattle.tetra_store.specs.Steps.{AreJoined, CanJoin}
+use Rattle.tetra_store.specs.Steps.{AreJoined, CanJoinEdges}
 
-pub can_again : (a m : Links) (edges xs : List Edge) → AreJoined a m edges 0 → CanJoin a xs → CanJoin m xs
+pub can_again : (a m : Links) (edges xs : List Edge) → AreJoined a m edges 0 → CanJoinEdges a xs → CanJoinEdges m xs
 can_again a m edges xs h can = record {
   pairs = can.pairs;
   once = can.once;

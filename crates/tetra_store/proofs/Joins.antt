@@ -13,9 +13,9 @@ use Rattle.std.proofs.lemmas.List.{get_or_append_left, get_or_at, get_or_default
 use Rattle.tetra_store.specs.declared.fan.Facet.{Facet}
 use Rattle.tetra_store.specs.declared.edge.Edge.{Edge}
 use Rattle.tetra_store.specs.Links.{Links}
-use Rattle.tetra_store.specs.Edges.{edge_key, key_of, no_edge, edge_at, IsByKey, IsReverse, ArePairs}
+use Rattle.tetra_store.specs.Edges.{edge_key, key_of_edge, no_edge, edge_at, AreByKey, IsReverse, ArePairs}
 use Rattle.tetra_store.specs.Fan.{no_facet}
-use Rattle.tetra_store.specs.Steps.{IsWritten, IsFanEdge, edge_of, AreFanEdges, IsJoinedAt, AreJoined, CanJoin}
+use Rattle.tetra_store.specs.Steps.{IsSideWritten, IsFanEdge, edge_of, AreFanEdges, IsJoinedAt, AreJoined, CanJoinEdges}
 use Rattle.tetra_store.proofs.Putting.{here_or_not}
 use Rattle.tetra_store.proofs.Keeps.{read_at}
 
@@ -71,9 +71,9 @@ module _ (fan : List Facet) (ids : List ℕ) (xs : List Edge) (i : ℕ) (h : Are
 
 -- ---- joining
 
-module _ (a m b : Links) (edges : List Edge) (n : ℕ) (x r : Edge) (h : AreJoined a m edges n) (can : CanJoin a edges)
+module _ (a m b : Links) (edges : List Edge) (n : ℕ) (x r : Edge) (h : AreJoined a m edges n) (can : CanJoinEdges a edges)
     (l : n < length edges) (is : slice_index_or edges n x ≡ x)
-    (listed : Contains edges r) (rev : IsReverse x r) (w : IsWritten m b x.cell x.side r.cell) where
+    (listed : Contains edges r) (rev : IsReverse x r) (w : IsSideWritten m b x.cell x.side r.cell) where
   here : Contains edges x
   here = (n, l, is)
 
@@ -113,7 +113,7 @@ module _ (a m b : Links) (edges : List Edge) (n : ℕ) (x r : Edge) (h : AreJoin
 
 -- ---- the reverse is next
 
-key_of_reverse : (x y : Edge) → IsReverse x y → key_of y ≡ key_of x
+key_of_reverse : (x y : Edge) → IsReverse x y → key_of_edge y ≡ key_of_edge x
 key_of_reverse x y r =
     let s = r.start_is in
     let e = r.end_is in
@@ -121,9 +121,9 @@ key_of_reverse x y r =
     let high : max y.start y.end ≡ max x.start x.end = omega arith in
     ap (λ (z : ℕ). edge_key z (max y.start y.end)) low ∙ ap (λ (z : ℕ). edge_key (min x.start x.end) z) high
 
-module _ (edges : List Edge) (sorted : IsByKey edges) (pairs : ArePairs edges) (at : ℕ) (l : at < length edges) where
+module _ (edges : List Edge) (sorted : AreByKey edges) (pairs : ArePairs edges) (at : ℕ) (l : at < length edges) where
   -- where the reverse comes later, the next is one
-  after : (q : ℕ) → q < length edges → at < q → key_of (edge_at edges q) ≡ key_of (edge_at edges at)
+  after : (q : ℕ) → q < length edges → at < q → key_of_edge (edge_at edges q) ≡ key_of_edge (edge_at edges at)
       → (at + 1 < length edges) × IsReverse (edge_at edges at) (edge_at edges (at + 1))
   after q m less e =
       let a = sorted at (at + 1) no_edge (omega arith) (omega arith) in
@@ -131,7 +131,7 @@ module _ (edges : List Edge) (sorted : IsByKey edges) (pairs : ArePairs edges) (
       (omega arith, pairs.only at (at + 1) l (omega arith) (λ z. absurd (omega arith)) (omega arith))
 
   -- where it comes earlier, the one before is one
-  before_it : (q : ℕ) → q < at → key_of (edge_at edges q) ≡ key_of (edge_at edges at)
+  before_it : (q : ℕ) → q < at → key_of_edge (edge_at edges q) ≡ key_of_edge (edge_at edges at)
       → (0 < at) × IsReverse (edge_at edges at) (edge_at edges (at - 1))
   before_it q less e =
       let a = sorted q (at - 1) no_edge (omega arith) (omega arith) in

@@ -12,7 +12,7 @@ use Rattle.tetra_store.specs.Links.{Links, IsLive, IsLinked}
 use Rattle.tetra_store.specs.Store.{vertices_at}
 use Rattle.geo_sign.specs.Edges.{over, HasVertex}
 use Rattle.geo_sign.proofs.Rotations.{turned_turned, turned_back}
-use Rattle.tetra_store.specs.Fan.{fan_facet, fan_outer, IsFan, AreEdges}
+use Rattle.tetra_store.specs.Fan.{fan_facet, fan_outer, IsFan, HasPairedEdges}
 use Rattle.tetra_store.specs.Steps.{IsMated, IsNamed, IsRenamed}
 
 pub record IsRebuilt (a b : Links) (old : List ℕ) (fan : List Facet) (p : ℕ) (ids : List ℕ) : Type 0 where
@@ -30,7 +30,7 @@ pub record IsRebuilding (points : List Point) (flags flags' : List Bool) (a b : 
     (ids : List ℕ) : Type 0 where
   pub linked : IsLinked (vertices_at points flags) a
   pub rim : IsFan a old fan
-  pub edges : AreEdges fan
+  pub edges : HasPairedEdges fan
   pub before : (i : ℕ) → i < length fan
       → pos 0 <ℤ orientation_of (vertices_at points flags) (fan_facet fan i).a (fan_facet fan i).b (fan_facet fan i).c p
   pub above : 8 ≤ p

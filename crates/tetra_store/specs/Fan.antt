@@ -2,7 +2,7 @@
 --
 --   fan_facet fan i, fan_outer fan i    facet number i of a fan, and the cell across it
 --   IsFan links old fan                 the fan is the rim of the cells old
---   AreEdges fan                        each directed edge of the fan is there once, and so is its reverse
+--   HasPairedEdges fan                  each directed edge of the fan is there once, and so is its reverse
 --   IsInFan fan u                       u is a vertex of a fan facet
 --   IsHeld links old u                  u is a vertex of a live cell that is not in old
 --   CanReplace s old fan p              what `replace` asks
@@ -61,7 +61,7 @@ pub record HasEdge (fan : List Facet) (u w : ℕ) : Type 0 where
   pub end_is : edge_end (fan_facet fan facet) opposite ≡ w
 
 -- Each directed edge of the fan is in one facet alone, and so is its reverse.
-pub record AreEdges (fan : List Facet) : Type 0 where
+pub record HasPairedEdges (fan : List Facet) : Type 0 where
   pub turned : (i e : ℕ) → i < length fan → e < 3 → HasEdge fan (edge_end (fan_facet fan i) e) (edge_start (fan_facet fan i) e)
   pub once : (i e j d : ℕ) → i < length fan → e < 3 → j < length fan → d < 3
       → edge_start (fan_facet fan i) e ≡ edge_start (fan_facet fan j) d
@@ -91,7 +91,7 @@ pub record CanReplace (s : Store) (old : List ℕ) (fan : List Facet) (p : ℕ) 
   pub rim : IsFan (links_of s.slots) old fan
   pub before : (i : ℕ) → i < length fan
       → pos 0 <ℤ orientation_of (vertices_of s) (fan_facet fan i).a (fan_facet fan i).b (fan_facet fan i).c p
-  pub edges : AreEdges fan
+  pub edges : HasPairedEdges fan
   pub below : p < length s.points
   pub out : slice_index_or s.inserted p false ≡ false
   pub held : (u : ℕ) → Has (vertices_of s) u → IsInFan fan u ⊎ IsHeld (links_of s.slots) old u

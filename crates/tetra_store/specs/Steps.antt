@@ -1,6 +1,6 @@
 -- The steps of `replace`.
 --
---   IsWritten a b id k other           one side of one cell names another cell, and nothing else has changed
+--   IsSideWritten a b id k other       one side of one cell names another cell, and nothing else has changed
 --   new_cell fan p i                   the cell over fan facet i, which names only the cell across that
 --   ArePut old new cell ids            the cells cell 0, cell 1 .. are in, at ids
 --   AreNamed a b fan ids               the cells across the fan name those over it
@@ -22,9 +22,9 @@ use Rattle.geo_sign.specs.Writings.{IsVertexOf}
 use Rattle.tetra_store.specs.Links.{Links, slot_at, IsLive}
 use Rattle.tetra_store.specs.Edges.{edge_at, ArePairs}
 use Rattle.geo_sign.specs.Edges.{over, edge_start, edge_end}
-use Rattle.tetra_store.specs.Fan.{fan_facet, fan_outer, AreEdges}
+use Rattle.tetra_store.specs.Fan.{fan_facet, fan_outer, HasPairedEdges}
 
-pub record IsWritten (a b : Links) (id k other : ℕ) : Type 0 where
+pub record IsSideWritten (a b : Links) (id k other : ℕ) : Type 0 where
   pub live : (x : ℕ) → b.is_live x ≡ a.is_live x
   pub same : (x : ℕ) → b.at x ≡ a.at x
   pub here : b.next id k ≡ Some other
@@ -84,7 +84,7 @@ pub record IsNaming (a b : Links) (f : geo.DirectedFacet) (y id : ℕ) : Type 0 
   pub side : ℕ
   pub side_in : side < 4
   pub turned : IsTurned f (facet_of (a.at y) side)
-  pub written : IsWritten a b y side id
+  pub written : IsSideWritten a b y side id
 
 -- each cell across the fan is live and has its facet
 pub record AreFacing (a : Links) (fan : List Facet) : Type 0 where
@@ -133,7 +133,7 @@ pub record AreJoined (a b : Links) (edges : List Edge) (n : ℕ) : Type 0 where
   pub others : (y k : ℕ) → ((x : Edge) → Contains edges x → x.cell ≡ y → x.side ≡ k → ⊥) → b.next y k ≡ a.next y k
 
 -- what is asked of edges that are to be joined
-pub record CanJoin (a : Links) (edges : List Edge) : Type 0 where
+pub record CanJoinEdges (a : Links) (edges : List Edge) : Type 0 where
   pub pairs : ArePairs edges
   pub once : (x y : Edge) → Contains edges x → Contains edges y → x.cell ≡ y.cell → x.side ≡ y.side
       → (x.start ≡ y.start) × (x.end ≡ y.end)
@@ -148,7 +148,7 @@ pub record CanGrow (a : Links) (fan : List Facet) : Type 0 where
   pub small : AreSmall fan
   pub facing : AreFacing a fan
   pub once : (i j : ℕ) → i < length fan → j < length fan → IsRotated (fan_facet fan i) (fan_facet fan j) → i ≡ j
-  pub edges : AreEdges fan
+  pub edges : HasPairedEdges fan
   pub fits : (i e : ℕ) → i < length fan → (edge_start (fan_facet fan i) e < 2 ^ 32) × (edge_end (fan_facet fan i) e < 2 ^ 32)
   pub apart : (i e d : ℕ) → i < length fan → e < 3 → d < 3 → edge_start (fan_facet fan i) e ≡ edge_start (fan_facet fan i) d
       → e ≡ d

@@ -6,7 +6,7 @@
 --   AreVertices points inserted      they are the corners and data points
 --   AreKept s                        each inserted vertex's kept cell is live and has it
 --   IsStore s                        what is true of each store
---   room_of capacity count ..        how many cells fit
+--   spare_room capacity count ..     how many cells fit
 --   store_from points ..             what a store is seen as, from its parts
 use Rattle.std.specs.Prelude.{ℕ, ◌≡◌, ◌≤◌, ◌+◌, ◌-◌, ◌/◌, Bool, false, List, Option, length, get_or, slice_index}
 use Rattle.std.specs.Prelude.{slice_index_or, min, if◌then◌else◌, nat_lt}
@@ -62,8 +62,8 @@ pub record IsStore (s : Store) : Type 0 where
 
 -- how many cells fit: those for which the slab has room, at numbers below the one that stands for none, and the two lists that
 -- are filled when cells are put in, with one number and three edges a cell
-abbrev pub room_of : (capacity count ids edges : ℕ) → ℕ
-room_of capacity count ids edges = if nat_lt capacity 4294967296 then min (capacity - count) (min ids (edges / 3)) else 0
+abbrev pub spare_room : (capacity count ids edges : ℕ) → ℕ
+spare_room capacity count ids edges = if nat_lt capacity 4294967296 then min (capacity - count) (min ids (edges / 3)) else 0
 
 -- what a store is seen as, from its parts
 abbrev pub store_from : List Point → List Bool → Slab Cell → List ℕ → (ids edges : ℕ) → Store
@@ -73,5 +73,5 @@ store_from points inserted cells kept ids edges =
       inserted = inserted;
       slots = cells.slots;
       kept = kept;
-      spare = room_of cells.capacity (slab_len cells) ids edges;
+      spare = spare_room cells.capacity (slab_len cells) ids edges;
     }

@@ -1,7 +1,7 @@
 //! Directed edges of a fan.
 
 ghost use Rattle.std.specs.Prelude.{◌≡◌, ◌↔◌, IsTrue};
-ghost use Rattle.tetra_store.specs.Edges.{key_of, IsReverse};
+ghost use Rattle.tetra_store.specs.Edges.{key_of_edge, IsReverse};
 
 /// A directed edge of a fan, the new cell over its facet, and the side of that cell opposite to the facet's third vertex.
 #[derive(Clone, Copy)]
@@ -15,7 +15,7 @@ pub(crate) struct Edge {
 impl Edge {
     /// A number for its vertices, the same for its reverse.
     pub(crate) fn key(&self) -> u64
-        ensures { result ≡ key_of self.now }
+        ensures { result ≡ key_of_edge self.now }
     {
         let low = self.start.min(self.end);
         let high = self.start.max(self.end);

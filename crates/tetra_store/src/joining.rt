@@ -9,8 +9,8 @@ ghost use Rattle.std.specs.List.Sorted.{IsPermutation};
 ghost use Rattle.slab.specs.Slab.{slab_len};
 ghost use Rattle.tetra_store.specs.Links.{links_of, IsLive};
 ghost use Rattle.tetra_store.specs.declared.edge.Edge.{Edge};
-ghost use Rattle.tetra_store.specs.Steps.{IsWritten, AreFanEdges, AreJoined, CanJoin};
-ghost use Rattle.tetra_store.specs.Edges.{edge_at, IsByKey, IsReverse, ArePairs};
+ghost use Rattle.tetra_store.specs.Steps.{IsSideWritten, AreFanEdges, AreJoined, CanJoinEdges};
+ghost use Rattle.tetra_store.specs.Edges.{edge_at, AreByKey, IsReverse, ArePairs};
 
 use crate::edge::Edge;
 use crate::hints::Hints;
@@ -56,7 +56,7 @@ fn join_side(cells: &mut Slab<Linked>, edge: Edge, mate: Edge)
     requires live { IsLive (links_of cells.old.slots) edge.cell }
     requires side { edge.side < 4 }
     requires small { mate.cell + 1 < 2 ^ 32 }
-    ensures written { IsWritten (links_of cells.old.slots) (links_of cells.new.slots) edge.cell edge.side mate.cell }
+    ensures written { IsSideWritten (links_of cells.old.slots) (links_of cells.new.slots) edge.cell edge.side mate.cell }
     ensures capacity { cells.new.capacity ≡ cells.old.capacity }
     ensures len { slab_len cells.new ≡ slab_len cells.old }
 {
@@ -68,7 +68,7 @@ fn join_side(cells: &mut Slab<Linked>, edge: Edge, mate: Edge)
 /// Puts edges in the order of their keys.
 fn sort(edges: &mut [Edge])
     ensures moved { IsPermutation edges.old edges.new }
-    ensures sorted { IsByKey edges.new }
+    ensures sorted { AreByKey edges.new }
 {
     edges.sort_unstable_by_key(|edge| edge.key());
 }
@@ -85,7 +85,7 @@ fn is_reverse_next(edges: &[Edge], at: usize) -> bool
 /// The reverse of the edge at a place. It stands next to it.
 fn reverse_of(edges: &[Edge], at: usize) -> Edge
     requires within { at < length edges.now }
-    requires sorted { IsByKey edges.now }
+    requires sorted { AreByKey edges.now }
     requires pairs { ArePairs edges.now }
     ensures listed { Contains edges.now result }
     ensures reverse { IsReverse (edge_at edges.now at) result }
@@ -99,8 +99,8 @@ fn reverse_of(edges: &[Edge], at: usize) -> Edge
 
 /// Makes the cells of each edge and of its reverse neighbors, where the edges are in the order of their keys.
 fn join_sorted(cells: &mut Slab<Linked>, edges: &[Edge])
-    requires sorted { IsByKey edges.now }
-    requires can { CanJoin (links_of cells.old.slots) edges.now }
+    requires sorted { AreByKey edges.now }
+    requires can { CanJoinEdges (links_of cells.old.slots) edges.now }
     ensures joined { AreJoined (links_of cells.old.slots) (links_of cells.new.slots) edges.now (length edges.now) }
     ensures capacity { cells.new.capacity ≡ cells.old.capacity }
     ensures len { slab_len cells.new ≡ slab_len cells.old }
@@ -128,7 +128,7 @@ fn hinted(edges: &[Edge], hints: &Hints, at: usize) -> Option<Edge>
 
 /// Makes the cells of edges and of their reverses neighbors, up to the first edge whose hint is wrong. Whether there is none.
 fn join_hinted(cells: &mut Slab<Linked>, edges: &[Edge], hints: &Hints) -> bool
-    requires { CanJoin (links_of cells.old.slots) edges.now }
+    requires { CanJoinEdges (links_of cells.old.slots) edges.now }
     ensures some { AreJoined (links_of cells.old.slots) (links_of cells.new.slots) edges.now 0 }
     ensures all { result ≡ true → AreJoined (links_of cells.old.slots) (links_of cells.new.slots) edges.now (length edges.now) }
     ensures capacity { cells.new.capacity ≡ cells.old.capacity }
@@ -146,7 +146,7 @@ fn join_hinted(cells: &mut Slab<Linked>, edges: &[Edge], hints: &Hints) -> bool
 
 /// Makes the cells of each edge and of its reverse neighbors. The edges may then stand in another order.
 pub(crate) fn join(cells: &mut Slab<Linked>, edges: &mut [Edge], hints: &Hints)
-    requires { (xs : List Edge) → IsPermutation edges.old xs → CanJoin (links_of cells.old.slots) xs }
+    requires { (xs : List Edge) → IsPermutation edges.old xs → CanJoinEdges (links_of cells.old.slots) xs }
     ensures moved { IsPermutation edges.old edges.new }
     ensures joined { AreJoined (links_of cells.old.slots) (links_of cells.new.slots) edges.new (length edges.new) }
     ensures capacity { cells.new.capacity ≡ cells.old.capacity }

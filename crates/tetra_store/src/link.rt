@@ -26,15 +26,15 @@ pub(crate) struct Link {
 impl Model for Link {
     ghost use Rattle.std.specs.Prelude.{Option, ℕ};
     ghost use Rattle.std.proofs.Common.{ap};
-    ghost use Rattle.tetra_store.specs.Packed.{link_of, number_of, number_of-link_of};
+    ghost use Rattle.tetra_store.specs.Packed.{link_of, packed_number, packed_number-link_of};
 
     ghost Value = { Option ℕ };
 
     ghost view = { λ l. link_of l.number };
 
-    ghost inverse = { λ o. record { number = number_of o } };
+    ghost inverse = { λ o. record { number = packed_number o } };
 
-    ghost inverse_ok = { λ l h. ap (λ n. record { number = n }) (number_of-link_of l.number) };
+    ghost inverse_ok = { λ l h. ap (λ n. record { number = n }) (packed_number-link_of l.number) };
 }
 
 impl Link {

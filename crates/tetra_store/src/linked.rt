@@ -4,7 +4,7 @@ ghost use Rattle.std.specs.Prelude.{◌≡◌, ◌+◌, ◌<◌, ◌^◌, ◌↔
 ghost use Rattle.slab.specs.Slab.{ContainsKey, slab_len};
 ghost use Rattle.geo_sign.specs.Writings.{IsVertexOf};
 ghost use Rattle.tetra_store.specs.Links.{links_of, slot_at, tetrahedron_from};
-ghost use Rattle.tetra_store.specs.Steps.{IsWritten};
+ghost use Rattle.tetra_store.specs.Steps.{IsSideWritten};
 
 use crate::link::Link;
 use crate::{Cell, CellId};
@@ -156,7 +156,7 @@ pub(crate) fn set_next(cells: &mut Slab<Linked>, id: CellId, side: usize, other:
     requires live { ContainsKey cells.old id }
     requires side { side < 4 }
     requires small { other + 1 < 2 ^ 32 }
-    ensures written { IsWritten (links_of cells.old.slots) (links_of cells.new.slots) id side other }
+    ensures written { IsSideWritten (links_of cells.old.slots) (links_of cells.new.slots) id side other }
     ensures capacity { cells.new.capacity ≡ cells.old.capacity }
     ensures len { slab_len cells.new ≡ slab_len cells.old }
 {

@@ -3,7 +3,7 @@
 -- once.
 use Rattle.std.proofs.Common.{ℕ, arith}
 use Rattle.std.proofs.Common.{Option, List}
-use Rattle.cell_laws.specs.Links as laws
+use Rattle.cell_laws.specs.Links.{AreLinked}
 use Rattle.cell_laws.specs.Lists.{IsIn, AreCells, IsListing}
 use Rattle.cell_laws.proofs.Laws.{linked_law}
 use Rattle.cell_laws.proofs.RisingRows as rows
@@ -25,7 +25,7 @@ live slots id h = listed_is_live slots id (rows.listed (live_of slots) id h)
 
 -- ---- the links
 pub linked : (s : Store) → IsStore s
-    → laws.IsLinked (vertices_of s) (live_of s.slots) (links_of s.slots).at (links_of s.slots).next
+    → AreLinked (vertices_of s) (live_of s.slots) (links_of s.slots).at (links_of s.slots).next
 linked s k =
     let l = k.linked in
     record {

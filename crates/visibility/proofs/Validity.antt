@@ -12,7 +12,7 @@ use Rattle.std.proofs.lemmas.Bool.{and_parts, and_from, or_cases, eqb-true, eq-e
 use Rattle.std.proofs.lemmas.List.{get_or-map, length-map}
 use Rattle.std.proofs.lemmas.List.Sums.{position_or_len_is, passes_at_first}
 use Rattle.geo_sign.proofs.Among.{same_itself, same_means}
-use Rattle.flow_net.specs.Nets.{arc_at, flag_at, no_arc, IsReverse, IsValidArc, IsValidNet}
+use Rattle.flow_net.specs.Nets.{arc_at, flag_at, no_arc, IsReverseArc, IsValidArc, IsValidNet}
 use Rattle.flow_net.specs.declared.Arc.{Arc}
 use Rattle.geo_sign.specs.Tetrahedron.{Tetrahedron, DirectedFacet, tetrahedron, facet, facet_of, facet_at, numbers_of, turned}
 use Rattle.geo_sign.specs.Tetrahedron.{is_same_facet, is_among}
@@ -195,7 +195,7 @@ flag_there s complex f l =
 
 turned_back : (s : Scene) (complex : Complex) (j : ℕ) (f : DirectedFacet) (g : List ℕ) (pair : Option ℕ) → facet_at g ≡ turned f
     → is_fixed s.vertices s.scanners (cell_of s.vertices complex.cells (turned f)) ≡ false → facet_index complex.facets f ≡ j
-    → IsReverse (arc_with s complex f pair) j (arc_of s complex g)
+    → IsReverseArc (arc_with s complex f pair) j (arc_of s complex g)
 unfolding arc_of
 turned_back s complex j f g pair e free index =
     record {
@@ -253,11 +253,11 @@ valid_with s complex j f few o h index b own =
           pair_in = λ k e. let at : pair.at ≡ k = sym pair.index ∙ some_is e in
               omega (arith, at, pair.in_range, length-map complex.facets (arc_of s complex));
           pair_is = λ k e.
-              subst (λ (i : ℕ). IsReverse
+              subst (λ (i : ℕ). IsReverseArc
               (arc_with s complex (facet_at f) (Some (facet_index complex.facets (turned (facet_at f))))) j
               (arc_at (arcs_of s complex) i)) (sym pair.index ∙ some_is e)
               (subst (λ (a : Arc).
-              IsReverse (arc_with s complex (facet_at f) (Some (facet_index complex.facets (turned (facet_at f))))) j a)
+              IsReverseArc (arc_with s complex (facet_at f) (Some (facet_index complex.facets (turned (facet_at f))))) j a)
               (sym (arc_there s complex pair.at pair.in_range))
               (turned_back s complex j (facet_at f) (get_or complex.facets pair.at [])
               (Some (facet_index complex.facets (turned (facet_at f)))) pair.is h.free index));

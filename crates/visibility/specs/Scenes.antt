@@ -6,7 +6,7 @@
 use Rattle.std.specs.Prelude.{ℕ, List, slice_index_or}
 use Rattle.geo_sign.specs.Point.{Point, origin}
 use Rattle.geo_sign.specs.Rational.{RationalPoint, displaced}
-use Rattle.geo_sign.specs.Vertices.{Vertices, vertices_of}
+use Rattle.geo_sign.specs.Vertices.{Vertices, boxed_vertices}
 use Rattle.flow_net.specs.declared.votes.Settings.{Settings}
 use Rattle.flow_net.specs.declared.votes.Sight.{Sight}
 
@@ -22,7 +22,7 @@ pub record Scene : Type 0 where
 abbrev pub scene_of : List Point → List Point → List Sight → Settings → Scene
 scene_of points scanners sights settings =
     record {
-      vertices = vertices_of points;
+      vertices = boxed_vertices points;
       scanners = scanners;
       sights = sights;
       settings = settings;

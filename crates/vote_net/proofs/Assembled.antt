@@ -29,8 +29,8 @@ use Rattle.vote_net.specs.declared.rows.Row.{Row}
 use Rattle.vote_net.specs.declared.sides.Side.{Side}
 use Rattle.vote_net.specs.Counts.{AreCountsOf, AreIdsOf, row_of}
 use Rattle.vote_net.specs.Gathered.{key_of_row, key_of_side, all_rows, all_open}
-use Rattle.vote_net.specs.Tables.{id_of_row, cell_of_row, facet_of_side, number_of_side, AreApart, AreNumbered, AreArcs}
-use Rattle.vote_net.specs.Tables.{CanJoin, other_of, arc_from}
+use Rattle.vote_net.specs.Tables.{id_of_row, cell_of_row, facet_of_side, number_of_side, AreDistinctBy, AreNumbered, AreArcs}
+use Rattle.vote_net.specs.Tables.{CanBecomeArc, other_of, arc_from}
 use Rattle.vote_net.proofs.CellSides.{across_has}
 use Rattle.vote_net.proofs.Entries.{IsRowAt, IsSideAt, row_is, side_is}
 use Rattle.vote_net.proofs.Stored.{listed, live}
@@ -59,7 +59,7 @@ module _ (s : Scene) (slots : List (Option Cell)) (crossed behind : List ℕ) (f
   pub ids_below : (r : Row) → Contains rows r → id_of_row r < length fixed
   ids_below r h = let l = slot_in slots r.id (row_at_is r h).live in let n = asked.flags.count in omega (arith, l, n)
 
-  pub rows_apart : AreApart id_of_row rows
+  pub rows_apart : AreDistinctBy id_of_row rows
   rows_apart = made.apart s slots fixed asked.cells asked.few rows lists.moved
 
   pub numbers_below : (x : Side) → Contains sides x → number_of_side x < length crossed
@@ -70,11 +70,11 @@ module _ (s : Scene) (slots : List (Option Cell)) (crossed behind : List ℕ) (f
       let n = asked.crossings.count in
       omega (arith, l, k, n)
 
-  pub sides_apart : AreApart number_of_side sides
+  pub sides_apart : AreDistinctBy number_of_side sides
   sides_apart =
       made.sides_are_apart s slots fixed asked.cells asked.few rows lists.moved asked.flags sides lists.moved_sides
 
-  pub can_join : length crossed < 2 ^ 64 → (x : Side) → Contains sides x → CanJoin slots x
+  pub can_join : length crossed < 2 ^ 64 → (x : Side) → Contains sides x → CanBecomeArc slots x
   can_join fits x h =
       let p = side_at_is x h in
       let n = asked.crossings.count in

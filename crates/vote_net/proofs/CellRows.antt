@@ -10,7 +10,7 @@ use Rattle.geo_sign.specs.Tetrahedron.{Tetrahedron, tetrahedron, DirectedFacet, 
 use Rattle.geo_sign.specs.Vertices.{Vertices}
 use Rattle.geo_sign.specs.Cells.{written}
 use Rattle.geo_sign.specs.RowLaws.{IsRowOf, IsPositive, IsFirstLeast}
-use Rattle.geo_sign.specs.Writings.{IsRewritten, moved}
+use Rattle.geo_sign.specs.Writings.{IsRewritten, after_steps}
 use Rattle.geo_sign.proofs.Among.{own_facet, found}
 use Rattle.geo_sign.proofs.CellRows.{distinct, same_positive}
 use Rattle.geo_sign.proofs.Rewritings.{rewritten_after, rewritten_back, same_facets}
@@ -24,7 +24,7 @@ use Rattle.vote_net.specs.CellRows.{low, high, order_ab, order_cd, order_ac, ord
 AreFour : Tetrahedron → Tetrahedron → Type 0
 AreFour t r = IsRewritten t r ⊎ IsRewritten t (tetrahedron r.a r.b r.d r.c)
 
-after : (t r u : Tetrahedron) (steps : List Bool) → IsRewritten t r → moved steps r ≡ u → IsRewritten t u
+after : (t r u : Tetrahedron) (steps : List Bool) → IsRewritten t r → after_steps steps r ≡ u → IsRewritten t u
 after t r u steps h e = rewritten_after t r u h (steps, e)
 
 take_ab : (t r : Tetrahedron) → AreFour t r → AreFour t (tetrahedron r.b r.a r.c r.d)

@@ -16,7 +16,7 @@ use Rattle.vote_net.specs.CellRows.{facet_row, risen, row_from}
 use Rattle.vote_net.specs.Counts.{row_of}
 use Rattle.cell_net.specs.Arcs.{is_free}
 use Rattle.vote_net.specs.Gathered.{row_at, side_at, side_if_open, open_at, cut_at, all_rows, all_open, all_cut}
-use Rattle.vote_net.specs.Tables.{id_of_row, number_of_side, AreApart}
+use Rattle.vote_net.specs.Tables.{id_of_row, number_of_side, AreDistinctBy}
 use Rattle.vote_net.proofs.Lists.{Rises, rises_from, rises_append, rises_apart}
 use Rattle.geo_sign.proofs.Members.{here, there, flat_map_has, flat_map_gets}
 
@@ -106,7 +106,7 @@ rows_rise n (e ∷ es) m r = (r.0, rows_rise (e.0 + 1) es m r.1)
 pub all_rows_rise : (slots : List (Option Cell)) → Rises id_of_row 0 (all_rows slots) (0 + length slots)
 all_rows_rise slots = rows_rise 0 (entries_from 0 slots) (0 + length slots) (entries_rise 0 slots)
 
-pub rows_apart : (slots : List (Option Cell)) → AreApart id_of_row (all_rows slots)
+pub rows_apart : (slots : List (Option Cell)) → AreDistinctBy id_of_row (all_rows slots)
 rows_apart slots =
     rises_apart id_of_row 0 (all_rows slots) (0 + length slots) (all_rows_rise slots)
 
@@ -146,7 +146,7 @@ pub all_open_rise : (fixed : List Bool) (slots : List (Option Cell))
     → Rises number_of_side (4 * 0) (all_open fixed slots) (4 * (0 + length slots))
 all_open_rise fixed slots = sides_rise fixed 0 (entries_from 0 slots) (0 + length slots) (entries_rise 0 slots)
 
-pub sides_apart : (fixed : List Bool) (slots : List (Option Cell)) → AreApart number_of_side (all_open fixed slots)
+pub sides_apart : (fixed : List Bool) (slots : List (Option Cell)) → AreDistinctBy number_of_side (all_open fixed slots)
 sides_apart fixed slots =
     rises_apart number_of_side (4 * 0) (all_open fixed slots) (4 * (0 + length slots)) (all_open_rise fixed slots)
 
@@ -168,7 +168,7 @@ cut_rises outside n (e ∷ es) m r =
     (rises_append number_of_side (4 * e.0) (cut_at outside e) (4 * (e.0 + 1)) (flat_map (cut_at outside) es) (4 * m)
     (cut_rises_at outside e) (cut_rises outside (e.0 + 1) es m r.1))
 
-pub cut_apart : (outside : List Bool) (slots : List (Option Cell)) → AreApart number_of_side (all_cut outside slots)
+pub cut_apart : (outside : List Bool) (slots : List (Option Cell)) → AreDistinctBy number_of_side (all_cut outside slots)
 cut_apart outside slots =
     rises_apart number_of_side (4 * 0) (all_cut outside slots) (4 * (0 + length slots))
     (cut_rises outside 0 (entries_from 0 slots) (0 + length slots) (entries_rise 0 slots))

@@ -31,10 +31,10 @@ use Rattle.tetra_store.specs.Links.{links_of, IsLive}
 use Rattle.vote_net.specs.declared.rows.Row.{Row}
 use Rattle.vote_net.specs.declared.sides.Side.{Side}
 use Rattle.vote_net.specs.CellRows.{least_first, risen, facet_row}
-use Rattle.vote_net.specs.Counts.{AreCellsOf, AreFixed, AreCrossings, row_of}
+use Rattle.vote_net.specs.Counts.{AreCellsOf, AreFixed, AreCrossingCounts, row_of}
 use Rattle.vote_net.specs.Gathered.{row_key, facet_key, key_of_row, key_of_side, all_rows, all_open}
 use Rattle.tetra_store.specs.Stored.{live_of}
-use Rattle.vote_net.specs.Tables.{id_of_row, cell_of_row, facet_of_side, number_of_side, AreApart, AreNumbered, side_with}
+use Rattle.vote_net.specs.Tables.{id_of_row, cell_of_row, facet_of_side, number_of_side, AreDistinctBy, AreNumbered, side_with}
 use Rattle.vote_net.specs.Tables.{other_of, arc_from}
 use Rattle.vote_net.proofs.CellRows.{IsSideOf, risen_row, row_has_side, least_rotated}
 use Rattle.vote_net.proofs.CellSides.{side_facet, one_cell, one_side_of, across_has, has_across, has_is}
@@ -154,7 +154,7 @@ module _ (s : Scene) (slots : List (Option Cell)) (fixed : List Bool) (cells : A
 
   -- ---- sides
   module _ (sides : List Side) (side_at_is : (i : ℕ) (d : Side) → i < length sides → IsSideAt slots fixed (get_or sides i d))
-      (sides_are_apart : AreApart number_of_side sides) where
+      (sides_are_apart : AreDistinctBy number_of_side sides) where
     -- sides of one facet are one
     pub one_index : (i j : ℕ) → i < length sides → j < length sides
         → facet_at (get_or sides i no_side).facet ≡ facet_at (get_or sides j no_side).facet → i ≡ j
@@ -220,7 +220,7 @@ module _ (s : Scene) (slots : List (Option Cell)) (fixed : List Bool) (cells : A
         (Contains-permutation rows (all_rows slots) (get_or rows i d) (IsPermutation-sym (all_rows slots) rows moved)
         (Contains-get_or rows i d l))
 
-    pub apart : AreApart id_of_row rows
+    pub apart : AreDistinctBy id_of_row rows
     apart = apart_permuted id_of_row (all_rows slots) rows moved (rows_apart slots)
 
     -- the node of a cell
@@ -391,7 +391,7 @@ module _ (s : Scene) (slots : List (Option Cell)) (fixed : List Bool) (cells : A
             (Contains-permutation sides (all_open fixed slots) (get_or sides i d)
             (IsPermutation-sym (all_open fixed slots) sides moved_sides) (Contains-get_or sides i d l))
 
-        pub sides_are_apart : AreApart number_of_side sides
+        pub sides_are_apart : AreDistinctBy number_of_side sides
         sides_are_apart = apart_permuted number_of_side (all_open fixed slots) sides moved_sides (sides_apart fixed slots)
 
         facet_here : (i : ℕ) (d : List ℕ) → i < length sides → get_or complex_facets i d ≡ (get_or sides i no_side).facet
@@ -440,7 +440,7 @@ module _ (s : Scene) (slots : List (Option Cell)) (fixed : List Bool) (cells : A
             (λ _. subst (λ (r : List ℕ). is_same_facet (facet_at r) f ≡ true) (sym (facet_here j [] l)) (same_itself f))
 
         module _ (nodes numbers crossed : List ℕ) (are_nodes : AreNumbered id_of_row rows nodes)
-            (are_numbers : AreNumbered number_of_side sides numbers) (counts : AreCrossings s slots crossed) where
+            (are_numbers : AreNumbered number_of_side sides numbers) (counts : AreCrossingCounts s slots crossed) where
           node_number : (x k : ℕ) → IsLive (links_of slots) x → k < 4
               → get_or nodes x 0 ≡ cell_index s.vertices complex_cells (facet_at_side x k)
           node_number x k h l =

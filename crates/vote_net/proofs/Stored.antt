@@ -7,9 +7,9 @@ use Rattle.std.proofs.lemmas.List.{length-append}
 use Rattle.geo_sign.specs.Point.{Point}
 use Rattle.geo_sign.specs.Tie.{height}
 use Rattle.geo_sign.specs.Vertices.{Vertices, corners, point_of}
-use Rattle.geo_sign.specs.Vertices as all
+use Rattle.geo_sign.specs.Vertices.{boxed_vertices}
 use Rattle.geo_sign.specs.Boxes.{inserted_vertices}
-use Rattle.cell_laws.specs.Links as laws
+use Rattle.cell_laws.specs.Links.{AreLinked}
 use Rattle.cell_laws.specs.LinkLaws.{AreAllCells}
 use Rattle.cell_laws.specs.Lists.{IsIn, AreCells}
 use Rattle.cell_laws.proofs.Laws.{linked_law}
@@ -33,7 +33,7 @@ pub live : (slots : List (Option Cell)) (id : ℕ) → IsIn (live_of slots) id �
 live slots id h = listed_is_live slots id (rows.listed (live_of slots) id h)
 
 -- ---- the links
-linked : (s : Store) → IsStore s → laws.IsLinked (vertices_of s) (live_of s.slots) (links_of s.slots).at (links_of s.slots).next
+linked : (s : Store) → IsStore s → AreLinked (vertices_of s) (live_of s.slots) (links_of s.slots).at (links_of s.slots).next
 linked s k =
     let l = k.linked in
     record {
@@ -82,7 +82,7 @@ vertices_are places points flags e =
 pub whole : (s : Store) (points : List Point) → IsStore s → s.points ≡ corners ++ points → IsDelaunay (vertices_of s)
     (links_of s.slots)
     → ((u : ℕ) → u < length s.points → get_or s.inserted u false ≡ true)
-    → AreAllCells (all.vertices_of points) (live_of s.slots)
+    → AreAllCells (boxed_vertices points) (live_of s.slots)
     (links_of s.slots).at (links_of s.slots).next
 whole s points k e d inserted =
     (stored_law points s.inserted).whole (λ u l. inserted u (let n = count in omega (arith, l, n))) (live_of s.slots)

@@ -2,7 +2,7 @@
 --
 --   AreCellsOf scene slots  the store has all cells of the scene
 --   row_of slots id         the four vertices of a live cell, in rising order
---   AreCrossings            what the sights that cross the facet of each side weigh
+--   AreCrossingCounts       what the sights that cross the facet of each side weigh
 --   AreBehind               what the sights that each cell is behind weigh
 --   AreFixed                which cells are fixed
 --   AreIdsOf                the cells' numbers in the store, in the order of their rows
@@ -32,7 +32,7 @@ abbrev pub row_of : List (Option Cell) → ℕ → List ℕ
 row_of slots id = row_from (risen ((links_of slots).at id))
 
 -- four counts a cell at least: at 4 * id + k the crossings of the facet of side k, from whatever vertex on it is written
-pub record AreCrossings (s : Scene) (slots : List (Option Cell)) (crossed : List ℕ) : Type 0 where
+pub record AreCrossingCounts (s : Scene) (slots : List (Option Cell)) (crossed : List ℕ) : Type 0 where
   pub count : 4 * length slots ≤ length crossed
   pub at : (id k : ℕ) (f : DirectedFacet) → IsLive (links_of slots) id → k < 4
       → IsRotated (facet_of ((links_of slots).at id) k) f
@@ -59,7 +59,7 @@ pub record AreCountsOf (s : Scene) (slots : List (Option Cell)) (crossed behind 
   pub cells : AreCellsOf s slots
   pub few : s.vertices.count ≤ 2 ^ 32
   pub few_sights : IsSightList s.sights
-  pub crossings : AreCrossings s slots crossed
+  pub crossings : AreCrossingCounts s slots crossed
   pub before : AreBehind s slots behind
   pub flags : AreFixed s slots fixed
 

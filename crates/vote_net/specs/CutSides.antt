@@ -7,7 +7,7 @@ use Rattle.flow_net.specs.Nets.{flag_at}
 use Rattle.tetra_store.specs.declared.link.Cell.{Cell}
 use Rattle.tetra_store.specs.Links.{links_of, IsLive}
 use Rattle.vote_net.specs.CellRows.{facet_row}
-use Rattle.vote_net.specs.Tables.{number_of_side, AreApart}
+use Rattle.vote_net.specs.Tables.{number_of_side, AreDistinctBy}
 use Rattle.vote_net.specs.declared.sides.Side.{Side}
 
 -- of a live cell, with its facet as the cell has it, the least vertex first
@@ -26,4 +26,4 @@ pub record AreCutSides (slots : List (Option Cell)) (outside : List Bool) (sides
   pub all : (id k other : ℕ) → k < 4 → (links_of slots).next id k ≡ Some other → flag_at outside id ≡ true
       → flag_at outside other ≡ false
       → (x : Side) × Contains sides x × (x.id ≡ id) × (x.side ≡ k)
-  pub once : AreApart number_of_side sides
+  pub once : AreDistinctBy number_of_side sides

@@ -3,11 +3,11 @@
 --   id_of_row, cell_of_row      the parts of a row
 --   facet_of_side x             the facet of a side
 --   number_of_side x            the number of a side among all sides
---   AreApart f xs               no two of a list have one number
+--   AreDistinctBy f xs          no two of a list have one number
 --   AreNumberedTo, AreNumbered  a table has the index of each of the first n, or of all
 --   side_with t f               the side of a cell that has a facet
 --   other_of slots x            the neighbor across a side
---   CanJoin slots x             a side with a neighbor, whose numbers fit
+--   CanBecomeArc slots x        a side with a neighbor, whose numbers fit
 --   arc_from ..                 the arc of a side, as the code finds it
 --   AreArcs ..                  the arcs of sides, from tables of the indices
 use Rattle.std.specs.Prelude.{ℕ, ◌≡◌, ◌<◌, ◌+◌, ◌*◌, ◌^◌, Bool, Option, Some, None, IsSome, List, length, map, slice_index}
@@ -39,8 +39,8 @@ abbrev pub number_of_side : Side → ℕ
 number_of_side x = 4 * x.id + x.side
 
 -- equal numbers are those of one element
-abbrev pub AreApart : {X : Type 0} → (X → ℕ) → List X → Type 0
-AreApart {X} f xs =
+abbrev pub AreDistinctBy : {X : Type 0} → (X → ℕ) → List X → Type 0
+AreDistinctBy {X} f xs =
     (i j : ℕ) (d : X) → i < length xs → j < length xs → f (slice_index_or xs i d) ≡ f (slice_index_or xs j d) → i ≡ j
 
 -- at the number of each of the first n stands its index
@@ -63,7 +63,7 @@ abbrev pub other_of : List (Option Cell) → Side → ℕ
 other_of slots x = unwrap_or ((links_of slots).next x.id x.side) 0
 
 -- a side of a live cell that is not on a wall, and numbers that fit
-pub record CanJoin (slots : List (Option Cell)) (x : Side) : Type 0 where
+pub record CanBecomeArc (slots : List (Option Cell)) (x : Side) : Type 0 where
   pub live : IsLive (links_of slots) x.id
   pub in_range : x.side < 4
   pub there : IsSome ((links_of slots).next x.id x.side)

@@ -3,7 +3,7 @@
 ghost use Rattle.std.specs.Prelude.{◌≡◌, ◌<◌, ◌+◌, ◌*◌, ◌^◌, IfOk, IsSome, Contains, map, length, slice_index};
 ghost use Rattle.geo_sign.specs.Tetrahedron.{facet_at, turned};
 ghost use Rattle.tetra_store.specs.Links.{links_of, tetrahedron_from, IsLive};
-ghost use Rattle.vote_net.specs.Tables.{id_of_row, number_of_side, AreApart, AreArcs, other_of, side_with as side_with_in, arc_from, CanJoin};
+ghost use Rattle.vote_net.specs.Tables.{id_of_row, number_of_side, AreDistinctBy, AreArcs, other_of, side_with as side_with_in, arc_from, CanBecomeArc};
 ghost use Rattle.vote_net.specs.declared.rows.Row.{Row};
 ghost use Rattle.vote_net.specs.declared.sides.Side.{Side};
 
@@ -85,7 +85,7 @@ fn reverse(t: &Tetra, tables: Tables<'_>, side: &Side, other: CellId) -> usize
 /// The arc of a side with a cell across.
 #[tactic(auto, unfolding(crate::specs::Tables::arc_from))]
 fn arc(t: &Tetra, tables: Tables<'_>, settings: Settings, side: &Side) -> Arc
-    requires { CanJoin t.now.slots side.now }
+    requires { CanBecomeArc t.now.slots side.now }
     ensures { result ≡ arc_from t.now.slots tables.entry.nodes.now tables.entry.numbers.now tables.entry.crossed.now tables.entry.fixed.now settings side.now }
 {
     let other = neighbor(t, side);
@@ -109,7 +109,7 @@ fn arcs_with(
     settings: Settings,
     sides: &[Side],
 ) -> Result<Arcs, NoMemory>
-    requires { (x : Side) → Contains sides.now x → CanJoin t.now.slots x }
+    requires { (x : Side) → Contains sides.now x → CanBecomeArc t.now.slots x }
     ensures { IfOk result (λ arcs. arcs ≡ map (arc_from t.now.slots tables.entry.nodes.now tables.entry.numbers.now tables.entry.crossed.now tables.entry.fixed.now settings) sides.now) }
 {
     let mut arcs = Arcs::with_capacity(alloc, sides.len())?;
@@ -132,9 +132,9 @@ pub(crate) fn arcs_of(
     requires few_sides { length sides.now < 2 ^ 32 }
     requires ids { (r : Row) → Contains rows.now r → id_of_row r < length counts.now.fixed.now }
     requires numbers { (x : Side) → Contains sides.now x → number_of_side x < length counts.now.crossed.now }
-    requires apart_rows { AreApart id_of_row rows.now }
-    requires apart_sides { AreApart number_of_side sides.now }
-    requires joins { (x : Side) → Contains sides.now x → CanJoin t.now.slots x }
+    requires apart_rows { AreDistinctBy id_of_row rows.now }
+    requires apart_sides { AreDistinctBy number_of_side sides.now }
+    requires joins { (x : Side) → Contains sides.now x → CanBecomeArc t.now.slots x }
     ensures { IfOk result (λ arcs. AreArcs t.now.slots rows.now sides.now counts.now.crossed.now counts.now.fixed.now settings arcs) }
 {
     let nodes = node_numbers(alloc, rows, counts.fixed.len())?;

@@ -1,7 +1,7 @@
 //! The index of each row and of each side in its list, by what they are in the store.
 
 ghost use Rattle.std.specs.Prelude.{◌≡◌, ◌<◌, ◌^◌, IfOk, length, slice_index, Contains};
-ghost use Rattle.vote_net.specs.Tables.{id_of_row, number_of_side, AreApart, AreNumbered};
+ghost use Rattle.vote_net.specs.Tables.{id_of_row, number_of_side, AreDistinctBy, AreNumbered};
 ghost use Rattle.vote_net.specs.declared.rows.Row.{Row};
 ghost use Rattle.vote_net.specs.declared.sides.Side.{Side};
 
@@ -34,7 +34,7 @@ pub(crate) fn entry(table: &[u32], index: usize) -> u32
 pub(crate) fn node_numbers(alloc: Global, rows: &[Row], count: usize) -> Result<Vec<u32>, NoMemory>
     requires few { length rows.now < 2 ^ 32 }
     requires ids { (r : Row) → Contains rows.now r → id_of_row r < count }
-    requires apart { AreApart id_of_row rows.now }
+    requires apart { AreDistinctBy id_of_row rows.now }
     ensures { IfOk result (λ table. AreNumbered id_of_row rows.now table.items) }
 {
     let mut table = vec![in alloc; 0u32; count]?;
@@ -48,7 +48,7 @@ pub(crate) fn node_numbers(alloc: Global, rows: &[Row], count: usize) -> Result<
 pub(crate) fn arc_numbers(alloc: Global, sides: &[Side], count: usize) -> Result<Vec<u32>, NoMemory>
     requires few { length sides.now < 2 ^ 32 }
     requires numbers { (x : Side) → Contains sides.now x → number_of_side x < count }
-    requires apart { AreApart number_of_side sides.now }
+    requires apart { AreDistinctBy number_of_side sides.now }
     ensures { IfOk result (λ table. AreNumbered number_of_side sides.now table.items) }
 {
     let mut table = vec![in alloc; 0u32; count]?;

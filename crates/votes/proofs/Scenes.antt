@@ -15,7 +15,7 @@ use Rattle.geo_sign.specs.Rational.{RationalPoint, displaced}
 use Rattle.geo_sign.specs.Sights.{is_crossed, is_behind, is_cell_of}
 use Rattle.geo_sign.specs.Tetrahedron.{Tetrahedron, DirectedFacet, facet_of}
 use Rattle.geo_sign.specs.Tie.{height}
-use Rattle.geo_sign.specs.Vertices as all
+use Rattle.geo_sign.specs.Vertices.{boxed_vertices}
 use Rattle.geo_sign.specs.Vertices.{Vertices, corners, point_of}
 use Rattle.geo_sign.proofs.Corners.{vertex_count}
 use Rattle.flow_net.specs.Nets.{flag_at}
@@ -28,7 +28,7 @@ use Rattle.visibility.specs.declared.scene.Scene.{Scene}
 use Rattle.visibility.specs.Votes.{has_corner, crossings}
 use Rattle.tetra_store.specs.Links.{links_of, IsLive}
 use Rattle.tetra_store.specs.Store.{Store, IsStore, vertices_at, vertices_of}
-use Rattle.vote_net.specs.Counts.{AreCellsOf, AreCrossings, AreBehind, AreFixed, AreCountsOf}
+use Rattle.vote_net.specs.Counts.{AreCellsOf, AreCrossingCounts, AreBehind, AreFixed, AreCountsOf}
 use Rattle.vote_net.proofs.CellCounts.{facet_count_law, cell_count_law}
 use Rattle.vote_net.proofs.Stored.{stored_cells_law}
 use Rattle.votes.specs.Counts.{HasCellsOf, IsInRange, added_by, sum_where, AreCounted}
@@ -68,17 +68,17 @@ seen : (s : Store) (points : List Point) → s.points ≡ corners ++ points → 
 seen s points e = ap (λ (ps : List Point). vertices_at ps s.inserted) e ∙ ap (counted points s.inserted) (vertex_count points)
 
 crossed_in : (points : List Point) (flags : List Bool) (p : ℕ) (q : RationalPoint) (f : DirectedFacet) →
-    is_crossed (inserted_vertices points flags) p q f ≡ is_crossed (all.vertices_of points) p q f
+    is_crossed (inserted_vertices points flags) p q f ≡ is_crossed (boxed_vertices points) p q f
 unfolding is_crossed
 crossed_in points flags p q f = refl
 
 behind_in : (points : List Point) (flags : List Bool) (p : ℕ) (q : RationalPoint) (t : Tetrahedron) →
-    is_behind (inserted_vertices points flags) p q t ≡ is_behind (all.vertices_of points) p q t
+    is_behind (inserted_vertices points flags) p q t ≡ is_behind (boxed_vertices points) p q t
 unfolding is_behind
 behind_in points flags p q t = refl
 
 cell_in : (points : List Point) (flags : List Bool) (q : RationalPoint) (t : Tetrahedron) →
-    is_cell_of (inserted_vertices points flags) q t ≡ is_cell_of (all.vertices_of points) q t
+    is_cell_of (inserted_vertices points flags) q t ≡ is_cell_of (boxed_vertices points) q t
 unfolding is_cell_of
 cell_in points flags q t = refl
 
@@ -120,17 +120,17 @@ module _ (s : Store) (given : Scene) (store : IsStore s) (cells : HasCellsOf s g
 
   -- tests of the store's vertices and of all vertices of the points
   crossed_is : (p : ℕ) (q : RationalPoint) (f : DirectedFacet) →
-      is_crossed (vertices_of s) p q f ≡ is_crossed (all.vertices_of points) p q f
+      is_crossed (vertices_of s) p q f ≡ is_crossed (boxed_vertices points) p q f
   crossed_is p q f = ap (λ (w : Vertices). is_crossed w p q f) (seen s points e) ∙ crossed_in points s.inserted p q f
 
   behind_is : (p : ℕ) (q : RationalPoint) (t : Tetrahedron) →
-      is_behind (vertices_of s) p q t ≡ is_behind (all.vertices_of points) p q t
+      is_behind (vertices_of s) p q t ≡ is_behind (boxed_vertices points) p q t
   behind_is p q t = ap (λ (w : Vertices). is_behind w p q t) (seen s points e) ∙ behind_in points s.inserted p q t
 
-  cell_of_is : (q : RationalPoint) (t : Tetrahedron) → is_cell_of (vertices_of s) q t ≡ is_cell_of (all.vertices_of points) q t
+  cell_of_is : (q : RationalPoint) (t : Tetrahedron) → is_cell_of (vertices_of s) q t ≡ is_cell_of (boxed_vertices points) q t
   cell_of_is q t = ap (λ (w : Vertices). is_cell_of w q t) (seen s points e) ∙ cell_in points s.inserted q t
 
-  crossings_are : (crossed behind : List ℕ) → AreCounted s scanners sights crossed behind → AreCrossings scene s.slots crossed
+  crossings_are : (crossed behind : List ℕ) → AreCounted s scanners sights crossed behind → AreCrossingCounts scene s.slots crossed
   unfolding crossings
   crossings_are crossed behind h =
       record {

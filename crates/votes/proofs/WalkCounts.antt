@@ -21,7 +21,7 @@ use Rattle.tetra_store.proofs.Observed.{slot_in}
 use Rattle.sight.specs.Walks.{Walk, IsSight, IsGoneOn}
 use Rattle.votes.specs.declared.tally.Line.{Line}
 use Rattle.votes.specs.Counts.{is_crossed_at, is_behind_at}
-use Rattle.votes.specs.Lines.{added_on, added_behind, HasRoom, IsCountedStep}
+use Rattle.votes.specs.Lines.{added_on, added_behind, HasCounterRoom, IsCountedStep}
 
 abbrev pub side : (id k : ℕ) → Side
 side id k = record { at = id; side = k }
@@ -176,7 +176,7 @@ shorter amount from to xs ys step =
 -- a counter that a walk raises has room where each total has
 pub has_room : (s : Store) (amount : ℕ) (now : Walk) (beside total : (id k : ℕ) → ℕ) (xs : List ℕ)
     → IsCounting s amount now beside total xs
-    → ((id k : ℕ) → k < 4 → total id k < 2 ^ 32) → HasRoom now.to_come amount xs
+    → ((id k : ℕ) → k < 4 → total id k < 2 ^ 32) → HasCounterRoom now.to_come amount xs
 has_room s amount now beside total xs h small d ds l e =
     let sum = h.sums d.at d.side l in
     let most = small d.at d.side l in

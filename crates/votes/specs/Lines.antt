@@ -1,10 +1,10 @@
 -- Lines of sight as they are walked, and one step along them.
 --
 --   IsLineOf scanners cells sight line   the line of a sight
---   IsLine s line                        a line that can be walked along
+--   IsLineIn s line                      a line that can be walked along
 --   added_on s line id k                 what it adds for a facet
 --   added_behind s line id               what it adds for a cell
---   HasRoom sides amount counters        the counter of the first of the facets to come has room for an amount
+--   HasCounterRoom sides amount counters   the counter of the first of the facets to come has room for an amount
 --   IsCountedStep                        a walk went on by one facet, whose counter was raised
 use Rattle.std.specs.Prelude.{ℕ, ◌≡◌, ◌<◌, ◌≤◌, ◌+◌, ◌*◌, ◌^◌, List, ◌∷◌, set, slice_index, slice_index_or, if◌then◌else◌}
 use Rattle.geo_sign.specs.declared.point.TheConstants.{DATA_LIMIT}
@@ -26,7 +26,7 @@ pub record IsLineOf (scanners : List Point) (cells : List ℕ) (sight : Sight) (
   pub added : line.added ≡ added_by sight
 
 -- from an inserted data point to a data point, whose cell is known
-pub record IsLine (s : Store) (line : Line) : Type 0 where
+pub record IsLineIn (s : Store) (line : Line) : Type 0 where
   pub inserted : Has (vertices_of s) line.vertex
   pub data_vertex : 8 ≤ line.vertex
   pub data_point : IsWithin DATA_LIMIT line.scanner
@@ -41,8 +41,8 @@ abbrev pub added_behind : Store → Line → (id : ℕ) → ℕ
 added_behind s line id = if is_behind_at s line.vertex (displaced line.scanner) id then line.added else 0
 
 -- the counter of the first facet to come, if there is one, stays below 2 ^ 32 with the amount
-abbrev pub HasRoom : List Side → ℕ → List ℕ → Type 0
-HasRoom sides amount counters =
+abbrev pub HasCounterRoom : List Side → ℕ → List ℕ → Type 0
+HasCounterRoom sides amount counters =
     (side : Side) (later : List Side) → side.side < 4 → sides ≡ side ∷ later
     → slice_index counters (4 * side.at + side.side) + amount < 2 ^ 32
 

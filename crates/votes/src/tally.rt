@@ -11,7 +11,7 @@ ghost use Rattle.tetra_store.specs.Links.{links_of};
 ghost use Rattle.tetra_store.specs.Store.{vertices_of};
 ghost use Rattle.sight.specs.Walks.{IsEndCell};
 ghost use Rattle.votes.specs.Counts.{IsInRange, added_by as added_by_sight, AreScannerCells, AreCounted};
-ghost use Rattle.votes.specs.Lines.{IsLineOf, IsLine, added_on, added_behind, HasRoom, IsCountedStep};
+ghost use Rattle.votes.specs.Lines.{IsLineOf, IsLineIn, added_on, added_behind, HasCounterRoom, IsCountedStep};
 
 use crate::NoMemory;
 use flow_net::Sight;
@@ -74,7 +74,7 @@ fn counter_of(along: &SightWalk<'_>) -> usize
 fn count_next(t: &Tetra, along: &mut SightWalk<'_>, added: u32, crossed: &mut [u32]) -> bool
     requires store { along.old.store ≡ t.now }
     requires fits { 4 * length t.now.slots ≤ length crossed.old }
-    requires room { HasRoom along.old.to_come added crossed.old }
+    requires room { HasCounterRoom along.old.to_come added crossed.old }
     ensures on { IsTrue result → IsCountedStep added along.old along.new crossed.old crossed.new }
     ensures out { IsFalse result → (along.old.to_come ≡ []) × (along.new ≡ along.old) × (crossed.new ≡ crossed.old) }
 {
@@ -90,7 +90,7 @@ fn count_next(t: &Tetra, along: &mut SightWalk<'_>, added: u32, crossed: &mut [u
 /// Adds for each facet that a line crosses what it adds.
 fn count_crossed(t: &Tetra, line: &Line, crossed: &mut [u32])
     requires delaunay { IsDelaunay (vertices_of t.now) (links_of t.now.slots) }
-    requires line { IsLine t.now line.now }
+    requires line { IsLineIn t.now line.now }
     requires fits { 4 * length t.now.slots ≤ length crossed.old }
     requires room { (id k : ℕ) → k < 4 → slice_index crossed.old (4 * id + k) + line.now.added < 2 ^ 32 }
     ensures count { length crossed.new ≡ length crossed.old }
@@ -103,8 +103,8 @@ fn count_crossed(t: &Tetra, line: &Line, crossed: &mut [u32])
 /// The same for two lines. They are gone along in turn, so that the one goes on while the other waits for memory.
 fn count_crossed_by_two(t: &Tetra, one: &Line, other: &Line, crossed: &mut [u32])
     requires delaunay { IsDelaunay (vertices_of t.now) (links_of t.now.slots) }
-    requires one { IsLine t.now one.now }
-    requires other { IsLine t.now other.now }
+    requires one { IsLineIn t.now one.now }
+    requires other { IsLineIn t.now other.now }
     requires fits { 4 * length t.now.slots ≤ length crossed.old }
     requires room { (id k : ℕ) → k < 4 → slice_index crossed.old (4 * id + k) + (one.now.added + other.now.added) < 2 ^ 32 }
     ensures count { length crossed.new ≡ length crossed.old }
@@ -124,7 +124,7 @@ fn count_crossed_by_two(t: &Tetra, one: &Line, other: &Line, crossed: &mut [u32]
 /// Adds for the cell behind a line what it adds.
 fn count_behind(t: &Tetra, line: &Line, before: &mut [u32])
     requires delaunay { IsDelaunay (vertices_of t.now) (links_of t.now.slots) }
-    requires line { IsLine t.now line.now }
+    requires line { IsLineIn t.now line.now }
     requires fits { length t.now.slots ≤ length before.old }
     requires room { (id : ℕ) → slice_index before.old id + line.now.added < 2 ^ 32 }
     ensures count { length before.new ≡ length before.old }
@@ -137,8 +137,8 @@ fn count_behind(t: &Tetra, line: &Line, before: &mut [u32])
 /// Adds what two lines add, for each facet that they cross and for the cells behind them.
 fn count_two(t: &Tetra, one: &Line, other: &Line, crossed: &mut [u32], before: &mut [u32])
     requires delaunay { IsDelaunay (vertices_of t.now) (links_of t.now.slots) }
-    requires one { IsLine t.now one.now }
-    requires other { IsLine t.now other.now }
+    requires one { IsLineIn t.now one.now }
+    requires other { IsLineIn t.now other.now }
     requires crossed_fit { 4 * length t.now.slots ≤ length crossed.old }
     requires before_fit { length t.now.slots ≤ length before.old }
     requires crossed_room { (id k : ℕ) → k < 4 → slice_index crossed.old (4 * id + k) + (one.now.added + other.now.added) < 2 ^ 32 }

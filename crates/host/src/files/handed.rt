@@ -1,7 +1,7 @@
 //! The files that a host in memory is made with.
 ghost use Rattle.std.specs.Prelude.{◌≡◌, ◌<◌, ℕ, IfOk, length};
 ghost use Rattle.host.specs.Files.{files_of, names_of_files, room_at, FilesApart};
-ghost use Rattle.host.specs.Handed.{files_handed, names_handed, NamesApart, IsKept};
+ghost use Rattle.host.specs.Handed.{files_handed, names_handed, NamesApart, IsMadeOf};
 
 use super::MemFile;
 use crate::NoMemory;
@@ -14,7 +14,7 @@ fn kept_file(
     handed: (String, Option<Vec<u8>>),
     room: usize,
 ) -> Result<MemFile, NoMemory>
-    ensures { IfOk result (λ file. IsKept room file handed) }
+    ensures { IfOk result (λ file. IsMadeOf room file handed) }
 {
     let (name, bytes) = handed;
     match bytes {

@@ -9,7 +9,7 @@ ghost use Rattle.recon_cmd.specs.Answers.{file_limit, AskAnswer, IsAsked, Writes
 ghost use Rattle.recon_cmd.specs.Checking.{IsReplyOf, ReadsOn};
 ghost use Rattle.recon_cmd.specs.OptionViews.{options_view};
 ghost use Rattle.recon_cmd.specs.Replies.{answer_of};
-ghost use Rattle.recon_cmd.specs.Steps.{IsReplied, ReadsFor, StopsFor};
+ghost use Rattle.recon_cmd.specs.Steps.{IsReplied, ReadsFor, CountsFaults};
 ghost use Rattle.recon_cmd.specs.Words.{ask as ask_of, ask_names};
 
 use crate::NoMemory;
@@ -41,7 +41,7 @@ pub fn reply_to_ask<'a, H: Host, W: Watch>(
     ensures replied { limit ≡ file_limit → IfOk result (λ reply. IsReplied (ask_of (ask_names names.now) (options_view options.now)) reply (H.state host.old)) }
     ensures reads { limit ≡ file_limit → ReadsFor (Some (ask_of (ask_names names.now) (options_view options.now))) (H.state host.old) (H.state host.new) }
     ensures closed { (H.state host.new).writing ≡ false }
-    ensures cause { StopsFor result (H.state host.old).faults (H.state host.new).faults }
+    ensures cause { CountsFaults result (H.state host.old).faults (H.state host.new).faults }
 {
     match read_input(alloc, host, names.input, options, limit)? {
         Reading::Scan(scan, bytes) => {
@@ -68,7 +68,7 @@ fn reply_to_scan<'a, H: Host, W: Watch>(
     ensures reads { limit ≡ file_limit → ReadsOn 1 1 (λ files. AskAnswer (ask_names names.now) (options_view options.now) files (shown_of scan.now))
         (H.state host.old) (H.state host.new) }
     ensures closed { (H.state host.new).writing ≡ false }
-    ensures cause { StopsFor result (H.state host.old).faults (H.state host.new).faults }
+    ensures cause { CountsFaults result (H.state host.old).faults (H.state host.new).faults }
 {
     let bytes = match read_all(alloc, host, names.points, limit) {
         Ok(bytes) => bytes,

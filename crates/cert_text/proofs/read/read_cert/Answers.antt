@@ -4,7 +4,7 @@ use Rattle.cert_text.specs.declared.refusal.CertRefusal.{CertRefusal}
 use Rattle.cert_text.specs.declared.refusal.CertRefusal.TheVariants.{BadLine, Order, CertCut, NoMemory}
 use Rattle.cert_text.specs.Certificates.{Claim, claim_of, IsWellFormed}
 use Rattle.cert_text.specs.Texts.{cert_text}
-use Rattle.cert_text.specs.Refusals.{OrNoMemory, IsRefused}
+use Rattle.cert_text.specs.Refusals.{OrNoMemory, IsRefusedCertificate}
 use Rattle.cert_text.proofs.CertCodes.{cert_code}
 use Rattle.cert_text.proofs.OneRefusal.{refused_once, printed_not_refused}
 use Rattle.cert_text.proofs.read.read_cert.Goals as goal
@@ -17,13 +17,14 @@ only_memory NoMemory P none h = refl
 
 printed_so : (o : Result Certificate CertRefusal) (text : List ℕ)
     → IfOk o (λ cert. IsWellFormed (claim_of cert) × (text ≡ cert_text (claim_of cert)))
-    → IfErr o (λ r. OrNoMemory r (IsRefused text r))
+    → IfErr o (λ r. OrNoMemory r (IsRefusedCertificate text r))
     → (c : Claim) → IsWellFormed c → text ≡ cert_text c → MatchResult o (λ cert. claim_of cert ≡ c) (λ r. r ≡ NoMemory)
 printed_so (Ok cert) text ok err c w e =
     (cert_code (claim_of cert) c [] [] ok.0 w (ap (λ (t : List ℕ). t ++ []) (sym ok.1 ∙ e))).0
-printed_so (Err r) text ok err c w e = only_memory r (IsRefused text r) (printed_not_refused c r text w e) err
+printed_so (Err r) text ok err c w e = only_memory r (IsRefusedCertificate text r) (printed_not_refused c r text w e) err
 
-same_or_memory : (s r : CertRefusal) (text : List ℕ) → OrNoMemory s (IsRefused text s) → IsRefused text r → OrNoMemory s (s ≡ r)
+same_or_memory : (s r : CertRefusal) (text : List ℕ) → OrNoMemory s (IsRefusedCertificate text s) → IsRefusedCertificate text r
+    → OrNoMemory s (s ≡ r)
 same_or_memory (BadLine n) r text h k = refused_once text (BadLine n) r h k
 same_or_memory (Order n) r text h k = refused_once text (Order n) r h k
 same_or_memory CertCut r text h k = refused_once text CertCut r h k
@@ -31,8 +32,8 @@ same_or_memory NoMemory r text h k = tt
 
 first_so : (o : Result Certificate CertRefusal) (text : List ℕ)
     → IfOk o (λ cert. IsWellFormed (claim_of cert) × (text ≡ cert_text (claim_of cert)))
-    → IfErr o (λ r. OrNoMemory r (IsRefused text r))
-    → (r : CertRefusal) → IsRefused text r → IfErr o (λ s. OrNoMemory s (s ≡ r)) × IsErr o
+    → IfErr o (λ r. OrNoMemory r (IsRefusedCertificate text r))
+    → (r : CertRefusal) → IsRefusedCertificate text r → IfErr o (λ s. OrNoMemory s (s ≡ r)) × IsErr o
 first_so (Ok cert) text ok err r h = absurd (printed_not_refused (claim_of cert) r text ok.0 ok.1 h)
 first_so (Err s) text ok err r h = (same_or_memory s r text err h, refl)
 

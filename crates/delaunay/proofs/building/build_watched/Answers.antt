@@ -1,7 +1,7 @@
 use Rattle.std.proofs.Common.{ℕ, ◌≡◌, ◌<◌, Bool, true, false, List, length, slice_index_or, sym, subst}
 use Rattle.geo_sign.specs.Point.{Point}
 use Rattle.curve_order.specs.Order.{IsOrder}
-use Rattle.geo_sign.specs.Vertices as all
+use Rattle.geo_sign.specs.Vertices.{boxed_vertices}
 use Rattle.tetra_store.specs.Links.{links_of}
 use Rattle.tetra_store.proofs.Moves.{delaunay_again}
 use Rattle.delaunay.proofs.Numbered.{numbered_delaunay, numbered_partition}
@@ -26,7 +26,7 @@ returns-clause-delaunay g c =
 
 pub returns-clause-cells : goal.returns-clause-cells
 returns-clause-cells g c =
-    delaunay_again (all.vertices_of c.args.points.now) (links_of c.in_ok-t.t.slots) (links_of c.renumber.new.self.slots)
+    delaunay_again (boxed_vertices c.args.points.now) (links_of c.in_ok-t.t.slots) (links_of c.renumber.new.self.slots)
     c.in_ok-renumber.ensures.renumbered c.in_ok-t.ensures.cells
 
 pub returns-clause-partition : goal.returns-clause-partition

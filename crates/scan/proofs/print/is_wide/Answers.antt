@@ -1,7 +1,7 @@
 use Rattle.std.proofs.Common.{◌≡◌, ◌-◌, true, false, take, drop, get_or, pos, refl, sym, rules}
 use Rattle.std.proofs.lemmas.List.{get_or_default}
 use Rattle.geo_sign.specs.Point.{Point}
-use Rattle.scan.specs.PlainForm.{is_once, row_of}
+use Rattle.scan.specs.PlainForm.{is_once, row_showing}
 use Rattle.scan.proofs.PrintSteps.{IsRun, next_cut, once_more, not_once}
 use Rattle.scan.proofs.print.is_wide.Goals as goal
 
@@ -19,7 +19,7 @@ returns-then-not-is_once c =
     let of = c.end_of_row-end.ensures in
     let run : IsRun seen start end c.loop-i.i =
     record { least = of.least; most = of.most; inside = of.inside; ends = of.ends } in
-    let other : is_once (row_of point (take (end - start) (drop start seen))) ≡ false =
+    let other : is_once (row_showing point (take (end - start) (drop start seen))) ≡ false =
     search (rules, c.is_once.ensures point) in
     sym (not_once c.args.points.now seen start end c.loop-i.i point (take (end - start) (drop start seen)) c.loop-i-test.true
     is_point c.requires c.loop-i.invariant.cut run refl other c.loop-i.invariant.so_far)
@@ -35,7 +35,7 @@ loop-i-preserved c =
     let of = c.end_of_row-end.ensures in
     let run : IsRun seen start end c.loop-i.i =
     record { least = of.least; most = of.most; inside = of.inside; ends = of.ends } in
-    let once : is_once (row_of point (take (end - start) (drop start seen))) ≡ true = search (rules, c.is_once.ensures point) in
+    let once : is_once (row_showing point (take (end - start) (drop start seen))) ≡ true = search (rules, c.is_once.ensures point) in
     record {
       so_far =
           once_more c.args.points.now seen start end c.loop-i.i point (take (end - start) (drop start seen)) c.loop-i-test.true

@@ -5,7 +5,7 @@
 -- one has more often, or the other, is the smallest edge that is not, with both counts (unbalanced). A face has an edge
 -- once, so counts fit 32 bits (few).
 use Rattle.std.proofs.Common.{ℕ, ◌<◌, ◌^◌, List, length, arith, subst, sym, ap, ◌∙◌}
-use Rattle.solid_slice.specs.Pairs.{key_of_pair, key_count, IsPairOf, IsFirstDifference}
+use Rattle.solid_slice.specs.Pairs.{key_of_pair, key_count, IsPairOf, IsFirstUnequalPair}
 use Rattle.solid_slice.specs.declared.pair.Pair.{Pair}
 use Rattle.solid_slice.proofs.EdgeCounts.{balanced, unbalanced, each_among, few}
 use Rattle.solid_slice.proofs.balance.check_balance.Goals as goal
@@ -64,8 +64,8 @@ returns-clause-refused c =
     let p = c.in-Some.pair in
     let small : p.second < 2 ^ 32 = omega arith in
     let first =
-    subst (λ (t : List Pair). IsFirstDifference t c.in_ok-sides.sides.back.items p) c.deref-2.ensures.value
-    (subst (λ (t : List Pair). IsFirstDifference c.deref-2.result.now t p) c.deref-3.ensures.value c.in-Some.ensures.some.0) in
+    subst (λ (t : List Pair). IsFirstUnequalPair t c.in_ok-sides.sides.back.items p) c.deref-2.ensures.value
+    (subst (λ (t : List Pair). IsFirstUnequalPair c.deref-2.result.now t p) c.deref-3.ensures.value c.in-Some.ensures.some.0) in
     unbalanced faces c.in_ok-sides.sides.there.items c.in_ok-sides.sides.back.items
     (each_among (length c.args.mesh.now.points.items) faces c.requires.few_points c.requires.each) pairs p _ _ small
     c.in-Some.ensures.some.1 first

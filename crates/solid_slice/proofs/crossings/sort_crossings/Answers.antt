@@ -4,7 +4,7 @@ use Rattle.std.specs.List.Sorted.{ties, IsStableByKey}
 use Rattle.std.proofs.lemmas.Bool.Decides.{nat_tests}
 use Rattle.std.proofs.lemmas.List.Elements.{filter_agree}
 use Rattle.std.proofs.lemmas.List.Sorted.{IsNonDecreasingBy-from_sort, answers_always}
-use Rattle.solid_slice.specs.Crossings.{key_of_crossing, the_crossed, listed}
+use Rattle.solid_slice.specs.Crossings.{key_of_crossing, the_crossed, faces_of_pair}
 use Rattle.solid_slice.specs.declared.crossings.Crossing.{Crossing}
 use Rattle.solid_slice.proofs.crossings.sort_crossings.Goals as goal
 
@@ -13,7 +13,7 @@ tie_is : (a b k : ℕ) → a ≡ k → (not (is_lt (nat_cmp a b)) && not (is_lt 
 tie_is a b k e = grind (arith, nat_tests)
 
 -- the crossings with one key keep their order
-kept : (k : ℕ) (xs ys : List Crossing) → IsStableByKey key_of_crossing nat_cmp xs ys → listed k ys ≡ listed k xs
+kept : (k : ℕ) (xs ys : List Crossing) → IsStableByKey key_of_crossing nat_cmp xs ys → faces_of_pair k ys ≡ faces_of_pair k xs
 kept k xs ys stable =
     let c : Crossing = record { edge = record { first = 0; second = k }; face = 0 } in
     let same = λ (d : Crossing). tie_is (key_of_crossing c) (key_of_crossing d) k (omega arith) in

@@ -8,7 +8,7 @@ use mir.Syntax.{w32}
 use Rattle.std.specs.List.{All}
 use Rattle.std.proofs.lemmas.Int.{ints}
 use Rattle.geo_sign.specs.Point.{Point, IsWithin}
-use Rattle.solid_slice.specs.Cuts.{is_above, face_at, IsUpEdge, rise, along}
+use Rattle.solid_slice.specs.Cuts.{is_above, face_at, IsUpEdge, rise, at_height}
 use Rattle.mesh_ply.specs.Meshes.{point_at}
 use Rattle.solid_slice.proofs.FaceEdges.{edge_within}
 use Rattle.solid_slice.proofs.Crossed.{cut_within, up_edge_at}
@@ -56,14 +56,14 @@ returns-clause-step c =
       upper = u;
       up = subst (λ (f : ℕ). IsUpEdge points c.args.height (face_at faces f) l u) (sym c.step_on.ensures.face) up;
       x =
-          subst (λ (z : ℤ). s.x ≡ along z (point_at points l) (point_at points u) (point_at points l).x (point_at points u).x)
+          subst (λ (z : ℤ). s.x ≡ at_height z (point_at points l) (point_at points u) (point_at points l).x (point_at points u).x)
           stored
-          (subst (λ (ps : List Point). s.x ≡ along kept (point_at ps l) (point_at ps u) (point_at ps l).x (point_at ps u).x)
+          (subst (λ (ps : List Point). s.x ≡ at_height kept (point_at ps l) (point_at ps u) (point_at ps l).x (point_at ps u).x)
           c.deref-2.ensures.value c.step_on.ensures.x);
       y =
-          subst (λ (z : ℤ). s.y ≡ along z (point_at points l) (point_at points u) (point_at points l).y (point_at points u).y)
+          subst (λ (z : ℤ). s.y ≡ at_height z (point_at points l) (point_at points u) (point_at points l).y (point_at points u).y)
           stored
-          (subst (λ (ps : List Point). s.y ≡ along kept (point_at ps l) (point_at ps u) (point_at ps l).y (point_at ps u).y)
+          (subst (λ (ps : List Point). s.y ≡ at_height kept (point_at ps l) (point_at ps u) (point_at ps l).y (point_at ps u).y)
           c.deref-2.ensures.value c.step_on.ensures.y);
       d = subst (λ (ps : List Point). s.d ≡ rise (point_at ps l) (point_at ps u)) c.deref-2.ensures.value c.step_on.ensures.d;
     }

@@ -1,7 +1,7 @@
 use Rattle.std.proofs.Common.{◌+◌, ◌≡◌, ap, sym, subst, ◌∙◌, arith, map, List, [], length}
 use Rattle.std.proofs.lemmas.List.{length-append}
 use Rattle.geo_sign.specs.Point.{Point}
-use Rattle.geo_sign.specs.Vertices.{corners, vertices_of}
+use Rattle.geo_sign.specs.Vertices.{corners, boxed_vertices}
 use Rattle.geo_sign.specs.Cells.{IsCellList}
 use Rattle.visibility.specs.Scenes.{scene_of}
 use Rattle.vote_net.specs.Tables.{cell_of_row}
@@ -17,7 +17,7 @@ returns c points e =
     ap (λ (ps : List Point). length ps) e ∙ length-append corners points in
     let few = k.vertices.few in
     let rows = c.in_ok-rows.rows.items in
-    subst (IsCellList (vertices_of points)) (sym (c.in_ok-cells.ensures ∙ ap (map cell_of_row) c.deref.ensures.value))
+    subst (IsCellList (boxed_vertices points)) (sym (c.in_ok-cells.ensures ∙ ap (map cell_of_row) c.deref.ensures.value))
     (cell_list
     (scene_of points [] []
     (record { vote = 1; smooth = 0; vote_at_least = omega arith; vote_at_most = omega arith; smooth_at_most = omega arith }))

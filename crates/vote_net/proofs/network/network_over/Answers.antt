@@ -8,7 +8,7 @@ use Rattle.std.proofs.Common.{ℕ, refl, ◌∙◌, Contains, subst, sym, arith,
 use Rattle.flow_net.specs.Nets.{IsValidNet}
 use Rattle.visibility.specs.SceneViews.{view_of}
 use Rattle.vote_net.specs.declared.sides.Side.{Side}
-use Rattle.vote_net.specs.Tables.{number_of_side, AreApart, AreArcs}
+use Rattle.vote_net.specs.Tables.{number_of_side, AreDistinctBy, AreArcs}
 use Rattle.vote_net.proofs.Assembled.{ids_below, rows_apart, numbers_below, sides_apart, can_join, valid, network_is, ids_are}
 use Rattle.vote_net.proofs.network.network_over.Goals as goal
 
@@ -30,7 +30,7 @@ arcs_of-requires-clause-apart_rows c =
 
 pub arcs_of-requires-clause-apart_sides : goal.arcs_of-requires-clause-apart_sides
 arcs_of-requires-clause-apart_sides c =
-    subst (λ (x : List Side). AreApart number_of_side x) (sym c.deref.ensures.value)
+    subst (λ (x : List Side). AreDistinctBy number_of_side x) (sym c.deref.ensures.value)
     (sides_apart (view_of c.args.scene.now) c.args.t.now.slots _ _ _ c.args.rows.now c.args.sides.items c.requires.counts
     (record { moved = c.requires.rows; moved_sides = c.requires.sides }))
 

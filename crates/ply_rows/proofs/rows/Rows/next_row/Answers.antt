@@ -6,7 +6,7 @@
 -- the row's refusal, at its place (row_refused).
 use Rattle.std.proofs.Common.{◌∙◌, sym, ap, refl, arith, length, Option, subst}
 use Rattle.ply_rows.specs.Rests.{rest_at}
-use Rattle.ply_rows.specs.Readers.{Reader, IsRowOf}
+use Rattle.ply_rows.specs.Readers.{Reader, AreRowFields}
 use Rattle.ply_rows.proofs.ElementLemmas.{all_passed, row_at}
 use Rattle.ply_rows.proofs.NextLemmas.{IsNext, is_next, row_read, refused_row, row_refused, row_fits}
 use Rattle.ply_rows.proofs.FitLemmas.{row_ends_inside, ends_alike}
@@ -61,7 +61,7 @@ returns-in-Ok-read_fields c =
       );
       row =
           subst (λ (r : Reader).
-          IsRowOf r.head r.body (row_at c.next_element-element.result.0 c.next_element-element.result.1)
+          AreRowFields r.head r.body (row_at c.next_element-element.result.0 c.next_element-element.result.1)
           c.read_fields.new.out.items) c.self.view_is
           (row_fits c.self.inside.head.now c.self.inside.body.now c.next_element-element.result.0
           c.next_element-element.result.1 c.as_slice-properties.result.now c.read_fields.new.out.items next

@@ -1,7 +1,7 @@
 use Rattle.std.proofs.Common.{sym, ap, ◌∙◌, arith, ◌-◌, List, ℕ, codes, length, take, drop, map, string_bytes}
 use Rattle.std.specs.Str.{bytes_eq}
 use Rattle.flow_net.specs.declared.votes.TheConstants.{WEIGHT_LIMIT}
-use Rattle.recon_cmd.specs.Options.{number_in}
+use Rattle.recon_cmd.specs.Options.{number_between}
 use Rattle.recon_cmd.specs.Sweeps.{sweep_behind}
 use Rattle.recon_cmd.proofs.SweepWordLemmas.{sweep_at, too_few}
 use Rattle.recon_cmd.proofs.words.sweeping.understand_sweep.Goals as goal
@@ -16,9 +16,9 @@ returns-clause-is c =
     c.in-len5-up.len_at_least c.command-item.is c.input-item.is c.from-item.is c.step-item.is c.count-item.is
     (ap (λ (w : List ℕ). bytes_eq w (codes "sweep")) (sym c.as_str.ensures.value)
     ∙ (sym c.is_sweep.ensures ∙ c.if-not-is_sweep.false))
-    (sym c.in_ok-from.was ∙ (c.number_in.ensures ∙ ap (number_in 0 WEIGHT_LIMIT) c.as_bytes.ensures.value))
-    (sym c.in_ok-step.was ∙ (c.number_in-2.ensures ∙ ap (number_in 1 WEIGHT_LIMIT) c.as_bytes-2.ensures.value))
-    (sym c.in_ok-count.was ∙ (c.number_in-3.ensures ∙ ap (number_in 1 64) c.as_bytes-3.ensures.value))
+    (sym c.in_ok-from.was ∙ (c.number_in.ensures ∙ ap (number_between 0 WEIGHT_LIMIT) c.as_bytes.ensures.value))
+    (sym c.in_ok-step.was ∙ (c.number_in-2.ensures ∙ ap (number_between 1 WEIGHT_LIMIT) c.as_bytes-2.ensures.value))
+    (sym c.in_ok-count.was ∙ (c.number_in-3.ensures ∙ ap (number_between 1 64) c.as_bytes-3.ensures.value))
     (omega (arith, c.if-count-forms.false))
     (c.understand_behind.ensures.is
     ∙ ap (λ (x : List ℕ).

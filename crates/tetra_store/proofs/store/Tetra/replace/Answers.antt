@@ -12,7 +12,7 @@ use Rattle.std.proofs.lemmas.List.{get_or_default}
 use Rattle.geo_sign.specs.Tetrahedron.{vertex_of}
 use Rattle.slab.specs.Slab.{slab_len}
 use Rattle.tetra_store.specs.Links.{links_of, IsLive}
-use Rattle.tetra_store.specs.Store.{Store, IsStore, store_from, room_of}
+use Rattle.tetra_store.specs.Store.{Store, IsStore, store_from, spare_room}
 use Rattle.tetra_store.specs.Fan.{CanReplace, IsReplaced, IsOver}
 use Rattle.tetra_store.specs.Steps.{AreKeptNew, AreMended}
 use Rattle.tetra_store.proofs.Room.{has_room, spare_left}
@@ -90,7 +90,7 @@ invariant_of-self c =
     subst (λ (z : List ℕ). AreMended links1 old z kept2 (length old)) same c.mend.ensures in
     let n2 : length kept2 ≡ i.kept.len = mends.count ∙ n1 in
     let spare =
-    room_of c.take_out.new.cells.capacity (slab_len c.take_out.new.cells) (vec_capacity c.grow.new.ids)
+    spare_room c.take_out.new.cells.capacity (slab_len c.take_out.new.cells) (vec_capacity c.grow.new.ids)
     (vec_capacity c.grow.new.edges) in
     let again =
     store_again s old fan p c.self.invariant can c.grow.new.cells.slots ids kept1 c.grow.ensures.grown c.grow.ensures.count
@@ -129,16 +129,16 @@ returns-clause-replaced c =
     subst (λ (z : List ℕ). AreMended links1 old z kept2 (length old)) same c.mend.ensures in
     let n2 : length kept2 ≡ i.kept.len = mends.count ∙ n1 in
     let count = slab_len c.take_out.new.cells in
-    let spare = room_of c.take_out.new.cells.capacity count (vec_capacity c.grow.new.ids) (vec_capacity c.grow.new.edges) in
+    let spare = spare_room c.take_out.new.cells.capacity count (vec_capacity c.grow.new.ids) (vec_capacity c.grow.new.edges) in
     let fewer : count ≤ slab_len i.cells + length fan = omega (arith, c.take_out.ensures.len, c.grow.ensures.len) in
     let left =
     spare_left i.cells.capacity (slab_len i.cells) count (vec_capacity i.ids) (vec_capacity i.edges) (length fan) fewer in
     let cap : i.cells.capacity ≡ c.take_out.new.cells.capacity = sym (c.take_out.ensures.capacity ∙ c.grow.ensures.capacity) in
     let spares : s.spare ≤ spare + length fan =
-    subst (λ (z : ℕ). s.spare ≤ room_of z count (vec_capacity c.grow.new.ids) (vec_capacity c.grow.new.edges) + length fan) cap
-    (subst (λ (z : ℕ). s.spare ≤ room_of i.cells.capacity count z (vec_capacity c.grow.new.edges) + length fan)
+    subst (λ (z : ℕ). s.spare ≤ spare_room z count (vec_capacity c.grow.new.ids) (vec_capacity c.grow.new.edges) + length fan) cap
+    (subst (λ (z : ℕ). s.spare ≤ spare_room i.cells.capacity count z (vec_capacity c.grow.new.edges) + length fan)
     (sym c.grow.ensures.ids_list)
-    (subst (λ (z : ℕ). s.spare ≤ room_of i.cells.capacity count (vec_capacity i.ids) z + length fan)
+    (subst (λ (z : ℕ). s.spare ≤ spare_room i.cells.capacity count (vec_capacity i.ids) z + length fan)
     (sym c.grow.ensures.edges_list) left)) in
     let done =
     replaced_now s old fan p c.self.invariant can c.grow.new.cells.slots ids kept1 c.grow.ensures.grown c.grow.ensures.count

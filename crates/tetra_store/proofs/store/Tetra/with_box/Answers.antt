@@ -3,7 +3,7 @@ use Rattle.slab.specs.Slab.{slab_len}
 use Rattle.geo_sign.specs.Point.{Point}
 use Rattle.geo_sign.specs.Vertices.{corners}
 use Rattle.tetra_store.specs.Links.{links_of}
-use Rattle.tetra_store.specs.Store.{IsStore, vertices_at, room_of}
+use Rattle.tetra_store.specs.Store.{IsStore, vertices_at, spare_room}
 use Rattle.tetra_store.specs.Box.{box_keeper}
 use Rattle.tetra_store.specs.Delaunay.{IsDelaunay}
 use Rattle.tetra_store.proofs.BoxStore.{box_store, box_is_delaunay}
@@ -20,7 +20,7 @@ invariant_of-result c =
     let keeps : (u : ℕ) → u < 8 → slice_index kept u ≡ slice_index ids (box_keeper u) =
     λ u l. c.in_ok-kept.ensures.kept u l ∙ ap (λ (xs : List ℕ). slice_index xs (box_keeper u)) c.deref.ensures.value in
     let spare =
-    room_of c.in_ok-cells.cells.capacity (slab_len c.in_ok-cells.cells) (vec_capacity c.in_ok-cells.ids)
+    spare_room c.in_ok-cells.cells.capacity (slab_len c.in_ok-cells.cells) (vec_capacity c.in_ok-cells.ids)
     (vec_capacity c.new.result) in
     let n : length c.in_ok-all.all.items ≡ length (corners ++ points) = ap length all_is in
     let f : length flags ≡ length (corners ++ points) =

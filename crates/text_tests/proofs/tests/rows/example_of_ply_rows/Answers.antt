@@ -8,12 +8,12 @@ use Rattle.ply_head.specs.declared.header.Scalar.TheVariants.{Char}
 use Rattle.ply_head.specs.declared.header.Shape.TheVariants.{One}
 use Rattle.ply_rows.specs.declared.place.Field.{Field}
 use Rattle.ply_rows.specs.declared.place.RowAt.{RowAt}
-use Rattle.ply_rows.specs.Readers.{IsInside, IsRowOf, NextRow}
+use Rattle.ply_rows.specs.Readers.{IsInside, AreRowFields, NextRow}
 use Rattle.text_tests.proofs.tests.rows.example_of_ply_rows.Goals as goal
 
 -- a field of a row lies in the body
 field_inside : (head : Header) (body : List ℕ) (at : RowAt) (fields : List Field) (number : ℕ) (f : Field) →
-    IsRowOf head body at fields → number < length fields → f ≡ get_or fields number f → IsInside body f
+    AreRowFields head body at fields → number < length fields → f ≡ get_or fields number f → IsInside body f
 field_inside head body at fields number f row there is =
     let e : Element = record { name = []; count = 0; properties = [] } in
     let p : Property = record { name = []; shape = One Char } in
@@ -26,8 +26,8 @@ bytes-requires g c =
     let items = c.next_row.new.out.items in
     let old = c.loop-heights.rows in
     let y = c.in-Some-get.y.now in
-    let row : IsRowOf old.head old.body at items =
-    subst (λ (o : Option RowAt). IfSome o (λ r. IsRowOf old.head old.body r items)) c.in-Some.is c.in_ok-next_row.ensures.row in
+    let row : AreRowFields old.head old.body at items =
+    subst (λ (o : Option RowAt). IfSome o (λ r. AreRowFields old.head old.body r items)) c.in-Some.is c.in_ok-next_row.ensures.row in
     let next : NextRow (Ok (Some at)) items old c.next_row.new.self =
     subst (λ (o : Option RowAt). NextRow (Ok o) items old c.next_row.new.self) c.in-Some.is c.in_ok-next_row.ensures.next in
     let there : 1 < length items = grind arith in

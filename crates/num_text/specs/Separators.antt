@@ -1,0 +1,12 @@
+-- Bytes between the numbers of a text.
+--
+--   space, line_feed   the bytes that end a number within a line, and a line
+use Rattle.std.specs.Prelude.{ℕ}
+
+-- ends a number within a line
+abbrev pub space : ℕ
+space = 32
+
+-- ends a line
+abbrev pub line_feed : ℕ
+line_feed = 10
