@@ -1,9 +1,10 @@
 //! A largest flow through a network, and the least-inside labels that it shows.
 //!
 //! The flow begins with a hint, which is tested: where it is valid, and levels beside it show from which nodes a sink with room
-//! can be reached and that no fixed node is among them, it is a largest one (Ford and Fulkerson 1956). Else rounds go on from it, or from nothing where it is not valid. A round finds
-//! all nodes from which a sink with room can be reached in the residual network, with their levels, and sends more along
-//! paths that lead down by levels until none is left (Dinic 1970). Where no fixed node is found, the flow is a largest one.
+//! can be reached and that no fixed node is among them, it is a largest one (Ford and Fulkerson 1956). Else rounds go on from
+//! it, or from nothing where it is not valid. A round finds all nodes from which a sink with room can be reached in the
+//! residual network, with their levels, and sends more along paths that lead down by levels until none is left (Dinic 1970).
+//! Where no fixed node is found, the flow is a largest one.
 //!
 //! The least-inside labels are the nodes from which a sink with room can still be reached, which are the smallest inside of
 //! all minimum cuts. Labatut, Pons and Keriven (2007) cut such a network of cells.

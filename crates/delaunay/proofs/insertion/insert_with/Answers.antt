@@ -1,3 +1,8 @@
+-- The cell in which the new vertex lies is in conflict with it (found_law), so the flood may begin there. Its cells and fan are what replace
+-- asks for (can_replace), once there is room for as many cells as the fan has facets. What replace leaves are live cells that are each a
+-- cell of the vertices with the new one (are_cells): an old one that is clear of it, or one over the fan. Linked cells each of which is a
+-- cell are all cells, each once, so the store is Delaunay again (whole) and parts the box (partition). The cell answered is over the fan,
+-- so it has the new vertex (over_has).
 use Rattle.std.proofs.Common.{ℕ, ◌≤◌, List, length, sym, subst, arith}
 use Rattle.geo_sign.specs.Places.{IsLyingIn}
 use Rattle.geo_sign.specs.Point.{Point}

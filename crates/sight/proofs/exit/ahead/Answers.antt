@@ -1,3 +1,9 @@
+-- Whichever side a sight goes out through is the one that is answered. In the cell at its vertex it goes out through the side opposite to
+-- the vertex, since it crosses no facet that has it (opposite_ahead), and the vertices of a cell are distinct. Else it came in through a
+-- facet f, opposite to the vertex d, and goes out through one of the three others (one_of): each leaves one vertex of f behind. Which one is
+-- told by the sides of the planes through the sight's vertex, d and each vertex of f on which the scanner is (past_of, for each of the
+-- three tests), by the table left_behind (left_ahead). The side opposite to that vertex is what is answered, and with d in its place the
+-- front is the facet gone out through, turned (behind_in).
 use Rattle.std.proofs.Common.{ℕ, ℤ, ◌≡◌, ◌↔◌, ◌<ℤ◌, pos, IsTrue, arith, get_or, slice_index, sym, subst, inl, inr, refl, ◌∙◌}
 use Rattle.std.specs.Int.{is_positive}
 use Rattle.geo_sign.specs.Point.{Point, origin}

@@ -1,3 +1,8 @@
+-- Vertex after vertex of the cell: one that keeps the cell is given another that is not among those of the list, one that keeps another is
+-- left. What the code reads of the slab is vertex k of the cell (cell_vertices), so the index is below the number of kept cells. A vertex
+-- that keeps the cell at its turn kept it at the beginning: what was written before is a cell outside of the list, and this one is in it
+-- (was_kept). So what is asked of such vertices at the beginning, that a cell outside has them, is what find_outside asks. What is mended
+-- up to k is mended up to k + 1 by this write (mended_write), or with none, where the vertex keeps another (mended_skip).
 use Rattle.std.proofs.Common.{ℕ, ◌≡◌, ◌≢◌, ◌<◌, ◌+◌, List, length, Some, sym, ◌∙◌, subst, arith, slice_index}
 use Rattle.geo_sign.specs.Tetrahedron.{vertex_of}
 use Rattle.tetra_store.specs.Links.{links_of, slot_at}

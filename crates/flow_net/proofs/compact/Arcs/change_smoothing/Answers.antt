@@ -1,3 +1,8 @@
+-- What is asked of the capacities of all arcs holds of those in many bits (wide_cap) and of those in few with what they are raised by
+-- (narrow_cap). The arcs in many bits are changed one by one. Those in few bits change together: where the old smoothing is no more
+-- than the new one and what they are raised by, that alone changes (all_raised), and is small, since an arc's new capacity is. Where it
+-- is more, the rest is taken from each, which has it, and they are raised by nothing (all_lowered). With no arcs in few bits all is
+-- done before.
 use Rattle.std.proofs.Common.{ℕ, ◌≡◌, ◌<◌, ◌≤◌, ◌+◌, ◌-◌, ◌^◌, ◌∙◌, length, map, ap, sym, arith}
 use Rattle.std.proofs.lemmas.Bool.Decides.{nat_tests}
 use Rattle.std.proofs.lemmas.List.{length-map, with_items_is}

@@ -1,3 +1,8 @@
+-- A step of the walk goes out of the cell reached through the one side that exit answers. Such a side is crossed, so its facet is on no
+-- wall and there is a cell across (goes_on); that is all that unreachable!() asks. The cell across has the facet turned at the side that
+-- side_to answers, so the sight comes in there: what the walk keeps of its cell (walks_on) and of the facet before it (front_on) holds
+-- anew, and the list to come from there is the old one without its first (gone_on). The cell left is then not the scanner's, since a cell
+-- is left or ends the sight and never both (not_end). Where exit answers none, the cell is the scanner's and the list is empty (none_left).
 use Rattle.std.proofs.Common.{ap, subst, sym, refl, ◌∙◌, ◌≡◌, false}
 use Rattle.geo_sign.specs.Rational.{displaced}
 use Rattle.geo_sign.specs.Sights.{is_cell_of}

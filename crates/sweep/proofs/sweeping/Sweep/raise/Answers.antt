@@ -1,3 +1,8 @@
+-- Each capacity has the smoothing as a part, and is small enough that the greatest smoothing may stand in its place (caps). The network
+-- at the new smoothing is that of the scene at the new settings; the old flow stays valid in it, since capacities only grow
+-- (valid_there), so the cut may be made above it. Where it is made, flow and labels are what the sweep keeps at the new settings
+-- (raised). Where memory runs out, the smoothing is taken back, which gives each arc the capacity that it had: so the old flow and
+-- labels are what they were (lowered). The new flow is a largest one of the network over the same cells and facets (network_there).
 use Rattle.std.proofs.Common.{◌≤◌, refl, ap, arith}
 use Rattle.sweep.specs.Swept.{Swept}
 use Rattle.sweep.proofs.Raising.{caps, caps_there, lowered, network_there, raised, settings_at, valid_there}

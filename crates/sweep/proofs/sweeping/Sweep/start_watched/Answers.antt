@@ -1,3 +1,7 @@
+-- The distinct points of a scan are within the limits, apart and few, which is what build asks. All of them are in, so the store has
+-- the cells that the votes are counted over, and the counted network is that of their scene. This is the scene that the sweep's own
+-- parts make: points, scanners and sights are copies of the scan's (scene_kept). So all that a sweep keeps holds: its cells by
+-- stored_cells_law, the rest by what each call promises, with a largest flow and the least-inside labels.
 use Rattle.std.proofs.Common.{◌≡◌, ◌++◌, ap, refl, subst, ◌∙◌, arith, length, List}
 use Rattle.geo_sign.specs.Point.{Point, origin}
 use Rattle.geo_sign.specs.Vertices.{corners}
