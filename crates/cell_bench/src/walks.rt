@@ -11,7 +11,7 @@ ghost use Rattle.tetra_store.specs.Store.{vertices_of};
 
 use crate::NoMemory;
 use crate::calls::Answers;
-use geo_sign::Point;
+use geo_sign::{CORNERS, Point};
 use scan::Seen;
 use sight::walk_into;
 use std::alloc::Global;
@@ -22,7 +22,7 @@ use tetra_walk::locate_scanner;
 pub(crate) fn is_data(t: &Tetra, v: u32) -> bool
     ensures { IsTrue result → (8 ≤ v) × Has (vertices_of t.now) v }
 {
-    v >= 8 && v < t.vertex_count() && t.is_inserted(v)
+    v >= CORNERS && v < t.vertex_count() && t.is_inserted(v)
 }
 
 /// The number of a cell at a vertex, and 0 where it has none.
@@ -47,7 +47,7 @@ pub(crate) fn seen_by(
     for sight in sights {
         if sight.scanner == scanner {
             if let Some(point) = of_row.get(sight.row as usize) {
-                seen.push(point.saturating_add(8))?;
+                seen.push(point.saturating_add(CORNERS))?;
             }
         }
     }

@@ -16,7 +16,7 @@ use crate::insertion::insert_with;
 use crate::numbering::{along_ranks, ranks_of};
 use cavity::Cavity;
 use curve_order::{in_rounds, order};
-use geo_sign::Point;
+use geo_sign::{CORNERS, Point};
 use std::alloc::Global;
 use tetra_store::Tetra;
 use watch::{Silent, Stage, Watch, tell};
@@ -105,7 +105,7 @@ fn build_in_order<W: Watch>(
     for i in 0..order.len() {
         tell(watch, i);
         t.facts();
-        at = insert_with(&mut t, 8 + order[i], at, &mut cavity)?;
+        at = insert_with(&mut t, CORNERS + order[i], at, &mut cavity)?;
     }
     t.facts();
     Ok(t)

@@ -53,7 +53,7 @@ pub use laws::{
     writing_law,
 };
 pub use orientation::{orient, orient_value};
-pub use point::{BOX_LIMIT, DATA_LIMIT, Point, corner};
+pub use point::{BOX_LIMIT, CORNERS, DATA_LIMIT, POINT_LIMIT, Point, corner};
 pub use polynomial::identity_law;
 pub use scanner::side_of_scanner;
 pub use sign::Sign;

@@ -13,6 +13,12 @@ pub const BOX_LIMIT: u64 = 8_388_608;
 /// The greatest absolute value of a coordinate that a scan states: 2^21 - 1 scaled units.
 pub const DATA_LIMIT: u64 = 2_097_151;
 
+/// How many corners the box has: they are the vertices below this number, and points are the vertices from it on.
+pub const CORNERS: u32 = 8;
+
+/// The most data points, so that numbers of vertices and heights fit: 2^20.
+pub const POINT_LIMIT: u32 = 1_048_576;
+
 /// Where the walls of the box are, as a coordinate.
 const WALL: i32 = BOX_LIMIT as i32;
 
@@ -38,7 +44,7 @@ impl Model for Point {
 }
 
 impl Point {
-    /// A data point: one that a scan may state. None exactly where a coordinate has an absolute value over 2,097,151.
+    /// A data point: one that a scan may state. None exactly where a coordinate has an absolute value over [`DATA_LIMIT`].
     pub fn data(x: i64, y: i64, z: i64) -> Option<Point>
         ensures some { IfSome result (λ p. (p ≡ point x y z) × IsWithin DATA_LIMIT p) }
         ensures none { IfNone result (¬ IsWithin DATA_LIMIT (point x y z)) }

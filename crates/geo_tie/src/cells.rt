@@ -9,7 +9,7 @@ ghost use Rattle.geo_tie.specs.declared.cells.TheConstants.{PLAIN_LIMIT};
 
 use crate::NoMemory;
 use crate::tie::is_in_conflict;
-use geo_sign::{Point, Sign, corner, orient};
+use geo_sign::{CORNERS, Point, Sign, corner, orient};
 use std::alloc::Global;
 
 /// The most points of the plain program, which tries each four of them and the corners.
@@ -134,7 +134,7 @@ fn with_corners(alloc: Global, points: &[Point]) -> Result<Vec<Point>, NoMemory>
     requires few { length points.now ≤ PLAIN_LIMIT }
     ensures { IfOk result (λ vertices. vertices.items ≡ corners ++ points.now) }
 {
-    let mut vertices = Vec::with_capacity(alloc, 8 + points.len())?;
+    let mut vertices = Vec::with_capacity(alloc, CORNERS as usize + points.len())?;
     vertices.extend_from_slice(&[
         corner(0),
         corner(1),

@@ -20,6 +20,7 @@ use crate::rows::{flow_rows, inside_rows, sink_rows};
 use cell_net::CellNetwork;
 use cert_text::{Certificate, Stamp};
 use flow_net::{Flow, Labels, Settings, cost};
+use geo_sign::CORNERS;
 use max_flow::minimum_cut_watched;
 use mesh_ply::Mesh;
 use scan::Scan;
@@ -89,7 +90,7 @@ fn certificate(
 {
     Ok(Certificate {
         stamp,
-        points: tetra.vertex_count() - 8,
+        points: tetra.vertex_count() - CORNERS,
         scanners: scan.scanners.len() as u32,
         sights: scan.seen.len() as u32,
         vote: settings.vote,

@@ -9,16 +9,16 @@ ghost use Rattle.geo_sign.specs.declared.point.TheConstants.{DATA_LIMIT};
 use geo_sign::Point;
 
 /// The most vertex rows of a scan: 2^20.
-pub const POINT_LIMIT: u32 = 1_048_576;
+pub const POINT_LIMIT: u32 = geo_sign::POINT_LIMIT;
 
 /// The most scanner rows of a scan: 2^16.
 pub const SCANNER_LIMIT: u32 = 65_536;
 
-/// The most sights of a scan: 2^23.
-pub const SIGHT_LIMIT: usize = 8_388_608;
+/// The most sights of a scan: those of a network, 2^23.
+pub const SIGHT_LIMIT: usize = flow_net::SIGHT_LIMIT;
 
-/// The largest weight of a sight.
-pub const SIGHT_WEIGHT_LIMIT: u8 = 255;
+/// The largest weight of a sight, as of a network.
+pub const SIGHT_WEIGHT_LIMIT: u8 = flow_net::SIGHT_WEIGHT_LIMIT as u8;
 
 /// A sight: a point that a scanner saw, and how much that weighs.
 #[derive(Clone, Copy, Debug, PartialEq, Eq)]

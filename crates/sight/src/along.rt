@@ -12,12 +12,12 @@ ghost use Rattle.tetra_store.specs.Links.{links_of};
 ghost use Rattle.tetra_store.specs.Store.{vertices_of};
 ghost use Rattle.sight.specs.Walks.{IsSight, IsGoneOn, IsTaken, IsEndCell};
 
-use crate::exit::{Front, NO_SIDE, exit, front_of, go_through};
+use crate::exit::{Front, exit, front_of, go_through};
 use crate::image::{Screen, screen_of};
 use geo_sign::Point;
 use std::marker::Model;
 use tetra_store::{CellId, Tetra};
-use tetra_walk::{facet, toward};
+use tetra_walk::{NO_SIDE, facet, toward};
 
 /// A directed facet that a sight crosses. The sight's point is behind it, the scanner before it.
 #[derive(Clone, Copy, Debug, PartialEq, Eq)]

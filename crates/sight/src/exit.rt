@@ -31,10 +31,7 @@ ghost use Rattle.sight.specs.Walks.{IsWalking, IsEndCell};
 use crate::image::{Image, Screen, determinant, seen_at};
 use geo_sign::{Point, Sign, side_of_scanner};
 use tetra_store::{CellId, Tetra};
-use tetra_walk::facet;
-
-/// The side through which a sight came, in the cell at its vertex.
-pub(crate) const NO_SIDE: usize = 4;
+use tetra_walk::{NO_SIDE, facet};
 
 /// Which vertex stays behind where a sight goes out of the cell at its vertex: none of a facet.
 const NO_VERTEX: usize = 3;

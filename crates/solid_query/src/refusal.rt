@@ -16,7 +16,7 @@ pub enum QueryRefusal {
     /// The token with this number is a decimal of too many digits.
     #[error("token {0} has too many digits")]
     LongNumber(u32),
-    /// The token with this number is a decimal, but in units its absolute value is over 2,097,151.
+    /// The token with this number is a decimal, but in units its absolute value is over [`DATA_LIMIT`](geo_sign::DATA_LIMIT).
     #[error("token {0} is out of range")]
     OutOfRange(u32),
     /// The number of tokens is no multiple of three.

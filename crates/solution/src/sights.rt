@@ -8,7 +8,7 @@ ghost use Rattle.solution.specs.Scans.{points_of, scene_of_scan, sights_of as si
 
 use crate::NoMemory;
 use flow_net::{Settings, Sight};
-use geo_sign::Point;
+use geo_sign::{CORNERS, Point};
 use merge::merge;
 use scan::Scan;
 use std::alloc::Global;
@@ -32,7 +32,7 @@ fn sights_of(alloc: Global, scan: &Scan, of_row: &[u32]) -> Result<Vec<Sight>, N
     let mut sights = Vec::new(alloc);
     for seen in scan.seen.as_slice() {
         sights.push(Sight {
-            vertex: 8 + of_row[seen.row as usize],
+            vertex: CORNERS + of_row[seen.row as usize],
             scanner: seen.scanner,
             weight: u32::from(seen.weight),
         })?;

@@ -17,12 +17,12 @@ use crate::kept::KeptCell;
 use crate::linked::{Linked, set_next};
 use crate::store::MOST_CELLS;
 use crate::{CellId, NoMemory, Tetra};
-use geo_sign::{Point, corner};
+use geo_sign::{POINT_LIMIT, Point, corner};
 use slab::Slab;
 use std::alloc::{AllocError, Global};
 
 /// The most data points of a store, so that numbers of vertices and heights fit.
-pub const VERTEX_LIMIT: usize = 1_048_576;
+pub const VERTEX_LIMIT: usize = POINT_LIMIT as usize;
 
 /// The vertices of the six cells.
 const ROWS: [[u32; 4]; 6] = [

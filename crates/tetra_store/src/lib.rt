@@ -34,7 +34,7 @@ pub use fan::Facet;
 pub use id::CellId;
 pub use link::Cell;
 use std::alloc::AllocError;
-pub use store::{Neighbor, Tetra};
+pub use store::{MOST_CELLS, Neighbor, Tetra};
 
 /// Want of memory: the one answer that any input may get.
 pub type NoMemory = AllocError;

@@ -18,7 +18,7 @@ use std::alloc::AllocError;
 use std::marker::Model;
 
 /// The cells that may have a number, as the largest stands for none.
-pub(crate) const MOST_CELLS: usize = 4_294_967_295;
+pub const MOST_CELLS: usize = 4_294_967_295;
 
 /// All vertices, which of them are inserted, and linked cells over those.
 ///

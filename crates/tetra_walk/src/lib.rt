@@ -13,4 +13,4 @@ mod side;
 mod walk;
 
 pub use side::facet;
-pub use walk::{behind, locate, locate_displaced, locate_scanner, toward};
+pub use walk::{NO_SIDE, behind, locate, locate_displaced, locate_scanner, toward};

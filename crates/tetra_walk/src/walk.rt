@@ -47,7 +47,7 @@ fn side_behind(t: &Tetra, goal: &Goal, v: [u32; 4], entered: usize) -> Option<us
 }
 
 /// The side through which no walk came, before its first step.
-const NO_SIDE: usize = 4;
+pub const NO_SIDE: usize = 4;
 
 /// Walks to a cell in which the goal lies. The side through which it came into a cell is never tested: the goal was behind that
 /// facet's other direction.

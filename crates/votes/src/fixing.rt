@@ -11,7 +11,7 @@ ghost use Rattle.tetra_store.specs.Store.{vertices_of};
 ghost use Rattle.votes.specs.Counts.{IsScannerCell, AreScannerCells};
 
 use crate::NoMemory;
-use geo_sign::Point;
+use geo_sign::{CORNERS, Point};
 use std::alloc::Global;
 use tetra_store::{CellId, Tetra};
 use tetra_walk::locate_scanner;
@@ -38,7 +38,7 @@ fn has_corner(v: [u32; 4]) -> bool
     ensures { result ≡ has_corner_in (tetrahedron_from v) }
 {
     let [a, b, c, d] = v;
-    a < 8 || b < 8 || c < 8 || d < 8
+    a < CORNERS || b < CORNERS || c < CORNERS || d < CORNERS
 }
 
 /// For each cell by its number whether it has a corner of the box.

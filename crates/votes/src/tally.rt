@@ -18,12 +18,9 @@ use flow_net::Sight;
 use geo_sign::Point;
 use sight::{SightWalk, walk_into};
 use std::alloc::{AllocError, Global};
-use tetra_store::{CellId, Tetra};
+use tetra_store::{CellId, MOST_CELLS, Tetra};
 use tetra_walk::behind;
 use watch::{Stage, Watch, tell};
-
-/// The most numbers of cells for which there are counters.
-const MOST_CELLS: usize = 4_294_967_295;
 
 /// What sights add to each directed facet that they cross, at 4 * id + side, and to each cell that they are before, at its id.
 #[derive(Drop)]
