@@ -4,3 +4,4 @@ pub mod RowLists
 pub mod Certificates
 pub mod Uniqueness
 pub mod LeastCosts
+pub mod Meshes

@@ -12,6 +12,7 @@ use Rattle.mesh_ply.specs.Meshes.{mesh_of}
 use Rattle.mesh_ply.specs.declared.mesh.Mesh.{Mesh}
 use Rattle.solution.specs.Scans.{scene_of_scan}
 use Rattle.solution.specs.Solutions.{surface_of}
+use Rattle.solution.proofs.Meshes.{mesh_is}
 use Rattle.solution.proofs.Certificates.{cost_over, least_inside_is}
 use Rattle.solution.proofs.LeastCosts.{least_cost_law}
 use Rattle.surface.proofs.ListedLabels.{AreListed}
@@ -28,15 +29,6 @@ use Rattle.vote_net.specs.Counts.{AreIdsOf}
 use Rattle.sweep.specs.Entries.{CostsLeast, AreBestLabels, IsSurfaceOf}
 use Rattle.sweep.specs.Swept.{IsKept}
 use Rattle.sweep.proofs.Scenes.{scene_kept}
-
--- the mesh of these points and facets, by its parts
-mesh_is : (mesh : Mesh) (given points : List Point) (facets : List (List ℕ)) → given ≡ points
-    → mesh.points.items ≡ (mesh_of given facets).points → mesh.faces.items ≡ (mesh_of given facets).faces
-    → surface_of mesh ≡ mesh_of points facets
-mesh_is mesh given points facets same points_are faces_are =
-    ap (λ (list : List Point). record { points = list; faces = mesh.faces.items }) points_are
-    ∙ ap (λ (faces : List (List ℕ)). record { points = (mesh_of given facets).points; faces = faces }) faces_are
-    ∙ ap (λ (list : List Point). mesh_of list facets) same
 
 module _ (points scanners : List Point) (sights : List Sight) (settings : Settings) (store : Store) (voted : Voted)
     (ids : List ℕ) (flow : Flow) (labels : Labels)

@@ -1,4 +1,4 @@
-use Rattle.std.proofs.Common.{◌≡◌, ◌^◌, ◌<◌, get_or, rules, sym}
+use Rattle.std.proofs.Common.{◌≡◌, ◌^◌, ◌<◌, get_or, rules}
 use Rattle.flow_valid.proofs.Additions.{sums_more}
 use Rattle.flow_valid.proofs.balance.add_up.Goals as goal
 

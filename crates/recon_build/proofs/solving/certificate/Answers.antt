@@ -1,3 +1,8 @@
+-- The counts are those of the scan: the store has eight vertices more than the scan has points (corner_count). What the rows state: labels
+-- and amounts by the numbers of cells and sides say what the cut says of cells and facets by their vertices, so the rows found on a walk
+-- are those of the stored complex in another order (inside_moved, flow_moved, sinks_moved: the same by another name of each list). Sorted,
+-- they are the certificate's (inside_are, flow_are, sinks_are), and certificate_is puts them together. It is well formed, since its
+-- numbers fit: the cost by the least there is (cost_fits), the rows since their lists are in memory.
 use Rattle.std.proofs.Common.{ℕ, ◌≡◌, ◌<◌, ◌≤◌, ◌^◌, refl, sym, subst, arith, Bool, List, Option, filter, slice_index}
 use Rattle.std.specs.List.Sorted.{IsPermutation}
 use Rattle.cert_text.specs.declared.certificate.FlowRow.{FlowRow}

@@ -1,13 +1,14 @@
-use Rattle.std.proofs.Common.{ℕ, ◌≡◌, ◌++◌, ap, sym, subst, ◌∙◌, Bool, List}
+-- The labels by number are labels of the scene's cells, whatever their list is called (over), so the facets between inside and outside can
+-- be cut from the store. The mesh is that of these facets in the rising complex of the scene, over the points of the store, which are the
+-- corners and the scan's points (mesh_is). The certificate is of this cut, over the same complex. So mesh and certificate are one solution,
+-- and the certificate is well formed.
+use Rattle.std.proofs.Common.{ℕ, ◌≡◌, ◌++◌, sym, subst, List, Bool}
 use Rattle.flow_net.specs.Nets.{flag_at}
-use Rattle.geo_sign.specs.Point.{Point}
 use Rattle.geo_sign.specs.Vertices.{corners}
-use Rattle.mesh_ply.specs.Meshes.{mesh_of}
-use Rattle.mesh_ply.specs.declared.mesh.Mesh.{Mesh}
 use Rattle.scan.specs.Shown.{Shown}
 use Rattle.scan.specs.Views.{shown_of}
 use Rattle.solution.specs.Scans.{points_of, scene_of_scan}
-use Rattle.solution.specs.Solutions.{surface_of}
+use Rattle.solution.proofs.Meshes.{mesh_is}
 use Rattle.surface.specs.Labelled.{AreLabelsOver}
 use Rattle.surface.proofs.CutList.{can_be_cut}
 use Rattle.tetra_store.specs.Store.{Store}
@@ -36,15 +37,6 @@ pub facets-requires : goal.facets-requires
 facets-requires c =
     let s : Scene = scene_of_scan (shown_of c.args.scan.now) c.args.settings in
     can_be_cut _ _ _ _ _ (over s c.args.tetra c.args.cut _ c.requires.cells c.requires.cut c.as_slice.ensures)
-
--- the mesh of these points and facets, by its parts
-mesh_is : (mesh : Mesh) (given points : List Point) (facets : List (List ℕ)) → given ≡ points
-    → mesh.points.items ≡ (mesh_of given facets).points → mesh.faces.items ≡ (mesh_of given facets).faces
-    → surface_of mesh ≡ mesh_of points facets
-mesh_is mesh given points facets same points_are faces_are =
-    ap (λ (list : List Point). record { points = list; faces = mesh.faces.items }) points_are
-    ∙ ap (λ (faces : List (List ℕ)). record { points = (mesh_of given facets).points; faces = faces }) faces_are
-    ∙ ap (λ (list : List Point). mesh_of list facets) same
 
 pub returns-clause-solution : goal.returns-clause-solution
 returns-clause-solution c =
