@@ -1,5 +1,5 @@
--- The vertices of a store, its list of names, and the power by the tie rule.
--- Stands on: Heights, Goal, Corners (computed lists) and RisingRows (what is in a list).
+-- The vertices of a store.
+-- Stands on: Goal and Corners (computed lists).
 use Rattle.std.proofs.Common.{ℕ, zero, suc, ◌+◌, ◌*◌, ◌<◌, ◌≤◌, ◌≡◌, ◌≢◌, refl, ap, sym, subst, ◌∙◌, ◌⊎◌, inl, inr, ⊎_elim}
 use Rattle.std.proofs.Common.{arith, Bool, true, false, eqb, ◌||◌, int_lt, pos, List, Option, length, get_or, set, All}
 use Rattle.std.proofs.Common.{AllPairs}
@@ -16,11 +16,9 @@ use Rattle.cell_laws.specs.LinkLaws.{AreAllCells}
 use Rattle.cell_laws.specs.Lists.{AreCells, one_if}
 use Rattle.geo_sign.specs.Boxes.{inserted_vertices}
 use Rattle.geo_sign.proofs.Corners.{corner_at}
-use Rattle.cell_laws.specs.StoredLaws.{AllLaw, StoredLaw, TiedLaw, ListedLaw}
+use Rattle.cell_laws.specs.StoredLaws.{AllLaw, StoredLaw}
 use Rattle.cell_laws.proofs.Corners.{all_below_at}
 use Rattle.cell_laws.proofs.Goal.{corner_edge}
-use Rattle.cell_laws.proofs.Heights.{power_tied}
-use Rattle.cell_laws.proofs.RisingRows.{listed, is_listed}
 
 -- ---- where the vertices are
 abbrev IsPoint : List Point → ℕ → Type 0
@@ -183,10 +181,3 @@ stored_law points flags =
       all = λ f a b c d. (all_cells points flags f a b c d, cells_all points flags f a b c d);
       whole = whole points flags;
     }
-
-pub tied_law : TiedLaw
-tied_law v t a b c d p = power_tied v t a b c d p
-
--- ---- lists of names
-pub listed_law : ListedLaw
-listed_law xs x = (listed xs x, is_listed xs x)

@@ -1,21 +1,17 @@
--- Laws for stores: the vertices of a store, lists of names, and cells as rows of numbers.
+-- Laws for stores: the vertices of a store, and cells as rows of numbers.
 --
 --   AllLaw                           the corners and distinct data points, all in, are vertices of the box
 --   StoredLaw                        they are vertices of the box; a flag set is a vertex more; with all flags set they are all
 --                                    vertices
---   TiedLaw                          the power of vertices is that of numbered points by the tie rule
---   ListedLaw                        what is in a list of names is contained in it
 --   AreRowsOfCells                   each name has one row of rising numbers, that of a cell, and each row of a cell is that of
 --                                    one name
 --   RowLaw                           names that stand for all cells are so
 use Rattle.std.specs.Prelude.{ℕ, ◌<◌, ◌≡◌, ◌≢◌, ◌↔◌, ◌+◌, Bool, true, false, Option, List, length, get_or, set, All, AllPairs}
-use Rattle.std.specs.Prelude.{Contains}
-use Rattle.geo_sign.specs.Boxes.{inserted_vertices, IsBoxed, IsTied, with_vertex}
+use Rattle.geo_sign.specs.Boxes.{inserted_vertices, IsBoxed, with_vertex}
 use Rattle.geo_sign.specs.Point.{Point, IsWithin}
 use Rattle.geo_sign.specs.declared.point.TheConstants.{DATA_LIMIT}
 use Rattle.geo_sign.specs.Tetrahedron.{Tetrahedron}
-use Rattle.geo_sign.specs.Tie.{tied_power}
-use Rattle.geo_sign.specs.Vertices.{Vertices, power_of, boxed_vertices}
+use Rattle.geo_sign.specs.Vertices.{Vertices, boxed_vertices}
 use Rattle.geo_sign.specs.Cells.{IsCell, IsRisingCell}
 use Rattle.cell_laws.specs.LinkLaws.{AreAllCells}
 use Rattle.cell_laws.specs.Lists.{IsIn, IsListing}
@@ -45,14 +41,6 @@ pub record AreStored (points : List Point) (flags : List Bool) : Type 0 where
 
 abbrev pub StoredLaw : Type 0
 StoredLaw = (points : List Point) (flags : List Bool) → AreStored points flags
-
-abbrev pub TiedLaw : Type 0
-TiedLaw =
-    (v : Vertices) → IsTied v → (a b c d p : ℕ) →
-    power_of v a b c d p ≡ tied_power v.count (a, v.at a) (b, v.at b) (c, v.at c) (d, v.at d) (p, v.at p)
-
-abbrev pub ListedLaw : Type 0
-ListedLaw = (xs : List ℕ) (x : ℕ) → IsIn xs x ↔ Contains xs x
 
 -- names and rows stand for each other
 pub record AreRowsOfCells (v : Vertices) (live : List ℕ) (cell : ℕ → Tetrahedron) : Type 0 where

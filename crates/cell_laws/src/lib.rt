@@ -34,7 +34,7 @@ pub use links::{
     back_law, box_law, cavity_law, closed_law, flooded_law, found_law, linked_law, relink_law,
     renew_law, replace_law, rim_law, rim_list_law, rim_of_law, wall_law,
 };
-pub use stores::{all_law, list_law, listed_law, row_law, stored_law, tied_law};
+pub use stores::{all_law, list_law, row_law, stored_law};
 pub use walks::{
     near_law, path_law, row_sight_law, scanner_law, sight_law, spread_law, step_law,
     vertex_sight_law,

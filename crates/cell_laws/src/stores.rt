@@ -1,7 +1,7 @@
-//! Laws for stores of cells: the vertices that a store's points are, its list of names, and its cells as rows of numbers.
+//! Laws for stores of cells: the vertices that a store's points are, and its cells as rows of numbers.
 
 ghost use Rattle.cell_laws.specs.RowLaws.{ListLaw};
-ghost use Rattle.cell_laws.specs.StoredLaws.{AllLaw, StoredLaw, TiedLaw, ListedLaw, RowLaw};
+ghost use Rattle.cell_laws.specs.StoredLaws.{AllLaw, StoredLaw, RowLaw};
 
 /// The corners of the box and distinct data points, all in, are vertices of the box: what the other laws suppose.
 pub fn all_law()
@@ -10,21 +10,13 @@ pub fn all_law()
 
 /// The corners and points of which those with a flag are in are vertices of the box. One flag more is one vertex more, and with all
 /// flags set the cells are those of all vertices.
+/// It is for whoever speaks of a store's points and flags as of vertices of the box.
 pub fn stored_law()
     ensures { StoredLaw }
 {}
 
-/// The power of vertices with the heights of the tie rule is that of their numbered points.
-pub fn tied_law()
-    ensures { TiedLaw }
-{}
-
-/// The two ways to say that a name is in a list are one.
-pub fn listed_law()
-    ensures { ListedLaw }
-{}
-
 /// Each of the names that stand for all cells has one row of rising numbers, each row of a cell is that of one name.
+/// It is for whoever sorts or prints the cells of a store.
 pub fn row_law()
     ensures { RowLaw }
 {}

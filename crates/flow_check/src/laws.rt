@@ -3,6 +3,7 @@
 ghost use Rattle.flow_check.specs.Laws.{OneVerdict};
 
 /// No labels and flow have two verdicts.
+/// It is for whoever compares two verdicts: a fault that was named is the one.
 pub fn verdicts_are_unique()
     ensures { OneVerdict }
 {}

@@ -18,6 +18,7 @@ pub fn rising_list_law()
 
 /// A tetrahedron written anew, in another even order of its four vertices, is the same to every definition: its orientation, its
 /// powers, whether it is a cell, its vertices, the tests of sights, and the places in it. To be written anew is an equivalence.
+/// It is for whoever has a cell in some order of its vertices and a promise of it in another.
 pub fn writing_law()
     ensures alike { RewritingsAreAlike }
     ensures equivalence { IsRewrittenLaw }
@@ -25,6 +26,7 @@ pub fn writing_law()
 
 /// A directed facet may be written from any of its vertices on: sides and crossings stay. In the other direction each side is the
 /// opposite number. The facets of a tetrahedron written anew are its facets, rotated.
+/// It is for whoever meets one facet from two cells.
 pub fn rotated_facet_law()
     ensures sides { SidesAreRotated }
     ensures turned { SidesAreTurned }
@@ -36,6 +38,7 @@ pub fn rotated_facet_law()
 
 /// Each positively written tetrahedron has one row, its four numbers as they rise. The row determines it up to its writing, cells
 /// in any writing are rising cells by their rows, and a facet from its smallest number on is a facet of what is written of the row.
+/// It is for whoever names a cell by its four numbers as they rise.
 pub fn row_law()
     ensures exist { RowsExist }
     ensures written { RowsAreWritten }
@@ -47,6 +50,7 @@ pub fn row_law()
 {}
 
 /// What the definitions say of vertices that are in depends on these alone.
+/// It is for whoever makes vertices of a store in which some points are not in yet.
 pub fn agreement_law()
     ensures equivalence { AgreeLaw }
     ensures signs { SignsAgree }
@@ -58,6 +62,7 @@ pub fn agreement_law()
 /// Four vectors have one linear relation, whose weights are determinants of three of them. So the orientation of four points is the
 /// sum of the four orientations in which a fifth point stands in the place of one, that fifth point is their weighted sum, and the
 /// plain power is the opposite of the sum of these four, each times the squared distance from the fifth point to that vertex.
+/// It is for whoever computes a power or an orientation in other words than the definition's.
 pub fn determinant_law()
     ensures cramer { CramerLaw }
     ensures orientation { OrientationIsSum }

@@ -13,6 +13,7 @@ ghost use Rattle.ply_head.specs.Spelling.{spelling};
 /// after another, and then the body. And each header that a text has is readable: its names
 /// are visible ASCII, no two elements have one name, nor have two properties of an element,
 /// and the counts of lists are of whole-number types.
+/// It is for whoever asks which files have a header, without reading how they are read.
 pub fn texts_with_headers_are_read()
     ensures exactly { (bytes : List ℕ) (head : Header) (body : List ℕ) → (header_of bytes ≡ Ok (head, body)) ↔ HasHeader bytes head body }
     ensures readable { (bytes : List ℕ) (head : Header) (body : List ℕ) → HasHeader bytes head body → IsReadable head }
@@ -21,6 +22,7 @@ pub fn texts_with_headers_are_read()
 /// The text that [`push_head`](crate::push_head) prints has the printed header, whatever body
 /// follows: for each readable header whose printed lines keep the limits, and so for each
 /// header that was read and whose printed lines do.
+/// It is for whoever writes a file to be read again.
 pub fn printed_headers_are_read()
     ensures readable { (head : Header) (body : List ℕ) → IsReadable head → KeepsLimits head → header_of (spelling head ++ body) ≡ Ok (head, body) }
     ensures again { (bytes : List ℕ) (head : Header) (body other : List ℕ) → header_of bytes ≡ Ok (head, body) → KeepsLimits head → header_of (spelling head ++ other) ≡ Ok (head, other) }

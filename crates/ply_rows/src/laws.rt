@@ -13,6 +13,7 @@ ghost use Rattle.ply_rows.specs.Grammar.{HasRows};
 /// of each row that the header announces, and nothing follows. In a text a piece is one
 /// token, or the number of the items and then as many tokens. In a binary body it is the
 /// bytes of one value, or those of the number of the items and then those of the items.
+/// It is for whoever asks which bodies have rows, without reading how they are read.
 pub fn bodies_with_rows_are_read()
     ensures exactly { (head : Header) (body : List ℕ) (rows : List (RowAt × List Field)) → (rows_of head body ≡ record { rows = rows; end = None }) ↔ HasRows head body rows }
 {}

@@ -10,6 +10,7 @@ ghost use Rattle.visibility.specs.AgreementLaws.{ComplexesAgree, ScenesAgree};
 /// What holds of the network by numbers holds of cells and directed facets, in whatever order they are listed, and back: labels and
 /// the test of cells that says the same cost the same, and are admissible, of the least cost and the least inside together. A flow
 /// and the amounts on facets and cells that it has are worth the same and valid together. All labels and all flows are reached so.
+/// It is for whoever solves the network and speaks of the surface.
 pub fn network_is_over_cells()
     ensures labels { LabelsAgree }
     ensures flows { FlowsAgree }
@@ -20,6 +21,7 @@ pub fn network_is_over_cells()
 /// Each capacity and each sink is below 2^48 where there are at most 8,388,608 sights of weights from 1 to 255. Where each sight has
 /// at most one cell behind it, the least cost of labels is below 2^47 whatever the number of vertices: all cells outside cost their
 /// sinks, and these are together at most the vote times the weights of all sights.
+/// It is for whoever chooses integers for capacities and costs.
 pub fn amounts_fit()
     ensures capacities { CapacitiesFit }
     ensures sinks { SinksFit }
@@ -28,6 +30,7 @@ pub fn amounts_fit()
 
 /// A scene has one list of cells and one list of facets that have a capacity. Each of these facets is written with its smallest
 /// number first, since a cell's numbers rise.
+/// It is for whoever compares two lists of a scene's cells or facets.
 pub fn facets_are_listed_once()
     ensures ordered { FacetsAreOrdered }
     ensures one { OneComplex }
