@@ -4,8 +4,9 @@
 //! and a largest flow stays valid: it is kept from weight to weight, and only more is sent. Where all sinks are full, nothing is.
 //!
 //! `sweeping` has the type, and `handing` hands its surfaces to forms. What a sweep holds stands in `specs/Swept`, and what its
-//! cost and its surface are in `specs/Entries`; `laws` says that they are those of a fresh build. The crate stands on `delaunay` and `votes` (cells and the network over them), on `max_flow`
-//! (flow and labels), on `surface` (the mesh of labels) and on `mesh_form` (forms that a mesh is handed to).
+//! cost and its surface are in `specs/Entries`; `laws` says that they are those of a fresh build. The crate stands on `delaunay`
+//! and `votes` (cells and the network over them), on `max_flow` (flow and labels), on `surface` (the mesh of labels) and on
+//! `mesh_form` (forms that a mesh is handed to).
 #![tactic(auto)]
 
 mod handing;
