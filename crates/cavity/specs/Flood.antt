@@ -11,6 +11,7 @@
 --   HasFanFacet fan f across                 the fan has the facet f, with this cell across
 --   IsPassed cells fan f across              the cell across was reached, or the facet is in the fan
 --   IsFlooding v links p from cells fan n    the first n sides of the cells reached were crossed
+--   IsVisited v links p id c g c' g'         and the four sides of one cell more
 use Rattle.std.specs.Prelude.{ℕ, ◌≡◌, ◌<◌, ◌+◌, ◌*◌, ◌⊎◌, List, [], ◌∷◌, ◌++◌, Option, Some, length, slice_index, Contains}
 use Rattle.geo_sign.specs.Tetrahedron as geo
 use Rattle.geo_sign.specs.Tetrahedron.{facet_of, IsRotated}
@@ -96,3 +97,10 @@ pub record IsFlooding (v : Vertices) (links : Links) (p from : ℕ) (cells : Lis
   pub passed : (j k : ℕ) → j < length cells → k < 4 → 4 * j + k < n
       → IsPassed cells fan (facet_of (links.at (slice_index cells j)) k) (links.next (slice_index cells j) k)
   pub once : (i j : ℕ) → i < length fan → j < length fan → IsRotated (fan_facet fan i) (fan_facet fan j) → i ≡ j
+
+-- the four sides of the cell of this number, at whichever index it stands, were crossed too
+abbrev pub IsVisited : (v : Vertices) (links : Links) (p id : ℕ) (cells : List ℕ) (fan : List Facet) (cells' : List ℕ)
+    (fan' : List Facet) → Type 0
+IsVisited v links p id cells fan cells' fan' =
+    (from j : ℕ) → j < length cells → slice_index cells j ≡ id → IsFlooding v links p from cells fan (4 * j)
+    → IsFlooding v links p from cells' fan' (4 * j + 4)

@@ -1,11 +1,11 @@
 //! The flood across facets, from one cell in conflict to all.
 
-ghost use Rattle.std.specs.Prelude.{◌≡◌, ◌<◌, ◌+◌, ◌*◌, ◌↔◌, ℕ, false, IsTrue, IsFalse, OnOk, Some, [], length, slice_index, slice_index_or};
+ghost use Rattle.std.specs.Prelude.{◌≡◌, ◌<◌, ◌+◌, ◌*◌, ◌↔◌, false, IsTrue, IsFalse, OnOk, Some, [], length, slice_index_or};
 ghost use Rattle.std.specs.Option.{ForSome};
 ghost use Rattle.tetra_store.specs.Links.{links_of, IsLive};
 ghost use Rattle.tetra_store.specs.Store.{vertices_of};
 ghost use Rattle.geo_sign.specs.Boxes.{IsInConflict, IsClearOf};
-ghost use Rattle.cavity.specs.Flood.{AreMarked, IsCrossed, IsFlooding};
+ghost use Rattle.cavity.specs.Flood.{AreMarked, IsCrossed, IsFlooding, IsVisited};
 
 use crate::NoMemory;
 use crate::cavity::Cavity;
@@ -74,7 +74,7 @@ fn visit(into: &mut Cavity, t: &Tetra, p: u32, id: CellId) -> Result<(), NoMemor
     requires out { slice_index_or t.now.inserted p false ≡ false }
     requires live { IsLive (links_of t.now.slots) id }
     requires marked { AreMarked into.old.marks.stamps.items into.old.marks.round into.old.cells.items }
-    ensures flooding { OnOk result ((from j : ℕ) → j < length into.old.cells.items → slice_index into.old.cells.items j ≡ id → IsFlooding (vertices_of t.now) (links_of t.now.slots) p from into.old.cells.items into.old.fan.items (4 * j) → IsFlooding (vertices_of t.now) (links_of t.now.slots) p from into.new.cells.items into.new.fan.items (4 * j + 4)) }
+    ensures flooding { OnOk result (IsVisited (vertices_of t.now) (links_of t.now.slots) p id into.old.cells.items into.old.fan.items into.new.cells.items into.new.fan.items) }
     ensures marked { OnOk result (AreMarked into.new.marks.stamps.items into.new.marks.round into.new.cells.items) }
 {
     t.facts();

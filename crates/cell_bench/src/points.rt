@@ -127,7 +127,7 @@ pub(crate) fn flat(alloc: Global, side: u32) -> Result<Vec<Point>, NoMemory>
 pub(crate) fn merged(alloc: Global, points: &[Point]) -> anyhow::Result<Merged>
     requires { All (IsWithin DATA_LIMIT) points.now }
     ensures within { IfOk result (λ merged. (k : ℕ) → k < length merged.points.items → IsWithin DATA_LIMIT (get_or merged.points.items k origin)) }
-    ensures distinct { IfOk result (λ merged. (j k : ℕ) → j < length merged.points.items → k < length merged.points.items → get_or merged.points.items j origin ≡ get_or merged.points.items k origin → j ≡ k) }
+    ensures distinct { IfOk result (λ made. (j k : ℕ) → j < length made.points.items → k < length made.points.items → get_or made.points.items j origin ≡ get_or made.points.items k origin → j ≡ k) }
     ensures few { IfOk result (λ merged. length merged.points.items ≤ VERTEX_LIMIT) }
 {
     ensure!(points.len() <= VERTEX_LIMIT, "too many points");

@@ -1,22 +1,22 @@
 //! Laws of meshes and their texts. The functions here do nothing: their contracts are the
 //! promises.
 
-ghost use Rattle.std.specs.Prelude.{◌≡◌, ◌<◌, ◌^◌, ◌++◌, [], ℕ, List, AllPairs, length};
+ghost use Rattle.std.specs.Prelude.{ℕ, List, AllPairs, length};
 ghost use Rattle.geo_sign.specs.Point.{Point};
 ghost use Rattle.geo_sign.specs.Rising.{IsBefore};
-ghost use Rattle.mesh_ply.specs.Meshes.{mesh_of, IsFaceList, IsMesh};
-ghost use Rattle.mesh_ply.specs.Texts.{mesh_text, IsPrinted};
+ghost use Rattle.mesh_ply.specs.Laws.{FacetsMakeMeshes, TextsTellMeshes, NoTextIsAFront};
+ghost use Rattle.mesh_ply.specs.Meshes.{mesh_of, IsFaceList};
 
 /// The mesh of a rising list of facets is valid, and its faces rise.
 /// It is for whoever makes a mesh of facets by other means.
 pub fn facets_make_valid_meshes()
-    ensures valid { (places : List Point) (facets : List (List ℕ)) → length places < 2 ^ 32 → length facets < 2 ^ 32 → IsFaceList (length places) facets → IsMesh (mesh_of places facets).points (mesh_of places facets).faces }
+    ensures valid { FacetsMakeMeshes }
     ensures rising { (places : List Point) (facets : List (List ℕ)) → IsFaceList (length places) facets → AllPairs IsBefore (mesh_of places facets).faces }
 {}
 
 /// No text belongs to two meshes, and none is a proper prefix of another.
 /// It is for whoever compares meshes by their bytes, or finds one at the front of a longer text.
 pub fn mesh_texts_are_distinct()
-    ensures one_mesh { (points others : List Point) (faces other_faces : List (List ℕ)) → IsPrinted points faces → IsPrinted others other_faces → mesh_text points faces ≡ mesh_text others other_faces → (points ≡ others) × (faces ≡ other_faces) }
-    ensures no_prefix { (points others : List Point) (faces other_faces : List (List ℕ)) (rest : List ℕ) → IsPrinted points faces → IsPrinted others other_faces → mesh_text points faces ++ rest ≡ mesh_text others other_faces → rest ≡ [] }
+    ensures one_mesh { TextsTellMeshes }
+    ensures no_prefix { NoTextIsAFront }
 {}

@@ -2,14 +2,15 @@
 //! the first refusal in line order is answered. Nothing is reserved by a stated count, so
 //! time and memory are linear in the bytes. It stands on `line_text`.
 
-ghost use Rattle.std.specs.Prelude.{◌≡◌, ◌<◌, ◌≤◌, ◌^◌, ◌++◌, ◌⊎◌, None, ℕ, List, IfOk, IfErr, IsErr, MatchResult, length};
+ghost use Rattle.std.specs.Prelude.{◌≡◌, ◌<◌, ◌≤◌, ◌^◌, ◌++◌, ◌⊎◌, None, IfOk, IfErr, IsErr, MatchResult, length};
 ghost use Rattle.std.specs.List.{flat_map};
 ghost use Rattle.geo_sign.specs.Point.{Point, IsWithin};
 ghost use Rattle.line_text.specs.Refusals.{AreCountedRows, IsRefusedRow};
 ghost use Rattle.line_text.specs.Lists.{WithMemory};
 ghost use Rattle.mesh_ply.specs.Meshes.{IsFace};
 ghost use Rattle.mesh_ply.specs.Texts.{point_line, face_line, mesh_text, IsPrinted};
-ghost use Rattle.mesh_ply.specs.TextParts.{text_behind_count};
+ghost use Rattle.mesh_ply.specs.Laws.{WherePrinted};
+ghost use Rattle.mesh_ply.specs.TextParts.{text_behind_count, AreLinesOf};
 ghost use Rattle.mesh_ply.specs.Refusals.{AtPoints, AtFaceCount, AtMesh, IsRefusedMesh};
 ghost use Rattle.mesh_ply.specs.declared.refusal.MeshRefusal.{MeshRefusal};
 ghost use Rattle.geo_sign.specs.declared.point.TheConstants.{BOX_LIMIT};
@@ -81,7 +82,7 @@ fn read_faces(
 /// The points and faces from line 10 on, and nothing behind them.
 fn read_rows(alloc: Global, text: &[u8], points: u64, faces: u64) -> Result<Mesh, LineRefusal>
     requires { points < 2 ^ 32 }
-    ensures ok { IfOk result (λ mesh. AreCountedRows (IsWithin BOX_LIMIT) None points mesh.points.items × AreCountedRows (IsFace points) None faces mesh.faces.items × (text.now ≡ flat_map point_line mesh.points.items ++ flat_map face_line mesh.faces.items)) }
+    ensures ok { IfOk result (λ mesh. AreLinesOf points faces text.now mesh.points.items mesh.faces.items) }
     ensures refused { IfErr result (λ r. WithMemory r (AtPoints points faces text.now r)) }
 {
     let (vertices, rest) = read_points(alloc, text, points, 10)?;
@@ -133,7 +134,7 @@ fn read_lines(alloc: Global, bytes: &[u8]) -> Result<Mesh, LineRefusal>
 /// there. `NoMemory` says nothing of the text.
 pub fn read_mesh(alloc: Global, bytes: &[u8]) -> Result<Mesh, MeshRefusal>
     ensures ok { IfOk result (λ mesh. IsPrinted mesh.points.items mesh.faces.items × (bytes.now ≡ mesh_text mesh.points.items mesh.faces.items)) }
-    ensures printed { (points : List Point) (faces : List (List ℕ)) → IsPrinted points faces → bytes.now ≡ mesh_text points faces → MatchResult result (λ mesh. (mesh.points.items ≡ points) × (mesh.faces.items ≡ faces)) (λ r. r ≡ MeshRefusal.NoMemory) }
+    ensures printed { WherePrinted bytes.now (λ points faces. MatchResult result (λ mesh. (mesh.points.items ≡ points) × (mesh.faces.items ≡ faces)) (λ r. r ≡ MeshRefusal.NoMemory)) }
     ensures refused { IfErr result (λ r. (r ≡ MeshRefusal.NoMemory) ⊎ IsRefusedMesh bytes.now r) }
     ensures first { (r : MeshRefusal) → IsRefusedMesh bytes.now r → IfErr result (λ s. (s ≡ MeshRefusal.NoMemory) ⊎ (s ≡ r)) × IsErr result }
 {
