@@ -6,8 +6,9 @@
 --   capacity_of ..             a vote for each crossing and the smoothing, where the neighbor is there and free
 --   is_outside slots fixed v   the number has no cell, or a fixed one
 --   sink_of ..                 a vote for each sight that the cell is behind
---   IsShape slots ..           counts and flags for each number that can have a cell, and neighbors that are other nodes
-use Rattle.std.specs.Prelude.{ℕ, ◌≡◌, ◌≢◌, true, ◌<◌, ◌≤◌, ◌^◌, length, ◌+◌, ◌*◌, ◌/◌, ◌%◌, ◌||◌, Bool, false, not, List, Option}
+--   IsShape slots ..           they are a network: counts for each number that can have a cell, nodes at both ends of each arc, and
+--                              amounts that fit
+use Rattle.std.specs.Prelude.{ℕ, ◌≢◌, ◌<◌, ◌≤◌, ◌^◌, length, ◌+◌, ◌*◌, ◌/◌, ◌%◌, ◌||◌, Bool, false, not, List, Option}
 use Rattle.std.specs.Prelude.{Some, None, slice_index, unwrap_or, if◌then◌else◌}
 use Rattle.flow_net.specs.Nets.{flag_at}
 use Rattle.flow_net.specs.declared.votes.Settings.{Settings}
@@ -40,12 +41,14 @@ is_outside slots fixed v = not ((links_of slots).is_live v) || flag_at fixed v
 abbrev pub sink_of : List (Option Cell) → (behind : List ℕ) → Settings → ℕ → ℕ
 sink_of slots behind settings v = if (links_of slots).is_live v then settings.vote * slice_index behind v else 0
 
--- counts and flags for each number that can have a cell, of 32 bits, and neighbors that are nodes and not the cell itself
-pub record IsShape (slots : List (Option Cell)) (crossed behind : List ℕ) (fixed : List Bool) : Type 0 where
+-- Counts and flags for each number that can have a cell. What leaves a node enters one, another one where something can flow, and no
+-- amount is above 2^60.
+pub record IsShape (slots : List (Option Cell)) (crossed behind : List ℕ) (fixed : List Bool) (settings : Settings) : Type 0 where
   pub flags : length slots ≤ length fixed
   pub sides : 4 * length slots ≤ length crossed
   pub cells : length slots ≤ length behind
-  pub crossed_fit : (j : ℕ) → slice_index crossed j < 2 ^ 32
-  pub behind_fit : (v : ℕ) → slice_index behind v < 2 ^ 32
+  pub tails_in : (j : ℕ) → j < 4 * length fixed → j / 4 < length fixed
   pub heads_in : (j : ℕ) → j < 4 * length fixed → neighbor_or_self slots j < length fixed
-  pub apart : (j : ℕ) → is_free fixed (across slots j) ≡ true → j / 4 ≢ neighbor_or_self slots j
+  pub distinct : (j : ℕ) → 1 ≤ capacity_of slots crossed fixed settings j → j / 4 ≢ neighbor_or_self slots j
+  pub capacities_fit : (j : ℕ) → capacity_of slots crossed fixed settings j ≤ 2 ^ 60
+  pub sinks_fit : (v : ℕ) → sink_of slots behind settings v ≤ 2 ^ 60

@@ -1,4 +1,2 @@
 pub mod Arcs
-pub mod Turns
-pub mod Facts
 pub mod Shape

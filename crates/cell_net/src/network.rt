@@ -16,7 +16,7 @@ pub struct CellNetwork<'a> {
     tetra: &'a Tetra,
     counts: StoreCounts<'a>,
     settings: Settings,
-    pub ghost shape: { IsShape tetra.now.slots counts.crossed.now counts.behind.now counts.fixed.now },
+    pub ghost shape: { IsShape tetra.now.slots counts.crossed.now counts.behind.now counts.fixed.now settings },
     pub ghost few: { length counts.fixed.now < 2 ^ 32 },
 }
 

@@ -26,7 +26,7 @@ use Rattle.recon_build.specs.MinimumCuts.{IsCutOf}
 use Rattle.recon_build.specs.declared.solving.MinimumCut.{MinimumCut}
 
 pub cut_is : (s : Scene) (slots : List (Option Cell)) (crossed behind : List ℕ) (fixed : List Bool) (settings : Settings)
-    (asked : AreCountsOf s slots crossed behind fixed) (shape : IsShape slots crossed behind fixed) (same : s.settings ≡ settings)
+    (asked : AreCountsOf s slots crossed behind fixed) (shape : IsShape slots crossed behind fixed settings) (same : s.settings ≡ settings)
     (flow : Flow) (labels : Labels) (cost : ℕ) → IsValidFlow (numbered_with slots crossed behind fixed settings shape) flow
     → IsLeastInside (numbered_with slots crossed behind fixed settings shape) labels
     → cost_of (numbered_with slots crossed behind fixed settings shape) labels

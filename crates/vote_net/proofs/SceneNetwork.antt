@@ -55,9 +55,15 @@ use Rattle.vote_net.proofs.Nodes as made
 use Rattle.vote_net.proofs.Nodes.{no_row, no_side}
 use Rattle.vote_net.proofs.Stored.{listed, live}
 use Rattle.cell_net.specs.Arcs.{IsShape, across, neighbor_or_self, is_free}
-use Rattle.cell_net.specs.Facts.{from_in, cell_part, side_part}
 use Rattle.cell_net.specs.Shape.{numbered_with}
 use Rattle.vote_net.proofs.SlotSums.{sum_longer, by_fours, entry_sum, map_sum, flat_sum}
+
+-- the cell and the side of an arc
+cell_part : (id k : ℕ) → k < 4 → (4 * id + k) / 4 ≡ id
+cell_part id k l = omega arith
+
+side_part : (id k : ℕ) → k < 4 → (4 * id + k) % 4 ≡ k
+side_part id k l = omega arith
 
 -- what an open side says of the neighbor
 record IsOpened (fixed : List Bool) (o : Option ℕ) : Type 0 where
@@ -94,7 +100,7 @@ no_cell None e = refl
 no_cell (Some c) e = absurd (false≢true (sym e))
 
 module _ (s : Scene) (slots : List (Option Cell)) (crossed behind : List ℕ) (fixed : List Bool) (settings : Settings)
-    (asked : AreCountsOf s slots crossed behind fixed) (shape : IsShape slots crossed behind fixed)
+    (asked : AreCountsOf s slots crossed behind fixed) (shape : IsShape slots crossed behind fixed settings)
     (same_settings : s.settings ≡ settings) where
   abbrev pub real : ℕ → Bool
   real = (links_of slots).is_live
@@ -438,7 +444,7 @@ module _ (s : Scene) (slots : List (Option Cell)) (crossed behind : List ℕ) (f
     arc_of = arc_for;
     node_sums = node_sums;
     arc_sums = arc_sums;
-    from_there = λ j is. (from_in fixed j is.0, live_before j is.1);
+    from_there = λ j is. (shape.tails_in j is.0, live_before j is.1);
     to_there = λ j is. (shape.heads_in j is.0, padding.to_real j is.0 is.1);
     from_is = λ j is. from_is j is.1;
     to_is = λ j is. to_is j is.1;

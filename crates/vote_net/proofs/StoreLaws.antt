@@ -16,7 +16,7 @@ use Rattle.vote_net.proofs.SceneNetwork.{real, there, net, padding, complex, by_
 
 store_network : (s : Scene) (slots : List (Option Cell)) (crossed behind : List ℕ) (fixed : List Bool)
     (settings : Settings)
-    (asked : AreCountsOf s slots crossed behind fixed) (shape : IsShape slots crossed behind fixed) (same : s.settings ≡ settings)
+    (asked : AreCountsOf s slots crossed behind fixed) (shape : IsShape slots crossed behind fixed settings) (same : s.settings ≡ settings)
     → IsStoreNetwork s slots fixed (net s slots crossed behind fixed settings asked shape same)
 store_network s slots crossed behind fixed settings asked shape same =
     let number = net s slots crossed behind fixed settings asked shape same in

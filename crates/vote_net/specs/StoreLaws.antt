@@ -39,5 +39,5 @@ pub record IsStoreNetwork (s : Scene) (slots : List (Option Cell)) (fixed : List
 abbrev pub StoreNetworkLaw : Type 0
 StoreNetworkLaw =
     (s : Scene) (slots : List (Option Cell)) (crossed behind : List ℕ) (fixed : List Bool) (settings : Settings)
-    → AreCountsOf s slots crossed behind fixed → (shape : IsShape slots crossed behind fixed) → s.settings ≡ settings
+    → AreCountsOf s slots crossed behind fixed → (shape : IsShape slots crossed behind fixed settings) → s.settings ≡ settings
     → IsStoreNetwork s slots fixed (numbered_with slots crossed behind fixed settings shape)

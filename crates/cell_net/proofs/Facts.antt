@@ -1,0 +1,71 @@
+-- Linked cells and counts are a network: each neighbor is a cell, and another one, and counts of 32 bits at such weights are small.
+use Rattle.std.proofs.Common.{ℕ, ◌≡◌, ◌≢◌, ◌<◌, ◌≤◌, ◌+◌, ◌*◌, ◌/◌, ◌%◌, ◌^◌, Bool, true, false, cond, List, length}
+use Rattle.std.proofs.Common.{get_or, Option, Some, None, refl, ap, sym, ◌∙◌, arith}
+use Rattle.std.specs.Prelude.{unwrap_or}
+use Rattle.std.proofs.Math.Nat.{mul-le-mul_right}
+use Rattle.std.proofs.lemmas.Bool.{false≢true}
+use Rattle.flow_net.specs.declared.votes.Settings.{Settings}
+use Rattle.tetra_store.specs.Links.{links_of, slot_at, IsBack}
+use Rattle.tetra_store.specs.Store.{Store, IsStore}
+use Rattle.tetra_store.proofs.Observed.{next_live, slot_in}
+use Rattle.cell_net.specs.Arcs.{IsShape, across, is_free}
+use Rattle.cell_net.proofs.Turns.{none_turned}
+
+-- the neighbor across a side has it turned round, and names the cell back
+across_back : (s : Store) → IsStore s → (j other : ℕ) → across s.slots j ≡ Some other
+    → IsBack (links_of s.slots) (j / 4) (j % 4) other
+across_back s store j other e =
+    store.linked.back (j / 4) (j % 4) other (next_live (slot_at s.slots (j / 4)) (j % 4) other e) (omega arith) e
+
+neighbor_in : (s : Store) (fixed : List Bool) → IsStore s → length s.slots ≤ length fixed → (j : ℕ)
+    → j < 4 * length fixed → (o : Option ℕ) → across s.slots j ≡ o → unwrap_or o (j / 4) < length fixed
+neighbor_in s fixed store flags j l None e = omega arith
+neighbor_in s fixed store flags j l (Some other) e =
+    let back = across_back s store j other e in
+    let low = slot_in s.slots other back.live in omega (arith, low, flags)
+
+-- no cell is its own neighbor
+apart_at : (s : Store) → IsStore s → (j : ℕ) (fixed : List Bool) (o : Option ℕ) → across s.slots j ≡ o
+    → is_free fixed o ≡ true → j / 4 ≢ unwrap_or o (j / 4)
+apart_at s store j fixed None e can = absurd (false≢true can)
+apart_at s store j fixed (Some other) e can = λ same.
+    let itself : across s.slots j ≡ Some (j / 4) = e ∙ ap (λ x. Some x) (sym same) in
+    let back = across_back s store j (j / 4) itself in
+    none_turned ((links_of s.slots).at (j / 4)) (λ i k li lk d. store.linked.distinct (j / 4) i k back.live li lk d) (j % 4)
+    back.side (omega arith) back.in_range back.turned
+
+-- a choice of an amount or none that is some
+is_chosen : (b : Bool) (n : ℕ) → 1 ≤ cond b n 0 → b ≡ true
+is_chosen true n l = refl
+is_chosen false n l = absurd (omega (arith, l))
+
+-- amounts of so many votes are small
+votes_fit : (vote smooth count : ℕ) → vote ≤ 65535 → smooth ≤ 65535 → count < 2 ^ 32 → vote * count + smooth ≤ 2 ^ 60
+votes_fit vote smooth count v m c = let product = mul-le-mul_right count v in omega (arith, product)
+
+cond_fits : (b : Bool) (n m : ℕ) → n ≤ m → cond b n 0 ≤ m
+cond_fits true n m l = l
+cond_fits false n m l = omega arith
+
+-- the cells of a store, with lists that are long enough
+pub shape_of : (s : Store) (crossed behind : List ℕ) (fixed : List Bool) (settings : Settings) → IsStore s
+    → length s.slots ≤ length fixed → 4 * length s.slots ≤ length crossed → length s.slots ≤ length behind
+    → ((j : ℕ) → get_or crossed j 0 < 2 ^ 32) → ((v : ℕ) → get_or behind v 0 < 2 ^ 32)
+    → IsShape s.slots crossed behind fixed settings
+shape_of s crossed behind fixed settings store flags sides cells crossed_fit behind_fit = record {
+  flags = flags;
+  sides = sides;
+  cells = cells;
+  tails_in = λ j l. omega arith;
+  heads_in = λ j l. neighbor_in s fixed store flags j l (across s.slots j) refl;
+  distinct = λ j some.
+      apart_at s store j fixed (across s.slots j) refl
+      (is_chosen (is_free fixed (across s.slots j)) (settings.vote * get_or crossed j 0 + settings.smooth) some);
+  capacities_fit = λ j.
+      cond_fits (is_free fixed (across s.slots j)) (settings.vote * get_or crossed j 0 + settings.smooth) (2 ^ 60)
+      (votes_fit settings.vote settings.smooth (get_or crossed j 0) settings.vote_at_most settings.smooth_at_most (crossed_fit j));
+  sinks_fit = λ v.
+      cond_fits ((links_of s.slots).is_live v) (settings.vote * get_or behind v 0) (2 ^ 60)
+      (let fit = votes_fit settings.vote 0 (get_or behind v 0) settings.vote_at_most (omega arith) (behind_fit v) in
+      omega (arith, fit));
+}
