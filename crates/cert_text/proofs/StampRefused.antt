@@ -8,10 +8,9 @@ use Rattle.hex.specs.Hex.{encode_lower, decode_sized}
 use Rattle.hex.proofs.HexLemmas.{decode_sized-encode_lower}
 use Rattle.line_text.specs.Numbers.{signed_ended, Lacks, BeginsWithNone}
 use Rattle.line_text.specs.declared.refusal.LineRefusal.{LineRefusal}
-use Rattle.line_text.specs.Refusals.{AtNumber}
 use Rattle.line_text.proofs.Codes.{IsCode, behind_same, one_split, none_behind}
 use Rattle.line_text.proofs.Fronts.{cut_or_bad_same}
-use Rattle.line_text.proofs.Parts.{part_once, part_passed, word_once, word_passed, number_once, number_passed}
+use Rattle.line_text.proofs.Parts.{IsOnce, IsPassed, part_once, part_passed, word_once, word_passed, number_once, number_passed}
 use Rattle.num_text.specs.declared.decimal.TheConstants.{UNIT_LIMIT}
 use Rattle.mesh_ply.specs.Texts.{IsCoordinate, point_line}
 use Rattle.mesh_ply.proofs.MeshForms.{point_is, own_place}
@@ -19,62 +18,34 @@ use Rattle.mesh_ply.proofs.MeshCodes.{point_code}
 use Rattle.cert_text.specs.Stamps.{StampView, IsDigest, IsFixed, IsStamp, IsVersion}
 use Rattle.cert_text.specs.Texts.{stamped_title, scan_word, unit_word, scanner_word, scan_line, place_line}
 use Rattle.cert_text.specs.Texts.{fixed_line, stamp_text, version_text}
-use Rattle.cert_text.specs.Refusals.{RefusedLine, AtLine, RefusedStamp, RefusedVersion}
+use Rattle.cert_text.specs.Refusals.{RefusedLine, RefusedStamp, RefusedVersion}
 use Rattle.cert_text.proofs.StampCodes.{scan_code, scan_parts, stamp_parts, stamped_parts, digits_lack}
 use Rattle.geo_sign.specs.declared.point.TheConstants.{BOX_LIMIT, DATA_LIMIT}
 use Rattle.geo_sign.proofs.Bounds.{data_in_box}
 
--- ---- a line of a form
-line_once : {A : Type 0} (P : A → Type 0) (line_of : A → List ℕ) → IsCode P line_of
-    → (n : ℕ) (text : List ℕ) (r s : LineRefusal) (K L : A → List ℕ → Type 0)
-    → AtLine P line_of n text r K → AtLine P line_of n text s L → ((a : A) (rest : List ℕ) → P a → K a rest → L a rest → r ≡ s)
-    → r ≡ s
-line_once P line_of code n text r s K L =
-    part_once P line_of code text (RefusedLine P line_of n text r) (RefusedLine P line_of n text s) (r ≡ s) K L
-    (λ h k. cut_or_bad_same n text r s h.1 k.1) (λ h. h.0) (λ k. k.0)
-
-line_passed : {A : Type 0} (P : A → Type 0) (line_of : A → List ℕ) → IsCode P line_of
-    → (n : ℕ) (text rest : List ℕ) (a : A) (r : LineRefusal) (Next : A → List ℕ → Type 0) → AtLine P line_of n text r Next → P a
-    → text ≡ line_of a ++ rest → (Next a rest → ⊥) → ⊥
-line_passed P line_of code n text rest a r Next =
-    part_passed P line_of code text rest a (RefusedLine P line_of n text r) Next (λ h. h.0)
-
 -- ---- the stamp
-abbrev AtFixed : List ℕ → LineRefusal → Type 0
-AtFixed t r = RefusedLine IsFixed fixed_line 4 t r
+refused_stamp_once : IsOnce RefusedStamp
+refused_stamp_once =
+    part_once IsDigest scan_line scan_code (RefusedLine IsDigest scan_line 2) _ (λ t r s h k. cut_or_bad_same 2 t r s h.1 k.1)
+    (λ t r h. h.0) (λ _ _.
+    number_once unit_word 1 UNIT_LIMIT 3 (λ _. RefusedLine IsFixed fixed_line 4) (omega arith)
+    (λ _ _ t r s h k. cut_or_bad_same 4 t r s h.1 k.1))
 
-abbrev AtUnit : List ℕ → LineRefusal → Type 0
-AtUnit t r = AtNumber unit_word 1 UNIT_LIMIT 3 t r (λ _ b. AtFixed b r)
-
-fixed_same : (t : List ℕ) (r s : LineRefusal) → AtFixed t r → AtFixed t s → r ≡ s
-fixed_same t r s h k = cut_or_bad_same 4 t r s h.1 k.1
-
-unit_same : (t : List ℕ) (r s : LineRefusal) → AtUnit t r → AtUnit t s → r ≡ s
-unit_same t r s h k =
-    number_once unit_word 1 UNIT_LIMIT 3 t r s (λ _ b. AtFixed b r) (λ _ b. AtFixed b s) (omega arith) h k
-    (λ _ b _. fixed_same b r s)
-
-stamp_same : (t : List ℕ) (r s : LineRefusal) → RefusedStamp t r → RefusedStamp t s → r ≡ s
-stamp_same t r s h k =
-    line_once IsDigest scan_line scan_code 2 t r s (λ _ a. AtUnit a r) (λ _ a. AtUnit a s) h k (λ _ a _. unit_same a r s)
-
-stamp_passed : (text rest : List ℕ) (v : StampView) (r : LineRefusal) → IsStamp v → RefusedStamp text r
-    → text ≡ stamp_text v ++ rest → ⊥
-stamp_passed text rest v r w h e =
-    line_passed IsDigest scan_line scan_code 2 text _ v.digest r (λ _ a. AtUnit a r) h w.digest (e ∙ stamp_parts v rest) (λ h2.
-    number_passed unit_word 1 UNIT_LIMIT 3 v.unit _ _ r (λ _ b. AtFixed b r) (omega arith) h2 w.unit refl (λ h3.
-    h3.0 v.fixed rest w.fixed refl))
+stamp_passed : (text rest : List ℕ) (v : StampView) → IsStamp v → text ≡ stamp_text v ++ rest → IsPassed RefusedStamp text
+stamp_passed text rest v w e =
+    part_passed IsDigest scan_line scan_code (RefusedLine IsDigest scan_line 2) _ (λ t r h. h.0) text _ v.digest w.digest
+    (e ∙ stamp_parts v rest)
+    (number_passed unit_word 1 UNIT_LIMIT 3 v.unit (λ _. RefusedLine IsFixed fixed_line 4) _ _ (omega arith) w.unit refl
+    (λ r h. h.0 v.fixed rest w.fixed refl))
 
 -- ---- the first line and the stamp
-pub version_same : (text : List ℕ) (r s : LineRefusal) → RefusedVersion text r → RefusedVersion text s → r ≡ s
-version_same text r s h k =
-    word_once stamped_title 1 text r s (λ a. RefusedStamp a r) (λ a. RefusedStamp a s) h.1 k.1 (λ a. stamp_same a r s)
+pub version_once : IsOnce RefusedVersion
+version_once text r s h k = word_once stamped_title 1 RefusedStamp refused_stamp_once text r s h.1 k.1
 
 pub version_passed : (text : List ℕ) (r : LineRefusal) → RefusedVersion text r → BeginsWithNone IsVersion version_text text
 version_passed text r h None rest w e = h.0 rest e
 version_passed text r h (Some v) rest w e =
-    word_passed stamped_title 1 text _ r (λ a. RefusedStamp a r) h.1 (e ∙ stamped_parts v rest)
-    (λ k. stamp_passed _ rest v r w k refl)
+    word_passed stamped_title 1 RefusedStamp text _ (e ∙ stamped_parts v rest) (stamp_passed _ rest v w refl) r h.1
 
 -- ---- lines that are not of their form
 -- a token that is no digest's digits

@@ -15,41 +15,52 @@ use Rattle.line_text.specs.Lists.{RefusedList, list_text, IsList}
 use Rattle.line_text.proofs.Codes.{IsCode, behind_same, code_list, counted_between_code}
 use Rattle.line_text.proofs.Fronts.{cut_or_bad_same, row_same, row_not_good}
 
+-- what is said of a text and a refusal has one refusal of a text
+abbrev pub IsOnce : (List ℕ → LineRefusal → Type 0) → Type 0
+IsOnce At = (text : List ℕ) (r s : LineRefusal) → At text r → At text s → r ≡ s
+
+-- it has none of this text
+abbrev pub IsPassed : (List ℕ → LineRefusal → Type 0) → List ℕ → Type 0
+IsPassed At text = (r : LineRefusal) → At text r → ⊥
+
 -- ---- any part
 pub part_once : {A : Type 0} (P : A → Type 0) (text_of : A → List ℕ) → IsCode P text_of
-    → (text : List ℕ) (R S X : Type 0) (K L : A → List ℕ → Type 0) → (R → S → X) → (R → BeginsWithNone P text_of text)
-    → (S → BeginsWithNone P text_of text)
-    → AtPart P text_of text R K → AtPart P text_of text S L → ((a : A) (rest : List ℕ) → P a → K a rest → L a rest → X) → X
-part_once P text_of code text R S X K L once none_r none_s (inl h) (inl k) next = once h k
-part_once P text_of code text R S X K L once none_r none_s (inl h) (inr k) next =
-    absurd (none_r h k.value k.rest k.form k.front)
-part_once P text_of code text R S X K L once none_r none_s (inr h) (inl k) next =
-    absurd (none_s k h.value h.rest h.form h.front)
-part_once {A} P text_of code text R S X K L once none_r none_s (inr h) (inr k) next =
+    → (Refused : List ℕ → LineRefusal → Type 0) (At : A → List ℕ → LineRefusal → Type 0) → IsOnce Refused
+    → ((text : List ℕ) (r : LineRefusal) → Refused text r → BeginsWithNone P text_of text) → ((a : A) → P a → IsOnce (At a))
+    → IsOnce (λ t r. AtPart P text_of t (Refused t r) (λ a u. At a u r))
+part_once P text_of code Refused At once none next text r s (inl h) (inl k) = once text r s h k
+part_once P text_of code Refused At once none next text r s (inl h) (inr k) =
+    absurd (none text r h k.value k.rest k.form k.front)
+part_once P text_of code Refused At once none next text r s (inr h) (inl k) =
+    absurd (none text s k h.value h.rest h.form h.front)
+part_once {A} P text_of code Refused At once none next text r s (inr h) (inr k) =
     let both = code h.value k.value h.rest k.rest h.form k.form (sym h.front ∙ k.front) in
-    next h.value h.rest h.form h.next
-    (subst (λ (t : List ℕ). L h.value t) (sym both.1) (subst (λ (a : A). L a k.rest) (sym both.0) k.next))
+    next h.value h.form h.rest r s h.next
+    (subst (λ (t : List ℕ). At h.value t s) (sym both.1) (subst (λ (a : A). At a k.rest s) (sym both.0) k.next))
 
 pub part_passed : {A : Type 0} (P : A → Type 0) (text_of : A → List ℕ) → IsCode P text_of
-    → (text rest : List ℕ) (a : A) (R : Type 0) (Next : A → List ℕ → Type 0) → (R → BeginsWithNone P text_of text)
-    → AtPart P text_of text R Next → P a → text ≡ text_of a ++ rest → (Next a rest → ⊥) → ⊥
-part_passed P text_of code text rest a R Next none (inl h) form front never = none h a rest form front
-part_passed {A} P text_of code text rest a R Next none (inr h) form front never =
+    → (Refused : List ℕ → LineRefusal → Type 0) (At : A → List ℕ → LineRefusal → Type 0)
+    → ((text : List ℕ) (r : LineRefusal) → Refused text r → BeginsWithNone P text_of text) → (text rest : List ℕ) (a : A) → P a
+    → text ≡ text_of a ++ rest → IsPassed (At a) rest → IsPassed (λ t r. AtPart P text_of t (Refused t r) (λ b u. At b u r)) text
+part_passed P text_of code Refused At none text rest a form front never r (inl h) = none text r h a rest form front
+part_passed {A} P text_of code Refused At none text rest a form front never r (inr h) =
     let both = code h.value a h.rest rest h.form form (sym h.front ∙ front) in
-    never (subst (λ (t : List ℕ). Next a t) both.1 (subst (λ (b : A). Next b h.rest) both.0 h.next))
+    never r (subst (λ (t : List ℕ). At a t r) both.1 (subst (λ (b : A). At b h.rest r) both.0 h.next))
 
 -- ---- a fixed text
-pub word_once : (word : List ℕ) (n : ℕ) (text : List ℕ) (r s : LineRefusal) (K L : List ℕ → Type 0) → AtWord word n text r K
-    → AtWord word n text s L → ((rest : List ℕ) → K rest → L rest → r ≡ s) → r ≡ s
-word_once word n text r s K L (inl h) (inl k) next = cut_or_bad_same n text r s h.1 k.1
-word_once word n text r s K L (inl h) (inr k) next = absurd (h.0 k.0 k.1)
-word_once word n text r s K L (inr h) (inl k) next = absurd (k.0 h.0 h.1)
-word_once word n text r s K L (inr h) (inr k) next = next h.0 h.2 (subst L (behind_same word k.0 h.0 (sym k.1 ∙ h.1)) k.2)
+pub word_once : (word : List ℕ) (n : ℕ) (At : List ℕ → LineRefusal → Type 0) → IsOnce At
+    → IsOnce (λ t r. AtWord word n t r (λ u. At u r))
+word_once word n At next text r s (inl h) (inl k) = cut_or_bad_same n text r s h.1 k.1
+word_once word n At next text r s (inl h) (inr k) = absurd (h.0 k.0 k.1)
+word_once word n At next text r s (inr h) (inl k) = absurd (k.0 h.0 h.1)
+word_once word n At next text r s (inr h) (inr k) =
+    next h.0 r s h.2 (subst (λ (t : List ℕ). At t s) (behind_same word k.0 h.0 (sym k.1 ∙ h.1)) k.2)
 
-pub word_passed : (word : List ℕ) (n : ℕ) (text rest : List ℕ) (r : LineRefusal) (Next : List ℕ → Type 0)
-    → AtWord word n text r Next → text ≡ word ++ rest → (Next rest → ⊥) → ⊥
-word_passed word n text rest r Next (inl h) front never = h.0 rest front
-word_passed word n text rest r Next (inr h) front never = never (subst Next (behind_same word h.0 rest (sym h.1 ∙ front)) h.2)
+pub word_passed : (word : List ℕ) (n : ℕ) (At : List ℕ → LineRefusal → Type 0) (text rest : List ℕ) → text ≡ word ++ rest
+    → IsPassed At rest → IsPassed (λ t r. AtWord word n t r (λ u. At u r)) text
+word_passed word n At text rest front never r (inl h) = h.0 rest front
+word_passed word n At text rest front never r (inr h) =
+    never r (subst (λ (t : List ℕ). At t r) (behind_same word h.0 rest (sym h.1 ∙ front)) h.2)
 
 -- the line as the code has it: its word is a value that is this text
 pub word_refused : (shown word : List ℕ) (n : ℕ) (text : List ℕ) (r : LineRefusal) (Next : List ℕ → Type 0) → shown ≡ word
@@ -64,21 +75,18 @@ pub word_good : (shown word : List ℕ) (n : ℕ) (text rest : List ℕ) (r : Li
 word_good shown word n text rest r Next e f next = inr (rest, behind_word shown word text rest e f, next)
 
 -- ---- a word and a number
-pub number_once : (word : List ℕ) (least greatest n : ℕ) (text : List ℕ) (r s : LineRefusal) (K L : ℕ → List ℕ → Type 0)
-    → greatest < 2 ^ 64
-    → AtNumber word least greatest n text r K → AtNumber word least greatest n text s L
-    → ((a : ℕ) (rest : List ℕ) → IsBetween least greatest a → K a rest → L a rest → r ≡ s) → r ≡ s
-number_once word least greatest n text r s K L fits =
-    part_once (IsBetween least greatest) (counted word) (counted_between_code word least greatest fits) text
-    (RefusedNumber word least greatest n text r) (RefusedNumber word least greatest n text s) (r ≡ s) K L
-    (λ h k. cut_or_bad_same n text r s h.1 k.1) (λ h. h.0) (λ k. k.0)
+pub number_once : (word : List ℕ) (least greatest n : ℕ) (At : ℕ → List ℕ → LineRefusal → Type 0) → greatest < 2 ^ 64
+    → ((a : ℕ) → IsBetween least greatest a → IsOnce (At a)) → IsOnce (λ t r. AtNumber word least greatest n t r (λ a u. At a u r))
+number_once word least greatest n At fits =
+    part_once (IsBetween least greatest) (counted word) (counted_between_code word least greatest fits)
+    (RefusedNumber word least greatest n) At (λ text r s h k. cut_or_bad_same n text r s h.1 k.1) (λ text r h. h.0)
 
-pub number_passed : (word : List ℕ) (least greatest n a : ℕ) (text rest : List ℕ) (r : LineRefusal) (Next : ℕ → List ℕ → Type 0)
-    → greatest < 2 ^ 64 → AtNumber word least greatest n text r Next → IsBetween least greatest a
-    → text ≡ counted word a ++ rest → (Next a rest → ⊥) → ⊥
-number_passed word least greatest n a text rest r Next fits =
-    part_passed (IsBetween least greatest) (counted word) (counted_between_code word least greatest fits) text rest a
-    (RefusedNumber word least greatest n text r) Next (λ h. h.0)
+pub number_passed : (word : List ℕ) (least greatest n a : ℕ) (At : ℕ → List ℕ → LineRefusal → Type 0) (text rest : List ℕ)
+    → greatest < 2 ^ 64 → IsBetween least greatest a → text ≡ counted word a ++ rest → IsPassed (At a) rest
+    → IsPassed (λ t r. AtNumber word least greatest n t r (λ b u. At b u r)) text
+number_passed word least greatest n a At text rest fits =
+    part_passed (IsBetween least greatest) (counted word) (counted_between_code word least greatest fits)
+    (RefusedNumber word least greatest n) At (λ t r h. h.0) text rest a
 
 -- the line as the code has it
 pub number_refused : (shown word : List ℕ) (least greatest n : ℕ) (text : List ℕ) (r : LineRefusal) (Next : ℕ → List ℕ → Type 0)
@@ -103,24 +111,22 @@ rows_code P line_of order count code =
     λ xs ys r s a b e. code_list P line_of code xs ys r s (a.0 ∙ sym b.0) (a.1).each (b.1).each e
 
 pub rows_once : {A : Type 0} (P : A → Type 0) (line_of : A → List ℕ) (order : Option (A → List ℕ)) → IsCode P line_of
-    → (count n : ℕ) (text : List ℕ) (r s : LineRefusal) (K L : List A → List ℕ → Type 0)
-    → AtRows P line_of order count n text r K → AtRows P line_of order count n text s L
-    → ((rows : List A) (rest : List ℕ) → AreCountedRows P order count rows → K rows rest → L rows rest → r ≡ s) → r ≡ s
-rows_once P line_of order code count n text r s K L =
-    part_once (AreCountedRows P order count) (flat_map line_of) (rows_code P line_of order count code) text
-    (IsRefusedRow P line_of order count n text r) (IsRefusedRow P line_of order count n text s) (r ≡ s) K L
-    (row_same P line_of order code count n text r s)
-    (λ h rows rest form front. row_not_good P line_of order code count n text rest rows r h form.0 form.1 front)
-    (λ k rows rest form front. row_not_good P line_of order code count n text rest rows s k form.0 form.1 front)
+    → (count n : ℕ) (At : List A → List ℕ → LineRefusal → Type 0)
+    → ((rows : List A) → AreCountedRows P order count rows → IsOnce (At rows))
+    → IsOnce (λ t r. AtRows P line_of order count n t r (λ rows u. At rows u r))
+rows_once P line_of order code count n At =
+    part_once (AreCountedRows P order count) (flat_map line_of) (rows_code P line_of order count code)
+    (IsRefusedRow P line_of order count n) At (row_same P line_of order code count n)
+    (λ text r h rows rest form front. row_not_good P line_of order code count n text rest rows r h form.0 form.1 front)
 
 pub rows_passed : {A : Type 0} (P : A → Type 0) (line_of : A → List ℕ) (order : Option (A → List ℕ)) → IsCode P line_of
-    → (count n : ℕ) (text rest : List ℕ) (rows : List A) (r : LineRefusal) (Next : List A → List ℕ → Type 0)
-    → AtRows P line_of order count n text r Next → AreCountedRows P order count rows → text ≡ flat_map line_of rows ++ rest
-    → (Next rows rest → ⊥) → ⊥
-rows_passed P line_of order code count n text rest rows r Next =
-    part_passed (AreCountedRows P order count) (flat_map line_of) (rows_code P line_of order count code) text rest rows
-    (IsRefusedRow P line_of order count n text r) Next
-    (λ h some behind good is. row_not_good P line_of order code count n text behind some r h good.0 good.1 is)
+    → (count n : ℕ) (At : List A → List ℕ → LineRefusal → Type 0) (text rest : List ℕ) (rows : List A)
+    → AreCountedRows P order count rows → text ≡ flat_map line_of rows ++ rest → IsPassed (At rows) rest
+    → IsPassed (λ t r. AtRows P line_of order count n t r (λ some u. At some u r)) text
+rows_passed P line_of order code count n At text rest rows =
+    part_passed (AreCountedRows P order count) (flat_map line_of) (rows_code P line_of order count code)
+    (IsRefusedRow P line_of order count n) At
+    (λ t r h some behind good is. row_not_good P line_of order code count n t behind some r h good.0 good.1 is) text rest rows
 
 pub rows_good : {A : Type 0} (P : A → Type 0) (line_of : A → List ℕ) (order : Option (A → List ℕ)) (count n : ℕ)
     (text rest : List ℕ) (rows : List A) (r : LineRefusal) (Next : List A → List ℕ → Type 0) → AreCountedRows P order count rows
@@ -130,24 +136,26 @@ rows_good P line_of order count n text rest rows r Next form front next =
 
 -- ---- a list with its length before it
 pub list_once : {A : Type 0} (P : A → Type 0) (line_of : A → List ℕ) (order : Option (A → List ℕ)) → IsCode P line_of
-    → (word : List ℕ) (n : ℕ) (text : List ℕ) (r s : LineRefusal) (K L : ℕ → List ℕ → Type 0)
-    → AtList P line_of order word n text r K → AtList P line_of order word n text s L
-    → ((m : ℕ) (rest : List ℕ) → K m rest → L m rest → r ≡ s) → r ≡ s
-list_once P line_of order code word n text r s K L h k next =
-    number_once word 0 (2 ^ 64 - 1) n text r s _ _ (omega arith) h k (λ count rows _ i j.
-    rows_once P line_of order code count (line_after n 1) rows r s _ _ i j
-    (λ _ rest _. next (line_after (line_after n 1) count) rest))
+    → (word : List ℕ) (n : ℕ) (At : ℕ → List ℕ → LineRefusal → Type 0) → ((m : ℕ) → IsOnce (At m))
+    → IsOnce (λ t r. AtList P line_of order word n t r (λ m u. At m u r))
+list_once P line_of order code word n At next =
+    number_once word 0 (2 ^ 64 - 1) n
+    (λ count t r. AtRows P line_of order count (line_after n 1) t r (λ _ u. At (line_after (line_after n 1) count) u r))
+    (omega arith) (λ count _.
+    rows_once P line_of order code count (line_after n 1) (λ _. At (line_after (line_after n 1) count))
+    (λ _ _. next (line_after (line_after n 1) count)))
 
 pub list_passed : {A : Type 0} (P : A → Type 0) (line_of : A → List ℕ) (order : Option (A → List ℕ)) → IsCode P line_of
-    → (word : List ℕ) (n : ℕ) (text rest : List ℕ) (rows : List A) (r : LineRefusal) (Next : ℕ → List ℕ → Type 0)
-    → AtList P line_of order word n text r Next → length rows < 2 ^ 64 → AreRows P order rows
-    → text ≡ counted word (length rows) ++ (flat_map line_of rows ++ rest)
-    → (Next (line_after (line_after n 1) (length rows)) rest → ⊥) → ⊥
-list_passed P line_of order code word n text rest rows r Next h few good front never =
-    number_passed word 0 (2 ^ 64 - 1) n (length rows) text (flat_map line_of rows ++ rest) r _ (omega arith) h
-    (omega arith, omega arith) front (λ k.
-    rows_passed P line_of order code (length rows) (line_after n 1) (flat_map line_of rows ++ rest) rest rows r _ k
-    (refl, good) refl never)
+    → (word : List ℕ) (n : ℕ) (At : ℕ → List ℕ → LineRefusal → Type 0) (text rest : List ℕ) (rows : List A)
+    → length rows < 2 ^ 64 → AreRows P order rows → text ≡ counted word (length rows) ++ (flat_map line_of rows ++ rest)
+    → IsPassed (At (line_after (line_after n 1) (length rows))) rest
+    → IsPassed (λ t r. AtList P line_of order word n t r (λ m u. At m u r)) text
+list_passed P line_of order code word n At text rest rows few good front never =
+    number_passed word 0 (2 ^ 64 - 1) n (length rows)
+    (λ count t r. AtRows P line_of order count (line_after n 1) t r (λ _ u. At (line_after (line_after n 1) count) u r))
+    text (flat_map line_of rows ++ rest) (omega arith) (omega arith, omega arith) front
+    (rows_passed P line_of order code (length rows) (line_after n 1) (λ _. At (line_after (line_after n 1) (length rows)))
+    (flat_map line_of rows ++ rest) rest rows (refl, good) refl never)
 
 pub list_refused : {A : Type 0} (P : A → Type 0) (line_of : A → List ℕ) (order : Option (A → List ℕ)) (word : List ℕ) (n : ℕ)
     (text : List ℕ) (r : LineRefusal) (Next : ℕ → List ℕ → Type 0) → RefusedList P line_of order word n text r
@@ -173,8 +181,8 @@ list_good P line_of order word n m text rest rows r Next form front is next =
     (subst (λ (k : ℕ). Next k rest) place next))
 
 -- ---- the end
-pub end_once : (n : ℕ) (rest : List ℕ) (r s : LineRefusal) → IsBehindEnd n rest r → IsBehindEnd n rest s → r ≡ s
+pub end_once : (n : ℕ) → IsOnce (IsBehindEnd n)
 end_once n rest r s h k = h.1 ∙ sym k.1
 
-pub end_passed : (n : ℕ) (r : LineRefusal) → IsBehindEnd n [] r → ⊥
+pub end_passed : (n : ℕ) → IsPassed (IsBehindEnd n) []
 end_passed n r h = h.0 refl
