@@ -1,107 +1,128 @@
 -- What words of `sweep` ask for, step by step, and that they are not words of `export`.
 --
 -- Both commands are told by the first word, so words of one are none of the other (no_sweep, no_export). The code looks at
--- the words from the first on, and each step is a lemma: too few (too_few), the command and its three numbers (sweep_at),
--- and behind them the outputs' names, of which all must be right (behind_none, behind_some), with the options at the end.
-use Rattle.std.proofs.Common.{◌≡◌, ℕ, ◌-◌, ◌<◌, ◌≤◌, ◌==◌, Bool, true, false, cond, List, [], ◌∷◌, Option, Some, None, IfSome}
-use Rattle.std.proofs.Common.{codes, length, map, take, drop, get_or, refl, sym, ap, subst, ◌∙◌, arith, eq-eqb, le-leb}
-use Rattle.std.specs.Option.{option_map}
+-- the words behind the first in order, and each step is a lemma: too few (too_few), the scan and the three numbers (sweep_at),
+-- and behind them the outputs' names with options, beside which the scan's must be another (behind_none, behind_some).
+use Rattle.std.proofs.Common.{◌≡◌, ℕ, ◌-◌, ◌<◌, ◌≤◌, ◌==◌, Bool, true, false, cond, List, [], ◌∷◌, Option, Some, None}
+use Rattle.std.proofs.Common.{codes, length, map, take, drop, get_or, refl, sym, ap, subst, ◌∙◌, arith, eq-eqb, ne_eqb, nat_le, le-leb, leb-true, ◌&&◌}
 use Rattle.std.specs.Str.{bytes_eq}
-use Rattle.std.proofs.lemmas.List.{drop-map, length-map, take-map, take_rest}
+use Rattle.std.proofs.lemmas.List.{take_rest}
 use Rattle.flow_net.specs.declared.votes.TheConstants.{WEIGHT_LIMIT}
 use Rattle.ply_head.specs.Optional.{◌>>=◌}
 use Rattle.sweep.specs.Entries.{smoothing_of}
-use Rattle.recon_cmd.specs.Exports.{ExportNames, export_names, export_of}
-use Rattle.recon_cmd.specs.Options.{Options, number_between, options_of}
-use Rattle.recon_cmd.specs.Sweeps.{SweepAsked, asked_with, entries_behind, entries_of, sweep_behind, sweep_keys, sweep_of}
-use Rattle.recon_cmd.specs.Words.{are_names}
-use Rattle.recon_cmd.specs.declared.words.export.ExportWords.{ExportWords}
+use Rattle.recon_cmd.specs.Exports.{export_behind, export_of}
+use Rattle.recon_cmd.specs.Options.{number_between, number_of_digits, within}
+use Rattle.recon_cmd.specs.Sweeps.{SweepAsked, asked_with, entries_behind, entries_of, sweep_behind, sweep_keys, sweep_of, sweep_words_of}
+use Rattle.recon_cmd.specs.Words.{NamesAndOptions, is_name, named}
 use Rattle.recon_cmd.proofs.WordLemmas.{same_name}
 
 -- words of which the first is not `sweep` ask for no sweep
 pub no_sweep : (words : List (List ℕ)) (n : ℕ) → entries_of words ≡ None → sweep_of n words ≡ None
 no_sweep [] n e = refl
-no_sweep (word ∷ []) n e = refl
-no_sweep (word ∷ a ∷ []) n e = refl
-no_sweep (word ∷ a ∷ b ∷ []) n e = refl
-no_sweep (word ∷ a ∷ b ∷ c ∷ []) n e = refl
-no_sweep (word ∷ a ∷ b ∷ c ∷ d ∷ words) n e = by (bytes_eq word (codes "sweep")) _ e
+no_sweep (word ∷ words) n e = by (bytes_eq word (codes "sweep")) _ e
   where
-    by : (t : Bool) (o : Option SweepAsked) → cond t (Some (entries_behind (a ∷ b ∷ c ∷ d ∷ words))) None ≡ None
-        → cond t o None ≡ None
+    by : (t : Bool) (o : Option SweepAsked) → cond t (Some (entries_behind words)) None ≡ None → cond t o None ≡ None
     by true o e = cc
     by false o e = refl
 
 -- words of which the first is `sweep` ask for no export
 pub no_export : (words : List (List ℕ)) (n m : ℕ) → entries_of words ≡ Some m → export_of n words ≡ None
 no_export [] n m e = refl
-no_export (word ∷ []) n m e = refl
-no_export (word ∷ mesh ∷ outputs) n m e = by (bytes_eq word (codes "sweep")) refl e
+no_export (word ∷ words) n m e = by (bytes_eq word (codes "sweep")) refl e
   where
-    by : (t : Bool) → bytes_eq word (codes "sweep") ≡ t → cond t (Some (entries_behind (mesh ∷ outputs))) None ≡ Some m
-        → export_of n (word ∷ mesh ∷ outputs) ≡ None
-    by true is e =
-        subst (λ (w : List ℕ). export_of n (w ∷ mesh ∷ outputs) ≡ None) (sym (same_name word (codes "sweep") is)) refl
+    by : (t : Bool) → bytes_eq word (codes "sweep") ≡ t → cond t (Some (entries_behind words)) None ≡ Some m
+        → export_of n (word ∷ words) ≡ None
+    by true is e = subst (λ (w : List ℕ). export_of n (w ∷ words) ≡ None) (sym (same_name word (codes "sweep") is)) refl
     by false is e = cc
 
--- words of `export` ask for no sweep
-pub export_is_no_sweep : (words : List (List ℕ)) (n m : ℕ) (names : ExportNames) → export_of n words ≡ Some names
-    → sweep_of m words ≡ None
-export_is_no_sweep words n m names e = by (entries_of words) refl
+-- where there is no form, no words ask for an export
+pub no_form_export : (words : List (List ℕ)) → export_of 0 words ≡ None
+no_form_export [] = refl
+no_form_export (word ∷ []) = by (bytes_eq word (codes "export"))
   where
-    by : (o : Option ℕ) → entries_of words ≡ o → sweep_of m words ≡ None
-    by None is = no_sweep words m is
-    by (Some k) is = absurd (none_some (no_export words n k is))
-      where
-        none_some : export_of n words ≡ None → ⊥
-        none_some none = cc (none, e)
+    by : (t : Bool) → cond t (export_behind 0 []) None ≡ None
+    by true = refl
+    by false = refl
+no_form_export (word ∷ mesh ∷ outputs) = by (bytes_eq word (codes "export"))
+  where
+    by : (t : Bool) → cond t (export_behind 0 (mesh ∷ outputs)) None ≡ None
+    by true = refl
+    by false = refl
 
--- so what is said of a sweep they ask for is said of none
-pub no_sweep_asked : (P : SweepAsked → Type 0) (words : List (List ℕ)) (n m : ℕ) (asked : Option ExportWords)
-    (names : ExportWords) → option_map export_names asked ≡ export_of n words → asked ≡ Some names → IfSome (sweep_of m words) P
-no_sweep_asked P words n m asked names is some =
-    subst (λ (o : Option SweepAsked). IfSome o P)
-    (sym (export_is_no_sweep words n m (export_names names) (sym is ∙ ap (option_map export_names) some))) tt
+-- a number from 1 on is not 0
+not_none : (text : List ℕ) (asked : Option SweepAsked) → (number_between 1 64 text >>= λ (k : ℕ). cond (k == 0) asked None) ≡ None
+not_none text asked = by (number_of_digits 10 text)
+  where
+    by_limits : (n : ℕ) (t : Bool) → nat_le 1 n ≡ t
+        → (cond (t && nat_le n 64) (Some n) None >>= λ (k : ℕ). cond (k == 0) asked None) ≡ None
+    by_limits n false is = refl
+    by_limits n true is = by_most (nat_le n 64)
+      where
+        by_most : (m : Bool) → (cond m (Some n) None >>= λ (k : ℕ). cond (k == 0) asked None) ≡ None
+        by_most true = ap (λ (b : Bool). cond b asked None) (ne_eqb n 0 (λ e. omega (arith, leb-true 1 n is, e)))
+        by_most false = refl
+
+    by : (o : Option ℕ) → ((o >>= within 1 64) >>= λ (k : ℕ). cond (k == 0) asked None) ≡ None
+    by None = refl
+    by (Some n) = by_limits n (nat_le 1 n) refl
+
+-- nor for a sweep
+pub no_form_sweep : (words : List (List ℕ)) → sweep_of 0 words ≡ None
+no_form_sweep [] = refl
+no_form_sweep (word ∷ words) = by (bytes_eq word (codes "sweep")) (behind words)
+  where
+    behind : (words : List (List ℕ)) → sweep_words_of 0 words ≡ None
+    behind [] = refl
+    behind (a ∷ []) = refl
+    behind (a ∷ b ∷ []) = refl
+    behind (a ∷ b ∷ c ∷ []) = refl
+    behind (input ∷ from ∷ step ∷ count ∷ rest) = by_numbers (number_between 0 WEIGHT_LIMIT from) (number_between 1 WEIGHT_LIMIT step)
+      where
+        by_numbers : (f s : Option ℕ)
+            → (f >>= (λ (l : ℕ). s >>= (λ (r : ℕ). number_between 1 64 count
+            >>= (λ (k : ℕ). cond (k == 0) (sweep_behind input l r 0 rest) None)))) ≡ None
+        by_numbers None s = refl
+        by_numbers (Some l) None = refl
+        by_numbers (Some l) (Some r) = not_none count (sweep_behind input l r 0 rest)
+
+    by : (t : Bool) → sweep_words_of 0 words ≡ None → cond t (sweep_words_of 0 words) None ≡ None
+    by true e = e
+    by false e = refl
 
 -- ---- step by step
 -- too few words
-pub too_few : {S : Type 0} (name : S → List ℕ) (words : List S) (n : ℕ) → length words < 5 → None ≡ sweep_of n (map name words)
+pub too_few : {S : Type 0} (name : S → List ℕ) (words : List S) (n : ℕ) → length words < 4
+    → None ≡ sweep_words_of n (map name words)
 too_few name [] n few = refl
 too_few name (a ∷ []) n few = refl
 too_few name (a ∷ b ∷ []) n few = refl
 too_few name (a ∷ b ∷ c ∷ []) n few = refl
-too_few name (a ∷ b ∷ c ∷ d ∷ []) n few = refl
-too_few name (a ∷ b ∷ c ∷ d ∷ e ∷ words) n few = absurd (omega (arith, few))
+too_few name (a ∷ b ∷ c ∷ d ∷ words) n few = absurd (omega (arith, few))
 
--- the command, three numbers, and what the words behind them ask for
-pub sweep_at : {S : Type 0} (name : S → List ℕ) (words : List S) (n : ℕ) (word input from step count : S)
-    (least rise entries : ℕ) (o : Option SweepAsked) → 5 ≤ length words → word ≡ get_or words 0 word
-    → input ≡ get_or words 1 input → from ≡ get_or words 2 from → step ≡ get_or words 3 step → count ≡ get_or words 4 count
-    → bytes_eq (name word) (codes "sweep") ≡ true → Some least ≡ number_between 0 WEIGHT_LIMIT (name from)
+-- a name, three numbers, and what the words behind them ask for
+pub sweep_at : {S : Type 0} (name : S → List ℕ) (words : List S) (n : ℕ) (input from step count : S)
+    (least rise entries : ℕ) (o : Option SweepAsked) → 4 ≤ length words
+    → input ≡ get_or words 0 input → from ≡ get_or words 1 from → step ≡ get_or words 2 step → count ≡ get_or words 3 count
+    → Some least ≡ number_between 0 WEIGHT_LIMIT (name from)
     → Some rise ≡ number_between 1 WEIGHT_LIMIT (name step) → Some entries ≡ number_between 1 64 (name count) → entries ≡ n
-    → o ≡ sweep_behind (name input) least rise entries (map name (take (length words - 5) (drop 5 words)))
-    → o ≡ sweep_of n (map name words)
-sweep_at name [] n word input from step count least rise entries o some e0 e1 e2 e3 e4 is f s c same behind =
+    → o ≡ sweep_behind (name input) least rise entries (map name (take (length words - 4) (drop 4 words)))
+    → o ≡ sweep_words_of n (map name words)
+sweep_at name [] n input from step count least rise entries o some e1 e2 e3 e4 f s c same behind = absurd (omega (arith, some))
+sweep_at name (v1 ∷ []) n input from step count least rise entries o some e1 e2 e3 e4 f s c same behind =
     absurd (omega (arith, some))
-sweep_at name (v0 ∷ []) n word input from step count least rise entries o some e0 e1 e2 e3 e4 is f s c same behind =
+sweep_at name (v1 ∷ v2 ∷ []) n input from step count least rise entries o some e1 e2 e3 e4 f s c same behind =
     absurd (omega (arith, some))
-sweep_at name (v0 ∷ v1 ∷ []) n word input from step count least rise entries o some e0 e1 e2 e3 e4 is f s c same behind =
+sweep_at name (v1 ∷ v2 ∷ v3 ∷ []) n input from step count least rise entries o some e1 e2 e3 e4 f s c same behind =
     absurd (omega (arith, some))
-sweep_at name (v0 ∷ v1 ∷ v2 ∷ []) n word input from step count least rise entries o some e0 e1 e2 e3 e4 is f s c same behind =
-    absurd (omega (arith, some))
-sweep_at name (v0 ∷ v1 ∷ v2 ∷ v3 ∷ []) n word input from step count least rise entries o some e0 e1 e2 e3 e4 is f s c same behind =
-    absurd (omega (arith, some))
-sweep_at name (v0 ∷ v1 ∷ v2 ∷ v3 ∷ v4 ∷ rest) n word input from step count least rise entries o some e0 e1 e2 e3 e4 is f s c
-    same behind =
+sweep_at name (v1 ∷ v2 ∷ v3 ∷ v4 ∷ rest) n input from step count least rise entries o some e1 e2 e3 e4 f s c same behind =
     behind
-    ∙ (ap (λ (l : List _). sweep_behind (name input) least rise entries (map name l)) (take_rest (v0 ∷ v1 ∷ v2 ∷ v3 ∷ v4 ∷ rest) 5)
+    ∙ (ap (λ (l : List _). sweep_behind (name input) least rise entries (map name l)) (take_rest (v1 ∷ v2 ∷ v3 ∷ v4 ∷ rest) 4)
     ∙ (ap (λ (x : List ℕ). sweep_behind x least rise entries (map name rest)) (ap name e1)
     ∙ (ap (λ (k : ℕ). sweep_behind (name v1) least rise k (map name rest)) same
-    ∙ sym (ap (λ (t : Bool). chain t first second third) (ap (λ (v : _). bytes_eq (name v) (codes "sweep")) (sym e0) ∙ is)
-    ∙ (ap (λ (m : Option ℕ). chain true m second third) (sym (f ∙ ap (λ (v : _). number_between 0 WEIGHT_LIMIT (name v)) e2))
-    ∙ (ap (λ (m : Option ℕ). chain true (Some least) m third) (sym (s ∙ ap (λ (v : _). number_between 1 WEIGHT_LIMIT (name v)) e3))
-    ∙ (ap (λ (m : Option ℕ). chain true (Some least) (Some rise) m) (sym (c ∙ ap (λ (v : _). number_between 1 64 (name v)) e4))
-    ∙ ap (λ (t : Bool). cond t (sweep_behind (name v1) least rise n (map name rest)) None) (eq-eqb entries n same))))))))
+    ∙ sym (ap (λ (m : Option ℕ). chain m second third) (sym (f ∙ ap (λ (v : _). number_between 0 WEIGHT_LIMIT (name v)) e2))
+    ∙ (ap (λ (m : Option ℕ). chain (Some least) m third) (sym (s ∙ ap (λ (v : _). number_between 1 WEIGHT_LIMIT (name v)) e3))
+    ∙ (ap (λ (m : Option ℕ). chain (Some least) (Some rise) m) (sym (c ∙ ap (λ (v : _). number_between 1 64 (name v)) e4))
+    ∙ ap (λ (t : Bool). cond t (sweep_behind (name v1) least rise n (map name rest)) None) (eq-eqb entries n same)))))))
   where
     first : Option ℕ
     first = number_between 0 WEIGHT_LIMIT (name v2)
@@ -112,48 +133,40 @@ sweep_at name (v0 ∷ v1 ∷ v2 ∷ v3 ∷ v4 ∷ rest) n word input from step c
     third : Option ℕ
     third = number_between 1 64 (name v4)
 
-    chain : Bool → (first second third : Option ℕ) → Option SweepAsked
-    chain t first second third =
-        cond t
-        (first
+    chain : (first second third : Option ℕ) → Option SweepAsked
+    chain first second third =
+        first
         >>= (λ (l : ℕ). second
         >>= (λ (r : ℕ). third
-        >>= (λ (k : ℕ). cond (k == n) (sweep_behind (name v1) l r n (map name rest)) None)))) None
+        >>= (λ (k : ℕ). cond (k == n) (sweep_behind (name v1) l r n (map name rest)) None)))
 
--- behind the numbers, where the weights are within their limit and there are as many words
-behind_at : {S : Type 0} (name : S → List ℕ) (input : List ℕ) (from step count : ℕ) (words : List S)
-    → smoothing_of from step (count - 1) ≤ WEIGHT_LIMIT → count ≤ length words
-    → sweep_behind input from step count (map name words)
-    ≡ cond (are_names (input ∷ map name (take count words)))
-    (option_map (asked_with input from step (map name (take count words))) (options_of sweep_keys (map name (drop count words))))
-    None
-behind_at name input from step count words high some =
-    rw (
-      le-leb (smoothing_of from step (count - 1)) WEIGHT_LIMIT high,
-      le-leb count (length (map name words)) (omega (arith, some, length-map words name)),
-      take-map name count words,
-      drop-map name count words,
-    ) refl
+-- what names and options behind the numbers come to, beside the name of the scan
+abbrev pub beside : (input : List ℕ) → (from step : ℕ) → Option NamesAndOptions → Option SweepAsked
+beside input from step words =
+    words >>= λ held. cond (is_name input held.names) (Some (asked_with input from step held.names held.options)) None
 
--- where the names are not all right, they ask for nothing
-pub behind_none : {S : Type 0} (name : S → List ℕ) (input : List ℕ) (from step count : ℕ) (words : List S)
-    → smoothing_of from step (count - 1) ≤ WEIGHT_LIMIT → count ≤ length words
-    → are_names (input ∷ map name (take count words)) ≡ false → None ≡ sweep_behind input from step count (map name words)
-behind_none name input from step count words high some bad =
-    sym (behind_at name input from step count words high some
-    ∙ ap (λ (t : Bool). cond t
-    (option_map (asked_with input from step (map name (take count words))) (options_of sweep_keys (map name (drop count words))))
-    None) bad)
+-- behind the numbers, where the weights are within their limit
+pub behind_at : (input : List ℕ) (from step count : ℕ) (words : List (List ℕ))
+    → smoothing_of from step (count - 1) ≤ WEIGHT_LIMIT → (held : Option NamesAndOptions) → held ≡ named count sweep_keys words
+    → sweep_behind input from step count words ≡ beside input from step held
+behind_at input from step count words high held is =
+    ap (λ (t : Bool). cond t (beside input from step (named count sweep_keys words)) None)
+    (le-leb (smoothing_of from step (count - 1)) WEIGHT_LIMIT high)
+    ∙ ap (beside input from step) (sym is)
 
--- else they ask for these outputs, with the options behind them
-pub behind_some : {S : Type 0} (name : S → List ℕ) (input : List ℕ) (from step count : ℕ) (words : List S)
-    → smoothing_of from step (count - 1) ≤ WEIGHT_LIMIT → count ≤ length words
-    → are_names (input ∷ map name (take count words)) ≡ true → (o : Option Options)
-    → o ≡ options_of sweep_keys (map name (take (length words - count) (drop count words)))
-    → option_map (asked_with input from step (map name (take count words))) o ≡ sweep_behind input from step count (map name words)
-behind_some {S} name input from step count words high some good o is =
-    sym (behind_at name input from step count words high some
-    ∙ (ap (λ (t : Bool). cond t
-    (option_map (asked_with input from step (map name (take count words))) (options_of sweep_keys (map name (drop count words))))
-    None) good ∙ ap (option_map (asked_with input from step (map name (take count words))))
-    (sym (is ∙ ap (λ (l : List S). options_of sweep_keys (map name l)) (take_rest words count)))))
+-- where the name of the scan is one of the others, or empty, they ask for nothing
+pub behind_none : (input : List ℕ) (from step count : ℕ) (words : List (List ℕ))
+    → smoothing_of from step (count - 1) ≤ WEIGHT_LIMIT → (held : NamesAndOptions) → Some held ≡ named count sweep_keys words
+    → is_name input held.names ≡ false → None ≡ sweep_behind input from step count words
+behind_none input from step count words high held is bad =
+    sym (behind_at input from step count words high (Some held) is
+    ∙ ap (λ (t : Bool). cond t (Some (asked_with input from step held.names held.options)) None) bad)
+
+-- else for these outputs, with the options behind them
+pub behind_some : (input : List ℕ) (from step count : ℕ) (words : List (List ℕ))
+    → smoothing_of from step (count - 1) ≤ WEIGHT_LIMIT → (held : NamesAndOptions) → Some held ≡ named count sweep_keys words
+    → is_name input held.names ≡ true
+    → Some (asked_with input from step held.names held.options) ≡ sweep_behind input from step count words
+behind_some input from step count words high held is good =
+    sym (behind_at input from step count words high (Some held) is
+    ∙ ap (λ (t : Bool). cond t (Some (asked_with input from step held.names held.options)) None) good)

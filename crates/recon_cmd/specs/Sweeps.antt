@@ -4,7 +4,8 @@
 --   sweep_keys                       the options that `sweep` may have
 --   asked_with input from ..         what is asked for, with these options
 --   sweep_behind input from ..       what the words behind the numbers ask for
---   sweep_of forms words             what the words ask for, if they are `sweep` with so many outputs
+--   sweep_words_of forms words       what the words behind `sweep` ask for, if they name so many outputs
+--   sweep_of forms words             what the words ask for, if they are `sweep` with such words behind
 --   sweep_asked words                what the program holds of it
 --   entries_behind words             how many forms the words behind `sweep` ask for
 --   entries_of words                 the same of words of which the first is `sweep`
@@ -18,10 +19,9 @@
 --   HaveEntriesOf asked scan ..      each form has received the mesh of its entry, and the costs of the first and last are these
 --   SweepHandOut asked scan ..       what follows where the scan was read
 --   SweepOutcome asked status ..     what a run of `sweep` does to its host and to the forms
-use Rattle.std.specs.Prelude.{◌≡◌, ◌⊎◌, ℕ, ◌-◌, ◌≤◌, List, [], ◌∷◌, ◌++◌, ◌&&◌, ◌==◌, nat_le, length, map, take, drop, codes}
+use Rattle.std.specs.Prelude.{◌≡◌, ◌⊎◌, ℕ, ◌-◌, ◌≤◌, List, [], ◌∷◌, ◌++◌, ◌==◌, nat_le, length, map, codes}
 use Rattle.std.specs.Prelude.{string_bytes, Option, Some, None, IfSome, Ok, if◌then◌else◌, unwrap_or}
 use Rattle.std.specs.List.{zip}
-use Rattle.std.specs.Option.{option_map}
 use Rattle.std.specs.Str.{bytes_eq}
 use Rattle.flow_net.specs.declared.votes.TheConstants.{WEIGHT_LIMIT}
 use Rattle.host.specs.State.{State, Files}
@@ -32,11 +32,11 @@ use Rattle.sweep.specs.Entries.{CostsAt, HaveEntries, HaveEntryFronts, given_by,
 use Rattle.recon_cmd.specs.Answers.{Answer, ScanAnswer, read_as}
 use Rattle.recon_cmd.specs.Exports.{ExportFits}
 use Rattle.recon_cmd.specs.Lines.{labelled}
-use Rattle.recon_cmd.specs.Options.{Options, number_between, options_of}
+use Rattle.recon_cmd.specs.Options.{Options, number_between}
 use Rattle.recon_cmd.specs.OptionViews.{options_view}
 use Rattle.recon_cmd.specs.Outcome.{Run}
 use Rattle.recon_cmd.specs.Steps.{CarriesOut}
-use Rattle.recon_cmd.specs.Words.{are_names}
+use Rattle.recon_cmd.specs.Words.{is_name, named}
 use Rattle.recon_cmd.specs.declared.options.keys.Key.{Key}
 use Rattle.recon_cmd.specs.declared.options.keys.Key.TheVariants.{Unit as unit_key, Vote as vote_key, Scanner as scanner_key}
 use Rattle.recon_cmd.specs.declared.status.Status.{Status}
@@ -59,27 +59,28 @@ abbrev pub asked_with : (input : List ℕ) → (from step : ℕ) → (outputs : 
 asked_with input from step outputs options =
     record { input = input; step = step; outputs = outputs; options = record options { smooth = from } }
 
--- So many names, and then options in any order, where the largest weight is one that a facet may have. Entry k, of which the first
--- is 0, is at the weight from + k * step.
+-- So many names beside that of the scan, and then options in any order, where the largest weight is one that a facet may have.
+-- Entry k, of which the first is 0, is at the weight from + k * step.
 abbrev pub sweep_behind : (input : List ℕ) → (from step count : ℕ) → List (List ℕ) → Option SweepAsked
 sweep_behind input from step count words =
     if nat_le (smoothing_of from step (count - 1)) WEIGHT_LIMIT
-    && (nat_le count (length words) && are_names (input ∷ take count words))
-    then option_map (asked_with input from step (take count words)) (options_of sweep_keys (drop count words))
+    then (named count sweep_keys words
+    >>= λ held. if is_name input held.names then Some (asked_with input from step held.names held.options) else None)
     else None
 
--- the command, a scan, a weight, a rise, a number that is that of the forms, as many outputs, and options
+-- a scan, a weight, a rise, a number that is that of the forms, as many outputs, and options
+abbrev pub sweep_words_of : (forms : ℕ) → List (List ℕ) → Option SweepAsked
+sweep_words_of forms (input ∷ from ∷ step ∷ count ∷ words) = do
+  least ← number_between 0 WEIGHT_LIMIT from
+  rise ← number_between 1 WEIGHT_LIMIT step
+  entries ← number_between 1 64 count
+  if entries == forms then sweep_behind input least rise forms words else None
+sweep_words_of forms words = None
+
+-- the command, and such words behind it
 abbrev pub sweep_of : (forms : ℕ) → List (List ℕ) → Option SweepAsked
-sweep_of forms (word ∷ input ∷ from ∷ step ∷ count ∷ words) =
-    if bytes_eq word (codes "sweep") then understood else None
-  where
-    understood : Option SweepAsked
-    understood = do
-      least ← number_between 0 WEIGHT_LIMIT from
-      rise ← number_between 1 WEIGHT_LIMIT step
-      entries ← number_between 1 64 count
-      if entries == forms then sweep_behind input least rise forms words else None
-sweep_of forms words = None
+sweep_of forms (word ∷ words) = if bytes_eq word (codes "sweep") then sweep_words_of forms words else None
+sweep_of forms [] = None
 
 -- how many forms the words behind `sweep` ask for: as many as the fourth says, 1 to 64, and else none
 abbrev pub entries_behind : List (List ℕ) → ℕ

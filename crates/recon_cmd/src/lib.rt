@@ -10,7 +10,6 @@
 #![tactic(auto)]
 
 mod answer;
-mod forms_run;
 mod laws;
 mod lines;
 mod options;
@@ -19,7 +18,6 @@ mod whole_run;
 mod words;
 
 pub use answer::FILE_LIMIT;
-pub use forms_run::{run_forms, run_forms_within};
 pub use laws::{
     a_check_says_what_its_files_are, a_command_has_one_answer, a_mesh_that_was_checked_is_best,
     a_refused_scan_is_refused, a_surface_that_was_built_is_accepted,
@@ -30,10 +28,10 @@ pub use laws::{
 pub use options::Options;
 pub use status::Status;
 use std::alloc::AllocError;
-pub use whole_run::{run, run_within};
+pub use whole_run::{run, run_forms, run_forms_within};
 pub use words::{
-    BuildNames, CellsNames, CheckNames, Command, Demo, ExportWords, SliceWords, SweepWords,
-    sweep_entries, understand, understand_export, understand_sweep,
+    BuildNames, CellsNames, CheckNames, Command, Demo, ExportWords, Request, SliceWords,
+    SweepWords, sweep_entries, understand,
 };
 
 /// There was no memory.

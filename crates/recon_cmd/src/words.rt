@@ -1,19 +1,25 @@
 //! The words of a command line, understood without taking memory. It stands on the options.
-ghost use Rattle.std.specs.Prelude.{◌≡◌, [], ◌∷◌, IfSome, IfNone, None, Some, map, string_bytes};
-ghost use Rattle.std.specs.Option.{option_map};
-ghost use Rattle.recon_cmd.specs.Words.{are_names, ask_of, asked, build_of, cells_of, check_of, command_of, demo_of, slice_of, upgrade_of};
+ghost use Rattle.std.specs.Prelude.{◌≡◌, IfSome, map, string_bytes};
+ghost use Rattle.recon_cmd.specs.Exports.{export_of};
+ghost use Rattle.recon_cmd.specs.Requests.{AsksForForms, IsCommand, asked_command, asked_export, asked_sweep};
+ghost use Rattle.recon_cmd.specs.Sweeps.{sweep_of};
+ghost use Rattle.recon_cmd.specs.Words.{ask_of, asked_by, build_keys, build_of, cells_keys, cells_of, check_of, command_of, demo_of, named, slice_of, upgrade_of};
 
 mod demo;
 mod export;
+mod names;
 mod slice;
 mod sweeping;
 
-use crate::options::{Key, Options, height_in, number_in, seed_in, understand_options};
+use crate::options::{Key, Options, height_in, number_in, seed_in};
 pub use demo::Demo;
-pub use export::{ExportWords, understand_export};
+pub use export::ExportWords;
+use export::export_words;
+use names::{NamesAndOptions, are_names, is_name, named};
 use scan::POINT_LIMIT;
 pub use slice::SliceWords;
-pub use sweeping::{SweepWords, sweep_entries, understand_sweep};
+use sweeping::sweep_words;
+pub use sweeping::{SweepWords, sweep_entries};
 
 /// The options of each command.
 const CELLS_KEYS: [Key; 2] = [Key::Unit, Key::Scanner];
@@ -82,7 +88,18 @@ pub enum Command<'a> {
     Demo(Demo),
 }
 
-/// The command that the words are, and None exactly where they are none.
+/// What a run is asked for.
+#[derive(Clone, Copy, Debug)]
+pub enum Request<'a> {
+    /// A command that has one answer whatever forms are handed in.
+    Command(Command<'a>),
+    /// `export MESH OUT1 .. OUTn`: a mesh in the forms that are handed in.
+    Export(ExportWords<'a>),
+    /// `sweep IN FROM STEP N OUT1 .. OUTN`: best surfaces of a scan in the forms that are handed in.
+    Sweep(SweepWords<'a>),
+}
+
+/// What the words ask for where so many forms are handed in, and None exactly where they ask for nothing.
 ///
 /// The words are those after the program's name. Names take the places right after the command, whatever they look
 /// like; they are not empty, and no two are one. Behind them stand options, each a key with its value, in any order, and
@@ -97,9 +114,15 @@ pub enum Command<'a> {
 /// | `ask IN POINTS OUT` | `unit=`, `vote=`, `smooth=`, `scanner=` |
 /// | `slice MESH H OUT` | none; H is 1 to 7 digits behind an optional `-`, at most 8,388,608 from 0 |
 /// | `demo N SEED` | none; N is 1 to 1,048,576 in 1 to 10 digits, SEED at most 2^64 - 1 in 1 to 20 |
-pub fn understand(words: &[String]) -> Option<Command<'_>>
-    ensures some { IfSome result (λ command. command_of (map string_bytes words.now) ≡ Some (asked command)) }
-    ensures none { IfNone result (command_of (map string_bytes words.now) ≡ None) }
+/// | `export MESH OUT1 .. OUTn` | none; n is the number of forms, at least 1 |
+/// | `sweep IN FROM STEP N OUT1 .. OUTN` | `unit=`, `vote=`, `scanner=`; N is the number of forms, 1 to 64 |
+///
+/// FROM of `sweep` is 0 to 65,535 and STEP 1 to 65,535, each in 1 to 10 digits, and FROM + (N - 1) * STEP at most 65,535.
+pub fn understand(words: &[String], forms: usize) -> Option<Request<'_>>
+    ensures command { asked_command result ≡ command_of (map string_bytes words.now) }
+    ensures export { asked_export result ≡ export_of forms (map string_bytes words.now) }
+    ensures sweep { asked_sweep result ≡ sweep_of forms (map string_bytes words.now) }
+    ensures fits { IfSome result (AsksForForms forms) }
 {
     let [command, words @ ..] = words else {
         return None;
@@ -112,158 +135,136 @@ pub fn understand(words: &[String]) -> Option<Command<'_>>
         "slice" => slice_command(words),
         "ask" => ask_command(words),
         "demo" => demo_command(words),
+        "export" => match export_words(words, forms) {
+            Some(words) => Some(Request::Export(words)),
+            None => None,
+        },
+        "sweep" => match sweep_words(words, forms) {
+            Some(words) => Some(Request::Sweep(words)),
+            None => None,
+        },
         _ => None,
     }
 }
 
 /// What the words behind `cells` ask for.
-fn cells_command(words: &[String]) -> Option<Command<'_>>
-    ensures { option_map asked result ≡ cells_of (map string_bytes words.now) }
+fn cells_command(words: &[String]) -> Option<Request<'_>>
+    ensures { IsCommand result (asked_by cells_of (named 2 cells_keys (map string_bytes words.now))) }
 {
-    let [input, output, words @ ..] = words else {
+    let Some(NamesAndOptions { names, options }) = named(words, 2, &CELLS_KEYS) else {
         return None;
     };
-    if !are_two_names(input.as_str(), output.as_str()) {
+    let [input, output] = names else {
         return None;
-    }
-    let options = understand_options(&CELLS_KEYS, words)?;
+    };
     let names = CellsNames {
         input: input.as_str(),
         output: output.as_str(),
     };
-    Some(Command::Cells(names, options))
+    Some(Request::Command(Command::Cells(names, options)))
 }
 
 /// What the words behind `build` ask for.
-fn build_command(words: &[String]) -> Option<Command<'_>>
-    ensures { option_map asked result ≡ build_of (map string_bytes words.now) }
+fn build_command(words: &[String]) -> Option<Request<'_>>
+    ensures { IsCommand result (asked_by build_of (named 3 build_keys (map string_bytes words.now))) }
 {
-    let [input, mesh, cert, words @ ..] = words else {
+    let Some(NamesAndOptions { names, options }) = named(words, 3, &BUILD_KEYS) else {
         return None;
     };
-    if !are_three_names(input.as_str(), mesh.as_str(), cert.as_str()) {
+    let [input, mesh, cert] = names else {
         return None;
-    }
-    let options = understand_options(&BUILD_KEYS, words)?;
+    };
     let names = BuildNames {
         input: input.as_str(),
         mesh: mesh.as_str(),
         cert: cert.as_str(),
     };
-    Some(Command::Build(names, options))
+    Some(Request::Command(Command::Build(names, options)))
 }
 
 /// What the words behind `check` ask for.
-fn check_command(words: &[String]) -> Option<Command<'_>>
-    ensures { option_map asked result ≡ check_of (map string_bytes words.now) }
+fn check_command(words: &[String]) -> Option<Request<'_>>
+    ensures { IsCommand result (asked_by check_of (named 3 build_keys (map string_bytes words.now))) }
 {
-    let [input, mesh, cert, words @ ..] = words else {
+    let Some(NamesAndOptions { names, options }) = named(words, 3, &BUILD_KEYS) else {
         return None;
     };
-    if !are_three_names(input.as_str(), mesh.as_str(), cert.as_str()) {
+    let [input, mesh, cert] = names else {
         return None;
-    }
-    let options = understand_options(&BUILD_KEYS, words)?;
+    };
     let names = CheckNames {
         input: input.as_str(),
         mesh: mesh.as_str(),
         cert: cert.as_str(),
         output: None,
     };
-    Some(Command::Check(names, options))
+    Some(Request::Command(Command::Check(names, options)))
 }
 
 /// What the words behind `upgrade` ask for.
-fn upgrade_command(words: &[String]) -> Option<Command<'_>>
-    ensures { option_map asked result ≡ upgrade_of (map string_bytes words.now) }
+fn upgrade_command(words: &[String]) -> Option<Request<'_>>
+    ensures { IsCommand result (asked_by upgrade_of (named 4 build_keys (map string_bytes words.now))) }
 {
-    let [input, mesh, cert, output, words @ ..] = words else {
+    let Some(NamesAndOptions { names, options }) = named(words, 4, &BUILD_KEYS) else {
         return None;
     };
-    if !are_four_names(
-        input.as_str(),
-        mesh.as_str(),
-        cert.as_str(),
-        output.as_str(),
-    ) {
+    let [input, mesh, cert, output] = names else {
         return None;
-    }
-    let options = understand_options(&BUILD_KEYS, words)?;
+    };
     let names = CheckNames {
         input: input.as_str(),
         mesh: mesh.as_str(),
         cert: cert.as_str(),
         output: Some(output.as_str()),
     };
-    Some(Command::Check(names, options))
+    Some(Request::Command(Command::Check(names, options)))
 }
 
 /// What the words behind `slice` ask for.
-fn slice_command(words: &[String]) -> Option<Command<'_>>
-    ensures { option_map asked result ≡ slice_of (map string_bytes words.now) }
+fn slice_command(words: &[String]) -> Option<Request<'_>>
+    ensures { IsCommand result (slice_of (map string_bytes words.now)) }
 {
     let [mesh, height, output] = words else {
         return None;
     };
-    if !are_two_names(mesh.as_str(), output.as_str()) {
+    if !is_name(mesh.as_str(), &words[2..]) || !are_names(&words[2..]) {
         return None;
     }
     let height = height_in(height.as_str())?;
-    Some(Command::Slice(SliceWords {
+    let words = SliceWords {
         mesh: mesh.as_str(),
         height,
         output: output.as_str(),
-    }))
+    };
+    Some(Request::Command(Command::Slice(words)))
 }
 
 /// What the words behind `ask` ask for.
-fn ask_command(words: &[String]) -> Option<Command<'_>>
-    ensures { option_map asked result ≡ ask_of (map string_bytes words.now) }
+fn ask_command(words: &[String]) -> Option<Request<'_>>
+    ensures { IsCommand result (asked_by ask_of (named 3 build_keys (map string_bytes words.now))) }
 {
-    let [input, points, output, words @ ..] = words else {
+    let Some(NamesAndOptions { names, options }) = named(words, 3, &BUILD_KEYS) else {
         return None;
     };
-    if !are_three_names(input.as_str(), points.as_str(), output.as_str()) {
+    let [input, points, output] = names else {
         return None;
-    }
-    let options = understand_options(&BUILD_KEYS, words)?;
+    };
     let names = AskNames {
         input: input.as_str(),
         points: points.as_str(),
         output: output.as_str(),
     };
-    Some(Command::Ask(names, options))
+    Some(Request::Command(Command::Ask(names, options)))
 }
 
 /// What the words behind `demo` ask for.
-fn demo_command(words: &[String]) -> Option<Command<'_>>
-    ensures { option_map asked result ≡ demo_of (map string_bytes words.now) }
+fn demo_command(words: &[String]) -> Option<Request<'_>>
+    ensures { IsCommand result (demo_of (map string_bytes words.now)) }
 {
     let [count, seed] = words else {
         return None;
     };
     let count = number_in(count.as_bytes(), 1, POINT_LIMIT)?;
     let seed = seed_in(seed.as_str())?;
-    Some(Command::Demo(Demo { count, seed }))
-}
-
-/// Whether neither of two names is empty, and they are not one.
-fn are_two_names(a: &str, b: &str) -> bool
-    ensures { result ≡ are_names (a.now ∷ b.now ∷ []) }
-{
-    !a.is_empty() && !b.is_empty() && a != b
-}
-
-/// Whether none of three names is empty, and no two are one.
-fn are_three_names(a: &str, b: &str, c: &str) -> bool
-    ensures { result ≡ are_names (a.now ∷ b.now ∷ c.now ∷ []) }
-{
-    !a.is_empty() && !b.is_empty() && !c.is_empty() && a != b && a != c && b != c
-}
-
-/// Whether none of four names is empty, and no two are one.
-fn are_four_names(a: &str, b: &str, c: &str, d: &str) -> bool
-    ensures { result ≡ are_names (a.now ∷ b.now ∷ c.now ∷ d.now ∷ []) }
-{
-    !a.is_empty() && a != b && a != c && a != d && are_three_names(b, c, d)
+    Some(Request::Command(Command::Demo(Demo { count, seed })))
 }

@@ -9,7 +9,7 @@ use super::forms::{beginning, shows};
 use super::sweeps;
 use super::watched::{Files, Watched};
 use mesh_form::{Form, ObjForm, OffForm, PlyForm};
-use recon_cmd::{run_forms_within, run_within};
+use recon_cmd::run_forms_within;
 use std::alloc::Global;
 use std::test::Fail;
 use watch::Silent;
@@ -86,10 +86,11 @@ fn a_file_is_refused_where_it_is_longer_than_the_limit(rt: HostRuntime) -> Resul
             cert: lengthened(alloc, FOUR_CERT, cert)?,
         };
         let mut host = Watched::new(alloc, &files, 100, None)?;
-        let ended = run_within(
+        let ended = run_forms_within(
             alloc,
             &owned(alloc, words)?,
             &mut host,
+            &mut [],
             limit as u64,
             &mut Silent,
         );
