@@ -1,9 +1,9 @@
 //! Forms in which a mesh leaves the program, handed in by the caller.
 //!
 //! A `Form` is handed a mesh's points and then its faces, one at a time, and has a text in the end. `drive` hands it a
-//! mesh. Three forms stand here: the mesh text of `mesh_ply` (`PlyForm`), OFF (`OffForm`) and Wavefront OBJ
-//! (`ObjForm`). A caller's own form needs no change here: it implements `Form`, and may keep what it receives in a
-//! `Receipt`, as these three do.
+//! mesh. Three forms stand here, each a `TextForm` of its `FileFormat`: the mesh text of `mesh_ply` (`PlyForm`), OFF
+//! (`OffForm`) and Wavefront OBJ (`ObjForm`). A caller's own form needs no change here: one whose text is printed from
+//! the whole mesh implements `FileFormat`; any other implements `Form`, and may keep what it receives in a `Receipt`.
 //!
 //! It stands on `mesh_ply` (meshes and their text), and through it on `line_text` and `geo_sign`.
 #![tactic(auto)]
@@ -15,12 +15,14 @@ mod off;
 mod ply;
 mod receipt;
 mod stage;
+mod text_form;
 
 pub use driving::{drive, drive_all};
 pub use form::Form;
 pub use mesh_ply::NoMemory;
-pub use obj::ObjForm;
-pub use off::OffForm;
-pub use ply::PlyForm;
+pub use obj::{Obj, ObjForm};
+pub use off::{Off, OffForm};
+pub use ply::{Ply, PlyForm};
 pub use receipt::Receipt;
 pub use stage::Stage;
+pub use text_form::{FileFormat, TextForm};

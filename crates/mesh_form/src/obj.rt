@@ -3,13 +3,10 @@ ghost use Rattle.std.specs.Prelude.{◌≡◌, ◌++◌, [], ◌∷◌, OnOk, On
 ghost use Rattle.std.specs.List.{flat_map};
 ghost use Rattle.mesh_form.specs.Texts.{v_word, f_word, obj_vertex_line, triangle_line, obj_text};
 
-use crate::form::Form;
-use crate::receipt::Receipt;
+use crate::text_form::{FileFormat, TextForm};
 use geo_sign::Point;
 use line_text::push_number;
 use mesh_ply::{Mesh, NoMemory, push_point};
-use std::alloc::Global;
-use std::marker::Model;
 
 #[tactic(auto, unfolding(crate::specs::Texts::v_word))]
 fn vertex_word() -> &'static [u8]
@@ -73,89 +70,17 @@ fn push_triangles(out: &mut Vec<u8>, faces: &[[u32; 3]]) -> Result<(), NoMemory>
     Ok(())
 }
 
-fn push_parts(out: &mut Vec<u8>, mesh: &Mesh) -> Result<(), NoMemory>
-    ensures ok { OnOk result (out.new.items ≡ out.old.items ++ obj_text mesh.now.points.items mesh.now.faces.items) }
-    ensures kept { OnErr result (take (length out.old.items) out.new.items ≡ out.old.items) }
-{
-    push_vertices(out, &mesh.points)?;
-    push_triangles(out, &mesh.faces)
-}
+/// Wavefront OBJ: a line `v x y z` for each point and a line `f a b c` for each face, whose numbers count from 1.
+pub struct Obj;
 
-/// The text of a mesh at the end of `out`; after `NoMemory` that is as it was.
-fn push_obj(out: &mut Vec<u8>, mesh: &Mesh) -> Result<(), NoMemory>
-    ensures printed { OnOk result (out.new.items ≡ out.old.items ++ obj_text mesh.now.points.items mesh.now.faces.items) }
-    ensures kept { OnErr result (out.new.items ≡ out.old.items) }
-{
-    let start = out.len();
-    let pushed = push_parts(out, mesh);
-    if pushed.is_err() {
-        out.truncate(start);
-    }
-    pushed
-}
+impl FileFormat for Obj {
+    ghost text = { obj_text };
 
-/// The form whose text is Wavefront OBJ: a line `v x y z` for each point and a line `f a b c` for each face, whose
-/// numbers count from 1. Contracts see it as what it has received.
-#[derive(Drop)]
-pub struct ObjForm {
-    receipt: Receipt,
-    text: Vec<u8>,
-}
-
-impl Model for ObjForm {
-    ghost use Rattle.std.specs.Prelude.{◌≡◌};
-    ghost use Rattle.mesh_form.specs.Texts.{obj_text};
-    ghost use Rattle.mesh_form.specs.Received.{Received, once_ended};
-
-    ghost Value = { Received };
-
-    ghost view = { λ a. a.receipt };
-
-    ghost invariant = { λ a. a.text.items ≡ once_ended a.receipt.stage (obj_text a.receipt.points a.receipt.faces) };
-}
-
-impl ObjForm {
-    ghost use Rattle.std.specs.Prelude.{◌≡◌};
-    ghost use Rattle.mesh_form.specs.Received.{fresh};
-
-    /// A fresh form with nothing received. It takes no memory.
-    pub fn new(alloc: Global) -> ObjForm
-        ensures { result ≡ fresh }
-    {
-        ObjForm {
-            receipt: Receipt::new(alloc),
-            text: Vec::new(alloc),
-        }
+    fn push_text(out: &mut Vec<u8>, mesh: &Mesh) -> Result<(), NoMemory> {
+        push_vertices(out, &mesh.points)?;
+        push_triangles(out, &mesh.faces)
     }
 }
 
-impl Form for ObjForm {
-    ghost use Rattle.mesh_form.specs.Texts.{obj_text};
-
-    ghost received = { λ form. form };
-
-    ghost text_of = { λ form. obj_text form.points form.faces };
-
-    fn begin(&mut self, points: u32, faces: u32) -> Result<(), NoMemory> {
-        self.receipt.begin(points, faces);
-        Ok(())
-    }
-
-    fn vertex(&mut self, point: Point) -> Result<(), NoMemory> {
-        self.receipt.vertex(point)
-    }
-
-    fn face(&mut self, face: [u32; 3]) -> Result<(), NoMemory> {
-        self.receipt.face(face)
-    }
-
-    fn end(&mut self) -> Result<(), NoMemory> {
-        push_obj(&mut self.text, self.receipt.mesh())?;
-        self.receipt.end();
-        Ok(())
-    }
-
-    fn text(&self) -> &[u8] {
-        &self.text
-    }
-}
+/// The form whose text is Wavefront OBJ.
+pub type ObjForm = TextForm<Obj>;
