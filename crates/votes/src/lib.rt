@@ -2,7 +2,7 @@
 //!
 //! Each sight is walked once, from its point to its scanner, so that the time is that of the crossings that there are. `fixing` finds
 //! the cells of the scanners and which cells are fixed, `ordering` puts the sights in an order in which those that follow each other
-//! go through much the same cells, `tally` counts along them, and `counting` puts the counts into the network.
+//! go through much the same cells, `tally` counts along them, and `counting` hands the counts out or puts them into the network.
 #![tactic(auto)]
 
 mod counting;
