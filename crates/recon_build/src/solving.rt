@@ -1,33 +1,30 @@
-//! The best surface of a scan. It stands on its cells and their counts as a network, on `max_flow`, `surface` and the rows of `cert_text`.
+//! The best surface of a scan. It stands on the minimum cut of its cells, on `surface` and on the rows of a certificate.
 
-ghost use Rattle.std.specs.Prelude.{◌≡◌, ◌<◌, ◌≤◌, ◌*◌, ◌^◌, ◌++◌, IfOk, length};
+ghost use Rattle.std.specs.Prelude.{◌≡◌, ◌≤◌, ◌*◌, ◌++◌, IfOk, length};
 ghost use Rattle.std.specs.Option.{option_map};
 ghost use Rattle.cert_text.specs.Certificates.{Claim, claim_of, stamp_view, IsWellFormed};
 ghost use Rattle.geo_sign.specs.Vertices.{corners};
 ghost use Rattle.mesh_ply.specs.Meshes.{IsMesh, Surface};
 ghost use Rattle.scan.specs.Views.{shown_of};
-ghost use Rattle.vote_net.specs.Counts.{AreCellsOf, AreCountsOf};
+ghost use Rattle.vote_net.specs.Counts.{AreCellsOf};
 ghost use Rattle.solution.specs.Laws.{IsSame};
 ghost use Rattle.solution.specs.Scans.{points_of, scene_of_scan};
 ghost use Rattle.solution.specs.Solutions.{HasCounts, IsCertificate, IsSolution, surface_of};
 ghost use Rattle.surface.specs.Closed.{IsClosed};
-ghost use Rattle.recon_build.specs.MinimumCuts.{IsCutOf};
-ghost use Rattle.recon_build.specs.Stored.{IsStoreOf};
+ghost use Rattle.scan_cut.specs.MinimumCuts.{IsCutOf};
+ghost use Rattle.scan_cut.specs.Stored.{IsStoreOf};
 
 use crate::NoMemory;
-use crate::network::counted_cells;
 use crate::rows::{flow_rows, inside_rows, sink_rows};
-use cell_net::CellNetwork;
 use cert_text::{Certificate, Stamp};
-use flow_net::{Flow, Labels, Settings, cost};
+use flow_net::Settings;
 use geo_sign::CORNERS;
-use max_flow::minimum_cut_watched;
 use mesh_ply::Mesh;
 use scan::Scan;
+use scan_cut::{MinimumCut, counted_cells, minimum_cut_of};
 use std::alloc::Global;
 use surface::facets;
 use tetra_store::Tetra;
-use votes::Votes;
 use watch::{Silent, Watch};
 
 /// A surface, and the certificate that shows it best.
@@ -39,37 +36,6 @@ pub struct Solved {
     pub mesh: Mesh,
     /// The labels, and a flow whose value is their cost.
     pub cert: Certificate,
-}
-
-/// The least-inside labels of a scan's cells by the cells' numbers, a flow by the numbers of sides and cells that is worth what they cost,
-/// and that cost.
-#[derive(Drop)]
-struct MinimumCut {
-    labels: Labels,
-    flow: Flow,
-    cost: u64,
-}
-
-/// The minimum cut of a scan's cells. What is counted of them is let go of before it returns.
-///
-/// The cost fits, since it is no more than to have all cells outside, and that is below 2^47: each sight has one cell behind it.
-fn minimum_cut_of<W: Watch>(
-    alloc: Global,
-    scan: &Scan,
-    settings: Settings,
-    tetra: &Tetra,
-    votes: Votes,
-    watch: &mut W,
-) -> Result<MinimumCut, NoMemory>
-    requires counts { AreCountsOf (scene_of_scan (shown_of scan.now) settings) tetra.now.slots votes.crossed.items votes.behind.items votes.fixed.items }
-    requires few { length votes.fixed.items < 2 ^ 32 }
-    ensures { IfOk result (λ cut. IsCutOf (scene_of_scan (shown_of scan.now) settings) tetra.now.slots cut) }
-{
-    let _scan = scan;
-    let net = CellNetwork::new(tetra, votes.store_counts(), settings);
-    let (flow, labels) = minimum_cut_watched(alloc, &net, watch)?;
-    let cost = cost(&net, &labels) as u64;
-    Ok(MinimumCut { labels, flow, cost })
 }
 
 /// The certificate of a minimum cut of a scan's cells, with this stamp or none.

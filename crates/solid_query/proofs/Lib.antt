@@ -1,5 +1,4 @@
 pub mod Reading
 pub mod Located
-pub mod Flagged
 pub mod Unique
 pub mod Along

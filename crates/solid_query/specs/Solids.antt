@@ -1,9 +1,8 @@
 -- The linked cells of a scan, with labels by their numbers.
 --
---   IsNetworkOverCells scan settings s counted   the linked cells, and the network over them
---   IsSolid scan settings s flags             the linked cells, and which are inside
---   IsFlaggedAs s flags q flag                the cell in which the displaced point lies has this flag
---   AreFlagged s flags points found           the same of points, one each
+--   IsSolid scan settings s flags     the linked cells, and which are inside
+--   IsFlaggedAs s flags q flag        the cell in which the displaced point lies has this flag
+--   AreFlagged s flags points found   the same of points, one each
 use Rattle.std.specs.Prelude.{ℕ, ◌≡◌, ◌<◌, ◌++◌, Bool, true, List, length, slice_index_or}
 use Rattle.flow_net.specs.Nets.{flag_at}
 use Rattle.flow_net.specs.declared.votes.Settings.{Settings}
@@ -18,20 +17,10 @@ use Rattle.tetra_store.specs.Links.{links_of, IsLive}
 use Rattle.tetra_store.specs.Store.{Store, vertices_of}
 use Rattle.visibility.specs.Complexes.{Complex}
 use Rattle.visibility.specs.Cuts.{IsLeastInside}
-use Rattle.visibility.specs.Networks.{IsNetworkInAnyOrder}
 use Rattle.visibility.specs.Votes.{IsComplexOf}
-use Rattle.vote_net.specs.Counts.{AreCellsOf, AreIdsOf, row_of}
-use Rattle.vote_net.specs.declared.network.Counted.{Counted}
+use Rattle.vote_net.specs.Counts.{AreCellsOf, row_of}
 
--- the Delaunay cells of the box's corners and the scan's distinct points, and the network over them
-pub record IsNetworkOverCells (scan : Shown) (settings : Settings) (s : Store) (counted : Counted) : Type 0 where
-  pub points : s.points ≡ corners ++ points_of scan
-  pub delaunay : IsDelaunay (vertices_of s) (links_of s.slots)
-  pub cells : AreCellsOf (scene_of_scan scan settings) s.slots
-  pub network : IsNetworkInAnyOrder (scene_of_scan scan settings) counted.voted
-  pub ids : AreIdsOf s.slots counted.voted.cells counted.ids.items
-
--- the same cells, and of each by its number whether it is in the least inside
+-- the Delaunay cells of the box's corners and the scan's distinct points, and of each by its number whether it is in the least inside
 pub record IsSolid (scan : Shown) (settings : Settings) (s : Store) (flags : List Bool) : Type 0 where
   pub points : s.points ≡ corners ++ points_of scan
   pub delaunay : IsDelaunay (vertices_of s) (links_of s.slots)

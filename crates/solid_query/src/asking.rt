@@ -100,9 +100,10 @@ pub fn ask_watched<W: Watch>(
     ensures { IfOk result (λ answers. AreLabels (shown_of scan.now) settings queries.now answers.items) }
 {
     let solid = solid_of(alloc, scan, settings, watch)?;
+    let inside = solid.labels.inside.as_slice();
     watch.stage(Stage::Answers, queries.len() as u64);
     if queries.len() > u32::MAX as usize {
-        return flags_at(alloc, &solid.tetra, &solid.inside, queries, watch);
+        return flags_at(alloc, &solid.tetra, inside, queries, watch);
     }
-    flags_along(alloc, &solid.tetra, &solid.inside, queries, watch)
+    flags_along(alloc, &solid.tetra, inside, queries, watch)
 }

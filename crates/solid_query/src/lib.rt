@@ -7,9 +7,9 @@
 //! `label_at` tells the label of one point among labelled cells, without taking memory. `read_queries` reads points from a text of
 //! decimals, and `ask` and `ask_watched` answer for a list of points and a scan. `labels` and `solid` hold what both stand on.
 //!
-//! No mesh is read: what is asked is the scan's best surface, and not a file that somebody made. The crate stands on `delaunay` and
-//! `votes` (the cells and the network over them), `max_flow` (labels), `solution` (what the best surface is), `tetra_walk` (the cell of a
-//! point), `curve_order` (the order in which points are asked for) and `num_text` (decimals).
+//! No mesh is read: what is asked is the scan's best surface, and not a file that somebody made. The crate stands on `scan_cut` (the
+//! cells of a scan and their labels), `solution` (what the best surface is), `tetra_walk` (the cell of a point), `curve_order` (the order
+//! in which points are asked for) and `num_text` (decimals).
 #![tactic(auto)]
 
 mod asking;

@@ -17,8 +17,8 @@ use Rattle.visibility.proofs.ListingAgreements.{with_rising}
 use Rattle.vote_net.specs.ByNumber.{SaysOfCells}
 use Rattle.vote_net.specs.Counts.{AreCellsOf}
 use Rattle.vote_net.specs.StoredComplexes.{stored_complex}
-use Rattle.recon_build.specs.MinimumCuts.{IsCutOf}
-use Rattle.recon_build.specs.declared.solving.MinimumCut.{MinimumCut}
+use Rattle.scan_cut.specs.MinimumCuts.{IsCutOf}
+use Rattle.scan_cut.specs.declared.cutting.MinimumCut.{MinimumCut}
 use Rattle.recon_build.proofs.solving.solve_over.Goals as goal
 
 -- the labels are those of the scene's cells, whatever their list is called

@@ -16,7 +16,7 @@ use Rattle.tetra_store.specs.Links.{links_of}
 use Rattle.tetra_store.specs.Store.{Store}
 use Rattle.vote_net.specs.Counts.{AreCellsOf}
 use Rattle.vote_net.proofs.Stored.{listed, live}
-use Rattle.recon_build.specs.Stored.{IsStoreOf}
+use Rattle.scan_cut.specs.Stored.{IsStoreOf}
 
 -- there are eight corners before the points
 pub corner_count : (s : Store) (points : List Point) → s.points ≡ corners ++ points → length s.points ≡ 8 + length points

@@ -6,8 +6,8 @@ use Rattle.visibility.specs.Scenes.{Scene}
 use Rattle.vote_net.specs.Counts.{AreCountsOf}
 use Rattle.solution.proofs.ScanScenes.{points_within, points_apart}
 use Rattle.solution.proofs.SightLists.{few_points}
-use Rattle.recon_build.proofs.Stored.{store_is}
-use Rattle.recon_build.proofs.network.counted_cells.Goals as goal
+use Rattle.scan_cut.proofs.Stored.{store_is}
+use Rattle.scan_cut.proofs.cells.counted_cells.Goals as goal
 
 pub build_watched-requires-clause-within : goal.build_watched-requires-clause-within
 build_watched-requires-clause-within g c =

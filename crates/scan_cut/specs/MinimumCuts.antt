@@ -11,7 +11,7 @@ use Rattle.visibility.specs.Listings.{IsListingOf}
 use Rattle.visibility.specs.Scenes.{Scene}
 use Rattle.vote_net.specs.ByNumber.{SaysOfCells, SaysOfSides, IsZeroElsewhere}
 use Rattle.vote_net.specs.StoredComplexes.{stored_complex}
-use Rattle.recon_build.specs.declared.solving.MinimumCut.{MinimumCut}
+use Rattle.scan_cut.specs.declared.cutting.MinimumCut.{MinimumCut}
 
 -- no labels cost less than the flow is worth; labels and amounts say the same of cells and facets as these functions
 pub record IsCutOf (s : Scene) (slots : List (Option Cell)) (cut : MinimumCut) : Type 0 where
@@ -21,6 +21,7 @@ pub record IsCutOf (s : Scene) (slots : List (Option Cell)) (cut : MinimumCut) :
   pub on_cell : List ℕ → ℕ
   pub listing : IsListingOf s (stored_complex fixed slots)
   pub labels_say : SaysOfCells slots (flag_at cut.labels.inside) inside
+  pub cells : length slots ≤ length cut.labels.inside
   pub sides : 4 * length slots ≤ length cut.flow.on_arc
   pub arcs_say : SaysOfSides slots fixed (slice_index cut.flow.on_arc) on_facet
   pub zero_elsewhere : IsZeroElsewhere slots fixed (slice_index cut.flow.on_arc)

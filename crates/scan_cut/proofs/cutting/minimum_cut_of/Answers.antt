@@ -1,26 +1,17 @@
-use Rattle.std.proofs.Common.{ℕ, ◌≡◌, ◌∙◌, sym, subst, arith, Bool, List}
+use Rattle.std.proofs.Common.{◌∙◌, sym, subst, arith}
 use Rattle.scan.proofs.ShownLemmas.{scan_is_shown}
 use Rattle.scan.specs.Views.{shown_of}
 use Rattle.solution.specs.Scans.{scene_of_scan}
 use Rattle.tetra_store.specs.Store.{Store}
 use Rattle.visibility.specs.Scenes.{Scene}
 use Rattle.vote_net.specs.Counts.{AreCountsOf}
-use Rattle.recon_build.specs.MinimumCuts.{IsCutOf}
-use Rattle.recon_build.proofs.CellCuts.{cut_is, cost_fits}
-use Rattle.recon_build.proofs.solving.minimum_cut_of.Goals as goal
-
--- the lists of the network are the counts
-counts_are : (s : Scene) (store given : Store) (crossed behind xs ys : List ℕ) (fixed flags : List Bool)
-    → AreCountsOf s store.slots crossed behind fixed → given ≡ store → xs ≡ crossed → ys ≡ behind → flags ≡ fixed
-    → AreCountsOf s given.slots xs ys flags
-counts_are s store given crossed behind xs ys fixed flags h a b d e =
-    subst (λ (t : Store). AreCountsOf s t.slots xs ys flags) (sym a)
-    (subst (λ (z : List ℕ). AreCountsOf s store.slots z ys flags) (sym b)
-    (subst (λ (z : List ℕ). AreCountsOf s store.slots crossed z flags) (sym d)
-    (subst (λ (z : List Bool). AreCountsOf s store.slots crossed behind z) (sym e) h)))
+use Rattle.scan_cut.specs.MinimumCuts.{IsCutOf}
+use Rattle.scan_cut.proofs.CellCuts.{cut_is, cost_fits}
+use Rattle.scan_cut.proofs.Counted.{counts_are}
+use Rattle.scan_cut.proofs.cutting.minimum_cut_of.Goals as goal
 
 pub overflow_cast-cost : goal.overflow_cast-cost
-overflow_cast-cost c =
+overflow_cast-cost g c =
     let s : Scene = scene_of_scan (shown_of c.args.scan.now) c.args.settings in
     let n = c.new-net.result in
     let asked : AreCountsOf s n.tetra.now.slots n.counts.crossed.now n.counts.behind.now n.counts.fixed.now =
@@ -36,7 +27,7 @@ overflow_cast-cost c =
     omega (arith, few)
 
 pub returns : goal.returns
-returns c =
+returns g c =
     let s : Scene = scene_of_scan (shown_of c.args.scan.now) c.args.settings in
     let n = c.new-net.result in
     let asked : AreCountsOf s n.tetra.now.slots n.counts.crossed.now n.counts.behind.now n.counts.fixed.now =

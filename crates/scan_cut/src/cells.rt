@@ -4,8 +4,11 @@
 ghost use Rattle.std.specs.Prelude.{◌<◌, ◌^◌, IfOk, length};
 ghost use Rattle.scan.specs.Views.{shown_of};
 ghost use Rattle.solution.specs.Scans.{scene_of_scan};
+ghost use Rattle.tetra_store.specs.Delaunay.{IsDelaunay};
+ghost use Rattle.tetra_store.specs.Links.{links_of};
+ghost use Rattle.tetra_store.specs.Store.{vertices_of};
 ghost use Rattle.vote_net.specs.Counts.{AreCountsOf};
-ghost use Rattle.recon_build.specs.Stored.{IsStoreOf};
+ghost use Rattle.scan_cut.specs.Stored.{IsStoreOf};
 
 use crate::NoMemory;
 use delaunay::build_watched;
@@ -17,14 +20,16 @@ use tetra_store::Tetra;
 use votes::{Votes, counted};
 use watch::Watch;
 
-/// The linked Delaunay cells of a scan's points, and what its sights vote for. A watch is told of both stages.
-pub(crate) fn counted_cells<W: Watch>(
+/// The linked Delaunay cells of a scan's points, and what its sights vote for. A watch is told of both stages. The only error is want
+/// of memory, which also stands for 2^32 numbers of cells and more.
+pub fn counted_cells<W: Watch>(
     alloc: Global,
     scan: &Scan,
     settings: Settings,
     watch: &mut W,
 ) -> Result<(Tetra, Votes), NoMemory>
     ensures store { IfOk result (λ made. IsStoreOf (shown_of scan.now) settings made.0) }
+    ensures delaunay { IfOk result (λ made. IsDelaunay (vertices_of made.0) (links_of made.0.slots)) }
     ensures counts { IfOk result (λ made. AreCountsOf (scene_of_scan (shown_of scan.now) settings) made.0.slots made.1.crossed.items made.1.behind.items made.1.fixed.items) }
     ensures few { IfOk result (λ made. length made.1.fixed.items < 2 ^ 32) }
 {

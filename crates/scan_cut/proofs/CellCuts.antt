@@ -22,8 +22,8 @@ use Rattle.vote_net.specs.StoreLaws.{IsStoreNetwork}
 use Rattle.vote_net.specs.StoredComplexes.{stored_complex}
 use Rattle.vote_net.proofs.StoreLaws.{store_network_law}
 use Rattle.vote_net.proofs.SceneNetwork.{back, side_of, says_of_cells, says_of_sides}
-use Rattle.recon_build.specs.MinimumCuts.{IsCutOf}
-use Rattle.recon_build.specs.declared.solving.MinimumCut.{MinimumCut}
+use Rattle.scan_cut.specs.MinimumCuts.{IsCutOf}
+use Rattle.scan_cut.specs.declared.cutting.MinimumCut.{MinimumCut}
 
 pub cut_is : (s : Scene) (slots : List (Option Cell)) (crossed behind : List ℕ) (fixed : List Bool) (settings : Settings)
     (asked : AreCountsOf s slots crossed behind fixed) (shape : IsShape slots crossed behind fixed settings) (same : s.settings ≡ settings)
@@ -52,6 +52,7 @@ cut_is s slots crossed behind fixed settings asked shape same flow labels cost v
       on_cell = on_cell;
       listing = judged.listing;
       labels_say = labels_say;
+      cells = omega (arith, least.count, shape.flags);
       sides = omega (arith, valid.arc_count, shape.flags);
       arcs_say = arcs_say;
       zero_elsewhere = judged.zero_elsewhere flow valid;

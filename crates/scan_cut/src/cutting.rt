@@ -1,0 +1,52 @@
+//! The minimum cut over linked cells and counts. It stands on these as a network, and on `max_flow`.
+
+ghost use Rattle.std.specs.Prelude.{◌<◌, ◌^◌, IfOk, length};
+ghost use Rattle.scan.specs.Views.{shown_of};
+ghost use Rattle.solution.specs.Scans.{scene_of_scan};
+ghost use Rattle.vote_net.specs.Counts.{AreCountsOf};
+ghost use Rattle.scan_cut.specs.MinimumCuts.{IsCutOf};
+
+use crate::NoMemory;
+use cell_net::CellNetwork;
+use flow_net::{Flow, Labels, Settings, cost};
+use max_flow::minimum_cut_watched;
+use scan::Scan;
+use std::alloc::Global;
+use tetra_store::Tetra;
+use votes::Votes;
+use watch::Watch;
+
+/// The minimum cut of a scan's cells, by the numbers of cells and sides in the store: label v is that of the cell with number v, and
+/// over side k of it flows what the flow has at 4 * v + k.
+#[derive(Drop)]
+pub struct MinimumCut {
+    /// The least-inside labels of least cost.
+    pub labels: Labels,
+    /// A flow that is worth what they cost.
+    pub flow: Flow,
+    /// What the labels cost.
+    pub cost: u64,
+}
+
+/// The minimum cut of a scan's cells. What is counted of them is let go of before it returns. A
+/// watch is told of the stage. The only error is want of memory.
+///
+/// The cost fits, since it is no more than to have all cells outside, and that is below 2^47: each sight has one cell behind it.
+pub fn minimum_cut_of<W: Watch>(
+    alloc: Global,
+    scan: &Scan,
+    settings: Settings,
+    tetra: &Tetra,
+    votes: Votes,
+    watch: &mut W,
+) -> Result<MinimumCut, NoMemory>
+    requires counts { AreCountsOf (scene_of_scan (shown_of scan.now) settings) tetra.now.slots votes.crossed.items votes.behind.items votes.fixed.items }
+    requires few { length votes.fixed.items < 2 ^ 32 }
+    ensures { IfOk result (λ cut. IsCutOf (scene_of_scan (shown_of scan.now) settings) tetra.now.slots cut) }
+{
+    let _scan = scan;
+    let net = CellNetwork::new(tetra, votes.store_counts(), settings);
+    let (flow, labels) = minimum_cut_watched(alloc, &net, watch)?;
+    let cost = cost(&net, &labels) as u64;
+    Ok(MinimumCut { labels, flow, cost })
+}
