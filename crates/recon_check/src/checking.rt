@@ -161,24 +161,31 @@ fn shown_by_certificate<W: Watch>(
     shown_over(alloc, scan, settings, network, mesh, cert)
 }
 
-/// The numbers of the surface whose text the mesh is, where the certificate whose text `cert` is shows it best and has no stamp or
-/// this one.
+/// The texts that are checked, of which nothing is known.
+#[derive(Clone, Copy, Debug)]
+pub struct CheckedTexts<'a> {
+    /// The text of a mesh.
+    pub mesh: &'a [u8],
+    /// The text of a certificate.
+    pub cert: &'a [u8],
+}
+
+/// The numbers of the surface whose text the mesh is, where the certificate of the texts shows it best and has no stamp or this one.
 fn shown_by_texts<W: Watch>(
     alloc: Global,
     scan: &Scan,
     settings: Settings,
     stamp: &Stamp,
-    mesh: &[u8],
-    cert: &[u8],
+    texts: &CheckedTexts,
     watch: &mut W,
 ) -> Result<Accepted, Stop>
-    ensures shown { IfOk result (λ shown. IsAnswer (shown_of scan.now) settings (stamp_view stamp.now) mesh.now cert.now (Answer.Yes shown.inside shown.faces shown.cost)) }
-    ensures fault { IfErr result (StopsFor (λ reason. IsAnswer (shown_of scan.now) settings (stamp_view stamp.now) mesh.now cert.now (Answer.No reason))) }
+    ensures shown { IfOk result (λ shown. IsAnswer (shown_of scan.now) settings (stamp_view stamp.now) texts.now.mesh.now texts.now.cert.now (Answer.Yes shown.inside shown.faces shown.cost)) }
+    ensures fault { IfErr result (StopsFor (λ reason. IsAnswer (shown_of scan.now) settings (stamp_view stamp.now) texts.now.mesh.now texts.now.cert.now (Answer.No reason))) }
 {
-    let stated = certificate(alloc, cert)?;
+    let stated = certificate(alloc, texts.cert)?;
     match other_stamp(stamp, &stated) {
         Some(reason) => Err(Stop::Fault(reason)),
-        None => shown_by_certificate(alloc, scan, settings, mesh, &stated, watch),
+        None => shown_by_certificate(alloc, scan, settings, texts.mesh, &stated, watch),
     }
 }
 
@@ -204,7 +211,8 @@ pub fn check_all(
     ensures yes { IfOk result (λ answer. IsYes answer ↔ IsAccepted (shown_of scan.now) settings (stamp_view stamp.now) mesh.now cert.now) }
     ensures built { (surface : Surface) (claim : Claim) → IsSolution (shown_of scan.now) settings surface claim → IsWellFormed claim → IsStampedFor (stamp_view stamp.now) claim → mesh.now ≡ surface_text surface → cert.now ≡ cert_text claim → IfOk result (λ answer. answer ≡ Answer.Yes (length claim.inside) (length surface.faces) claim.counts.cost) }
 {
-    check_all_watched(alloc, scan, settings, stamp, mesh, cert, &mut Silent)
+    let texts = CheckedTexts { mesh, cert };
+    check_all_watched(alloc, scan, settings, stamp, &texts, &mut Silent)
 }
 
 /// The same, where a watch is told of the stages of the work.
@@ -213,16 +221,15 @@ pub fn check_all_watched<W: Watch>(
     scan: &Scan,
     settings: Settings,
     stamp: &Stamp,
-    mesh: &[u8],
-    cert: &[u8],
+    texts: &CheckedTexts,
     watch: &mut W,
 ) -> Result<Answer, NoMemory>
-    ensures answer { IfOk result (IsAnswer (shown_of scan.now) settings (stamp_view stamp.now) mesh.now cert.now) }
-    ensures only { (answer : Answer) → IsAnswer (shown_of scan.now) settings (stamp_view stamp.now) mesh.now cert.now answer → IfOk result (λ given. given ≡ answer) }
-    ensures yes { IfOk result (λ answer. IsYes answer ↔ IsAccepted (shown_of scan.now) settings (stamp_view stamp.now) mesh.now cert.now) }
-    ensures built { (surface : Surface) (claim : Claim) → IsSolution (shown_of scan.now) settings surface claim → IsWellFormed claim → IsStampedFor (stamp_view stamp.now) claim → mesh.now ≡ surface_text surface → cert.now ≡ cert_text claim → IfOk result (λ answer. answer ≡ Answer.Yes (length claim.inside) (length surface.faces) claim.counts.cost) }
+    ensures answer { IfOk result (IsAnswer (shown_of scan.now) settings (stamp_view stamp.now) texts.now.mesh.now texts.now.cert.now) }
+    ensures only { (answer : Answer) → IsAnswer (shown_of scan.now) settings (stamp_view stamp.now) texts.now.mesh.now texts.now.cert.now answer → IfOk result (λ given. given ≡ answer) }
+    ensures yes { IfOk result (λ answer. IsYes answer ↔ IsAccepted (shown_of scan.now) settings (stamp_view stamp.now) texts.now.mesh.now texts.now.cert.now) }
+    ensures built { (surface : Surface) (claim : Claim) → IsSolution (shown_of scan.now) settings surface claim → IsWellFormed claim → IsStampedFor (stamp_view stamp.now) claim → texts.now.mesh.now ≡ surface_text surface → texts.now.cert.now ≡ cert_text claim → IfOk result (λ answer. answer ≡ Answer.Yes (length claim.inside) (length surface.faces) claim.counts.cost) }
 {
-    match shown_by_texts(alloc, scan, settings, stamp, mesh, cert, watch) {
+    match shown_by_texts(alloc, scan, settings, stamp, texts, watch) {
         Ok(shown) => Ok(Answer::Yes {
             inside: shown.inside,
             faces: shown.faces,

@@ -26,7 +26,7 @@ mod texts;
 mod verdicts;
 
 pub use answer::{Answer, Reason, Which};
-pub use checking::{check_all, check_all_watched};
+pub use checking::{CheckedTexts, check_all, check_all_watched};
 pub use laws::answers_are_unique;
 use std::alloc::AllocError;
 

@@ -13,40 +13,48 @@ use Rattle.recon_check.proofs.checking.check_all_watched.Given.{Over}
 
 pub returns-in-Ok-clause-only : goal.returns-in-Ok-clause-only
 returns-in-Ok-clause-only g c = λ answer h.
-    one_answer (shown_of c.args.scan.now) c.args.settings (stamp_view c.args.stamp.now) c.args.mesh.now c.args.cert.now
+    one_answer (shown_of c.args.scan.now) c.args.settings (stamp_view c.args.stamp.now) c.args.texts.now.mesh.now
+    c.args.texts.now.cert.now
     (Yes c.in-Ok.shown.inside c.in-Ok.shown.faces c.in-Ok.shown.cost) answer c.in-Ok.ensures.shown h
 
 pub returns-in-Ok-clause-built : goal.returns-in-Ok-clause-built
 returns-in-Ok-clause-built g c = λ surface claim solution formed stamped mesh_is cert_is.
-    one_answer (shown_of c.args.scan.now) c.args.settings (stamp_view c.args.stamp.now) c.args.mesh.now c.args.cert.now
+    one_answer (shown_of c.args.scan.now) c.args.settings (stamp_view c.args.stamp.now) c.args.texts.now.mesh.now
+    c.args.texts.now.cert.now
     (Yes c.in-Ok.shown.inside c.in-Ok.shown.faces c.in-Ok.shown.cost) _ c.in-Ok.ensures.shown
-    (built_yes (shown_of c.args.scan.now) c.args.settings (stamp_view c.args.stamp.now) c.args.mesh.now c.args.cert.now surface
+    (built_yes (shown_of c.args.scan.now) c.args.settings (stamp_view c.args.stamp.now) c.args.texts.now.mesh.now
+    c.args.texts.now.cert.now surface
     claim solution formed stamped mesh_is cert_is)
 
 fault_is : (g : Over) (c : goal.In-Err-Fault g)
-    → IsAnswer (shown_of c.args.scan.now) c.args.settings (stamp_view c.args.stamp.now) c.args.mesh.now c.args.cert.now
+    → IsAnswer (shown_of c.args.scan.now) c.args.settings (stamp_view c.args.stamp.now) c.args.texts.now.mesh.now
+    c.args.texts.now.cert.now
     (No c.in-Err-Fault.reason)
 fault_is g c =
     let P : Reason → Type 0 =
-    λ reason. IsAnswer (shown_of c.args.scan.now) c.args.settings (stamp_view c.args.stamp.now) c.args.mesh.now c.args.cert.now
+    λ reason. IsAnswer (shown_of c.args.scan.now) c.args.settings (stamp_view c.args.stamp.now) c.args.texts.now.mesh.now
+    c.args.texts.now.cert.now
     (No reason) in
     subst (λ (stop : Stop). StopsFor P stop) c.in-Err-Fault.field-0-is c.in-Err-Fault.ensures.fault
 
 pub returns-in-Err-Fault-clause-only : goal.returns-in-Err-Fault-clause-only
 returns-in-Err-Fault-clause-only g c = λ answer h.
-    one_answer (shown_of c.args.scan.now) c.args.settings (stamp_view c.args.stamp.now) c.args.mesh.now c.args.cert.now
+    one_answer (shown_of c.args.scan.now) c.args.settings (stamp_view c.args.stamp.now) c.args.texts.now.mesh.now
+    c.args.texts.now.cert.now
     (No c.in-Err-Fault.reason) answer (fault_is g c) h
 
 pub returns-in-Err-Fault-clause-yes : goal.returns-in-Err-Fault-clause-yes
 returns-in-Err-Fault-clause-yes g c = (
   λ h. absurd h,
-  λ accepted. not_accepted (shown_of c.args.scan.now) c.args.settings (stamp_view c.args.stamp.now) c.args.mesh.now
-      c.args.cert.now c.in-Err-Fault.reason (fault_is g c) accepted,
+  λ accepted. not_accepted (shown_of c.args.scan.now) c.args.settings (stamp_view c.args.stamp.now) c.args.texts.now.mesh.now
+      c.args.texts.now.cert.now c.in-Err-Fault.reason (fault_is g c) accepted,
 )
 
 pub returns-in-Err-Fault-clause-built : goal.returns-in-Err-Fault-clause-built
 returns-in-Err-Fault-clause-built g c = λ surface claim solution formed stamped mesh_is cert_is.
-    one_answer (shown_of c.args.scan.now) c.args.settings (stamp_view c.args.stamp.now) c.args.mesh.now c.args.cert.now
+    one_answer (shown_of c.args.scan.now) c.args.settings (stamp_view c.args.stamp.now) c.args.texts.now.mesh.now
+    c.args.texts.now.cert.now
     (No c.in-Err-Fault.reason) _ (fault_is g c)
-    (built_yes (shown_of c.args.scan.now) c.args.settings (stamp_view c.args.stamp.now) c.args.mesh.now c.args.cert.now surface
+    (built_yes (shown_of c.args.scan.now) c.args.settings (stamp_view c.args.stamp.now) c.args.texts.now.mesh.now
+    c.args.texts.now.cert.now surface
     claim solution formed stamped mesh_is cert_is)
