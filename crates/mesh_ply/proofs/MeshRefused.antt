@@ -55,7 +55,7 @@ face_count_once n few =
     (number_once face_word 0 (2 ^ 32 - 1) 7 _ (omega arith) (λ m _.
     word_once list_line 8 _ (word_once header_end 9 _ (points_once n m few))))))
 
-mesh_once : IsOnce AtMesh
+pub mesh_once : IsOnce AtMesh
 mesh_once =
     word_once ply_line 1 _ (word_once ascii_format_line 2 _
     (number_once vertex_word 0 (2 ^ 32 - 1) 3 _ (omega arith) (λ n few. face_count_once n (omega (arith, few.1)))))
