@@ -84,6 +84,25 @@ def head(count: int, columns: str, scanners: int | None = None) -> str:
     return '\n'.join(lines + ['end_header', ''])
 
 
+# A mesh of four points, each face outward.
+MESH = """ply
+format ascii 1.0
+element vertex 4
+property int x
+property int y
+property int z
+element face 4
+property list uchar int vertex_indices
+end_header
+100 100 100
+100 -100 -100
+-100 100 -100
+-100 -100 100
+3 0 1 2
+3 0 2 3
+3 0 3 1
+3 1 3 2
+"""
 SCAN = 'double x, double y, double z, int scanner'
 
 

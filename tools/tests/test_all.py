@@ -8,29 +8,9 @@ import struct
 import subprocess
 import sys
 
-from helpers import POINTS, ROOT, SCAN, TOOLS, Given, InFolder, binary, call, equal, head, holds, read, refuses, says, write
+from helpers import MESH, POINTS, ROOT, SCAN, TOOLS, Given, InFolder, binary, call, equal, head, holds, read, refuses, says, write
 from toolbox.ply_text import Refusal
 from test_stations import FIRST_STATION, PTX
-
-MESH = """ply
-format ascii 1.0
-element vertex 4
-property int x
-property int y
-property int z
-element face 4
-property list uchar int vertex_indices
-end_header
-100 100 100
-100 -100 -100
--100 100 -100
--100 -100 100
-3 0 1 2
-3 0 2 3
-3 0 3 1
-3 1 3 2
-"""
-
 
 SLICE = 'loops 1\nloop 4\n0 200 40000 400\n2 40000 200 400\n3 -200 -40000 400\n1 -40000 -200 400\n'
 

@@ -9,30 +9,12 @@ import struct
 import unittest
 from typing import Sequence
 
-from helpers import RECON, InFolder, equal, read, write
+from helpers import MESH, RECON, InFolder, equal, read, write
 from test_program import data, example, recon
 
 FOUR = example('tetrahedron.ply').decode('ascii')
 FOUR_BUILT = 'points 4 scanners 4 sights 4 inside 1 faces 4 cost 4\n'
 FOUR_CHECKED = 'yes inside 1 faces 4 cost 4\n'
-MESH = """ply
-format ascii 1.0
-element vertex 4
-property int x
-property int y
-property int z
-element face 4
-property list uchar int vertex_indices
-end_header
-100 100 100
-100 -100 -100
--100 100 -100
--100 -100 100
-3 0 1 2
-3 0 2 3
-3 0 3 1
-3 1 3 2
-"""
 NO_MESH = MESH.replace('vertex 4', 'vertex 0').replace('face 4', 'face 0').split('end_header')[0] + 'end_header\n'
 # The flow is the only valid one of value 4.
 FLOW = 'flow 4\n8 9 10 1\n8 10 11 1\n8 11 9 1\n9 11 10 1\nsink 1\n8 9 10 11 4\n'
