@@ -68,7 +68,7 @@ fn counts_of<W: Watch>(
     requires cells { AreScannerCells t.now scanners.now cells.now }
     ensures { IfOk result (λ counts. AreCounted t.now scanners.now sights.now counts.crossed.items counts.behind.items) }
 {
-    let walked = ordered(alloc, t, scanners, sights)?;
+    let walked = ordered(alloc, t, scanners, cells, sights)?;
     count_sights(alloc, t, scanners, cells, &walked, watch)
 }
 

@@ -1,7 +1,9 @@
-//! An order of sights in which those that follow each other go through much the same cells: by their scanners, and those of one scanner
-//! by the number of a cell at their vertex. Cells that are near each other mostly have numbers near each other.
+//! An order of sights in which those that follow each other go through much the same cells: from near vertices to near scanners. Cells
+//! that are near each other mostly have numbers near each other, so a sight is a place on a sheet, the number of its scanner's cell one
+//! way and that of a cell at its vertex the other, and the order is that of the curve of Morton (1966) on this sheet: whatever part of
+//! the cells a cache has room for, most sights stay for a while in one that is as small.
 
-ghost use Rattle.std.specs.Prelude.{◌≡◌, IfOk, All, map};
+ghost use Rattle.std.specs.Prelude.{◌≡◌, IfOk, All, length, map};
 ghost use Rattle.std.specs.List.Sorted.{IsPermutation};
 ghost use Rattle.tetra_store.specs.Store.{vertices_of};
 ghost use Rattle.votes.specs.Counts.{IsInRange};
@@ -11,10 +13,7 @@ use crate::NoMemory;
 use flow_net::Sight;
 use geo_sign::Point;
 use std::alloc::Global;
-use tetra_store::Tetra;
-
-/// What a scanner's number counts for in a key. The numbers of a store's cells are below it.
-const KEY_ROOM: u64 = 4_294_967_296;
+use tetra_store::{CellId, Tetra};
 
 /// A sight and the key by which it is sorted.
 #[derive(Clone, Copy)]
@@ -23,15 +22,27 @@ struct Keyed {
     sight: Sight,
 }
 
-/// A sight with its key: the number of its scanner, and below it that of a cell at its vertex.
-fn with_key(t: &Tetra, scanners: &[Point], sight: Sight) -> Keyed
-    requires { IsInRange (vertices_of t.now) scanners.now sight }
+/// The 32 lowest bits of a number with a free place over each.
+fn spread(number: u64) -> u64 {
+    let mut bits = number & 0xffff_ffff;
+    bits = (bits | bits << 16) & 0x0000_ffff_0000_ffff;
+    bits = (bits | bits << 8) & 0x00ff_00ff_00ff_00ff;
+    bits = (bits | bits << 4) & 0x0f0f_0f0f_0f0f_0f0f;
+    bits = (bits | bits << 2) & 0x3333_3333_3333_3333;
+    (bits | bits << 1) & 0x5555_5555_5555_5555
+}
+
+/// A sight with its key: the bits of the numbers of its scanner's cell and of a cell at its vertex in turn.
+fn with_key(t: &Tetra, scanners: &[Point], cells: &[CellId], sight: Sight) -> Keyed
+    requires sight { IsInRange (vertices_of t.now) scanners.now sight }
+    requires cells { length cells.now ≡ length scanners.now }
     ensures { the_sight result ≡ sight }
 {
     let _scanners = scanners;
-    let cell = t.cell_at(sight.vertex).number() as u64;
+    let scanner_cell = cells[sight.scanner as usize].number() as u64;
+    let vertex_cell = t.cell_at(sight.vertex).number() as u64;
     Keyed {
-        key: u64::from(sight.scanner) * KEY_ROOM + cell % KEY_ROOM,
+        key: spread(scanner_cell) << 1 | spread(vertex_cell),
         sight,
     }
 }
@@ -41,14 +52,16 @@ fn with_keys(
     alloc: Global,
     t: &Tetra,
     scanners: &[Point],
+    cells: &[CellId],
     sights: &[Sight],
 ) -> Result<Vec<Keyed>, NoMemory>
-    requires { All (IsInRange (vertices_of t.now) scanners.now) sights.now }
+    requires sights { All (IsInRange (vertices_of t.now) scanners.now) sights.now }
+    requires cells { length cells.now ≡ length scanners.now }
     ensures { IfOk result (λ list. map the_sight list.items ≡ sights.now) }
 {
     let mut list = Vec::with_capacity(alloc, sights.len())?;
     for sight in sights {
-        list.push(with_key(t, scanners, *sight))?;
+        list.push(with_key(t, scanners, cells, *sight))?;
     }
     Ok(list)
 }
@@ -65,12 +78,14 @@ fn sorted(
     alloc: Global,
     t: &Tetra,
     scanners: &[Point],
+    cells: &[CellId],
     sights: &[Sight],
 ) -> Result<Vec<Keyed>, NoMemory>
-    requires { All (IsInRange (vertices_of t.now) scanners.now) sights.now }
+    requires sights { All (IsInRange (vertices_of t.now) scanners.now) sights.now }
+    requires cells { length cells.now ≡ length scanners.now }
     ensures { IfOk result (λ list. IsPermutation sights.now (map the_sight list.items)) }
 {
-    let mut list = with_keys(alloc, t, scanners, sights)?;
+    let mut list = with_keys(alloc, t, scanners, cells, sights)?;
     sort(&mut list);
     Ok(list)
 }
@@ -91,11 +106,13 @@ pub(crate) fn ordered(
     alloc: Global,
     t: &Tetra,
     scanners: &[Point],
+    cells: &[CellId],
     sights: &[Sight],
 ) -> Result<Vec<Sight>, NoMemory>
-    requires { All (IsInRange (vertices_of t.now) scanners.now) sights.now }
+    requires sights { All (IsInRange (vertices_of t.now) scanners.now) sights.now }
+    requires cells { length cells.now ≡ length scanners.now }
     ensures { IfOk result (λ ordered. IsPermutation sights.now ordered.items) }
 {
-    let list = sorted(alloc, t, scanners, sights)?;
+    let list = sorted(alloc, t, scanners, cells, sights)?;
     without_keys(alloc, &list)
 }
