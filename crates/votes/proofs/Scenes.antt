@@ -2,7 +2,7 @@
 -- not. The tests look at nothing but where vertices are, so they say the same of the store's vertices and of all vertices of
 -- the points. And no count depends on how a facet or a cell is written (`facet_count_law`, `cell_count_law` of vote_net), so
 -- those of the cells as the store has them are those of facets from any vertex on and of rows.
-use Rattle.std.proofs.Common.{ℕ, ◌<◌, ◌≤◌, ◌+◌, ◌^◌, ◌≡◌, refl, sym, ap, subst, ◌∙◌, arith, Bool, true, false, cond, ◌||◌, List}
+use Rattle.std.proofs.Common.{ℕ, ◌<◌, ◌≤◌, ◌+◌, ◌^◌, ◌≡◌, refl, sym, ap, ◌∙◌, arith, Bool, false, cond, ◌||◌, List}
 use Rattle.std.proofs.Common.{◌++◌, All, length, slice_index_or}
 use mathlib.Core.Path.{fun_ext}
 use Rattle.std.specs.List.{list_any}
