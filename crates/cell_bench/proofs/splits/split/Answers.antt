@@ -1,3 +1,8 @@
+-- The cell that was found has the point, so the flood from it may begin (found_law), and its fan is one by which the
+-- cells can be replaced (can_replace), once there is room for as many cells as it has facets.
+--
+-- What is there afterwards are the Delaunay cells with the new vertex (are_cells, by replaced and live_cells). Lists
+-- that were lent are read as they stand in the cavity, which is what each subst says.
 use Rattle.std.proofs.Common.{ℕ, ◌≤◌, List, length, sym, subst, arith}
 use Rattle.geo_sign.specs.Places.{IsLyingIn}
 use Rattle.geo_sign.specs.Point.{Point}

@@ -1,3 +1,9 @@
+-- What is read of the bytes, said from the printed text's side.
+--
+-- A certificate that was read has the bytes as its text, and no two have the same (cert_code): so reading a printed text
+-- gives what was printed. A refusal of it can only be want of memory, since a printed text is refused for nothing
+-- (printed_not_refused). Of bytes that are refused for a reason there is one such reason (refused_once), and nothing is
+-- read of them.
 use Rattle.std.proofs.Common.{◌≡◌, ◌∙◌, ◌++◌, List, ℕ, [], refl, ap, sym, Result, Ok, Err, IfOk, IfErr, IsErr, MatchResult}
 use Rattle.cert_text.specs.declared.certificate.Certificate.{Certificate}
 use Rattle.cert_text.specs.declared.refusal.CertRefusal.{CertRefusal}

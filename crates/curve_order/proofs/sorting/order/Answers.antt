@@ -1,3 +1,8 @@
+-- The numbers of a sorted list of ranks.
+--
+-- The list that was sorted has each number once with its key (order_of asks for a permutation of what was made), and it
+-- rises by key and then number (by_key). It is sorted through a borrowed slice and read through another, so `moved` and
+-- `read` first say that these are the list.
 use Rattle.std.proofs.Common.{ℕ, ◌≡◌, List, length, drop, map, sym, ap, ◌∙◌, subst, arith}
 use Rattle.std.specs.List.Sorted.{IsPermutation}
 use Rattle.std.proofs.lemmas.List.{take_at}

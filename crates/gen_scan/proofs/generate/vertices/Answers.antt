@@ -1,3 +1,9 @@
+-- Points and sights of a generated scan, row after row.
+--
+-- What was made so far, with what the rows left make of the words left, is what the whole scan shows: that is `place`
+-- for the points and `sight` for the sights. A row takes two words, a pseudorandom number each, and its point is that of
+-- the definition by these two (point_is); so both equations are carried on by one row (one_more_point, one_more_sight),
+-- and behind the last row nothing is left.
 use Rattle.std.proofs.Common.{rules, ◌≡◌, ℕ, ap, ◌∙◌, ◌++◌, ◌∷◌, [], ◌%◌, pos}
 use Rattle.geo_sign.specs.Point.{Point}
 use Rattle.rand_pcg.specs.Lcg.{Lcg}

@@ -1,3 +1,9 @@
+-- The displaced scanner's side by four signs, the first of which that is not zero decides.
+--
+-- They are the signs of the side of its point and of the three coordinates of the facet's normal: the side of the
+-- displaced place is the number with these four digits, each small against the base (scanner_signs). The code reads and
+-- widens each coordinate, which keeps its sign (part_sign). Where all four are zero the three points are on one line
+-- (side_on_line).
 use Rattle.std.proofs.Common.{ap, ap₂, ◌≡◌, ◌≤◌, ◌^◌, ◌∙◌, ℤ, unsigned_abs}
 use mir.Syntax.{w64, w128}
 use Rattle.geo_sign.specs.Point.{cross, dot}

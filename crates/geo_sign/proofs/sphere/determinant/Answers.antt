@@ -1,3 +1,8 @@
+-- A determinant expanded along the third coordinates: the product of these three with the minors of the first two, which
+-- are handed in, the second with the other sign.
+--
+-- A minor of vectors within 2^24 is within 2^49, so nothing wraps as it is turned round, read and widened (minor_kept,
+-- negated, part_is), and the product fits 128 bits. That it is the determinant is `expansion`.
 use Rattle.std.proofs.Common.{ap₂, ◌≡◌, ◌≤◌, ◌^◌, ◌∙◌, lit≤, ℤ, pos, ◌-ℤ◌, unsigned_abs}
 use mir.Syntax.{w64, w128}
 use Rattle.geo_sign.specs.Point.{Point, IsWithin, cross, dot}

@@ -1,3 +1,8 @@
+-- Four vertices by the sign of their orientation, as the code reads it at their numbers (read_sign).
+--
+-- Above zero they are a cell as they stand if no vertex is in conflict (form_above). Below zero the last two are
+-- exchanged, which turns the sign round (last_exchanged), and the same is asked of that writing (form_below). At zero
+-- they are none (form_flat).
 use Rattle.std.proofs.Common.{arith}
 use Rattle.std.proofs.lemmas.Int.{ints}
 use Rattle.geo_sign.specs.declared.sign.Sign.TheVariants.{Neg, Zero, Pos}

@@ -1,3 +1,8 @@
+-- The sign of the tied power, in three cases by that of the plain power.
+--
+-- It is the plain power's sign, or where that is zero the sign of the deciding term of the tie; the tied power itself is
+-- never zero, whatever number above the five is its exponent. All of this is `decided`, of which each case gives both
+-- halves: true where the power is below zero, and false where it is above.
 use Rattle.std.proofs.Common.{ap, ◌∙◌, true, false}
 use Rattle.geo_sign.specs.Signs.{first_sign}
 use Rattle.geo_sign.specs.Terms.{is_below_zero, deciding_term}

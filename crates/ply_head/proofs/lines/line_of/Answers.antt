@@ -1,3 +1,9 @@
+-- The first line of the bytes, looked for byte after byte.
+--
+-- The invariant is that no byte so far is a line feed. Where one is met, the line is what stands before it without the
+-- carriage return (line_is), and it is refused if that is longer than a line may be. Where the bytes end first the
+-- header is cut (cut_line); where as many were looked at as a line of the greatest length can have, whatever follows
+-- makes it too long (long_line).
 use Rattle.std.proofs.Common.{◌≡◌, ◌≤◌, ◌<◌, ◌+◌, ℕ, false, List, length, take, arith, subst, ap, ◌∙◌, refl, All}
 use Rattle.std.proofs.lemmas.List.{take_all, take_rest}
 use Rattle.std.proofs.lemmas.List.Elements.{All-more}

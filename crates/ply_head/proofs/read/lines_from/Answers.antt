@@ -1,3 +1,9 @@
+-- A header line after line, until one ends it.
+--
+-- The invariant is that what the lines so far make of the header, gone on with at the bytes left, is what is read of the
+-- whole. A line that cannot be cut, or that the header's state refuses, is the refusal of the whole (line_refused,
+-- step_refused). One that is taken moves the state on (step_goes), one that ends the header gives it with what is behind
+-- (step_ends), and past the greatest number of lines the header is too long (lines_over).
 use Rattle.std.proofs.Common.{arith}
 use Rattle.std.proofs.lemmas.Result.{err_from_is_err_and}
 use Rattle.ply_head.specs.Lines.{parts_of}

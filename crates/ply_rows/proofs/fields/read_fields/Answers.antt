@@ -1,3 +1,9 @@
+-- The fields of a row, property after property.
+--
+-- The invariant is that the fields so far, in front of what is read of the properties left, are what is read of the row
+-- (so_far), and that each field fits its property (fits). A field that is refused is the refusal of the row
+-- (fields_fail), one that is read moves both on (fields_more, one_fits), and behind the last property the fields are the
+-- row's (fields_done).
 use Rattle.std.proofs.Common.{◌≡◌, arith, sym, ap, ◌∙◌, List, subst, length, drop, ◌+◌}
 use Rattle.std.proofs.lemmas.Result.{err_from_is_err_and}
 use Rattle.ply_rows.specs.declared.place.Field.{Field}

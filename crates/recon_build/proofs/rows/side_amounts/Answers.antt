@@ -1,3 +1,7 @@
+-- Rows of all sides, cell after cell of the store.
+--
+-- What was pushed so far, with the rows of the cells left behind it, are the rows of all cells (`pushed`, carried on by
+-- one_more). Each cell left has a number that a slot has (`below`), so its four sides are within the amounts.
 use Rattle.std.proofs.Common.{ℕ, ◌≡◌, ◌<◌, ◌∙◌, ◌++◌, ◌∷◌, Contains, List, ap, ap₂, append_assoc, sym, subst, arith}
 use Rattle.std.specs.List.{flat_map}
 use Rattle.geo_sign.proofs.Members.{here, there}

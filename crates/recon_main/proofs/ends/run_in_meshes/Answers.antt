@@ -1,3 +1,9 @@
+-- As many forms are made as the words ask for, all of one type, and then the run is that of the forms.
+--
+-- The forms so far are fresh and each writes what it has received as PLY: so it is of the one that was made, and it is
+-- put into a box, which reads as it did (reads, at_kind). A run keeps what type each form is, so those that have
+-- received a surface of the sweep write it as PLY (ply_written), which is what a run of `sweep` here promises
+-- (swept_on).
 use Rattle.std.proofs.Common.{◌≡◌, ◌∙◌, refl, ap, map, length, string_bytes, arith, inl}
 use Rattle.std.proofs.lemmas.Grind.{common_steps}
 use denote.Param.Object.{read_made}

@@ -1,3 +1,10 @@
+-- Whether a scan's plain form is the wide one: whether some point is not shown by one sight of weight 1, point after
+-- point.
+--
+-- The sights stand in the order of their points. The invariant is that each point so far is shown so (so_far), and that
+-- the sights of the points left begin at `next` (cut). Those of the next point run up to the end of its row (run). Where
+-- they are not one of weight 1 the form is wide (not_once); else the point is one more that is shown so (once_more,
+-- next_cut).
 use Rattle.std.proofs.Common.{◌≡◌, ◌-◌, true, false, take, drop, get_or, pos, refl, sym, rules}
 use Rattle.std.proofs.lemmas.List.{get_or_default}
 use Rattle.geo_sign.specs.Point.{Point}

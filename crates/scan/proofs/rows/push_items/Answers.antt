@@ -1,3 +1,8 @@
+-- A sight for each item of a list of scanners.
+--
+-- The invariant is that the sights so far, with what naming the items left makes of them, are what the whole list makes.
+-- An item that names a scanner adds its sight (named_taken), one that names none is the refusal of the whole
+-- (named_refused), and behind the last one there is nothing to name (no_items, all_named).
 use Rattle.std.proofs.Common.{◌≡◌, ◌++◌, ◌∷◌, [], ◌-◌, refl, ap, ◌∙◌}
 use Rattle.std.proofs.lemmas.Result.{err_from_is_err_and}
 use Rattle.ply_rows.specs.Items.{items_in, items_from}

@@ -1,3 +1,10 @@
+-- Which vertex is left behind, by three determinants of images.
+--
+-- Each determinant is small enough for 128 bits (same). Where it is not zero its sign is that of the side of the
+-- displaced scanner, since the displacement is too small to change it (before_seen, for the first, the second and the
+-- third vertex of the front). So the three tests are those of the three sides, and the table gives for both the same
+-- vertex (left_same). Where one is zero the displacement decides, which is another call with a contract of the same
+-- words.
 use Rattle.std.proofs.Common.{ℕ, ℤ, ◌≡◌, ◌^◌, ◌*◌, ◌≤◌, ◌∙◌, ◌-ℤ◌, ◌*ℤ◌, arith, subst, unsigned_abs, get_or, slice_index, slice_index_or}
 use Rattle.std.specs.Int.{w128}
 use Rattle.geo_sign.specs.Point.{Point, origin}

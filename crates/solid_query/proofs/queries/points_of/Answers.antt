@@ -1,3 +1,9 @@
+-- Points of three tokens each, one after another.
+--
+-- The invariant is that the points so far, with what is read of the tokens left, are what is read of all of them. The
+-- number of tokens is a multiple of three, so three more are there. Tokens are lent, so as_held first reads those of a
+-- point as bytes. A token that is refused is the refusal of all (point_refused), and a point that is read is within the
+-- range of data (point_more).
 use Rattle.std.proofs.Common.{ℕ, ◌+◌, ◌*◌, ◌<◌, sym, ◌∙◌, arith, Bor, List, [], length, map}
 use Rattle.std.proofs.lemmas.List.{length-map}
 use Rattle.std.proofs.lemmas.List.Elements.{All-push}

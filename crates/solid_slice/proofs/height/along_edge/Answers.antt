@@ -1,3 +1,7 @@
+-- A coordinate along an edge, in 64 bits: nothing wraps, so it is the number of the definition.
+--
+-- A coordinate within 2^23 times a rise within 2^25 is within 2^48. The difference of two such coordinates is within
+-- 2^24, and times the climb it is below 2^50. So both products and their sum are what they are as whole numbers.
 use mir.Syntax.{w64}
 use Rattle.geo_sign.proofs.Bounds.{held, held_kept, held_sub, held_add, held_mul, held_product, fits_held}
 use Rattle.solid_slice.proofs.height.along_edge.Goals as goal

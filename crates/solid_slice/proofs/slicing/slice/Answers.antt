@@ -1,3 +1,8 @@
+-- The slice is what the rings are, said of loops of steps.
+--
+-- The rings' faces are the faces of their steps (faces_of_steps), and the height reads back from its word as it was put
+-- in (stored). So that the rings are the loops of the mesh is that the slice's are; each face stands in them at most
+-- once, so there are no more steps than faces (few_steps).
 use Rattle.std.proofs.Common.{ℕ, ◌≡◌, refl, ap, subst, List, [], ◌∷◌, map, arith, ℤ, to_z, of_z}
 use mir.Syntax.{w32}
 use Rattle.std.proofs.lemmas.Int.{ints}

@@ -1,3 +1,8 @@
+-- Labels by the numbers of nodes, as labels by the numbers of cells.
+--
+-- Behind `node` nodes the list is as long as the numbers of the store, and at the number of each node so far it has that
+-- node's label. The next number is below the limit, since its cell is live. It is that of no node before, since no
+-- number stands twice: so what was written there stays (away).
 use Rattle.std.proofs.Common.{ℕ, ◌≡◌, ◌≢◌, ◌<◌, ◌∙◌, ⊎_elim, length, get_or, set, false, Bool, List, subst, sym, ap, arith}
 use Rattle.std.proofs.lemmas.Bool.{cases_eq}
 use Rattle.std.proofs.lemmas.List.{get_or_default, get_or-set_same, get_or-set_other}

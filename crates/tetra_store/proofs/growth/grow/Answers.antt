@@ -1,3 +1,9 @@
+-- New cells over a fan, in three steps: put in, named from outside, joined with each other.
+--
+-- The first step leaves all other cells as they were, so what the second asks of the cells across still holds
+-- (put_facing). The edges that are pushed are those of the fan, so they can be joined in whatever order they are
+-- (fan_joins), which is what join asks of each order that they may be brought into. The three steps together are IsGrown
+-- (all_grown).
 use Rattle.std.proofs.Common.{ℕ, List, length, subst}
 use Rattle.std.specs.List.Sorted.{IsPermutation}
 use Rattle.tetra_store.specs.declared.edge.Edge.{Edge}

@@ -1,3 +1,8 @@
+-- The cells across a fan name those over it, facet after facet.
+--
+-- Behind i facets those across the first i name the new cells, and nothing else has changed (AreNamed). A facet with a
+-- cell across has one side of that cell written (AreNamed_name), where two facets have different sides (once); one on a
+-- wall has nothing to write (AreNamed_skip).
 use Rattle.std.proofs.Common.{ℕ, ◌≡◌, ◌<◌, ◌+◌, length, Some, None, ap, sym, ◌∙◌, subst, arith, slice_index, slice_index_or}
 use Rattle.std.proofs.lemmas.List.{get_or_default}
 use Rattle.slab.specs.Slab.{Slab, slab_len}

@@ -1,3 +1,8 @@
+-- Each edge is joined with the mate that the table of hints tells.
+--
+-- The table is asked for the reverse of an edge, and what it answers is in the list and is the reverse (hinted): so it
+-- is the edge to join with, and behind n edges those of the first n are joined (AreJoined_join). Joining writes
+-- neighbors alone, so the cells of all edges stay live.
 use Rattle.std.proofs.Common.{◌<◌, length, ◌∙◌, Option, subst, arith}
 use Rattle.std.specs.Prelude.{IfSome}
 use Rattle.std.specs.List.{Contains}

@@ -1,3 +1,8 @@
+-- The cell of the next place, copied there with the places of its neighbors.
+--
+-- It is read at the number that the place stands for. Its neighbors are cells too, so they have places (moved_within),
+-- and the copy is the cell with these (cell). It goes into the next slot, whose key is the place; all others stay. So
+-- one more is moved (moved_more).
 use Rattle.std.proofs.Common.{ℕ, ◌≡◌, List, Option, Some, length, sym, ap, ◌∙◌, subst, arith, slice_index}
 use Rattle.std.proofs.lemmas.List.{get_or_read}
 use Rattle.tetra_store.specs.declared.link.Cell.{Cell}

@@ -1,3 +1,8 @@
+-- The sum of three products in 128 bits.
+--
+-- A coordinate within 2^49 times one within 2^24 is within 2^73 (one), two such products are within 2^74 (two) and three
+-- within 3 * 2^73 (three). So neither sum wraps, and what the code holds is the product of the vectors that the two are
+-- seen as.
 use Rattle.std.proofs.Common.{◌≡◌, ap₂, ◌∙◌, ◌^◌, ◌*◌, ℤ, ◌+ℤ◌, ◌*ℤ◌, ◌≤◌, unsigned_abs}
 use mir.Syntax.{w64, w128}
 use Rattle.geo_sign.specs.Point.{Point, point, IsWithin, dot}

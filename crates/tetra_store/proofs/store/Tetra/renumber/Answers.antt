@@ -1,3 +1,8 @@
+-- The cells under other numbers are what a store keeps, and the cells of before.
+--
+-- Each live cell has a place, as its slot is within the table, and so have its neighbors (links_within). The place of a
+-- kept cell is below the number of cells, which fits its type. The copied cells are linked as those of before
+-- (renumbered), and with the kept cells moved along they are a store again (store_moved).
 use Rattle.std.proofs.Common.{ℕ, List, Option, length, subst, arith}
 use Rattle.tetra_store.specs.Links.{links_of}
 use Rattle.tetra_store.specs.Store.{Store, vertices_at}

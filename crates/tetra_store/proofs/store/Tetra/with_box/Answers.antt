@@ -1,3 +1,8 @@
+-- The six cells of the box as a store of all points, of which the corners alone are inserted.
+--
+-- The points are the corners and then those of the call, and there are as many flags and kept cells as points. A corner
+-- keeps one of the six cells, read in the list of their numbers (keeps). That such parts are a store is box_store, and
+-- that their cells are the Delaunay cells of the corners is box_is_delaunay.
 use Rattle.std.proofs.Common.{ℕ, ◌≡◌, ◌<◌, ◌++◌, List, length, ap, sym, ◌∙◌, subst, arith, slice_index, vec_capacity}
 use Rattle.slab.specs.Slab.{slab_len}
 use Rattle.geo_sign.specs.Point.{Point}
