@@ -5,7 +5,8 @@
 --   left_behind first second third            which vertex of facet k three tests leave behind, 0 to 2
 --   left_by first second third                the same, where the tests are whether three numbers are above zero
 --   past v p s d x                            the side of the facet of p, x and d on which s is
-use Rattle.std.specs.Prelude.{ℕ, ◌<◌, ◌≡◌, ◌⊎◌, Bool, true, false, ℤ}
+--   left_among v p s d numbers                which of three vertices is left behind, by the sides of their facets with p and d
+use Rattle.std.specs.Prelude.{ℕ, ◌<◌, ◌≡◌, ◌⊎◌, Bool, true, false, ℤ, List, slice_index}
 use Rattle.std.specs.Int.{is_positive}
 use Rattle.geo_sign.specs.Rational.{RationalPoint, side}
 use Rattle.geo_sign.specs.Sights.{is_crossed, is_towards}
@@ -34,3 +35,8 @@ left_by first second third = left_behind (is_positive first) (is_positive second
 -- positive where s is on the inner side
 abbrev pub past : Vertices → (p : ℕ) → RationalPoint → (d x : ℕ) → ℤ
 past v p s d x = side (v.at p) (v.at x) (v.at d) s
+
+-- of three vertices by number, those of the facet through which the sight came in
+abbrev pub left_among : Vertices → (p : ℕ) → RationalPoint → (d : ℕ) → List ℕ → ℕ
+left_among v p s d numbers =
+    left_by (past v p s d (slice_index numbers 0)) (past v p s d (slice_index numbers 1)) (past v p s d (slice_index numbers 2))

@@ -2,7 +2,7 @@
 
 ghost use Rattle.std.specs.Prelude.{◌≡◌, ◌≤◌, [], true, false, IsTrue, IsFalse, IfSome, IfNone};
 ghost use Rattle.std.specs.Option.{ForSome};
-ghost use Rattle.geo_sign.specs.declared.point.TheConstants.{DATA_LIMIT};
+ghost use Rattle.geo_sign.specs.declared.point.TheConstants.{CORNERS, DATA_LIMIT};
 ghost use Rattle.geo_sign.specs.Point.{IsWithin};
 ghost use Rattle.geo_sign.specs.Rational.{displaced};
 ghost use Rattle.geo_sign.specs.Sights.{is_cell_of};
@@ -63,7 +63,7 @@ impl<'a> Model for SightWalk<'a> {
 fn begin<'a>(t: &'a Tetra, v: u32, s: Point, end: Option<CellId>) -> SightWalk<'a>
     requires delaunay { IsDelaunay (vertices_of t.now) (links_of t.now.slots) }
     requires inserted { Has (vertices_of t.now) v }
-    requires data_vertex { 8 ≤ v }
+    requires data_vertex { CORNERS ≤ v }
     requires data_point { IsWithin DATA_LIMIT s }
     requires end { ForSome end (λ e. IsEndCell t.now s e) }
     ensures same { (result.store ≡ t.now) × (result.vertex ≡ v) × (result.scanner ≡ s) }
@@ -94,7 +94,7 @@ fn begin<'a>(t: &'a Tetra, v: u32, s: Point, end: Option<CellId>) -> SightWalk<'
 pub fn walk<'a>(t: &'a Tetra, v: u32, s: Point) -> SightWalk<'a>
     requires delaunay { IsDelaunay (vertices_of t.now) (links_of t.now.slots) }
     requires inserted { Has (vertices_of t.now) v }
-    requires data_vertex { 8 ≤ v }
+    requires data_vertex { CORNERS ≤ v }
     requires data_point { IsWithin DATA_LIMIT s }
     ensures same { (result.store ≡ t.now) × (result.vertex ≡ v) × (result.scanner ≡ s) }
     ensures sight { IsSight result }
@@ -106,7 +106,7 @@ pub fn walk<'a>(t: &'a Tetra, v: u32, s: Point) -> SightWalk<'a>
 pub fn walk_into<'a>(t: &'a Tetra, v: u32, s: Point, end: CellId) -> SightWalk<'a>
     requires delaunay { IsDelaunay (vertices_of t.now) (links_of t.now.slots) }
     requires inserted { Has (vertices_of t.now) v }
-    requires data_vertex { 8 ≤ v }
+    requires data_vertex { CORNERS ≤ v }
     requires data_point { IsWithin DATA_LIMIT s }
     requires end { IsEndCell t.now s end }
     ensures same { (result.store ≡ t.now) × (result.vertex ≡ v) × (result.scanner ≡ s) }

@@ -23,8 +23,8 @@ ghost use Rattle.geo_sign.specs.Writings.{IsVertexOf};
 ghost use Rattle.tetra_store.specs.Links.{tetrahedron_from};
 ghost use Rattle.tetra_store.specs.Store.{vertices_of};
 ghost use Rattle.std.specs.Option.{ForSome};
-ghost use Rattle.sight.specs.Exits.{left_behind, left_by, IsEntered, IsExit};
-ghost use Rattle.sight.specs.Fronts.{IsVertexImage, AreSeen, IsFrontOf, IsNextFront};
+ghost use Rattle.sight.specs.Exits.{left_behind, left_among, IsEntered, IsExit};
+ghost use Rattle.sight.specs.Fronts.{IsVertexImage, AreSeen, IsFrontOf, IsNextFront, IsWayOut};
 ghost use Rattle.sight.specs.Images.{along, no_image, IsScreen, IsImage};
 ghost use Rattle.sight.specs.Walks.{IsWalking, IsEndCell};
 
@@ -134,7 +134,7 @@ fn behind_by_displacement(
     requires vertex { vertex < length t.now.points }
     requires fourth { fourth < length t.now.points }
     ensures side { result < 3 }
-    ensures left { result ≡ left_by (side (get_or t.now.points vertex origin) (get_or t.now.points (slice_index vertices 0) origin) (get_or t.now.points fourth origin) (displaced s)) (side (get_or t.now.points vertex origin) (get_or t.now.points (slice_index vertices 1) origin) (get_or t.now.points fourth origin) (displaced s)) (side (get_or t.now.points vertex origin) (get_or t.now.points (slice_index vertices 2) origin) (get_or t.now.points fourth origin) (displaced s)) }
+    ensures left { result ≡ left_among (vertices_of t.now) vertex (displaced s) fourth vertices }
 {
     let p = t.point(vertex);
     let d = t.point(fourth);
@@ -166,7 +166,7 @@ fn behind_by_images(
     requires seen { AreSeen t.now.points screen.now p front.now }
     requires image { IsVertexImage t.now.points screen.now p fourth image }
     ensures side { result < 3 }
-    ensures left { result ≡ left_by (side (get_or t.now.points vertex origin) (get_or t.now.points (slice_index front.now.vertices 0) origin) (get_or t.now.points fourth origin) (displaced s)) (side (get_or t.now.points vertex origin) (get_or t.now.points (slice_index front.now.vertices 1) origin) (get_or t.now.points fourth origin) (displaced s)) (side (get_or t.now.points vertex origin) (get_or t.now.points (slice_index front.now.vertices 2) origin) (get_or t.now.points fourth origin) (displaced s)) }
+    ensures left { result ≡ left_among (vertices_of t.now) vertex (displaced s) fourth front.now.vertices }
 {
     let (_screen, _p) = (screen, p);
     let first = determinant(image, image_of(front, 0));
@@ -266,7 +266,7 @@ fn exit_side(
     requires screen { IsScreen screen.now (step p s) }
     requires entered { IsEntered (vertices_of t.now) vertex (displaced s) (tetrahedron_from v) entered }
     requires front { IsFrontOf t.now.points screen.now p (tetrahedron_from v) entered front.now }
-    ensures some { IfSome result (λ x. IsExit (vertices_of t.now) vertex (displaced s) (tetrahedron_from v) x.side × IsNextFront (tetrahedron_from v) entered x.side x.behind front.now.vertices × (x.behind < 3 → IsVertexImage t.now.points screen.now p (slice_index v entered) x.image)) }
+    ensures some { IfSome result (IsWayOut t.now screen.now p vertex (displaced s) v entered front.now.vertices) }
     ensures none { IfNone result (is_cell_of (vertices_of t.now) (displaced s) (tetrahedron_from v) ≡ true) }
 {
     t.facts();
@@ -299,7 +299,7 @@ pub(crate) fn exit(
     requires screen { IsScreen screen.now (step p s) }
     requires front { IsFrontOf t.now.points screen.now p (tetrahedron_from v) entered front.now }
     requires end { ForSome end (λ e. IsEndCell t.now s e) }
-    ensures some { IfSome result (λ x. IsExit (vertices_of t.now) vertex (displaced s) (tetrahedron_from v) x.side × IsNextFront (tetrahedron_from v) entered x.side x.behind front.now.vertices × (x.behind < 3 → IsVertexImage t.now.points screen.now p (slice_index v entered) x.image)) }
+    ensures some { IfSome result (IsWayOut t.now screen.now p vertex (displaced s) v entered front.now.vertices) }
     ensures none { IfNone result (is_cell_of (vertices_of t.now) (displaced s) (tetrahedron_from v) ≡ true) }
 {
     t.facts();
