@@ -7,6 +7,7 @@
 ghost use Rattle.geo_sign.specs.PolynomialLaws.{IdentityLaw};
 
 /// The law of identities: polynomials that multiply out to the same have the same value everywhere.
+/// It is for whoever shows an identity of whole numbers by multiplying out.
 pub fn identity_law()
     ensures { IdentityLaw }
 {}

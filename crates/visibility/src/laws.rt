@@ -45,6 +45,7 @@ pub fn scenes_agree()
 
 /// Nothing depends on the order in which cells and facets are listed: over two listings of one scene all labels and flows are judged
 /// alike. A listing has each cell and each facet that has a capacity once, and the rising lists are one.
+/// It is for whoever lists a scene's cells in an order of its own.
 pub fn order_decides_nothing()
     ensures rising { (s : Scene) → RisingIsListed s }
     ensures once { (s : Scene) (listing : Complex) → IsListingOf s listing → EachOnce s listing }
