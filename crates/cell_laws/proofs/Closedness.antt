@@ -2,6 +2,9 @@
 -- its six edges in both directions, so these sides are balanced. Those with an inside cell across come in pairs, a facet and
 -- the same facet turned, so they are balanced too. What is left are the sides with an outside cell across, since no cell inside
 -- has a facet on a wall; turned round, they are the sides of outside cells with an inside cell across.
+--
+-- Only that sides match is asked of the cells (AreMatched): cells of the box do, and so do those of any store (`surface`).
+--
 -- Stands on: Sums (pairs), CutSides, NamedBack (a facet and the turned one name each other) and RimLists (a cell's facets are
 -- different).
 use Rattle.std.proofs.Common.{ℕ, ◌+◌, ◌<◌, ◌≡◌, refl, sym, ap, subst, ◌∙◌, arith, Bool, true, false, true≢false, not, ◌&&◌}
@@ -9,12 +12,10 @@ use Rattle.std.proofs.Common.{Option, Some, None, List, [], ◌∷◌}
 use Rattle.std.proofs.lemmas.Bool.{and_parts, and_from, not-true, not_from_false}
 use Rattle.std.proofs.lemmas.List.Sums.{sum_by-cons}
 use Rattle.geo_sign.specs.Tetrahedron.{Tetrahedron, DirectedFacet, facet_of, IsRotated}
-use Rattle.geo_sign.specs.Vertices.{Vertices}
-use Rattle.geo_sign.specs.Boxes.{IsBoxed}
 use Rattle.cell_laws.specs.ClosedLaws.{edges_of, edge_count, facets_at, HasNoCorner, IsCutList, ClosedLaw}
 use Rattle.cell_laws.specs.LinkLaws.{IsNamedBack}
-use Rattle.cell_laws.specs.Links.{Side, AreLinked, IsBackAt}
-use Rattle.cell_laws.specs.Lists.{IsIn, AreCells}
+use Rattle.cell_laws.specs.Links.{Side}
+use Rattle.cell_laws.specs.Lists.{IsIn}
 use Rattle.geo_sign.proofs.Rotations.{turned_back, turned_turned}
 use Rattle.cell_laws.proofs.CutSides.{edges_turned, boundary, side_at, all_sides, side_listed, listed_side, sides_once}
 use Rattle.cell_laws.proofs.CutSides.{is_turned, turned_means, means_turned, is_same_side, same_side_means, same_side_is}
@@ -24,9 +25,17 @@ use Rattle.cell_laws.proofs.RimLists.{one_side}
 use Rattle.cell_laws.proofs.Sums.{IsOnce, once_pairs, named_once, named_in, in_named, named_is_once, total, pick, sum_same}
 use Rattle.cell_laws.proofs.Sums.{sum_plus, paired}
 
-module _ (v : Vertices) (b : IsBoxed v) (live : List ℕ) (cell : ℕ → Tetrahedron) (next : ℕ → ℕ → Option ℕ)
-    (l : AreLinked v live cell next) (cells : AreCells v live cell) (inside : ℕ → Bool)
-    (free : HasNoCorner live cell inside) where
+-- what is asked of the cells: no directed facet is at two sides, neighbors name each other across theirs, and a facet without a
+-- neighbor begins at a corner
+pub record AreMatched (live : List ℕ) (cell : ℕ → Tetrahedron) (next : ℕ → ℕ → Option ℕ) : Type 0 where
+  pub one :
+      (x y j k : ℕ) → IsIn live x → IsIn live y → j < 4 → k < 4 → IsRotated (facet_of (cell x) j) (facet_of (cell y) k) →
+      (x ≡ y) × (j ≡ k)
+  pub back : (x k y : ℕ) → IsIn live x → k < 4 → next x k ≡ Some y → IsIn live y × IsNamedBack cell next x k y
+  pub walls : (x k : ℕ) → IsIn live x → k < 4 → next x k ≡ None → (facet_of (cell x) k).a < 8
+
+module _ (live : List ℕ) (cell : ℕ → Tetrahedron) (next : ℕ → ℕ → Option ℕ) (matched : AreMatched live cell next)
+    (inside : ℕ → Bool) (free : HasNoCorner live cell inside) where
   abbrev facet_at_side : Side → DirectedFacet
   facet_at_side s = facet_of (cell s.at) s.side
 
@@ -56,11 +65,8 @@ module _ (v : Vertices) (b : IsBoxed v) (live : List ℕ) (cell : ℕ → Tetrah
   one_of_facet s t i j r =
       let x = listed s i in
       let y = listed t j in
-      let e : s.at ≡ t.at = l.apart s.at t.at s.side t.side x.0 y.0 x.1 y.1 r in
-      let q : IsRotated (facet_of (cell s.at) s.side) (facet_of (cell s.at) t.side) =
-      subst (λ n. IsRotated (facet_of (cell s.at) s.side) (facet_of (cell n) t.side)) (sym e) r in
-      let f : s.side ≡ t.side = one_side v (cell s.at) s.side t.side x.1 y.1 (cells s.at x.0).positive q in
-      ap (λ n. side_at n s.side) e ∙ ap (λ n. side_at t.at n) f
+      let e = matched.one s.at t.at s.side t.side x.0 y.0 x.1 y.1 r in
+      ap (λ n. side_at n s.side) e.0 ∙ ap (λ n. side_at t.at n) e.1
 
   one_partner : (s t r : Side) → IsIn every t → IsIn every r → pair s t ≡ true → pair s r ≡ true → t ≡ r
   one_partner s t r i j x y =
@@ -85,14 +91,13 @@ module _ (v : Vertices) (b : IsBoxed v) (live : List ℕ) (cell : ℕ → Tetrah
   mate_of : (s : Side) (y : ℕ) → IsIn every s → next s.at s.side ≡ Some y → IsMate s y
   mate_of s y i e =
       let x = listed s i in
-      let n : IsNamedBack cell next s.at s.side y = back_law v b live cell next l cells s.at s.side y x.0 x.1 e in
-      let z : IsBackAt live cell (facet_of (cell s.at) s.side) y = l.back s.at s.side y x.0 x.1 e in
+      let b = matched.back s.at s.side y x.0 x.1 e in
       record {
-        mate = side_at y n.side;
-        in_every = every_has y n.side z.listed n.in_range;
+        mate = side_at y b.1.side;
+        in_every = every_has y b.1.side b.0 b.1.in_range;
         within_is = refl;
-        beyond_is = ap (is_inside inside) n.named;
-        turned = means_turned (facet_of (cell s.at) s.side) (facet_of (cell y) n.side) n.turned;
+        beyond_is = ap (is_inside inside) b.1.named;
+        turned = means_turned (facet_of (cell s.at) s.side) (facet_of (cell y) b.1.side) b.1.turned;
       }
 
   -- a side with an inside cell across has its other side there
@@ -118,9 +123,8 @@ module _ (v : Vertices) (b : IsBoxed v) (live : List ℕ) (cell : ℕ → Tetrah
           (t : Side) × IsIn every t × (within t ≡ false) × (beyond t ≡ true) × (pair s t ≡ true)
       by None n k =
           let x = listed s i in
-          let w = l.walls s.at s.side x.0 x.1 n in
+          let low = matched.walls s.at s.side x.0 x.1 n in
           let c = corner_first (cell s.at) s.side x.1 in
-          let low = w.first in
           let high = free s.at c.0 x.0 h c.1 in
           let same = c.2 in
           absurd (omega (arith, low, high, same))
@@ -267,4 +271,15 @@ module _ (v : Vertices) (b : IsBoxed v) (live : List ℕ) (cell : ℕ → Tetrah
     closed_sides u w = counted u w sides ∙ listed_total u w ∙ cut_even u w ∙ sym (listed_total w u) ∙ sym (counted w u sides)
 
 pub closed_law : ClosedLaw
-closed_law v b live cell next l cells inside free sides c u w = closed_sides v b live cell next l cells inside free sides c u w
+closed_law v b live cell next l cells inside free sides c =
+    closed_sides live cell next
+    (record {
+      one = λ x y j k h g m n r.
+          (let e : x ≡ y = l.apart x y j k h g m n r in (
+            e,
+            one_side v (cell x) j k m n (cells x h).positive
+                (subst (λ z. IsRotated (facet_of (cell x) j) (facet_of (cell z) k)) (sym e) r),
+          ));
+      back = λ x k y h m e. ((l.back x k y h m e).listed, back_law v b live cell next l cells x k y h m e);
+      walls = λ x k h m e. (l.walls x k h m e).first;
+    }) inside free sides c

@@ -1,9 +1,9 @@
--- The mesh is closed. The sides between cells outside and inside, each once, are even (`EvenSides`), since no cell inside
--- has a corner. A facet has the same edges from its least number on. Renumbering keeps it.
+-- The mesh is closed. The sides between cells outside and inside are closed by the law of `cell_laws`, since no cell inside has a
+-- corner. A facet has the same edges from its least number on. Renumbering keeps it.
 --
--- EvenSides sums over all sides that pass a test, the code has a list of those that do: each is in the other, once (is_cut,
--- in_list), so both sums are one (listed_total), and the facets of the list have the edges of the cells' facets (counted).
--- mesh_closed is the same of the faces, whose vertices are numbered anew.
+-- The law asks that sides match, as those of a store do (matched), and for a list of the sides that are cut, each once: the code's
+-- list in its words (cut_list). The facets of that list have the edges of the cells' facets (counted). mesh_closed is the same of
+-- the faces, whose vertices are numbered anew.
 use Rattle.std.proofs.Common.{ℕ, ◌+◌, ◌<◌, ◌≤◌, ◌≡◌, ◌≢◌, refl, sym, ap, ap₂, subst, ◌∙◌, inl, inr, arith, Bool, true, false}
 use Rattle.std.proofs.Common.{true≢false, ◌||◌, nat_lt, not, zero, suc, Option, Some, None, List, [], ◌∷◌, length, get_or, map}
 use Rattle.std.proofs.Common.{AllPairs, Contains}
@@ -15,16 +15,16 @@ use Rattle.geo_sign.specs.Tetrahedron.{Tetrahedron, DirectedFacet, facet_of, fac
 use Rattle.geo_sign.specs.Point.{Point}
 use Rattle.geo_sign.specs.Vertices.{Vertices}
 use Rattle.geo_sign.proofs.Members.{here, there}
-use Rattle.cell_laws.specs.ClosedLaws.{edges_of, edge_count, one_edge}
+use Rattle.cell_laws.specs.ClosedLaws.{edges_of, edge_count, one_edge, facets_at, IsCutList}
 use Rattle.cell_laws.specs.Links as laws
 use Rattle.cell_laws.specs.Lists.{IsIn}
-use Rattle.cell_laws.proofs.CutSides.{is_inside, is_same_side, same_side_means, same_side_is}
+use Rattle.cell_laws.proofs.Closedness.{AreMatched, closed_sides as sides_are_closed}
 use Rattle.cell_laws.proofs.RisingRows as rows
-use Rattle.cell_laws.proofs.Sums.{once_pairs, paired, pick, total}
 use Rattle.mesh_ply.specs.Meshes.{IsFace, IsFaceList, mesh_of, new_number}
 use Rattle.visibility.specs.Votes.{has_corner}
 use Rattle.tetra_store.specs.declared.link.Cell.{Cell}
 use Rattle.tetra_store.specs.Links.{links_of, IsLinked, IsLive}
+use Rattle.tetra_store.specs.Stored.{live_of}
 use Rattle.vote_net.specs.declared.sides.Side.{Side}
 use Rattle.vote_net.specs.CellRows.{least_first}
 use Rattle.vote_net.specs.CutSides.{AreCutSides, IsCutSide}
@@ -32,9 +32,10 @@ use Rattle.vote_net.specs.Tables.{facet_of_side}
 use Rattle.vote_net.proofs.CellRows.{least_rotated}
 use Rattle.vote_net.proofs.Entries.{map_has, map_gets}
 use Rattle.vote_net.proofs.Nodes.{no_side}
+use Rattle.vote_net.proofs.Stored as stored
 use Rattle.surface.specs.Closed.{IsClosed}
 use Rattle.surface.specs.Labelled.{NoneHasCorner}
-use Rattle.surface.proofs.EvenSides as sides_of
+use Rattle.surface.proofs.StoreCut.{one_of_facet}
 use Rattle.surface.proofs.Renumbered.{IsBelow, renamed, renumbered}
 
 -- a side in the words of the laws
@@ -90,15 +91,6 @@ module _ (v : Vertices) (slots : List (Option Cell)) (linked : IsLinked v (links
   abbrev inside : ℕ → Bool
   inside x = not (flag_at outside x)
 
-  abbrev every : List laws.Side
-  every = sides_of.every v slots linked inside free
-
-  abbrev edges : (u w : ℕ) → laws.Side → ℕ
-  edges = sides_of.edges v slots linked inside free
-
-  abbrev cut : laws.Side → Bool
-  cut = sides_of.cut v slots linked inside free
-
   once : AllPairs (λ (r t : laws.Side). r ≢ t) (map named sides)
   once i j d l m e =
       let n = length-map sides named in
@@ -112,49 +104,50 @@ module _ (v : Vertices) (slots : List (Option Cell)) (linked : IsLinked v (links
       let k = are.once i j no_side li lj (omega (arith, id, side)) in
       absurd (omega (arith, l, k))
 
-  -- the sides of the list are those that the sum takes
-  is_cut : (r : laws.Side) → IsIn (map named sides) r → IsIn every r × (cut r ≡ true)
+  -- what the law asks of a side of the list
+  abbrev IsCut : laws.Side → Type 0
+  IsCut r =
+      IsIn (live_of slots) r.at × (r.side < 4) × (inside r.at ≡ false) × ((y : ℕ) × (next r.at r.side ≡ Some y) × (inside y ≡ true))
+
+  is_cut : (r : laws.Side) → IsIn (map named sides) r → IsCut r
   is_cut r i =
       let p = map_has named sides r (rows.listed (map named sides) r i) in
-      let x = p.from in
-      let q : IsCutSide slots outside x = are.each x p.listed in
-      subst (λ (t : laws.Side). IsIn every t × (cut t ≡ true)) p.is (
-        sides_of.every_has v slots linked inside free x.id x.side q.live q.in_range,
-        and_from (not (inside x.id)) (is_inside inside (next x.id x.side)) (not_from_false (inside x.id) (ap not q.own))
-            (ap (is_inside inside) q.next ∙ not_from_false (flag_at outside q.other) q.inside),
+      let q : IsCutSide slots outside p.from = are.each p.from p.listed in
+      subst IsCut p.is (
+        stored.listed slots p.from.id q.live,
+        q.in_range,
+        ap not q.own,
+        (q.other, q.next, not_from_false (flag_at outside q.other) q.inside),
       )
 
-  in_list : (r : laws.Side) → IsIn every r → cut r ≡ true → IsIn (map named sides) r
-  in_list r i e =
-      let x = and_parts (not (inside r.at)) (is_inside inside (next r.at r.side)) e in by (next r.at r.side) refl x.0 x.1
-    where
-      by : (o : Option ℕ) → next r.at r.side ≡ o → not (inside r.at) ≡ true → is_inside inside o ≡ true
-          → IsIn (map named sides) r
-      by None n h k = absurd (true≢false (sym k))
-      by (Some y) n h k =
-          let l = sides_of.listed v slots linked inside free r i in
-          let z =
-          are.all r.at r.side y l.1 n (not-false (flag_at outside r.at) (not-true (inside r.at) h))
-          (not-true (flag_at outside y) k) in
-          let is : named z.0 ≡ r = ap₂ (λ (x k : ℕ). let side : laws.Side = record { at = x; side = k } in side) z.2 z.3 in
-          rows.is_listed (map named sides) r (subst (Contains (map named sides)) is (map_gets named sides z.0 z.1))
+  cut_list : IsCutList (live_of slots) next inside (map named sides)
+  cut_list = record {
+    listed = λ r i. (is_cut r i).0;
+    in_range = λ r i. (is_cut r i).1;
+    outside = λ r i. (is_cut r i).2;
+    across = λ r i. (is_cut r i).3;
+    all = λ r y l m h n k.
+        (let z =
+        are.all r.at r.side y m n (not-false (flag_at outside r.at) h) (not-true (flag_at outside y) k) in
+        let is : named z.0 ≡ r = ap₂ (λ (x k : ℕ). let side : laws.Side = record { at = x; side = k } in side) z.2 z.3 in
+        rows.is_listed (map named sides) r (subst (Contains (map named sides)) is (map_gets named sides z.0 z.1)));
+    once = once;
+  }
 
-  listed_total : (u w : ℕ)
-      → total (λ r. pick (edges u w r) true) (map named sides) ≡ total (λ r. pick (edges u w r) (cut r)) every
-  listed_total u w =
-      paired is_same_side (map named sides) every (λ r. true) cut (edges u w) (edges u w) (once_pairs (map named sides) once)
-      (sides_of.every_once v slots linked inside free)
-      (record {
-        partner = λ r i e. (let c = is_cut r i in (r, c.0, c.1, same_side_is r));
-        partner_of = λ r i e. (r, in_list r i e, refl, same_side_is r);
-        one = λ r t o i j k x y. sym (same_side_means r t x) ∙ same_side_means r o y;
-        one_of = λ r o t i k j x y. same_side_means r t x ∙ sym (same_side_means o t y);
-        same = λ r t e. ap (edges u w) (same_side_means r t e);
-      })
+  matched : AreMatched (live_of slots) cell next
+  matched = record {
+    one = λ x y j k h g. one_of_facet v slots linked x y j k (stored.live slots x h) (stored.live slots y g);
+    back = λ x k y h m e.
+        (let b = linked.back x k y (stored.live slots x h) m e in (
+          stored.listed slots y b.live,
+          record { side = b.side; in_range = b.in_range; turned = b.turned; named = b.named },
+        ));
+    walls = λ x k h m e. (linked.walls x k (stored.live slots x h) m e).first;
+  }
 
   -- the facets of the sides have the edges that the cells' facets have
   counted : (u w : ℕ) (xs : List Side) → ((x : Side) → Contains xs x → Contains sides x)
-      → edge_count u w (map facet_at (map facet_of_side xs)) ≡ total (λ r. pick (edges u w r) true) (map named xs)
+      → edge_count u w (map facet_at (map facet_of_side xs)) ≡ edge_count u w (facets_at cell (map named xs))
   counted u w [] h = refl
   counted u w (x ∷ xs) h =
       let f : DirectedFacet = facet_of (cell x.id) x.side in
@@ -163,11 +156,13 @@ module _ (v : Vertices) (slots : List (Option Cell)) (linked : IsLinked v (links
       ∙ edges_rotated u w f (least_first f) (least_rotated f) in
       sum_by-cons (edges_of u w) (facet_at x.facet) (map facet_at (map facet_of_side xs))
       ∙ ap₂ (λ (m n : ℕ). m + n) e (counted u w xs (λ y c. h y (there x y xs c)))
+      ∙ sym (sum_by-cons (edges_of u w) f (facets_at cell (map named xs)))
 
   pub closed_sides : IsClosed (map facet_of_side sides)
   closed_sides u w =
-      counted u w sides (λ x h. h) ∙ listed_total u w ∙ sides_of.cut_even v slots linked inside free u w
-      ∙ sym (counted w u sides (λ x h. h) ∙ listed_total w u)
+      counted u w sides (λ x h. h)
+      ∙ sides_are_closed (live_of slots) cell next matched inside (λ x k h. free x k (stored.live slots x h)) (map named sides)
+      cut_list u w ∙ sym (counted w u sides (λ x h. h))
 
 -- ---- faces
 face_below : (n : ℕ) (f : List ℕ) → IsFace n f → IsBelow n (facet_at f)

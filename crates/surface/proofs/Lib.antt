@@ -3,5 +3,4 @@ pub mod Listed
 pub mod ListedLabels
 pub mod CutList
 pub mod StoreCut
-pub mod EvenSides
 pub mod ClosedCut
