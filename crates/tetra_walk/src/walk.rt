@@ -1,7 +1,7 @@
 //! The loop of all walks, and where they end.
 
 ghost use Rattle.std.specs.Prelude.{◌≡◌, ◌≤◌, ◌<◌, ◌↔◌, ℕ, true, IsTrue, IfSome, IfNone, length, slice_index};
-ghost use Rattle.geo_sign.specs.declared.point.TheConstants.{DATA_LIMIT};
+ghost use Rattle.geo_sign.specs.declared.point.TheConstants.{CORNERS, DATA_LIMIT};
 ghost use Rattle.geo_sign.specs.Point.{IsWithin};
 ghost use Rattle.geo_sign.specs.Rational.{rational, displaced};
 ghost use Rattle.geo_sign.specs.Sights.{is_cell_of, is_towards, is_behind};
@@ -127,7 +127,7 @@ pub fn locate_scanner(t: &Tetra, s: Point) -> CellId
 pub fn toward(t: &Tetra, v: u32, s: Point) -> CellId
     requires delaunay { IsDelaunay (vertices_of t.now) (links_of t.now.slots) }
     requires inserted { Has (vertices_of t.now) v }
-    requires data_vertex { 8 ≤ v }
+    requires data_vertex { CORNERS ≤ v }
     requires data_point { IsWithin DATA_LIMIT s }
     ensures live { IsLive (links_of t.now.slots) result }
     ensures is { is_towards (vertices_of t.now) v (displaced s) ((links_of t.now.slots).at result) ≡ true }
@@ -144,7 +144,7 @@ pub fn toward(t: &Tetra, v: u32, s: Point) -> CellId
 pub fn behind(t: &Tetra, v: u32, s: Point) -> CellId
     requires delaunay { IsDelaunay (vertices_of t.now) (links_of t.now.slots) }
     requires inserted { Has (vertices_of t.now) v }
-    requires data_vertex { 8 ≤ v }
+    requires data_vertex { CORNERS ≤ v }
     requires data_point { IsWithin DATA_LIMIT s }
     ensures live { IsLive (links_of t.now.slots) result }
     ensures is { is_behind (vertices_of t.now) v (displaced s) ((links_of t.now.slots).at result) ≡ true }
