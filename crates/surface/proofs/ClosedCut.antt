@@ -5,9 +5,9 @@
 -- list in its words (cut_list). The facets of that list have the edges of the cells' facets (counted). mesh_closed is the same of
 -- the faces, whose vertices are numbered anew.
 use Rattle.std.proofs.Common.{ℕ, ◌+◌, ◌<◌, ◌≤◌, ◌≡◌, ◌≢◌, refl, sym, ap, ap₂, subst, ◌∙◌, inl, inr, arith, Bool, true, false}
-use Rattle.std.proofs.Common.{true≢false, ◌||◌, nat_lt, not, zero, suc, Option, Some, None, List, [], ◌∷◌, length, get_or, map}
+use Rattle.std.proofs.Common.{◌||◌, nat_lt, not, zero, suc, Option, Some, List, [], ◌∷◌, length, get_or, map}
 use Rattle.std.proofs.Common.{AllPairs, Contains}
-use Rattle.std.proofs.lemmas.Bool.{ltb-false, or_parts, and_parts, and_from, not-true, not-false, not_from_false}
+use Rattle.std.proofs.lemmas.Bool.{ltb-false, or_parts, not-true, not-false, not_from_false}
 use Rattle.std.proofs.lemmas.List.{get_or-map, length-map}
 use Rattle.std.proofs.lemmas.List.Sums.{sum_by-cons}
 use Rattle.flow_net.specs.Nets.{flag_at}
