@@ -1,13 +1,25 @@
--- Numbers by which rows of a certificate are sorted.
+-- Rows of a certificate, and the numbers by which they are sorted.
 --
 --   key_of_flow row, key_of_sink row     the number of its facet, and of its cell
-use Rattle.std.specs.Prelude.{ℕ}
+--   HasFlowRows slots amounts rows       they are those of the flow that the amounts are by the numbers of sides, in some order
+use Rattle.std.specs.Prelude.{ℕ, Bool, Option, List, slice_index}
+use Rattle.std.specs.List.Sorted.{IsPermutation}
 use Rattle.cert_text.specs.declared.certificate.FlowRow.{FlowRow}
 use Rattle.cert_text.specs.declared.certificate.SinkRow.{SinkRow}
+use Rattle.solution.specs.Solutions.{flow_rows}
+use Rattle.tetra_store.specs.declared.link.Cell.{Cell}
+use Rattle.vote_net.specs.ByNumber.{SaysOfSides, IsZeroElsewhere}
 use Rattle.vote_net.specs.Gathered.{row_key, facet_key}
+use Rattle.vote_net.specs.StoredComplexes.{stored_facets}
 
 abbrev pub key_of_flow : FlowRow → ℕ
 key_of_flow row = facet_key row.facet
 
 abbrev pub key_of_sink : SinkRow → ℕ
 key_of_sink row = row_key row.cell
+
+-- whichever cells are fixed, and whatever flow says the same of facets
+abbrev pub HasFlowRows : List (Option Cell) → List ℕ → List FlowRow → Type 0
+HasFlowRows slots amounts rows =
+    (fixed : List Bool) (on : List ℕ → ℕ) → SaysOfSides slots fixed (slice_index amounts) on
+    → IsZeroElsewhere slots fixed (slice_index amounts) → IsPermutation (flow_rows (stored_facets fixed slots) on) rows

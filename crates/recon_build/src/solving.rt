@@ -9,7 +9,8 @@ ghost use Rattle.scan.specs.Views.{shown_of};
 ghost use Rattle.vote_net.specs.Counts.{AreCellsOf};
 ghost use Rattle.solution.specs.Laws.{IsSame};
 ghost use Rattle.solution.specs.Scans.{points_of, scene_of_scan};
-ghost use Rattle.solution.specs.Solutions.{HasCounts, IsCertificate, IsSolution, surface_of};
+ghost use Rattle.recon_build.specs.Certified.{CertifiesCut};
+ghost use Rattle.solution.specs.Solutions.{HasCounts, IsSolution, surface_of};
 ghost use Rattle.surface.specs.Closed.{IsClosed};
 ghost use Rattle.scan_cut.specs.MinimumCuts.{IsCutOf};
 ghost use Rattle.scan_cut.specs.Stored.{IsStoreOf};
@@ -50,7 +51,7 @@ fn certificate(
     requires points { tetra.now.points ≡ corners ++ points_of (shown_of scan.now) }
     requires sides { 4 * length tetra.now.slots ≤ length cut.now.flow.on_arc }
     ensures counts { IfOk result (λ cert. HasCounts (claim_of cert) (shown_of scan.now) settings) }
-    ensures states { (is : IsCutOf (scene_of_scan (shown_of scan.now) settings) tetra.now.slots cut.now) → IfOk result (λ cert. IsCertificate (scene_of_scan (shown_of scan.now) settings) is.listing.complex is.inside (claim_of cert)) }
+    ensures states { IfOk result (λ cert. CertifiesCut (scene_of_scan (shown_of scan.now) settings) tetra.now.slots cut.now (claim_of cert)) }
     ensures well_formed { IsCutOf (scene_of_scan (shown_of scan.now) settings) tetra.now.slots cut.now → IfOk result (λ cert. IsWellFormed (claim_of cert)) }
     ensures stamp { IfOk result (λ cert. (claim_of cert).stamp ≡ option_map stamp_view stamp) }
 {
