@@ -1,7 +1,7 @@
 //! Walks along the sights of a scan.
 
 ghost use Rattle.std.specs.Prelude.{◌≡◌, ◌≤◌, IsTrue};
-ghost use Rattle.geo_sign.specs.declared.point.TheConstants.{DATA_LIMIT};
+ghost use Rattle.geo_sign.specs.declared.point.TheConstants.{CORNERS, DATA_LIMIT};
 ghost use Rattle.geo_sign.specs.Point.{IsWithin};
 ghost use Rattle.geo_sign.specs.Vertices.{Has};
 ghost use Rattle.sight.specs.Walks.{IsEndCell};
@@ -20,7 +20,7 @@ use tetra_walk::locate_scanner;
 
 /// Whether a vertex is an inserted data point.
 pub(crate) fn is_data(t: &Tetra, v: u32) -> bool
-    ensures { IsTrue result → (8 ≤ v) × Has (vertices_of t.now) v }
+    ensures { IsTrue result → (CORNERS ≤ v) × Has (vertices_of t.now) v }
 {
     v >= CORNERS && v < t.vertex_count() && t.is_inserted(v)
 }
@@ -59,7 +59,7 @@ pub(crate) fn seen_by(
 fn walk_from(t: &Tetra, v: u32, s: Point, end: CellId) -> Answers
     requires delaunay { IsDelaunay (vertices_of t.now) (links_of t.now.slots) }
     requires inserted { Has (vertices_of t.now) v }
-    requires data_vertex { 8 ≤ v }
+    requires data_vertex { CORNERS ≤ v }
     requires data_point { IsWithin DATA_LIMIT s }
     requires end { IsEndCell t.now s end }
 {
