@@ -35,7 +35,7 @@ use Rattle.scan.specs.declared.refusal.ScanRefusal.TheVariants.{NoSuchScanner, B
 use Rattle.num_text.specs.Separators.{space}
 use Rattle.scan.specs.PlainForm.{coordinates, line, numbers_behind_point, vertex_line, scanner_line}
 use Rattle.scan.specs.ScanRows.{VertexRow, ScanRows, sights_in, scanner_limit, sight_limit, weight_limit}
-use Rattle.scan.specs.Found.{Body, told, coordinate_of, number_in, point_in_columns, weighed, weight_said, few_sights, one_of, each_of}
+use Rattle.scan.specs.Found.{Body, Row, row_in, told, coordinate_of, number_in, point_in_columns, weighed, weight_said, few_sights, one_of, each_of}
 use Rattle.scan.specs.Found.{scanner_named, scanners_said, vertex_said, scanner_said, row_said, no_rows, one_vertex}
 use Rattle.scan.specs.Found.{one_scanner, found_in}
 use Rattle.scan.proofs.PrintedHeads.{first_axes, printed_scanners, printed_plan}
@@ -48,6 +48,9 @@ use Rattle.geo_sign.specs.declared.point.TheConstants.{DATA_LIMIT}
 
 abbrev pub text_body : List ℕ → Body
 text_body bytes = record { kind = Ascii; bytes = bytes; unit = 1 }
+
+abbrev text_row : List ℕ → RowAt → List Field → Row
+text_row bytes at fields = row_in (text_body bytes) at fields
 
 -- ---- coordinates
 
@@ -107,7 +110,7 @@ scaled_word at bytes z is small =
 
 point_said : (bytes : List ℕ) (at : RowAt) (place : ℕ) (p : Point) (more : List Field) (rest : List ℕ)
     → StandAt bytes place p rest → IsWithin DATA_LIMIT p
-    → point_in_columns (text_body bytes) at (point_fields place p more) first_axes ≡ Ok p
+    → point_in_columns (text_row bytes at (point_fields place p more)) first_axes ≡ Ok p
 unfolding point_in_columns coordinate_of
 point_said bytes at place p more rest stand within =
     rw (
@@ -167,21 +170,21 @@ one_there : (count row n : ℕ) → n < count → one_of count row (pos n) ≡ d
 one_there count row n lt = ap (λ (b : Bool). cond b (done n) (Err (NoSuchScanner row (pos n)))) (lt-ltb n count lt)
 
 -- the bytes of a scanner's number say it
-named_read : (bytes : List ℕ) (wide : Bool) (scanners : ℕ) (at : RowAt) (number : List ℕ) (k : ℕ) → number ≡ decimal k
+named_read : (bytes : List ℕ) (wide : Bool) (scanners : ℕ) (at : RowAt) (fields : List Field) (number : List ℕ) (k : ℕ) → number ≡ decimal k
     → k < scanners → scanners ≤ scanner_limit
-    → scanner_named (text_body bytes) at (printed_scanners wide scanners) number ≡ done k
+    → scanner_named (text_row bytes at fields) (printed_scanners wide scanners) number ≡ done k
 unfolding scanner_named
-named_read bytes wide scanners at number k is lt few =
+named_read bytes wide scanners at fields number k is lt few =
     rw (whole_word _ number k is (omega (arith, lt, few))) (one_there scanners at.row k lt)
 
-all_named : (bytes : List ℕ) (wide : Bool) (scanners : ℕ) (at : RowAt) (ks : List ℕ) → All (λ k. k < scanners) ks
+all_named : (bytes : List ℕ) (wide : Bool) (scanners : ℕ) (at : RowAt) (fields : List Field) (ks : List ℕ) → All (λ k. k < scanners) ks
     → scanners ≤ scanner_limit
-    → each_of (scanner_named (text_body bytes) at (printed_scanners wide scanners)) (map (λ (k : ℕ). decimal k) ks) ≡ done ks
-all_named bytes wide scanners at [] there few = refl
-all_named bytes wide scanners at (k ∷ ks) there few =
+    → each_of (scanner_named (text_row bytes at fields) (printed_scanners wide scanners)) (map (λ (k : ℕ). decimal k) ks) ≡ done ks
+all_named bytes wide scanners at fields [] there few = refl
+all_named bytes wide scanners at fields (k ∷ ks) there few =
     rw (
-      named_read bytes wide scanners at (decimal k) k refl (All-head (λ k. k < scanners) k ks there) few,
-      all_named bytes wide scanners at ks (All-tail (λ k. k < scanners) k ks there) few,
+      named_read bytes wide scanners at fields (decimal k) k refl (All-head (λ k. k < scanners) k ks there) few,
+      all_named bytes wide scanners at fields ks (All-tail (λ k. k < scanners) k ks there) few,
     ) refl
 
 -- the items of a list that was printed
@@ -225,7 +228,7 @@ LineAt wide bytes place rest row =
 
 abbrev IsRead : Bool → List ℕ → ℕ → ℕ → ℕ → ℕ → VertexRow → Type 0
 IsRead wide bytes scanners before number place row =
-    row_said (text_body bytes) (printed_plan wide scanners) before (row_at 0 number) (vertex_fields wide place row)
+    row_said (text_row bytes (row_at 0 number) (vertex_fields wide place row)) (printed_plan wide scanners) before
     ≡ done (one_vertex row)
 
 once_read : (bytes : List ℕ) (scanners before number place : ℕ) (p : Point) (k : ℕ) (rest : List ℕ)
@@ -239,7 +242,8 @@ once_read bytes scanners before number place p k rest stand within lt few fit =
       point_said bytes (row_at 0 number) place p (seen_fields false place (once_row p k))
           (end_byte (k ∷ []) ∷ behind (k ∷ []) rest) stand within,
       few_there before number 1 fit,
-      named_read bytes false scanners (row_at 0 number) _ k (first_stands bytes (end_place place p) k [] rest numbers) lt few,
+      named_read bytes false scanners (row_at 0 number) (vertex_fields false place (once_row p k)) _ k
+          (first_stands bytes (end_place place p) k [] rest numbers) lt few,
     ) refl
 
 wide_read : (bytes : List ℕ) (scanners before number place : ℕ) (row : VertexRow) (rest : List ℕ)
@@ -265,7 +269,7 @@ wide_read bytes scanners before number place row rest stand printed few fit =
       items,
       length-map ks (λ (k : ℕ). decimal k),
       few_there before number (length ks) fit,
-      all_named bytes true scanners (row_at 0 number) ks printed.is.scanners_there few,
+      all_named bytes true scanners (row_at 0 number) (vertex_fields true place row) ks printed.is.scanners_there few,
     ) refl
 
 vertex_read : (wide : Bool) (bytes : List ℕ) (scanners before number place : ℕ) (row : VertexRow) (rest : List ℕ)
@@ -287,7 +291,7 @@ vertex_read false bytes scanners before number place row rest stand printed few 
 
 place_read : (wide : Bool) (bytes : List ℕ) (scanners before number place : ℕ) (p : Point) (rest : List ℕ)
     → StandAt bytes place p rest → IsWithin DATA_LIMIT p
-    → row_said (text_body bytes) (printed_plan wide scanners) before (row_at 1 number) (point_fields place p [])
+    → row_said (text_row bytes (row_at 1 number) (point_fields place p [])) (printed_plan wide scanners) before
     ≡ done (one_scanner p)
 unfolding row_said scanner_said
 place_read wide bytes scanners before number place p rest stand within =

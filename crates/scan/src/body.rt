@@ -1,0 +1,26 @@
+//! A body behind its header, and a row of it. It stands on the headers of `ply_head` and the
+//! fields of `ply_rows`.
+
+ghost use Rattle.std.specs.Prelude.{◌≤◌};
+ghost use Rattle.num_text.specs.declared.decimal.TheConstants.{UNIT_LIMIT};
+
+use ply_head::Header;
+use ply_rows::{Field, RowAt};
+
+/// A body: the header in front of it, its bytes, and how many units make one of its numbers.
+#[derive(Clone, Copy)]
+pub(crate) struct Body<'a> {
+    pub head: &'a Header,
+    pub bytes: &'a [u8],
+    pub unit: u32,
+    pub ghost at_least_one: { 1 ≤ unit },
+    pub ghost at_most_a_million: { unit ≤ UNIT_LIMIT },
+}
+
+/// A row of a body: where it stands, and the fields of its properties.
+#[derive(Clone, Copy)]
+pub(crate) struct Row<'a> {
+    pub body: Body<'a>,
+    pub at: RowAt,
+    pub fields: &'a [Field],
+}
