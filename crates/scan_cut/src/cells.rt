@@ -1,9 +1,9 @@
 //! The linked cells of a scan and what the network over them is made from. It stands on `delaunay`, which makes the cells, and on
 //! `votes`, which counts what each sight votes for.
 
-ghost use Rattle.std.specs.Prelude.{◌<◌, ◌^◌, IfOk, length};
+ghost use Rattle.std.specs.Prelude.{◌≡◌, ◌<◌, ◌^◌, IfOk, length};
 ghost use Rattle.scan.specs.Views.{shown_of};
-ghost use Rattle.solution.specs.Scans.{scene_of_scan};
+ghost use Rattle.solution.specs.Scans.{points_of, scene_of_scan, sights_of};
 ghost use Rattle.tetra_store.specs.Delaunay.{IsDelaunay};
 ghost use Rattle.tetra_store.specs.Links.{links_of};
 ghost use Rattle.tetra_store.specs.Store.{vertices_of};
@@ -14,7 +14,7 @@ use crate::NoMemory;
 use delaunay::build_watched;
 use flow_net::Settings;
 use scan::Scan;
-use solution::seen_in;
+use solution::{SeenPoints, seen_in};
 use std::alloc::Global;
 use tetra_store::Tetra;
 use votes::{Votes, counted};
@@ -34,6 +34,24 @@ pub fn counted_cells<W: Watch>(
     ensures few { IfOk result (λ made. length made.1.fixed.items < 2 ^ 32) }
 {
     let seen = seen_in(alloc, scan)?;
+    counted_cells_with(alloc, scan, &seen, settings, watch)
+}
+
+/// The same, where the distinct points and the sights of the scan are at hand.
+pub fn counted_cells_with<W: Watch>(
+    alloc: Global,
+    scan: &Scan,
+    seen: &SeenPoints,
+    settings: Settings,
+    watch: &mut W,
+) -> Result<(Tetra, Votes), NoMemory>
+    requires points { seen.now.points.items ≡ points_of (shown_of scan.now) }
+    requires sights { seen.now.sights.items ≡ sights_of (shown_of scan.now) }
+    ensures store { IfOk result (λ made. IsStoreOf (shown_of scan.now) settings made.0) }
+    ensures delaunay { IfOk result (λ made. IsDelaunay (vertices_of made.0) (links_of made.0.slots)) }
+    ensures counts { IfOk result (λ made. AreCountsOf (scene_of_scan (shown_of scan.now) settings) made.0.slots made.1.crossed.items made.1.behind.items made.1.fixed.items) }
+    ensures few { IfOk result (λ made. length made.1.fixed.items < 2 ^ 32) }
+{
     let tetra = build_watched(alloc, &seen.points, watch)?;
     tetra.facts();
     let votes = counted(alloc, &tetra, &seen.scene(scan, settings), watch)?;

@@ -8,7 +8,7 @@
 mod cells;
 mod cutting;
 
-pub use cells::counted_cells;
+pub use cells::{counted_cells, counted_cells_with};
 pub use cutting::{MinimumCut, minimum_cut_of};
 use std::alloc::AllocError;
 

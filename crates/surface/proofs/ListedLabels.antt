@@ -1,5 +1,5 @@
--- Labels in the order of a listing of the scene's cells can be put at the numbers that the cells have in the store, and are then labels
--- over the scene.
+-- Labels at the numbers that cells have in the store are labels over the scene (labels_over), and labels in the order of a listing of the
+-- scene's cells can be put there (numbered).
 use Rattle.std.proofs.Common.{ℕ, ◌<◌, ◌≡◌, sym, subst, ◌∙◌, Bool, List, Option, length, get_or}
 use Rattle.flow_net.specs.Nets.{flag_at}
 use Rattle.visibility.specs.Scenes.{Scene}
@@ -15,6 +15,17 @@ use Rattle.vote_net.specs.ByNumber.{SaysOfCells}
 use Rattle.vote_net.specs.Counts.{AreCellsOf, AreIdsOf}
 use Rattle.surface.specs.Labelled.{AreAllLive, AreLabelsOver}
 use Rattle.surface.proofs.Listed.{all_live, says_by_number}
+
+-- what labels by number say is over the scene, whatever their list is called
+pub labels_over : (s : Scene) (listing : Complex) (slots : List (Option Cell)) (given inside : List Bool) (test : List ℕ → Bool)
+    → AreCellsOf s slots → (lists : IsListingOf s listing) → given ≡ inside → SaysOfCells slots (flag_at inside) test
+    → IsAdmissible s listing test → AreLabelsOver s lists.complex slots given test
+labels_over s listing slots given inside test cells lists same says admissible = record {
+  cells = cells;
+  complex_is = lists.complex_is;
+  says = subst (λ (flags : List Bool). SaysOfCells slots (flag_at flags) test) (sym same) says;
+  admissible = ((with_rising s listing lists).admissible test).0 admissible;
+}
 
 -- the numbers of the cells and the labels are in the order of the listing, and no fixed cell is inside
 pub record AreListed (s : Scene) (listing : Complex) (slots : List (Option Cell)) (ids : List ℕ) (labels : List Bool)
@@ -43,12 +54,6 @@ module _ (s : Scene) (listing : Complex) (slots : List (Option Cell)) (ids : Lis
       let lists = listed.lists in
       subst (λ (complex : Complex). AreLabelsOver s complex slots given (test_of listing.cells labels))
       (one_complex s lists.complex rising lists.complex_is is)
-      (record {
-        cells = listed.cells;
-        complex_is = lists.complex_is;
-        says =
-            subst (λ (flags : List Bool). SaysOfCells slots (flag_at flags) (test_of listing.cells labels)) (sym same)
-            (says_by_number s slots listed.cells lists.complex lists.complex_is listing.cells lists.cells_are ids listed.ids_are
-            labels inside each);
-        admissible = ((with_rising s listing lists).admissible (test_of listing.cells labels)).0 listed.admissible;
-      })
+      (labels_over s listing slots given inside (test_of listing.cells labels) listed.cells lists same
+      (says_by_number s slots listed.cells lists.complex lists.complex_is listing.cells lists.cells_are ids listed.ids_are labels
+      inside each) listed.admissible)

@@ -1,4 +1,3 @@
-pub mod Smoothing
 pub mod Scenes
 pub mod Raising
 pub mod Surfaces

@@ -1,18 +1,19 @@
 -- What a sweep holds.
 --
---   Swept                        the points, the sights, the scanners, the weights, and a flow through the cells
+--   Swept                        the points, the sights, the scanners, the weights, the cells, and a flow through them
 --   given_in w                   the points, the scanners and the sights
 --   scene_in w                   the scene of these at its weights
---   sink_amount w row            what leaves at the sink of a cell
+--   sink_amount w id             what leaves at the sink of the cell with this number
 --   IsOf w scan                  it is of this scan
 --   HasLargest w                 the flow is a largest one of the scene's network
 --   IsRaised old new smooth      the smoothing has risen, all else is as before, and no less leaves at any sink
 --   IsKept                       what the fields of a sweep keep
-use Rattle.std.specs.Prelude.{ℕ, ◌≡◌, ◌≤◌, ◌++◌, List}
-use Rattle.flow_net.specs.Flows.{IsLargest, IsLeastInside}
+use Rattle.std.specs.Prelude.{ℕ, ◌≡◌, ◌<◌, ◌≤◌, ◌++◌, ◌^◌, Bool, List, Option, length, slice_index}
+use Rattle.cell_net.specs.Arcs.{IsShape}
+use Rattle.cell_net.specs.Shape.{numbered_with}
+use Rattle.flow_net.specs.NumberedFlows.{IsLargest, IsLeastInside, cost_of, value_of}
 use Rattle.flow_net.specs.declared.Flow.{Flow}
 use Rattle.flow_net.specs.declared.Labels.{Labels}
-use Rattle.flow_net.specs.declared.Voted.{Voted}
 use Rattle.flow_net.specs.declared.votes.Settings.{Settings}
 use Rattle.flow_net.specs.declared.votes.Sight.{Sight}
 use Rattle.geo_sign.specs.Point.{Point}
@@ -20,21 +21,19 @@ use Rattle.geo_sign.specs.Vertices.{corners}
 use Rattle.scan.specs.Shown.{Shown, IsShown}
 use Rattle.solution.specs.Scans.{points_of, sights_of}
 use Rattle.tetra_store.specs.Store.{Store}
-use Rattle.visibility.specs.Laws.{amount_of}
-use Rattle.visibility.specs.Networks.{IsNetworkInAnyOrder}
+use Rattle.tetra_store.specs.declared.link.Cell.{Cell}
 use Rattle.visibility.specs.Scenes.{Scene, scene_of}
-use Rattle.vote_net.specs.Counts.{AreCellsOf, AreIdsOf}
+use Rattle.vote_net.specs.Counts.{AreCountsOf}
 use Rattle.sweep.specs.Entries.{Given, given_scene}
 
--- the distinct points, the scanners, the sights, the weights, the cells and the facets that have a capacity as they are listed,
--- and an amount for each facet and for each cell
+-- the distinct points, the scanners, the sights, the weights, the cell at each number, and an amount for each side and for each cell:
+-- over side k of the cell with number id flows what stands at 4 * id + k
 pub record Swept : Type 0 where
   pub points : List Point
   pub scanners : List Point
   pub sights : List Sight
   pub settings : Settings
-  pub cells : List (List ℕ)
-  pub facets : List (List ℕ)
+  pub slots : List (Option Cell)
   pub flow : Flow
 
 -- the points, the scanners and the sights
@@ -45,9 +44,9 @@ given_in w = record { points = w.points; scanners = w.scanners; sights = w.sight
 abbrev pub scene_in : Swept → Scene
 scene_in w = given_scene (given_in w) w.settings
 
--- what leaves at the sink of a cell
-abbrev pub sink_amount : Swept → List ℕ → ℕ
-sink_amount w = amount_of w.cells w.flow.on_sink
+-- what leaves at the sink of the cell with this number
+abbrev pub sink_amount : Swept → ℕ → ℕ
+sink_amount w = slice_index w.flow.on_sink
 
 -- the distinct points of the scan, its scanners and its sights
 pub record IsOf (w : Swept) (scan : Shown) : Type 0 where
@@ -55,35 +54,40 @@ pub record IsOf (w : Swept) (scan : Shown) : Type 0 where
   pub scanners : w.scanners ≡ scan.scanners
   pub sights : w.sights ≡ sights_of scan
 
--- the flow is valid and of the largest value in the network of the scene, whose cells and facets are listed so
+-- The cells are those of the scene, and the flow is valid and of the largest value in the network of these with the counts of the scene,
+-- which judges flows as the scene's does (StoreNetworkLaw).
 pub record HasLargest (w : Swept) : Type 0 where
-  pub voted : Voted
-  pub cells_are : voted.cells ≡ w.cells
-  pub facets_are : voted.facets ≡ w.facets
-  pub network : IsNetworkInAnyOrder (scene_in w) voted
-  pub largest : IsLargest voted.net w.flow
+  pub crossed : List ℕ
+  pub behind : List ℕ
+  pub fixed : List Bool
+  pub counts : AreCountsOf (scene_in w) w.slots crossed behind fixed
+  pub shape : IsShape w.slots crossed behind fixed w.settings
+  pub largest : IsLargest (numbered_with w.slots crossed behind fixed w.settings shape) w.flow
 
--- it is at this smoothing, of the same points, scanners, sights and vote, and no less leaves at the sink of any cell
+-- it is at this smoothing, of the same points, scanners, sights, vote and cells, and no less leaves at the sink of any cell
 pub record IsRaised (old new : Swept) (smooth : ℕ) : Type 0 where
   pub smooth_is : new.settings.smooth ≡ smooth
   pub vote : new.settings.vote ≡ old.settings.vote
   pub points : new.points ≡ old.points
   pub scanners : new.scanners ≡ old.scanners
   pub sights : new.sights ≡ old.sights
-  pub sinks : (row : List ℕ) → sink_amount old row ≤ sink_amount new row
+  pub slots : new.slots ≡ old.slots
+  pub sinks : (id : ℕ) → sink_amount old id ≤ sink_amount new id
 
--- What the fields keep: they are of a scan; the store has all cells, and the network is over them; the flow is a largest one, and
--- the labels are the least inside.
-pub record IsKept (points scanners : List Point) (sights : List Sight) (settings : Settings) (store : Store) (voted : Voted)
-    (ids : List ℕ) (flow : Flow) (labels : Labels) : Type 0 where
+-- What the fields keep: they are of a scan; the counts are those of the scene over the store's cells; in the network of these the flow
+-- is a largest one, and the labels are the least inside and cost what it is worth.
+pub record IsKept (points scanners : List Point) (sights : List Sight) (settings : Settings) (store : Store)
+    (crossed behind : List ℕ) (fixed : List Bool) (flow : Flow) (labels : Labels) : Type 0 where
   pub scan : Shown
   pub shown : IsShown scan
   pub points_are : points ≡ points_of scan
   pub scanners_are : scanners ≡ scan.scanners
   pub sights_are : sights ≡ sights_of scan
   pub stored : store.points ≡ corners ++ points
-  pub cells : AreCellsOf (scene_of points scanners sights settings) store.slots
-  pub ids_are : AreIdsOf store.slots voted.cells ids
-  pub network : IsNetworkInAnyOrder (scene_of points scanners sights settings) voted
-  pub largest : IsLargest voted.net flow
-  pub least : IsLeastInside voted.net labels
+  pub counts : AreCountsOf (scene_of points scanners sights settings) store.slots crossed behind fixed
+  pub few : length fixed < 2 ^ 32
+  pub shape : IsShape store.slots crossed behind fixed settings
+  pub largest : IsLargest (numbered_with store.slots crossed behind fixed settings shape) flow
+  pub least : IsLeastInside (numbered_with store.slots crossed behind fixed settings shape) labels
+  pub equal : cost_of (numbered_with store.slots crossed behind fixed settings shape) labels
+      ≡ value_of (numbered_with store.slots crossed behind fixed settings shape) flow

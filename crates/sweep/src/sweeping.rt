@@ -1,4 +1,4 @@
-//! A sweep: a scan's best surface at one smoothing, which can be raised. It stands on `delaunay` and `votes` for the
+//! A sweep: a scan's best surface at one smoothing, which can be raised. It stands on the linked cells and counts of a scan as a
 //! network, on `max_flow` and on `surface`.
 
 ghost use Rattle.std.specs.Prelude.{◌≡◌, ◌<◌, ◌≤◌, IfOk, OnOk, OnErr};
@@ -11,27 +11,27 @@ ghost use Rattle.sweep.specs.Entries.{CostsLeast, IsSurfaceOf};
 ghost use Rattle.sweep.specs.Swept.{IsOf, HasLargest, IsRaised, scene_in};
 
 use crate::NoMemory;
-use delaunay::build_watched;
+use cell_net::CellNetwork;
 use flow_net::{Flow, Labels, Settings, cost};
 use geo_sign::Point;
 use max_flow::{KeptPreflow, minimum_cut_above, minimum_cut_and_preflow_watched};
 use mesh_ply::Mesh;
 use scan::Scan;
+use scan_cut::counted_cells_with;
 use solution::{SeenPoints, seen_in};
 use std::alloc::Global;
 use std::marker::Model;
-use surface::{facets, labels_by_number};
+use surface::facets;
 use tetra_store::Tetra;
-use vote_net::Counted;
-use votes::count_votes_as_stored_watched;
+use votes::Votes;
 use watch::{Silent, Watch};
 
 /// The best surface of a scan at one smoothing, with a largest flow, which is kept when the smoothing is raised.
 ///
-/// Contracts see its points, scanners and sights, the weights, the cells and the facets that have a capacity, and the flow.
+/// Contracts see its points, scanners and sights, the weights, the cells by their numbers in the store, and the flow.
 ///
-/// For the next raise it holds 4 bytes a facet that has a capacity, or 8 where capacities are large, and 24 a cell. While a raise
-/// runs it takes as much once more, beside a second flow.
+/// For the next raise it holds 4 bytes a side of a cell, or 8 where capacities are large, and 24 a cell. While a raise runs it takes as
+/// much once more, beside a second flow.
 #[derive(Drop)]
 pub struct Sweep {
     /// The memory that it was made with.
@@ -44,11 +44,11 @@ pub struct Sweep {
     settings: Settings,
     /// The linked cells.
     tetra: Tetra,
-    /// The network at these weights.
-    counted: Counted,
-    /// A largest flow.
+    /// What the sights vote for.
+    votes: Votes,
+    /// A largest flow, by the numbers of cells and sides.
     flow: Flow,
-    /// The least-inside labels.
+    /// The least-inside labels, by the numbers of cells.
     labels: Labels,
     /// What the next raise goes on from, if there is anything: how long it takes hangs on it, and nothing else.
     kept: Option<KeptPreflow>,
@@ -59,9 +59,9 @@ impl Model for Sweep {
 
     ghost Value = { Swept };
 
-    ghost view = { λ s. record { points = s.seen.points.items; scanners = s.scanners.items; sights = s.seen.sights.items; settings = s.settings; cells = s.counted.voted.cells; facets = s.counted.voted.facets; flow = s.flow } };
+    ghost view = { λ s. record { points = s.seen.points.items; scanners = s.scanners.items; sights = s.seen.sights.items; settings = s.settings; slots = s.tetra.slots; flow = s.flow } };
 
-    ghost invariant = { λ s. IsKept s.seen.points.items s.scanners.items s.seen.sights.items s.settings s.tetra s.counted.voted s.counted.ids.items s.flow s.labels };
+    ghost invariant = { λ s. IsKept s.seen.points.items s.scanners.items s.seen.sights.items s.settings s.tetra s.votes.crossed.items s.votes.behind.items s.votes.fixed.items s.flow s.labels };
 }
 
 impl Sweep {
@@ -86,12 +86,9 @@ impl Sweep {
         ensures largest { IfOk result (λ sweep. HasLargest sweep) }
     {
         let seen = seen_in(alloc, scan)?;
-        let tetra = build_watched(alloc, &seen.points, watch)?;
-        tetra.facts();
-        let scene = seen.scene(scan, settings);
-        let counted = count_votes_as_stored_watched(alloc, &tetra, &scene, watch)?;
-        let net = &counted.voted.net;
-        let (flow, labels, kept) = minimum_cut_and_preflow_watched(alloc, net, watch)?;
+        let (tetra, votes) = counted_cells_with(alloc, scan, &seen, settings, watch)?;
+        let net = CellNetwork::new(&tetra, votes.store_counts(), settings);
+        let (flow, labels, kept) = minimum_cut_and_preflow_watched(alloc, &net, watch)?;
         let scanners = Vec::from_slice(alloc, &scan.scanners)?;
         Ok(Sweep {
             alloc,
@@ -99,7 +96,7 @@ impl Sweep {
             scanners,
             settings,
             tetra,
-            counted,
+            votes,
             flow,
             labels,
             kept,
@@ -116,24 +113,16 @@ impl Sweep {
         ensures kept { OnErr result (self.new ≡ self.old) }
         ensures largest { HasLargest self.new }
     {
-        let before = self.settings.smooth;
-        self.counted.voted.net.change_smoothing(before, smooth);
-        let net = &self.counted.voted.net;
-        match minimum_cut_above(self.alloc, net, &self.flow, &mut self.kept) {
-            Ok((flow, labels)) => {
-                self.flow = flow;
-                self.labels = labels;
-                self.settings = Settings {
-                    vote: self.settings.vote,
-                    smooth,
-                };
-                Ok(())
-            }
-            Err(error) => {
-                self.counted.voted.net.change_smoothing(smooth, before);
-                Err(error)
-            }
-        }
+        let settings = Settings {
+            vote: self.settings.vote,
+            smooth,
+        };
+        let net = CellNetwork::new(&self.tetra, self.votes.store_counts(), settings);
+        let (flow, labels) = minimum_cut_above(self.alloc, &net, &self.flow, &mut self.kept)?;
+        self.flow = flow;
+        self.labels = labels;
+        self.settings = settings;
+        Ok(())
     }
 
     /// The smoothing that it is at.
@@ -147,7 +136,8 @@ impl Sweep {
     pub fn cost(&self) -> u64
         ensures { CostsLeast (scene_in self.now) result }
     {
-        cost(&self.counted.voted.net, &self.labels) as u64
+        let net = CellNetwork::new(&self.tetra, self.votes.store_counts(), self.settings);
+        cost(&net, &self.labels) as u64
     }
 
     /// The mesh of the best surface: that of the facets of outside cells with an inside cell across, by the labels of least cost whose
@@ -157,7 +147,6 @@ impl Sweep {
         ensures valid { IfOk result (λ mesh. IsMesh mesh.points.items mesh.faces.items) }
         ensures closed { IfOk result (λ mesh. IsClosed mesh.faces.items) }
     {
-        let inside = labels_by_number(self.alloc, &self.tetra, &self.counted.ids, &self.labels)?;
-        facets(self.alloc, &self.tetra, &inside)
+        facets(self.alloc, &self.tetra, self.labels.inside.as_slice())
     }
 }

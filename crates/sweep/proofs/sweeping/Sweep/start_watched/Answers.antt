@@ -1,81 +1,36 @@
--- The distinct points of a scan are within the limits, apart and few, which is what build asks. All of them are in, so the store has
--- the cells that the votes are counted over, and the counted network is that of their scene. This is the scene that the sweep's own
--- parts make: points, scanners and sights are copies of the scan's (scene_kept). So all that a sweep keeps holds: its cells by
--- stored_cells_law, the rest by what each call promises, with a largest flow and the least-inside labels.
-use Rattle.std.proofs.Common.{◌≡◌, ◌++◌, ap, refl, subst, ◌∙◌, arith, length, List}
-use Rattle.geo_sign.specs.Point.{Point, origin}
-use Rattle.geo_sign.specs.Vertices.{corners}
+-- The store has the scan's points and all cells of its scene, and the counts are those of the scene (counted_cells_with). Points, scanners
+-- and sights are copies of the scan's. So all that a sweep keeps holds in the network of these lists, whose names are those of the fields
+-- (kept_over), with a largest flow and the least-inside labels.
+use Rattle.std.proofs.Common.{sym, subst, ◌∙◌}
+use Rattle.flow_net.specs.declared.votes.Settings.{Settings}
 use Rattle.scan.proofs.ShownLemmas.{scan_is_shown}
+use Rattle.scan.specs.Shown.{Shown}
 use Rattle.scan.specs.Views.{shown_of}
-use Rattle.solution.proofs.ScanScenes.{points_within, points_apart}
-use Rattle.solution.proofs.SightLists.{few_points}
-use Rattle.visibility.specs.Networks.{IsNetworkInAnyOrder}
-use Rattle.visibility.specs.Scenes.{Scene}
-use Rattle.vote_net.proofs.Stored.{stored_cells_law}
-use Rattle.sweep.proofs.Scenes.{scene_kept}
+use Rattle.solution.specs.Scans.{scene_of_scan}
+use Rattle.scan_cut.proofs.Counted.{counts_are}
+use Rattle.vote_net.specs.Counts.{AreCountsOf}
+use Rattle.sweep.proofs.Raising.{begun, kept_over, largest_of}
 use Rattle.sweep.proofs.sweeping.Sweep.start_watched.Goals as goal
-
-pub build_watched-requires-clause-within : goal.build_watched-requires-clause-within
-build_watched-requires-clause-within g c =
-    rw (c.deref.ensures.value ∙ c.in_ok-seen.ensures.points)
-    (λ k l. points_within (shown_of c.args.scan.now) (scan_is_shown c.args.scan.now) k origin l)
-
-pub build_watched-requires-clause-distinct : goal.build_watched-requires-clause-distinct
-build_watched-requires-clause-distinct g c =
-    rw (c.deref.ensures.value ∙ c.in_ok-seen.ensures.points) (points_apart (shown_of c.args.scan.now))
-
-pub build_watched-requires-clause-few : goal.build_watched-requires-clause-few
-build_watched-requires-clause-few g c =
-    omega (arith, ap length c.deref.ensures.value, ap length c.in_ok-seen.ensures.points, few_points c.args.scan.now)
-
-pub count_votes_as_stored_watched-requires-clause-cells : goal.count_votes_as_stored_watched-requires-clause-cells
-count_votes_as_stored_watched-requires-clause-cells g c =
-    record {
-      points =
-          rw (c.scene-scene.ensures.points, ← c.in_ok-seen.ensures.points, ← c.deref.ensures.value) c.in_ok-tetra.ensures.points;
-      inserted = c.in_ok-tetra.ensures.inserted;
-      delaunay = c.in_ok-tetra.ensures.delaunay;
-    }
 
 pub invariant_of-result : goal.invariant_of-result
 invariant_of-result g c =
-    let scanners = c.in_ok-scanners.ensures.items ∙ c.deref-2.ensures.value in
-    let stored : c.in_ok-tetra.tetra.points ≡ corners ++ c.in_ok-seen.seen.points.items =
-    subst (λ (list : List Point). c.in_ok-tetra.tetra.points ≡ corners ++ list) c.deref.ensures.value
-    c.in_ok-tetra.ensures.points in
-    record {
-      scan = shown_of c.args.scan.now;
-      shown = scan_is_shown c.args.scan.now;
-      points_are = c.in_ok-seen.ensures.points;
-      scanners_are = scanners;
-      sights_are = c.in_ok-seen.ensures.sights;
-      stored = stored;
-      cells = stored_cells_law c.in_ok-tetra.tetra c.in_ok-seen.seen.points.items c.facts.ensures stored
-          c.in_ok-tetra.ensures.delaunay c.in_ok-tetra.ensures.inserted c.in_ok-scanners.scanners.items
-          c.in_ok-seen.seen.sights.items c.args.settings;
-      ids_are = c.in_ok-counted.ensures.ids;
-      network =
-          subst (λ (s : Scene). IsNetworkInAnyOrder s c.in_ok-counted.counted.voted)
-          (c.scene-scene.ensures.scene
-          ∙ scene_kept (shown_of c.args.scan.now) c.in_ok-seen.seen.points.items c.in_ok-scanners.scanners.items
-          c.in_ok-seen.seen.sights.items c.args.settings c.in_ok-seen.ensures.points scanners c.in_ok-seen.ensures.sights)
-          c.in_ok-counted.ensures.network;
-      largest = c.in_ok-flow.ensures.largest;
-      least = c.in_ok-flow.ensures.least;
-    }
+    let scan : Shown = shown_of c.args.scan.now in
+    let n = c.new-net.result in
+    let e = c.new-net.ensures in
+    let crossed = e.crossed ∙ c.store_counts.ensures.crossed in
+    let behind = e.behind ∙ c.store_counts.ensures.behind in
+    let fixed = e.fixed ∙ c.store_counts.ensures.fixed in
+    let made = c.in_ok-tetra in
+    let counts : AreCountsOf (scene_of_scan scan n.settings) n.tetra.now.slots n.counts.crossed.now n.counts.behind.now n.counts.fixed.now =
+    counts_are (scene_of_scan scan n.settings) made.tetra n.tetra.now made.votes.crossed.items made.votes.behind.items
+    n.counts.crossed.now n.counts.behind.now made.votes.fixed.items n.counts.fixed.now
+    (subst (λ (s : Settings). AreCountsOf (scene_of_scan scan s) made.tetra.slots made.votes.crossed.items made.votes.behind.items
+    made.votes.fixed.items) (sym e.settings) made.ensures.counts) e.tetra crossed behind fixed in
+    kept_over _ _ _ n.settings _ n.tetra.now _ n.counts.crossed.now _ n.counts.behind.now _ n.counts.fixed.now _ _ _ (sym e.settings)
+    (sym e.tetra) (sym crossed) (sym behind) (sym fixed)
+    (begun _ _ _ scan n.settings n.tetra.now _ _ _ _ _ (scan_is_shown c.args.scan.now) c.in_ok-seen.ensures.points
+    (c.in_ok-scanners.ensures.items ∙ c.deref.ensures.value) c.in_ok-seen.ensures.sights (rw e.tetra made.ensures.store.points)
+    counts n.few n.shape c.in_ok-flow.ensures.largest c.in_ok-flow.ensures.least c.in_ok-flow.ensures.cost)
 
 pub returns-clause-largest : goal.returns-clause-largest
-returns-clause-largest g c =
-    record {
-      voted = c.in_ok-counted.counted.voted;
-      cells_are = refl;
-      facets_are = refl;
-      network =
-          subst (λ (s : Scene). IsNetworkInAnyOrder s c.in_ok-counted.counted.voted)
-          (c.scene-scene.ensures.scene
-          ∙ scene_kept (shown_of c.args.scan.now) c.in_ok-seen.seen.points.items c.in_ok-scanners.scanners.items
-          c.in_ok-seen.seen.sights.items c.args.settings c.in_ok-seen.ensures.points
-          (c.in_ok-scanners.ensures.items ∙ c.deref-2.ensures.value) c.in_ok-seen.ensures.sights)
-          c.in_ok-counted.ensures.network;
-      largest = c.in_ok-flow.ensures.largest;
-    }
+returns-clause-largest g c = largest_of _ _ _ _ _ _ _ _ _ _ (invariant_of-result g c)
