@@ -4,5 +4,4 @@ pub mod Correspondences
 pub mod Duality
 pub mod Meets
 pub mod WeightLemmas
-pub mod SmoothingLemmas
 pub mod PaddingLemmas

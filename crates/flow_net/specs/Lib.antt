@@ -5,7 +5,6 @@ pub mod Flows
 pub mod Laws
 pub mod Nets
 pub mod Networks
-pub mod Smoothing
 pub mod Numbered
 pub mod NumberedFlows
 pub mod Sums

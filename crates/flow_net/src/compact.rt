@@ -1,12 +1,9 @@
 //! The list of a network's arcs. It stands on `Arc`.
 //!
-//! The network of a million points has 24 million arcs, so each is kept in 16 bytes as long as its numbers fit in 32 bits. What all
-//! capacities have risen by is kept apart, so that they may rise past 32 bits and no memory is taken.
+//! The network of a million points has 24 million arcs, so each is kept in 16 bytes as long as its numbers fit in 32 bits.
 
-ghost use Rattle.std.specs.Prelude.{◌≡◌, ◌<◌, ◌≤◌, ◌+◌, ◌-◌, ◌^◌, ◌++◌, ◌∷◌, [], length, map, EachIndex, IfOk, OnOk, OnErr, IfSome};
+ghost use Rattle.std.specs.Prelude.{◌≡◌, ◌<◌, ◌++◌, ◌∷◌, [], length, IfOk, OnOk, OnErr, IfSome};
 ghost use Rattle.flow_net.specs.Nets.{arc_at};
-ghost use Rattle.flow_net.specs.Smoothing.{at_smoothing};
-ghost use Rattle.flow_net.specs.Compact.{lowered, narrow_at};
 
 use crate::Arc;
 use std::alloc::{AllocError, Global};
@@ -20,7 +17,6 @@ const NO_PAIR: u32 = u32::MAX;
 struct NarrowArc {
     from: u32,
     to: u32,
-    /// The capacity, less what all have risen by.
     cap: u32,
     /// The number of the reverse arc, or [`NO_PAIR`].
     pair: u32,
@@ -32,21 +28,17 @@ struct NarrowArc {
 #[derive(Debug, Drop)]
 pub struct Arcs {
     narrow: Vec<NarrowArc>,
-    /// What the capacity of each arc of few bits has risen by.
-    raised: u64,
     wide: Vec<Arc>,
 }
 
 impl Model for Arcs {
-    ghost use Rattle.std.specs.Prelude.{List, ◌≤◌, ◌^◌};
+    ghost use Rattle.std.specs.Prelude.{List};
     ghost use Rattle.flow_net.specs.declared.Arc.{Arc};
     ghost use Rattle.flow_net.specs.Compact.{all_arcs};
 
     ghost Value = { List Arc };
 
-    ghost view = { λ arcs. all_arcs arcs.raised arcs.narrow.items arcs.wide.items };
-
-    ghost invariant = { λ arcs. arcs.raised ≤ 2 ^ 60 };
+    ghost view = { λ arcs. all_arcs arcs.narrow.items arcs.wide.items };
 }
 
 /// A number in 32 bits, or None where it does not fit, or is the one that stands for no reverse.
@@ -75,7 +67,7 @@ impl NarrowArc {
 
     /// An arc in few bits, or None where a number does not fit.
     fn of(arc: Arc) -> Option<NarrowArc>
-        ensures { IfSome result (λ narrow. widened 0 narrow ≡ arc) }
+        ensures { IfSome result (λ narrow. widened narrow ≡ arc) }
     {
         if arc.cap > u64::from(u32::MAX) {
             return None;
@@ -88,43 +80,21 @@ impl NarrowArc {
         })
     }
 
-    /// The arc, where all capacities have risen by so much.
+    /// The arc.
     #[inline]
-    fn arc(self, raised: u64) -> Arc
-        requires { raised ≤ 2 ^ 60 }
-        ensures { result ≡ widened raised self }
+    fn arc(self) -> Arc
+        ensures { result ≡ widened self }
     {
         Arc {
             from: self.from as usize,
             to: self.to as usize,
-            cap: u64::from(self.cap) + raised,
+            cap: u64::from(self.cap),
             pair: if self.pair == NO_PAIR {
                 None
             } else {
                 Some(self.pair as usize)
             },
         }
-    }
-}
-
-/// Gives arcs the capacities that they have at the smoothing `to`, where they have those at the smoothing `from`.
-fn change_wide(arcs: &mut [Arc], from: u32, to: u32)
-    requires smoothed { EachIndex arcs.old (λ j. from ≤ (arc_at arcs.old j).cap) }
-    requires fits { EachIndex arcs.old (λ j. (arc_at arcs.old j).cap - from + to ≤ 2 ^ 60) }
-    ensures { arcs.new ≡ map (at_smoothing from to) arcs.old }
-{
-    for arc in arcs {
-        arc.cap = arc.cap - u64::from(from) + u64::from(to);
-    }
-}
-
-/// Takes the same from the capacity of each arc of few bits.
-fn lower_narrow(arcs: &mut [NarrowArc], by: u32)
-    requires { EachIndex arcs.old (λ j. by ≤ (narrow_at arcs.old j).cap) }
-    ensures { arcs.new ≡ map (lowered by) arcs.old }
-{
-    for arc in arcs {
-        arc.cap -= by;
     }
 }
 
@@ -135,7 +105,6 @@ impl From<Vec<Arc>> for Arcs {
     fn from(items: Vec<Arc>) -> Arcs {
         Arcs {
             narrow: Vec::new(*items.allocator()),
-            raised: 0,
             wide: items,
         }
     }
@@ -148,7 +117,6 @@ impl Arcs {
     {
         Ok(Arcs {
             narrow: Vec::with_capacity(alloc, count)?,
-            raised: 0,
             wide: Vec::new(alloc),
         })
     }
@@ -190,7 +158,7 @@ impl Arcs {
         ensures { result ≡ arc_at self.now place }
     {
         if place < self.narrow.len() {
-            self.narrow[place].arc(self.raised)
+            self.narrow[place].arc()
         } else {
             self.wide[place - self.narrow.len()]
         }
@@ -201,7 +169,7 @@ impl Arcs {
         ensures added { OnOk result (self.new ≡ self.old ++ arc ∷ []) }
         ensures kept { OnErr result (self.new ≡ self.old) }
     {
-        if self.wide.is_empty() && self.raised == 0 {
+        if self.wide.is_empty() {
             if let Some(narrow) = NarrowArc::of(arc) {
                 self.narrow.push(narrow)?;
                 return Ok(());
@@ -209,24 +177,5 @@ impl Arcs {
         }
         self.wide.push(arc)?;
         Ok(())
-    }
-
-    /// Gives each arc the capacity that it has at the smoothing `to`, where it has that at the smoothing `from`. It takes no memory.
-    pub fn change_smoothing(&mut self, from: u32, to: u32)
-        requires smoothed { EachIndex self.old (λ j. from ≤ (arc_at self.old j).cap) }
-        requires fits { EachIndex self.old (λ j. (arc_at self.old j).cap - from + to ≤ 2 ^ 60) }
-        ensures { self.new ≡ map (at_smoothing from to) self.old }
-    {
-        change_wide(&mut self.wide, from, to);
-        if self.narrow.is_empty() {
-            return;
-        }
-        let raised = self.raised + u64::from(to);
-        if u64::from(from) <= raised {
-            self.raised = raised - u64::from(from);
-        } else {
-            lower_narrow(&mut self.narrow, from - raised as u32);
-            self.raised = 0;
-        }
     }
 }

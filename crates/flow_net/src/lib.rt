@@ -10,9 +10,8 @@
 //! holds between the two, and `validity` the test that `Net::is_valid` makes.
 #![tactic(auto)]
 
-ghost use Rattle.std.specs.Prelude.{◌≡◌, ◌↔◌, ◌≤◌, ◌+◌, ◌-◌, ◌^◌, map, EachIndex, IsTrue, IsSome, IfSome};
-ghost use Rattle.flow_net.specs.Nets.{IsValidNet, arc_at};
-ghost use Rattle.flow_net.specs.Smoothing.{at_smoothing};
+ghost use Rattle.std.specs.Prelude.{◌≡◌, ◌↔◌, IsTrue, IsSome, IfSome};
+ghost use Rattle.flow_net.specs.Nets.{IsValidNet};
 
 mod builder;
 mod compact;
@@ -136,17 +135,5 @@ impl Net {
             return None;
         }
         Some(Net::new(fixed, sink, arcs))
-    }
-
-    /// Gives each arc the capacity that it has at the smoothing `to`, where it has that at the smoothing `from`. It takes no
-    /// memory.
-    pub fn change_smoothing(&mut self, from: u32, to: u32)
-        requires smoothed { EachIndex self.old.arcs (λ j. from ≤ (arc_at self.old.arcs j).cap) }
-        requires fits { EachIndex self.old.arcs (λ j. (arc_at self.old.arcs j).cap - from + to ≤ 2 ^ 60) }
-        ensures fixed { self.new.fixed ≡ self.old.fixed }
-        ensures sink { self.new.sink ≡ self.old.sink }
-        ensures arcs { self.new.arcs ≡ map (at_smoothing from to) self.old.arcs }
-    {
-        self.arcs.change_smoothing(from, to);
     }
 }
