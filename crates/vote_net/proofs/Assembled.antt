@@ -4,7 +4,7 @@
 -- Rows and sides are the store's in any order, and sorted they are the rising lists, so they are a listing of the scene's
 -- cells and facets (listing_is): each facet's own cell is the same in both. Flags and sinks are then what the definitions
 -- have of each row (by_rows), and arcs what they have of each side (arcs_are). IsMade is what the calls have left of it,
--- from which network_is, valid and ids_are follow; network_rises is for lists that were sorted.
+-- from which valid and ids_are follow, and network_is where the lists are sorted.
 --
 -- Stands on: Nodes.
 use Rattle.std.proofs.Common.{ℕ, ◌*◌, ◌<◌, ◌^◌, ◌≡◌, sym, ap, subst, ◌∙◌, arith, Bool, is_some, Option, List, [], length}
@@ -21,7 +21,7 @@ use Rattle.geo_sign.specs.Tetrahedron.{DirectedFacet}
 use Rattle.visibility.specs.Complexes.{Complex, cell_of}
 use Rattle.visibility.specs.Votes.{is_fixed, sink, IsComplexOf}
 use Rattle.visibility.specs.Listings.{IsListingOf}
-use Rattle.visibility.specs.Networks.{arc_of, IsNetworkInAnyOrder, IsNetworkOf}
+use Rattle.visibility.specs.Networks.{arc_of, IsNetworkOf}
 use Rattle.visibility.proofs.Validity.{network_valid}
 use Rattle.tetra_store.specs.declared.link.Cell.{Cell}
 use Rattle.tetra_store.specs.Links.{links_of, IsLive}
@@ -190,36 +190,20 @@ module _ (s : Scene) (slots : List (Option Cell)) (crossed behind : List ℕ) (f
       (network_valid s complex asked.few_sights listing_is)))
 
   pub network_is : (settings : Settings) (flags : List Bool) (sinks : List ℕ) (arcs : List Arc)
-      → IsMade settings flags sinks arcs
+      → IsMade settings flags sinks arcs → IsNonDecreasingBy key_of_row rows → IsNonDecreasingBy key_of_side sides
       → (net : Net) (cells facets : List (List ℕ)) → cells ≡ map cell_of_row rows → facets ≡ map facet_of_side sides
-      → net.fixed ≡ flags → net.sink ≡ sinks → net.arcs ≡ arcs → IsNetworkInAnyOrder s
+      → net.fixed ≡ flags → net.sink ≡ sinks → net.arcs ≡ arcs → IsNetworkOf s
       (record { net = net; cells = cells; facets = facets })
-  network_is settings flags sinks arcs m net cells facets c f x y z =
-      subst (λ (u : List (List ℕ)). IsNetworkInAnyOrder s (record { net = net; cells = u; facets = facets })) (sym c)
-      (subst (λ (u : List (List ℕ)). IsNetworkInAnyOrder s (record { net = net; cells = map cell_of_row rows; facets = u }))
+  network_is settings flags sinks arcs m sorted sorted_sides net cells facets c f x y z =
+      subst (λ (u : List (List ℕ)). IsNetworkOf s (record { net = net; cells = u; facets = facets })) (sym c)
+      (subst (λ (u : List (List ℕ)). IsNetworkOf s (record { net = net; cells = map cell_of_row rows; facets = u }))
       (sym f)
       (record {
-        listing = listing_is;
+        complex_is = complex_is sorted sorted_sides;
         fixed_is = x ∙ fixed_made settings flags sinks arcs m;
         sink_is = y ∙ sinks_made settings flags sinks arcs m;
         arcs_are = z ∙ arcs_made settings flags sinks arcs m;
       }))
-
-  pub network_rises : (net : Net) (cells facets : List (List ℕ)) → cells ≡ map cell_of_row rows
-      → facets ≡ map facet_of_side sides
-      → IsNonDecreasingBy key_of_row rows → IsNonDecreasingBy key_of_side sides
-      → IsNetworkInAnyOrder s (record { net = net; cells = cells; facets = facets }) → IsNetworkOf s
-      (record { net = net; cells = cells; facets = facets })
-  network_rises net cells facets c f sorted sorted_sides n =
-      record {
-        complex_is =
-            subst (λ (u : List (List ℕ)). IsComplexOf s (record { cells = u; facets = facets })) (sym c)
-            (subst (λ (u : List (List ℕ)). IsComplexOf s (record { cells = map cell_of_row rows; facets = u })) (sym f)
-            (complex_is sorted sorted_sides));
-        fixed_is = n.fixed_is;
-        sink_is = n.sink_is;
-        arcs_are = n.arcs_are;
-      }
 
   pub ids_are : (cells : List (List ℕ)) (ids : List ℕ) → cells ≡ map cell_of_row rows → ids ≡ map id_of_row rows
       → AreIdsOf slots cells ids

@@ -103,7 +103,7 @@ unfolding key_of
 rows_rise n [] m r = r
 rows_rise n (e ∷ es) m r = (r.0, rows_rise (e.0 + 1) es m r.1)
 
-pub all_rows_rise : (slots : List (Option Cell)) → Rises id_of_row 0 (all_rows slots) (0 + length slots)
+all_rows_rise : (slots : List (Option Cell)) → Rises id_of_row 0 (all_rows slots) (0 + length slots)
 all_rows_rise slots = rows_rise 0 (entries_from 0 slots) (0 + length slots) (entries_rise 0 slots)
 
 pub rows_apart : (slots : List (Option Cell)) → AreDistinctBy id_of_row (all_rows slots)
@@ -142,7 +142,7 @@ sides_rise fixed n (e ∷ es) m r =
     (rises_append number_of_side (4 * e.0) (open_at fixed e) (4 * (e.0 + 1)) (flat_map (open_at fixed) es) (4 * m)
     (open_rises fixed e) (sides_rise fixed (e.0 + 1) es m r.1))
 
-pub all_open_rise : (fixed : List Bool) (slots : List (Option Cell))
+all_open_rise : (fixed : List Bool) (slots : List (Option Cell))
     → Rises number_of_side (4 * 0) (all_open fixed slots) (4 * (0 + length slots))
 all_open_rise fixed slots = sides_rise fixed 0 (entries_from 0 slots) (0 + length slots) (entries_rise 0 slots)
 

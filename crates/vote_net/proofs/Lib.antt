@@ -8,7 +8,6 @@ pub mod Nodes
 pub mod Sorting
 pub mod Assembled
 pub mod CellCounts
-pub mod StoreOrder
 pub mod CutOrder
 pub mod SlotSums
 pub mod SceneNetwork

@@ -7,9 +7,6 @@
 --   AreFixed                which cells are fixed
 --   AreIdsOf                the cells' numbers in the store, in the order of their rows
 --   AreCountsOf             what a network is made of: all cells, not too many, and their counts
---   IsFacetOfSide           a facet is that of the side with this number
---   DoRise numbers          numbers that rise
---   IsInStoreOrder          nodes by rising number of their cells, arcs by rising cell and side
 use Rattle.std.specs.Prelude.{ℕ, ◌≡◌, ◌<◌, ◌≤◌, ◌+◌, ◌*◌, ◌^◌, Bool, List, [], Option, length, slice_index}
 use Rattle.std.specs.Prelude.{slice_index_or}
 use Rattle.geo_sign.specs.Tetrahedron.{DirectedFacet, facet_of, IsRotated}
@@ -20,7 +17,7 @@ use Rattle.visibility.specs.Votes.{crossings, sights_before, is_fixed}
 use Rattle.cell_laws.specs.LinkLaws.{AreAllCells}
 use Rattle.tetra_store.specs.declared.link.Cell.{Cell}
 use Rattle.tetra_store.specs.Links.{links_of, IsLive}
-use Rattle.vote_net.specs.CellRows.{facet_row, risen, row_from}
+use Rattle.vote_net.specs.CellRows.{risen, row_from}
 use Rattle.tetra_store.specs.Stored.{live_of}
 
 -- the store's cells are all cells of the scene
@@ -62,24 +59,3 @@ pub record AreCountsOf (s : Scene) (slots : List (Option Cell)) (crossed behind 
   pub crossings : AreCrossingCounts s slots crossed
   pub before : AreBehind s slots behind
   pub flags : AreFixed s slots fixed
-
--- a facet is that of a side of a live cell, its least number first, and this is the number of the side: 4 * id + k
-pub record IsFacetOfSide (slots : List (Option Cell)) (facet : List ℕ) (number : ℕ) : Type 0 where
-  pub id : ℕ
-  pub side : ℕ
-  pub live : IsLive (links_of slots) id
-  pub in_range : side < 4
-  pub number_is : number ≡ 4 * id + side
-  pub facet_is : facet ≡ facet_row ((links_of slots).at id) side
-
--- numbers that rise
-abbrev pub DoRise : List ℕ → Type 0
-DoRise numbers = (i j : ℕ) → i < j → j < length numbers → slice_index numbers i < slice_index numbers j
-
--- nodes by rising number of their cells, arcs by rising number of the cell and by its sides
-pub record IsInStoreOrder (slots : List (Option Cell)) (facets : List (List ℕ)) (ids : List ℕ) : Type 0 where
-  pub nodes : DoRise ids
-  pub numbers : List ℕ
-  pub count : length numbers ≡ length facets
-  pub sides : (j : ℕ) → j < length facets → IsFacetOfSide slots (slice_index_or facets j []) (slice_index numbers j)
-  pub arcs : DoRise numbers

@@ -1,18 +1,18 @@
 //! The network: a node for each cell, an arc for each directed facet with a free cell across.
 
 ghost use Rattle.std.specs.Prelude.{◌≡◌, ◌*◌, IfOk, map, slice_index};
-ghost use Rattle.std.specs.List.Sorted.{IsPermutation};
+ghost use Rattle.std.specs.List.Sorted.{IsPermutation, IsNonDecreasingBy};
 ghost use Rattle.flow_net.specs.Nets.{flag_at};
 ghost use Rattle.visibility.specs.SceneViews.{view_of};
-ghost use Rattle.visibility.specs.Networks.{IsNetworkInAnyOrder, IsNetworkOf};
-ghost use Rattle.vote_net.specs.Counts.{AreCountsOf, AreIdsOf, IsInStoreOrder};
-ghost use Rattle.vote_net.specs.Gathered.{all_rows, all_open};
-ghost use Rattle.vote_net.specs.Tables.{id_of_row, cell_of_row, facet_of_side};
+ghost use Rattle.visibility.specs.Networks.{IsNetworkOf};
+ghost use Rattle.vote_net.specs.Counts.{AreCountsOf, AreIdsOf};
+ghost use Rattle.vote_net.specs.Gathered.{all_rows, all_open, key_of_row, key_of_side};
+ghost use Rattle.vote_net.specs.Tables.{id_of_row, facet_of_side};
 
 use crate::NoMemory;
 use crate::arcs::{arcs_of, votes};
-use crate::rows::{Row, cells_of, rows, sorted_rows};
-use crate::sides::{Side, flag, open_sides, sorted_sides};
+use crate::rows::{Row, cells_of, sorted_rows};
+use crate::sides::{Side, flag, sorted_sides};
 use crate::tables::entry;
 use cell_net::StoreCounts;
 use flow_net::{Net, Sequence, Settings, Voted};
@@ -68,7 +68,7 @@ fn sinks_of(
         .collect(alloc)
 }
 
-/// The network over rows and sides in their order: a node for each row, an arc for each side.
+/// The network over rows and sides that rise: a node for each row, an arc for each side.
 fn network_over(
     alloc: Global,
     t: &Tetra,
@@ -80,11 +80,10 @@ fn network_over(
     requires counts { let n = counts.now in AreCountsOf (view_of scene.now) t.now.slots n.crossed.now n.behind.now n.fixed.now }
     requires rows { IsPermutation (all_rows t.now.slots) rows.now }
     requires sides { IsPermutation (all_open counts.now.fixed.now t.now.slots) sides.items }
-    ensures network { IfOk result (λ counted. IsNetworkInAnyOrder (view_of scene.now) counted.voted) }
+    requires rows_rise { IsNonDecreasingBy key_of_row rows.now }
+    requires sides_rise { IsNonDecreasingBy key_of_side sides.items }
+    ensures network { IfOk result (λ counted. IsNetworkOf (view_of scene.now) counted.voted) }
     ensures ids { IfOk result (λ counted. AreIdsOf t.now.slots counted.voted.cells counted.ids.items) }
-    ensures cells { IfOk result (λ counted. counted.voted.cells ≡ map cell_of_row rows.now) }
-    ensures facets { IfOk result (λ counted. counted.voted.facets ≡ map facet_of_side sides.items) }
-    ensures numbers { IfOk result (λ counted. counted.ids.items ≡ map id_of_row rows.now) }
 {
     if rows.len() > u32::MAX as usize || sides.len() > u32::MAX as usize {
         return Err(AllocError);
@@ -105,29 +104,12 @@ fn network_over(
     Ok(Counted { voted, ids })
 }
 
-/// The network of a scene, whose cells are those of the store, in the store's order.
+/// The network of a scene, whose cells are those of the store: nodes in the order of their cells' rising numbers, and arcs in that of
+/// their facets from the least number on, which is the one order that does not depend on how the store numbers its cells.
 ///
-/// Nodes are in the order of their cells' numbers, arcs in that of their cells and sides, so that nodes and arcs that are near
-/// in space are mostly near in the lists. The only error is want of memory, which also stands for 2^32 cells or facets and more.
+/// Both lists are sorted, which takes longer than all else here. The only error is want of memory, which also stands for 2^32 cells or
+/// facets and more.
 pub fn assemble(
-    alloc: Global,
-    t: &Tetra,
-    scene: &Scene<'_>,
-    counts: &StoreCounts<'_>,
-) -> Result<Counted, NoMemory>
-    requires { let n = counts.now in AreCountsOf (view_of scene.now) t.now.slots n.crossed.now n.behind.now n.fixed.now }
-    ensures network { IfOk result (λ counted. IsNetworkInAnyOrder (view_of scene.now) counted.voted) }
-    ensures ids { IfOk result (λ counted. AreIdsOf t.now.slots counted.voted.cells counted.ids.items) }
-    ensures order { IfOk result (λ counted. IsInStoreOrder t.now.slots counted.voted.facets counted.ids.items) }
-{
-    let rows = rows(alloc, t)?;
-    let sides = open_sides(alloc, t, counts.fixed, counts.crossed.len())?;
-    network_over(alloc, t, scene, counts, &rows, sides)
-}
-
-/// The same network with nodes in the order of their cells' rising numbers, and arcs in that of their facets from the least number on:
-/// the one order that does not depend on how the store numbers its cells. Both lists are sorted, which takes longer than all else here.
-pub fn assemble_rising(
     alloc: Global,
     t: &Tetra,
     scene: &Scene<'_>,

@@ -41,7 +41,7 @@ pub fn cell_row(v: [u32; 4]) -> [u32; 4]
 }
 
 /// The live cells, by rising id.
-pub(crate) fn rows(alloc: Global, t: &Tetra) -> Result<Vec<Row>, NoMemory>
+fn rows(alloc: Global, t: &Tetra) -> Result<Vec<Row>, NoMemory>
     ensures { IfOk result (λ rows. rows.items ≡ all_rows t.now.slots) }
 {
     let mut rows = Vec::with_capacity(alloc, t.number_limit())?;

@@ -107,12 +107,7 @@ fn push_open(sides: &mut Vec<Side>, fixed: &[bool], id: CellId, cell: &Cell) -> 
 }
 
 /// The sides with a free cell across, by rising id and side, in a list with room for so many.
-pub(crate) fn open_sides(
-    alloc: Global,
-    t: &Tetra,
-    fixed: &[bool],
-    room: usize,
-) -> Result<Vec<Side>, NoMemory>
+fn open_sides(alloc: Global, t: &Tetra, fixed: &[bool], room: usize) -> Result<Vec<Side>, NoMemory>
     ensures { IfOk result (λ sides. sides.items ≡ all_open fixed.now t.now.slots) }
 {
     let mut sides = Vec::with_capacity(alloc, room)?;

@@ -5,11 +5,11 @@ ghost use Rattle.geo_sign.specs.declared.point.TheConstants.{DATA_LIMIT};
 ghost use Rattle.geo_sign.specs.Point.{IsWithin};
 ghost use Rattle.flow_net.specs.Weights.{IsSightList};
 ghost use Rattle.visibility.specs.SceneViews.{view_of, IsSound};
-ghost use Rattle.visibility.specs.Networks.{IsNetworkInAnyOrder, IsNetworkOf};
+ghost use Rattle.visibility.specs.Networks.{IsNetworkOf};
 ghost use Rattle.tetra_store.specs.Delaunay.{IsDelaunay};
 ghost use Rattle.tetra_store.specs.Links.{links_of};
 ghost use Rattle.tetra_store.specs.Store.{vertices_of};
-ghost use Rattle.vote_net.specs.Counts.{AreCountsOf, AreIdsOf, IsInStoreOrder};
+ghost use Rattle.vote_net.specs.Counts.{AreCountsOf, AreIdsOf};
 ghost use Rattle.votes.specs.Counts.{HasCellsOf, IsInRange, AreScannerCells, AreCounted};
 
 use crate::NoMemory;
@@ -22,7 +22,7 @@ use geo_sign::Point;
 use std::alloc::{AllocError, Global};
 use tetra_store::{CellId, Tetra};
 use visibility::Scene;
-use vote_net::{Counted, assemble, assemble_rising};
+use vote_net::{Counted, assemble};
 use watch::{Silent, Watch};
 
 /// What is counted of the sights of a scene, by the numbers that cells have in the store. A number without a cell has entries that say
@@ -128,38 +128,6 @@ pub fn count_votes_watched<W: Watch>(
     requires scene { IsSound scene.now }
     ensures network { IfOk result (λ counted. IsNetworkOf (view_of scene.now) counted.voted) }
     ensures ids { IfOk result (λ counted. AreIdsOf t.now.slots counted.voted.cells counted.ids.items) }
-{
-    let votes = counted(alloc, t, scene, watch)?;
-    assemble_rising(alloc, t, scene, &votes.store_counts())
-}
-
-/// The same network with nodes and arcs in the order in which the store has cells and sides, which takes less time.
-pub fn count_votes_as_stored(
-    alloc: Global,
-    t: &Tetra,
-    scene: &Scene<'_>,
-) -> Result<Counted, NoMemory>
-    requires cells { HasCellsOf t.now scene.now }
-    requires scene { IsSound scene.now }
-    ensures network { IfOk result (λ counted. IsNetworkInAnyOrder (view_of scene.now) counted.voted) }
-    ensures ids { IfOk result (λ counted. AreIdsOf t.now.slots counted.voted.cells counted.ids.items) }
-    ensures order { IfOk result (λ counted. IsInStoreOrder t.now.slots counted.voted.facets counted.ids.items) }
-{
-    count_votes_as_stored_watched(alloc, t, scene, &mut Silent)
-}
-
-/// The same, where a watch is told of the stage and of how many sights are counted.
-pub fn count_votes_as_stored_watched<W: Watch>(
-    alloc: Global,
-    t: &Tetra,
-    scene: &Scene<'_>,
-    watch: &mut W,
-) -> Result<Counted, NoMemory>
-    requires cells { HasCellsOf t.now scene.now }
-    requires scene { IsSound scene.now }
-    ensures network { IfOk result (λ counted. IsNetworkInAnyOrder (view_of scene.now) counted.voted) }
-    ensures ids { IfOk result (λ counted. AreIdsOf t.now.slots counted.voted.cells counted.ids.items) }
-    ensures order { IfOk result (λ counted. IsInStoreOrder t.now.slots counted.voted.facets counted.ids.items) }
 {
     let votes = counted(alloc, t, scene, watch)?;
     assemble(alloc, t, scene, &votes.store_counts())

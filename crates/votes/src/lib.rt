@@ -10,10 +10,7 @@ mod fixing;
 mod ordering;
 mod tally;
 
-pub use counting::{
-    Votes, count_votes, count_votes_as_stored, count_votes_as_stored_watched, count_votes_watched,
-    counted,
-};
+pub use counting::{Votes, count_votes, count_votes_watched, counted};
 use std::alloc::AllocError;
 
 /// Want of memory: the one answer that any input may get.

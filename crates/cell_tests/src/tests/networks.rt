@@ -1,5 +1,5 @@
-//! `count_votes` and `count_votes_as_stored` over built cells beside the plain network, on scans whose sights go through other cells,
-//! stand twice, or have scanners in one cell.
+//! `count_votes` over built cells beside the plain network, on scans whose sights go through other cells, stand twice, or have scanners
+//! in one cell.
 
 ghost use Rattle.std.specs.Prelude.{All, IsTrue};
 ghost use Rattle.visibility.specs.SceneViews.{IsSightOf};
@@ -11,11 +11,11 @@ use super::points::{
 use delaunay::build;
 use flow_net::{Sight, Voted, are_sights};
 use geo_sign::Point;
-use plain_net::{is_same_in_any_order, plain_net};
+use plain_net::plain_net;
 use std::alloc::{AllocError, Global};
 use std::test::Fail;
 use visibility::Scene;
-use votes::{count_votes, count_votes_as_stored};
+use votes::count_votes;
 
 /// Whether a sight is of one of the points, from one of the scanners.
 fn is_in_range(scene: &Scene<'_>, sight: Sight) -> bool
@@ -46,9 +46,9 @@ fn is_same(alloc: Global, one: &Voted, other: &Voted) -> Result<bool, AllocError
     )
 }
 
-/// The network by walks along the sights, with its cells and facets in rising order and in the store's. None where points are not
-/// distinct data points or too many, or sights out of range or of no weight.
-fn walked(alloc: Global, scene: &Scene<'_>) -> Result<Option<(Voted, Voted)>, AllocError> {
+/// The network by walks along the sights. None where points are not distinct data points or too many, or sights out of range or of no
+/// weight.
+fn walked(alloc: Global, scene: &Scene<'_>) -> Result<Option<Voted>, AllocError> {
     if scene.points.len() > 48 || !are_sights(scene.sights) {
         return Ok(None);
     }
@@ -59,12 +59,11 @@ fn walked(alloc: Global, scene: &Scene<'_>) -> Result<Option<(Voted, Voted)>, Al
         return Ok(None);
     }
     let t = build(alloc, scene.points)?;
-    let rising = count_votes(alloc, &t, scene)?;
-    let stored = count_votes_as_stored(alloc, &t, scene)?;
-    Ok(Some((rising.voted, stored.voted)))
+    let counted = count_votes(alloc, &t, scene)?;
+    Ok(Some(counted.voted))
 }
 
-/// Whether it is the one by tests of each facet against each sight, in both orders.
+/// Whether it is the one by tests of each facet against each sight.
 fn agrees(
     alloc: Global,
     points: &[Point],
@@ -75,9 +74,9 @@ fn agrees(
     if scene.points.len() > 48 || !are_sights(scene.sights) {
         return Ok(false);
     }
-    let (rising, stored) = walked(alloc, &scene)?.ok_or("a scan")?;
+    let counted = walked(alloc, &scene)?.ok_or("a scan")?;
     let plain = plain_net(alloc, &scene)?;
-    Ok(is_same(alloc, &rising, &plain)? && is_same_in_any_order(&plain, &stored))
+    Ok(is_same(alloc, &counted, &plain)?)
 }
 
 /// Whether it is where the first of four points is seen once more, through their cell, by a sight of this weight.

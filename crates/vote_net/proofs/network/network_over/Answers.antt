@@ -1,4 +1,4 @@
--- The network over lists of rows and sides, in whatever order they stand.
+-- The network over lists of rows and sides that rise.
 --
 -- That ids are below the tables' lengths, numbers are apart and sides can be joined follows from how rows and sides were
 -- gathered (ids_below, numbers_below, rows_apart, sides_apart, can_join). The flags, sinks and arcs that were made of them
@@ -72,7 +72,7 @@ returns-clause-network c =
       arcs_are =
           subst (λ (x : List Side). AreArcs c.args.t.now.slots c.args.rows.now x n.crossed.now n.fixed.now
           c.args.scene.now.settings c.in_ok-arcs.arcs) c.deref.ensures.value c.in_ok-arcs.ensures;
-    }) c.with_arcs-net.result c.from-3.result c.from-4.result
+    }) c.requires.rows_rise c.requires.sides_rise c.with_arcs-net.result c.from-3.result c.from-4.result
     (c.from-3.ensures ∙ c.in_ok-cells_of.ensures) (c.from-4.ensures ∙ c.in_ok-facets.ensures)
     (c.with_arcs-net.ensures.fixed ∙ c.from.ensures) (c.with_arcs-net.ensures.sink ∙ c.from-2.ensures)
     c.with_arcs-net.ensures.arcs
