@@ -2,8 +2,7 @@
 -- be cut from the store. The mesh is that of these facets in the rising complex of the scene, over the points of the store, which are the
 -- corners and the scan's points (mesh_is). The certificate is of this cut, over the same complex. So mesh and certificate are one solution,
 -- and the certificate is well formed.
-use Rattle.std.proofs.Common.{ℕ, ◌≡◌, ◌++◌, sym, subst, List, Bool}
-use Rattle.flow_net.specs.Nets.{flag_at}
+use Rattle.std.proofs.Common.{◌≡◌, ◌++◌, List, Bool}
 use Rattle.geo_sign.specs.Vertices.{corners}
 use Rattle.scan.specs.Shown.{Shown}
 use Rattle.scan.specs.Views.{shown_of}
@@ -11,10 +10,10 @@ use Rattle.solution.specs.Scans.{points_of, scene_of_scan}
 use Rattle.solution.proofs.Meshes.{mesh_is}
 use Rattle.surface.specs.Labelled.{AreLabelsOver}
 use Rattle.surface.proofs.CutList.{can_be_cut}
+use Rattle.surface.proofs.ListedLabels.{labels_over}
 use Rattle.tetra_store.specs.Store.{Store}
 use Rattle.visibility.specs.Scenes.{Scene}
 use Rattle.visibility.proofs.ListingAgreements.{with_rising}
-use Rattle.vote_net.specs.ByNumber.{SaysOfCells}
 use Rattle.vote_net.specs.Counts.{AreCellsOf}
 use Rattle.vote_net.specs.StoredComplexes.{stored_complex}
 use Rattle.scan_cut.specs.MinimumCuts.{IsCutOf}
@@ -25,13 +24,9 @@ use Rattle.recon_build.proofs.solving.solve_over.Goals as goal
 over : (s : Scene) (store : Store) (cut : MinimumCut) (given : List Bool) → AreCellsOf s store.slots
     → (is : IsCutOf s store.slots cut) → given ≡ cut.labels.inside
     → AreLabelsOver s is.listing.complex store.slots given is.inside
-over s store cut given cells is same = record {
-  cells = cells;
-  complex_is = is.listing.complex_is;
-  says = subst (λ (flags : List Bool). SaysOfCells store.slots (flag_at flags) is.inside) (sym same) is.labels_say;
-  admissible =
-      ((with_rising s (stored_complex is.fixed store.slots) is.listing).admissible is.inside).0 is.least.least_cost.admissible;
-}
+over s store cut given cells is same =
+    labels_over s (stored_complex is.fixed store.slots) store.slots given cut.labels.inside is.inside cells is.listing same
+    is.labels_say is.least.least_cost.admissible
 
 pub facets-requires : goal.facets-requires
 facets-requires c =
