@@ -4,31 +4,6 @@ use Rattle.flow_check.specs.Firsts.{IsFirst, NoneBelow}
 use Rattle.visibility.proofs.Indices.{at_index, index_has}
 use Rattle.recon_check.specs.Claims.{IsFirstOf, NoneOf}
 
--- what holds by number where it holds of what stands there
-pub record Stands (rows : List (List ℕ)) (n : ℕ) (P : ℕ → Type 0) (Q : List ℕ → Type 0) : Type 0 where
-  pub count : n ≡ length rows
-  pub same : (k : ℕ) → k < n → P k ↔ Q (get_or rows k [])
-
-pub first_over : (rows : List (List ℕ)) (n k : ℕ) (P : ℕ → Type 0) (Q : List ℕ → Type 0) → Stands rows n P Q
-    → IsFirst n P k → IsFirstOf rows Q (get_or rows k [])
-first_over rows n k P Q stands h =
-    let l : k < n = h.in_range in
-    record {
-      place = k;
-      first = record {
-        in_range = omega (arith, l, stands.count);
-        has = (stands.same k l).0 h.has;
-        none_before = λ i m q. h.none_before i m ((stands.same i (omega arith)).1 q);
-      };
-      row_is = refl;
-    }
-
-pub none_over : (rows : List (List ℕ)) (n : ℕ) (P : ℕ → Type 0) (Q : List ℕ → Type 0) → Stands rows n P Q
-    → NoneBelow n P → NoneOf rows Q
-none_over rows n P Q stands none row there q =
-    let l : there.0 < n = omega (arith, there.1, stands.count) in
-    none there.0 l ((stands.same there.0 l).1 (subst Q (sym (at_index rows row there)) q))
-
 -- a property has one first number
 pub one_first : (n j k : ℕ) (P : ℕ → Type 0) → IsFirst n P j → IsFirst n P k → j ≡ k
 one_first n j k P a b =

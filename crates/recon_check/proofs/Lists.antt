@@ -86,7 +86,7 @@ stated_row about amount (row ∷ rows) rising (suc i) d l =
     ∙ stated_row about amount rows (λ j k e n o. rising (suc j) (suc k) e (omega arith) (omega arith)) i d m
 
 -- a key with an amount has a row
-about_one : {Row : Type 0} (about : Row → List ℕ) (amount : Row → ℕ) (rows : List Row) (key : List ℕ)
+pub about_one : {Row : Type 0} (about : Row → List ℕ) (amount : Row → ℕ) (rows : List Row) (key : List ℕ)
     → stated about amount rows key ≢ 0 → Contains (map about rows) key
 about_one {Row} about amount rows key some = by (is_among_rows (map about rows) key) refl
   where

@@ -23,7 +23,7 @@ use Rattle.visibility.proofs.ListingAgreements.{by_itself}
 use Rattle.recon_check.specs.Answers.{best_surface}
 use Rattle.recon_check.specs.Claims.{is_inside}
 use Rattle.recon_check.specs.Faults.{IsBest}
-use Rattle.recon_check.specs.Networks.{IsBestSurface}
+use Rattle.recon_check.specs.Surfaces.{IsBestSurface}
 use Rattle.recon_check.proofs.Lists.{among_from, among_means, among_kept, kept_has, kept_passes, kept_there}
 use Rattle.recon_check.proofs.Lists.{rows_listed, listed_there}
 

@@ -55,9 +55,9 @@ use Rattle.recon_check.specs.declared.answer.Reason.TheVariants.{OverCapacity, O
 use Rattle.recon_check.specs.declared.answer.Reason.TheVariants.{WrongCost, MeshDiffers}
 use Rattle.recon_check.specs.declared.answer.Which.{Which}
 use Rattle.recon_check.specs.declared.answer.Which.TheVariants.{Points, Scanners, Sights, Vote, Smooth}
-use Rattle.recon_check.proofs.Bridge.{admissible_from}
+use Rattle.recon_check.proofs.CellFaults.{admissible_from}
 use Rattle.recon_check.proofs.Firsts.{one_first, one_first_of, not_first_of}
-use Rattle.recon_check.specs.Networks.{IsBestSurface}
+use Rattle.recon_check.specs.Surfaces.{IsBestSurface}
 use Rattle.recon_check.proofs.Solutions.{best_from}
 
 -- ---- which fault comes before which

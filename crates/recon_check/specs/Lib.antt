@@ -3,8 +3,10 @@ pub mod Faults
 pub mod Differences
 pub mod Stamps
 pub mod Answers
-pub mod Networks
+pub mod Surfaces
 pub mod Stops
-pub mod Strays
-pub mod Verdicts
+pub mod Lookups
+pub mod Stated
+pub mod ByRows
+pub mod Over
 pub mod Laws

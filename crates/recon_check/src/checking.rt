@@ -1,6 +1,6 @@
 //! The check of a mesh and a certificate. It stands on all other files.
 
-ghost use Rattle.std.specs.Prelude.{◌≡◌, ◌↔◌, ℕ, List, IfOk, IfErr, OnOk, length};
+ghost use Rattle.std.specs.Prelude.{◌≡◌, ◌<◌, ◌^◌, ◌↔◌, ℕ, List, IfOk, IfErr, length};
 ghost use Rattle.cert_text.specs.Certificates.{claim_of, stamp_view, Claim, IsWellFormed};
 ghost use Rattle.cert_text.specs.Stamps.{StampView};
 ghost use Rattle.cert_text.specs.Texts.{cert_text};
@@ -9,31 +9,31 @@ ghost use Rattle.solution.specs.Scans.{scene_of_scan};
 ghost use Rattle.solution.specs.Solutions.{surface_of, HasCounts, IsSolution};
 ghost use Rattle.scan.specs.Shown.{Shown};
 ghost use Rattle.scan.specs.Views.{shown_of};
-ghost use Rattle.visibility.specs.Cuts.{cost as cost_over};
-ghost use Rattle.visibility.specs.Laws.{labels_of};
-ghost use Rattle.visibility.specs.Networks.{complex_of, IsNetworkOf};
+ghost use Rattle.scan_cut.specs.Stored.{IsStoreOf};
+ghost use Rattle.vote_net.specs.Counts.{AreCountsOf};
 ghost use Rattle.recon_check.specs.Answers.{surface_text, IsFault, IsSolvedWith, IsAccepted, IsYes, IsAnswer};
-ghost use Rattle.recon_check.specs.Claims.{is_inside};
-ghost use Rattle.recon_check.specs.Faults.{IsBest};
-ghost use Rattle.recon_check.specs.Networks.{IsBestSurface, IsNetworkOfScan};
+ghost use Rattle.recon_check.specs.Surfaces.{AreShownLabels, IsBestSurface};
 ghost use Rattle.recon_check.specs.Stamps.{IsStampedFor};
 ghost use Rattle.recon_check.specs.Stops.{StopsFor};
 
 use crate::counts::other_count;
-use crate::flows::best_labels;
-use crate::network::{Network, network_of};
+use crate::faults::show_best;
 use crate::stamps::other_stamp;
+use crate::stated::{Stated, stated_by};
 use crate::stop::Stop;
 use crate::texts::first_difference;
 use crate::{Answer, NoMemory, Reason};
+use cell_net::CellNetwork;
 use cert_text::{CertRefusal, Certificate, Stamp, read_cert};
-use flow_net::{Labels, Settings, Voted};
+use flow_net::{Labels, Settings, cost};
 use mesh_ply::{Mesh, push_mesh};
 use scan::Scan;
-use solution::{least_cost, seen_in};
+use scan_cut::counted_cells_with;
+use solution::seen_in;
 use std::alloc::{AllocError, Global};
-use surface::{facets, labels_by_number};
-use vote_net::Counted;
+use surface::facets;
+use tetra_store::Tetra;
+use votes::Votes;
 use watch::{Silent, Watch};
 
 /// The numbers of a surface that was shown best, and whose text the mesh is.
@@ -62,72 +62,80 @@ fn certificate(alloc: Global, bytes: &[u8]) -> Result<Certificate, Stop>
     }
 }
 
-/// The labels that a certificate shows best, where it states what they cost. The network, which is the scan's, is dropped.
-fn labels_at_cost(
+/// The labels that a certificate shows best, by the cells' numbers, where it states what they cost. What is counted of the cells is
+/// dropped.
+fn best_labels(
     alloc: Global,
     scan: &Scan,
     settings: Settings,
-    voted: Voted,
+    tetra: &Tetra,
+    votes: Votes,
     cert: &Certificate,
 ) -> Result<Labels, Stop>
-    requires network { IsNetworkOf (scene_of_scan (shown_of scan.now) settings) voted }
+    requires counts { AreCountsOf (scene_of_scan (shown_of scan.now) settings) tetra.now.slots votes.crossed.items votes.behind.items votes.fixed.items }
+    requires few { length votes.fixed.items < 2 ^ 32 }
     requires formed { IsWellFormed (claim_of cert.now) }
-    requires counts { HasCounts (claim_of cert.now) (shown_of scan.now) settings }
-    ensures labels { IfOk result (λ labels. labels ≡ labels_of (complex_of voted) (is_inside (claim_of cert.now))) }
-    ensures best { OnOk result (IsBest (scene_of_scan (shown_of scan.now) settings) (complex_of voted) (claim_of cert.now)) }
-    ensures cost { OnOk result ((claim_of cert.now).counts.cost ≡ cost_over (scene_of_scan (shown_of scan.now) settings) (complex_of voted) (is_inside (claim_of cert.now))) }
+    requires stated { HasCounts (claim_of cert.now) (shown_of scan.now) settings }
+    ensures best { IfOk result (AreShownLabels (shown_of scan.now) settings tetra.now.slots (claim_of cert.now)) }
     ensures fault { (mesh : List ℕ) → IfErr result (StopsFor (IsFault (shown_of scan.now) settings mesh (claim_of cert.now))) }
 {
-    let labels = best_labels(alloc, &voted, cert)?;
-    let cost = least_cost(scan, settings, &voted, &labels);
+    let _scan = scan;
+    let net = CellNetwork::new(tetra, votes.store_counts(), settings);
+    let stated = stated_by(alloc, tetra, &votes.fixed, cert)?;
+    show_best(alloc, tetra, &net, cert, &stated)?;
+    let cost = cost(&net, &stated.labels) as u64;
     if cert.cost != cost {
         return Err(Stop::Fault(Reason::WrongCost {
             stated: cert.cost,
             cost,
         }));
     }
+    let Stated { labels, .. } = stated;
     Ok(labels)
 }
 
-/// The surface of the labels that a certificate shows best. The cells and the network, which are the scan's, are dropped.
+/// The surface of the labels that a certificate shows best. The cells and what is counted of them, which are the scan's, are dropped.
 fn best_surface(
     alloc: Global,
     scan: &Scan,
     settings: Settings,
-    network: Network,
+    tetra: Tetra,
+    votes: Votes,
     cert: &Certificate,
 ) -> Result<Mesh, Stop>
-    requires network { IsNetworkOfScan (shown_of scan.now) settings network }
+    requires store { IsStoreOf (shown_of scan.now) settings tetra }
+    requires counts { AreCountsOf (scene_of_scan (shown_of scan.now) settings) tetra.slots votes.crossed.items votes.behind.items votes.fixed.items }
+    requires few { length votes.fixed.items < 2 ^ 32 }
     requires formed { IsWellFormed (claim_of cert.now) }
-    requires counts { HasCounts (claim_of cert.now) (shown_of scan.now) settings }
+    requires stated { HasCounts (claim_of cert.now) (shown_of scan.now) settings }
     ensures surface { IfOk result (λ surface. IsBestSurface (shown_of scan.now) settings (claim_of cert.now) (surface_of surface)) }
     ensures valid { IfOk result (λ surface. IsMesh surface.points.items surface.faces.items) }
     ensures fault { (mesh : List ℕ) → IfErr result (StopsFor (IsFault (shown_of scan.now) settings mesh (claim_of cert.now))) }
 {
-    let Network { linked, counted } = network;
-    let Counted { voted, ids } = counted;
-    let labels = labels_at_cost(alloc, scan, settings, voted, cert)?;
-    let inside = labels_by_number(alloc, &linked, &ids, &labels)?;
-    Ok(facets(alloc, &linked, &inside)?)
+    let labels = best_labels(alloc, scan, settings, &tetra, votes, cert)?;
+    Ok(facets(alloc, &tetra, labels.inside.as_slice())?)
 }
 
-/// The numbers of the surface whose text the mesh is, where the certificate shows it best over the scan's network. The certificate
+/// The numbers of the surface whose text the mesh is, where the certificate shows it best over the scan's cells. The certificate
 /// has the scan's numbers.
 fn shown_over(
     alloc: Global,
     scan: &Scan,
     settings: Settings,
-    network: Network,
+    tetra: Tetra,
+    votes: Votes,
     mesh: &[u8],
     cert: &Certificate,
 ) -> Result<Accepted, Stop>
-    requires network { IsNetworkOfScan (shown_of scan.now) settings network }
+    requires store { IsStoreOf (shown_of scan.now) settings tetra }
+    requires counts { AreCountsOf (scene_of_scan (shown_of scan.now) settings) tetra.slots votes.crossed.items votes.behind.items votes.fixed.items }
+    requires few { length votes.fixed.items < 2 ^ 32 }
     requires formed { IsWellFormed (claim_of cert.now) }
-    requires counts { HasCounts (claim_of cert.now) (shown_of scan.now) settings }
+    requires stated { HasCounts (claim_of cert.now) (shown_of scan.now) settings }
     ensures shown { IfOk result (λ shown. IsSolvedWith (shown_of scan.now) settings mesh.now shown.inside shown.faces shown.cost (claim_of cert.now)) }
     ensures fault { IfErr result (StopsFor (IsFault (shown_of scan.now) settings mesh.now (claim_of cert.now))) }
 {
-    let surface = best_surface(alloc, scan, settings, network, cert)?;
+    let surface = best_surface(alloc, scan, settings, tetra, votes, cert)?;
     let mut text = Vec::new(alloc);
     push_mesh(&mut text, &surface)?;
     match first_difference(mesh, &text) {
@@ -157,8 +165,9 @@ fn shown_by_certificate<W: Watch>(
     if let Some(reason) = other_count(scan, &seen.points, settings, cert) {
         return Err(Stop::Fault(reason));
     }
-    let network = network_of(alloc, scan, settings, seen, watch)?;
-    shown_over(alloc, scan, settings, network, mesh, cert)
+    let (tetra, votes) = counted_cells_with(alloc, scan, &seen, settings, watch)?;
+    drop(seen);
+    shown_over(alloc, scan, settings, tetra, votes, mesh, cert)
 }
 
 /// The texts that are checked, of which nothing is known.

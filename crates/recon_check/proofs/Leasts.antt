@@ -1,0 +1,64 @@
+-- The search for the least cell that is not balanced, number by number.
+use Rattle.std.proofs.Common.{ℕ, ◌≡◌, ◌<◌, ◌≤◌, ◌+◌, ◌⊎◌, inl, inr, ⊎_elim, refl, ap, sym, subst, ◌∙◌, arith, Option, Some, None, IfSome}
+use Rattle.std.proofs.lemmas.Bool.{cases_lt}
+use Rattle.cell_net.specs.declared.network.CellNetwork.{CellNetwork}
+use Rattle.flow_check.specs.Firsts.{NoneBelow}
+use Rattle.flow_net.specs.declared.Flow.{Flow}
+use Rattle.vote_net.specs.Counts.{row_of}
+use Rattle.vote_net.specs.Gathered.{row_key}
+use Rattle.recon_check.specs.ByRows.{IsUnbalanced, IsUnbalanceAt, IsLeastUnbalance}
+use Rattle.recon_check.specs.declared.balance.Unbalance.{Unbalance}
+
+-- the cell that was found, and no cell so far has a lesser row
+pub record IsLeastBelow (net : CellNetwork) (flow : Flow) (n : ℕ) (found : Unbalance) : Type 0 where
+  pub node : ℕ
+  pub at : IsUnbalanceAt net flow node found
+  pub least : (v : ℕ) → v < n → IsUnbalanced net flow v → row_key found.cell ≤ row_key (row_of net.tetra.now.slots v)
+
+-- one was found, or none is so far
+abbrev pub IsLeastSoFar : CellNetwork → Flow → ℕ → Option Unbalance → Type 0
+IsLeastSoFar net flow n None = NoneBelow n (IsUnbalanced net flow)
+IsLeastSoFar net flow n (Some found) = IsLeastBelow net flow n found
+
+-- the next cell is balanced
+pub balanced_more : (net : CellNetwork) (flow : Flow) (n : ℕ) (found : Option Unbalance) → ¬ IsUnbalanced net flow n
+    → IsLeastSoFar net flow n found → IsLeastSoFar net flow (n + 1) found
+balanced_more net flow n None not none = λ v l h.
+    ⊎_elim (λ (less : v < n). none v less h)
+    (λ (more : n ≤ v). let e : v ≡ n = omega (arith, l, more) in not (subst (IsUnbalanced net flow) e h)) (cases_lt v n)
+balanced_more net flow n (Some found) not so_far = record {
+  node = so_far.node;
+  at = so_far.at;
+  least = λ v l h.
+      ⊎_elim (λ (less : v < n). so_far.least v less h)
+      (λ (more : n ≤ v). let e : v ≡ n = omega (arith, l, more) in absurd (not (subst (IsUnbalanced net flow) e h)))
+      (cases_lt v n);
+}
+
+-- it is not, and the one whose row comes first goes on
+pub unbalanced_more : (net : CellNetwork) (flow : Flow) (n : ℕ) (found : Option Unbalance) (other first : Unbalance)
+    → IsUnbalanceAt net flow n other → (first ≡ other) ⊎ (found ≡ Some first) → row_key first.cell ≤ row_key other.cell
+    → IfSome found (λ least. row_key first.cell ≤ row_key least.cell)
+    → IsLeastSoFar net flow n found → IsLeastSoFar net flow (n + 1) (Some first)
+unbalanced_more net flow n found other first here either before before_found so_far = record {
+  node = (taken either).0;
+  at = (taken either).1;
+  least = λ v l h.
+      ⊎_elim (λ (less : v < n). earlier v less h found refl so_far)
+      (λ (more : n ≤ v).
+      let e : n ≡ v = omega (arith, l, more) in
+      subst (λ (i : ℕ). row_key first.cell ≤ row_key (row_of net.tetra.now.slots i)) e
+      (subst (λ r. row_key first.cell ≤ row_key r) here.cell_is before)) (cases_lt v n);
+}
+  where
+    taken : (first ≡ other) ⊎ (found ≡ Some first) → (v : ℕ) × IsUnbalanceAt net flow v first
+    taken (inl e) = (n, subst (IsUnbalanceAt net flow n) (sym e) here)
+    taken (inr e) =
+        let h : IsLeastBelow net flow n first = subst (IsLeastSoFar net flow n) e so_far in (h.node, h.at)
+
+    earlier : (v : ℕ) → v < n → IsUnbalanced net flow v → (o : Option Unbalance) → found ≡ o → IsLeastSoFar net flow n o
+        → row_key first.cell ≤ row_key (row_of net.tetra.now.slots v)
+    earlier v l h None e none = absurd (none v l h)
+    earlier v l h (Some least) e is =
+        let low : row_key first.cell ≤ row_key least.cell =
+        subst (λ (o : Option Unbalance). IfSome o (λ least. row_key first.cell ≤ row_key least.cell)) e before_found in let high = is.least v l h in omega (arith, low, high)

@@ -1,0 +1,65 @@
+-- What is wrong with what is stated about cells and sides, by their numbers, in a network by numbers: of a list of numbers the one at a
+-- place, and of all nodes the one whose row is the least.
+--
+--   IsFixedAt net nodes k               the node at place k is fixed
+--   IsOverAt net sides amounts k        more flows on the arc at place k than its capacity
+--   IsOverSinkAt net nodes amounts k    more leaves at the sink of the node at place k than may
+--   IsOutsideAt flags nodes k           the node at place k has no flag
+--   numbers net                         linked cells and counts as a network by numbers
+--   IsUnbalanced net flow v             what enters the free node v is not what leaves it
+--   IsUnbalanceAt net flow v found      so it is of this cell, with these amounts
+--   IsLeastUnbalance net flow found     and of no cell with a lesser row
+use Rattle.std.specs.Prelude.{ℕ, ◌≡◌, ◌<◌, ◌≤◌, Bool, true, false, List, slice_index}
+use Rattle.cell_net.specs.Shape.{numbered_with}
+use Rattle.cell_net.specs.declared.network.CellNetwork.{CellNetwork}
+use Rattle.flow_net.specs.Faults as faults
+use Rattle.flow_net.specs.Faults.{sink_limit, total_out}
+use Rattle.flow_net.specs.Nets.{flag_at}
+use Rattle.flow_net.specs.Networks.{amount_in}
+use Rattle.flow_net.specs.Numbered.{NumberedNetwork, network_by}
+use Rattle.flow_net.specs.declared.Flow.{Flow}
+use Rattle.tetra_store.specs.Links.{links_of, IsLive}
+use Rattle.vote_net.specs.Counts.{row_of}
+use Rattle.vote_net.specs.Gathered.{row_key}
+use Rattle.recon_check.specs.declared.balance.Unbalance.{Unbalance}
+
+-- the node at a place is fixed
+abbrev pub IsFixedAt : NumberedNetwork → List ℕ → ℕ → Type 0
+IsFixedAt net nodes k = net.is_fixed (slice_index nodes k) ≡ true
+
+-- more flows on the arc at a place than its capacity
+abbrev pub IsOverAt : NumberedNetwork → List ℕ → List ℕ → ℕ → Type 0
+IsOverAt net sides amounts k = net.capacity (slice_index sides k) < slice_index amounts (slice_index sides k)
+
+-- more leaves at the sink of the node at a place than may
+abbrev pub IsOverSinkAt : NumberedNetwork → List ℕ → List ℕ → ℕ → Type 0
+IsOverSinkAt net nodes amounts k = sink_limit (network_by net) (slice_index nodes k) < slice_index amounts (slice_index nodes k)
+
+-- the node at a place has no flag
+abbrev pub IsOutsideAt : List Bool → List ℕ → ℕ → Type 0
+IsOutsideAt flags nodes k = flag_at flags (slice_index nodes k) ≡ false
+
+-- a node for each number of a cell, an arc for each number of a side
+abbrev pub numbers : CellNetwork → NumberedNetwork
+numbers net =
+    numbered_with net.tetra.now.slots net.counts.crossed.now net.counts.behind.now net.counts.fixed.now net.settings net.shape
+
+-- what enters the node, if it is free, is not what leaves it
+abbrev pub IsUnbalanced : CellNetwork → Flow → ℕ → Type 0
+IsUnbalanced net flow =
+    faults.IsUnbalanced (network_by (numbers net)) (slice_index flow.on_arc) (slice_index flow.on_sink)
+
+-- the cell with this number, what enters it and what leaves it
+pub record IsUnbalanceAt (net : CellNetwork) (flow : Flow) (v : ℕ) (found : Unbalance) : Type 0 where
+  pub live : IsLive (links_of net.tetra.now.slots) v
+  pub unbalanced : IsUnbalanced net flow v
+  pub cell_is : found.cell ≡ row_of net.tetra.now.slots v
+  pub in_is : found.amount_in ≡ amount_in (network_by (numbers net)) (slice_index flow.on_arc) v
+  pub out_is : found.amount_out ≡ total_out (network_by (numbers net)) (slice_index flow.on_arc) (slice_index flow.on_sink) v
+
+-- its row comes before those of all others
+pub record IsLeastUnbalance (net : CellNetwork) (flow : Flow) (found : Unbalance) : Type 0 where
+  pub node : ℕ
+  pub at : IsUnbalanceAt net flow node found
+  pub least : (v : ℕ) → v < (numbers net).node_count → IsUnbalanced net flow v
+      → row_key found.cell ≤ row_key (row_of net.tetra.now.slots v)

@@ -1,0 +1,84 @@
+//! Rows that state what must not be, by the numbers of the cells and sides that they are about. It stands on networks by numbers.
+
+ghost use Rattle.std.specs.Prelude.{◌≡◌, ◌<◌, ℕ, EachIndex, IfSome, IfNone, length, slice_index};
+ghost use Rattle.flow_check.specs.Firsts.{IsFirst, NoneBelow};
+ghost use Rattle.flow_net.specs.Faults.{sink_limit};
+ghost use Rattle.flow_net.specs.Numbered.{network_by};
+ghost use Rattle.recon_check.specs.ByRows.{IsFixedAt, IsOverAt, IsOverSinkAt, IsOutsideAt};
+
+use flow_net::{Flow, FlowNetwork, Labels};
+
+/// The first of these nodes that is fixed, if there is one.
+pub fn first_fixed<N: FlowNetwork>(net: &N, nodes: &[usize]) -> Option<usize>
+    requires { EachIndex nodes.now (λ k. slice_index nodes.now k < (N.numbered net.now).node_count) }
+    ensures first { IfSome result (IsFirst (length nodes.now) (IsFixedAt (N.numbered net.now) nodes.now)) }
+    ensures none { IfNone result (NoneBelow (length nodes.now) (IsFixedAt (N.numbered net.now) nodes.now)) }
+{
+    for place in 0..nodes.len() {
+        if net.is_fixed(nodes[place]) {
+            return Some(place);
+        }
+    }
+    None
+}
+
+/// The first of these arcs on which more flows than its capacity, if there is one.
+pub fn first_over<N: FlowNetwork>(net: &N, arcs: &[usize], flow: &Flow) -> Option<usize>
+    requires arcs { EachIndex arcs.now (λ k. slice_index arcs.now k < (N.numbered net.now).arc_count) }
+    requires amounts { length flow.now.on_arc ≡ (N.numbered net.now).arc_count }
+    ensures first { IfSome result (IsFirst (length arcs.now) (IsOverAt (N.numbered net.now) arcs.now flow.now.on_arc)) }
+    ensures none { IfNone result (NoneBelow (length arcs.now) (IsOverAt (N.numbered net.now) arcs.now flow.now.on_arc)) }
+{
+    let amounts = flow.on_arc.as_slice();
+    for place in 0..arcs.len() {
+        let arc = arcs[place];
+        if amounts[arc] > net.capacity(arc) {
+            return Some(place);
+        }
+    }
+    None
+}
+
+/// The most that may leave at a node's sink: nothing where the node is fixed.
+pub fn limit_at<N: FlowNetwork>(net: &N, node: usize) -> u64
+    requires { node < (N.numbered net.now).node_count }
+    ensures { result ≡ sink_limit (network_by (N.numbered net.now)) node }
+{
+    if net.is_fixed(node) {
+        0
+    } else {
+        net.sink(node)
+    }
+}
+
+/// The first of these nodes at whose sink more leaves than may, if there is one.
+pub fn first_over_sink<N: FlowNetwork>(net: &N, nodes: &[usize], flow: &Flow) -> Option<usize>
+    requires nodes { EachIndex nodes.now (λ k. slice_index nodes.now k < (N.numbered net.now).node_count) }
+    requires amounts { length flow.now.on_sink ≡ (N.numbered net.now).node_count }
+    ensures first { IfSome result (IsFirst (length nodes.now) (IsOverSinkAt (N.numbered net.now) nodes.now flow.now.on_sink)) }
+    ensures none { IfNone result (NoneBelow (length nodes.now) (IsOverSinkAt (N.numbered net.now) nodes.now flow.now.on_sink)) }
+{
+    let amounts = flow.on_sink.as_slice();
+    for place in 0..nodes.len() {
+        let node = nodes[place];
+        if amounts[node] > limit_at(net, node) {
+            return Some(place);
+        }
+    }
+    None
+}
+
+/// The first of these nodes that is outside by labels, if there is one.
+pub fn first_outside(nodes: &[usize], labels: &Labels) -> Option<usize>
+    requires { EachIndex nodes.now (λ k. slice_index nodes.now k < length labels.now.inside) }
+    ensures first { IfSome result (IsFirst (length nodes.now) (IsOutsideAt labels.now.inside nodes.now)) }
+    ensures none { IfNone result (NoneBelow (length nodes.now) (IsOutsideAt labels.now.inside nodes.now)) }
+{
+    let inside = labels.inside.as_slice();
+    for place in 0..nodes.len() {
+        if !inside[nodes[place]] {
+            return Some(place);
+        }
+    }
+    None
+}

@@ -1,0 +1,229 @@
+//! What a certificate states about linked cells, by the numbers of cells and sides. It stands on the search for rows, and on the cells of
+//! `tetra_store` with what `vote_net` says of their rows and facets.
+//!
+//! The cells are walked by their numbers, each is looked up among the rows, and what is found notes its number at the row. A row at which
+//! none is noted is about nothing that is there; the others tell at which numbers labels and amounts stand.
+
+ghost use Rattle.std.specs.Prelude.{◌≡◌, ◌≢◌, ◌<◌, ◌≤◌, ◌+◌, ◌*◌, ◌/◌, ◌%◌, ◌^◌, [], ℕ, true, false, List, IfOk, IfErr, IfSome, IfNone, AllPairs, OnOk, length, map, slice_index, slice_index_or};
+ghost use Rattle.cell_net.specs.Arcs.{across, is_free};
+ghost use Rattle.cert_text.specs.Certificates.{claim_of, IsWellFormed};
+ghost use Rattle.flow_check.specs.Firsts.{IsFirst};
+ghost use Rattle.flow_net.specs.Nets.{flag_at};
+ghost use Rattle.geo_sign.specs.Rising.{IsBefore};
+ghost use Rattle.scan.specs.Shown.{Shown};
+ghost use Rattle.tetra_store.specs.Links.{links_of};
+ghost use Rattle.visibility.specs.Complexes.{Complex};
+ghost use Rattle.visibility.specs.Scenes.{Scene};
+ghost use Rattle.visibility.specs.Votes.{IsComplexOf};
+ghost use Rattle.recon_check.specs.Answers.{IsReason};
+ghost use Rattle.recon_check.specs.Claims.{AreThere};
+ghost use Rattle.recon_check.specs.Lookups.{side_facet, AreNumbersApart, AreStarts, IsNoted, AreCellsFound, AreSidesFound};
+ghost use Rattle.recon_check.specs.Stated.{IsFlaggedFor, IsStatedBy};
+ghost use Rattle.recon_check.specs.Stops.{StopsFor};
+
+use crate::lookup::{find, starts_of};
+use crate::stop::Stop;
+use crate::{NoMemory, Reason};
+use cert_text::{Certificate, FlowRow, Row, SinkRow};
+use flow_net::{Flow, Labels, Sequence};
+use std::alloc::Global;
+use tetra_store::Tetra;
+use vote_net::{cell_row, facet_row, flag};
+
+/// What a certificate states about cells and sides, by their numbers in the store: side k of a cell has number 4 * id + k.
+#[derive(Drop)]
+pub struct Stated {
+    /// The number of the cell of each inside row.
+    pub cells: Vec<usize>,
+    /// The number of the side of each flow row.
+    pub sides: Vec<usize>,
+    /// The number of the cell of each sink row.
+    pub at_sinks: Vec<usize>,
+    /// Which cells are inside.
+    pub labels: Labels,
+    /// What flows over sides and into sinks.
+    pub flow: Flow,
+}
+
+/// Notes a number at the row with this key, if there is one.
+fn note<R: Row>(rows: &[R], starts: &[usize], key: &[u32], number: usize, numbers: &mut [usize])
+    requires rising { AllPairs IsBefore (map R.key rows.now) }
+    requires starts { AreStarts (map R.key rows.now) starts.now }
+    requires count { length numbers.old ≡ length rows.now }
+    ensures { IsNoted (map R.key rows.now) key.now number numbers.old numbers.new }
+{
+    if let Some(place) = find(rows, starts, key) {
+        numbers[place] = number;
+    }
+}
+
+/// For each row the number of the cell that it is about, and the limit where there is none.
+fn cells_of_rows<R: Row>(
+    alloc: Global,
+    t: &Tetra,
+    limit: usize,
+    rows: &[R],
+) -> Result<Vec<usize>, NoMemory>
+    requires rising { AllPairs IsBefore (map R.key rows.now) }
+    requires limit { length t.now.slots ≤ limit }
+    ensures { IfOk result (λ cells. AreCellsFound t.now.slots limit limit (map R.key rows.now) cells.items) }
+{
+    let starts = starts_of(alloc, rows, t.vertex_count() as usize + 1)?;
+    let mut cells = vec![in alloc; limit; rows.len()]?;
+    for number in 0..limit {
+        if let Some(id) = t.id_at(number) {
+            note(rows, &starts, &cell_row(t.vertices(id)), number, &mut cells);
+        }
+    }
+    Ok(cells)
+}
+
+/// The facet of the side with this number, if there is a free cell across.
+fn open_facet(t: &Tetra, fixed: &[bool], number: usize) -> Option<[u32; 3]>
+    ensures open { IfSome result (λ facet. is_free fixed.now (across t.now.slots number) ≡ true) }
+    ensures facet { IfSome result (λ facet. facet ≡ side_facet t.now.slots number) }
+    ensures none { IfNone result (is_free fixed.now (across t.now.slots number) ≡ false) }
+{
+    let side = (number % 4) as u8;
+    let other = t.neighbor_at(number / 4, side)?;
+    if flag(fixed, other) {
+        return None;
+    }
+    let id = t.id_at(number / 4)?;
+    Some(facet_row(t.vertices(id), side))
+}
+
+/// For each row the number of the side that it is about, and the limit where there is none.
+fn sides_of_rows(
+    alloc: Global,
+    t: &Tetra,
+    fixed: &[bool],
+    rows: &[FlowRow],
+) -> Result<Vec<usize>, NoMemory>
+    requires rising { AllPairs IsBefore (map (λ row. row.facet) rows.now) }
+    requires flags { length t.now.slots ≤ length fixed.now }
+    requires few { length fixed.now < 2 ^ 32 }
+    ensures { IfOk result (λ sides. AreSidesFound t.now.slots fixed.now (4 * length fixed.now) (4 * length fixed.now) (map (λ row. row.facet) rows.now) sides.items) }
+{
+    let starts = starts_of(alloc, rows, t.vertex_count() as usize + 1)?;
+    let limit = 4 * fixed.len();
+    let mut sides = vec![in alloc; limit; rows.len()]?;
+    for number in 0..limit {
+        if let Some(facet) = open_facet(t, fixed, number) {
+            note(rows, &starts, &facet, number, &mut sides);
+        }
+    }
+    Ok(sides)
+}
+
+/// The first place of a number that is not below the limit.
+fn first_past(numbers: &[usize], limit: usize) -> Option<usize>
+    ensures some { IfSome result (IsFirst (length numbers.now) (λ k. limit ≤ slice_index numbers.now k)) }
+    ensures none { IfNone result ((k : ℕ) → k < length numbers.now → slice_index numbers.now k < limit) }
+{
+    for (place, number) in numbers.iter().enumerate() {
+        if *number >= limit {
+            return Some(place);
+        }
+    }
+    None
+}
+
+/// So many flags, of which those at these numbers are set.
+fn flags_at(alloc: Global, numbers: &[usize], count: usize) -> Result<Vec<bool>, NoMemory>
+    requires { (k : ℕ) → k < length numbers.now → slice_index numbers.now k < count }
+    ensures count { IfOk result (λ flags. length flags.items ≡ count) }
+    ensures set { IfOk result (λ flags. (k : ℕ) → k < length numbers.now → flag_at flags.items (slice_index numbers.now k) ≡ true) }
+    ensures unset { IfOk result (λ flags. (v : ℕ) → ((k : ℕ) → k < length numbers.now → slice_index numbers.now k ≢ v) → flag_at flags.items v ≡ false) }
+{
+    let mut flags = vec![in alloc; false; count]?;
+    for number in numbers {
+        flags[*number] = true;
+    }
+    Ok(flags)
+}
+
+/// So many amounts: those of flow rows at their numbers, and 0 at others.
+fn flow_at(
+    alloc: Global,
+    rows: &[FlowRow],
+    numbers: &[usize],
+    count: usize,
+) -> Result<Vec<u64>, NoMemory>
+    requires many { length numbers.now ≡ length rows.now }
+    requires within { (k : ℕ) → k < length numbers.now → slice_index numbers.now k < count }
+    requires apart { AreNumbersApart numbers.now }
+    ensures count { IfOk result (λ amounts. length amounts.items ≡ count) }
+    ensures set { IfOk result (λ amounts. (k : ℕ) → k < length numbers.now → slice_index amounts.items (slice_index numbers.now k) ≡ slice_index (map (λ row. row.amount) rows.now) k) }
+    ensures unset { IfOk result (λ amounts. (v : ℕ) → ((k : ℕ) → k < length numbers.now → slice_index numbers.now k ≢ v) → slice_index amounts.items v ≡ 0) }
+{
+    let mut amounts = vec![in alloc; 0; count]?;
+    for (place, row) in rows.iter().enumerate() {
+        amounts[numbers[place]] = row.amount;
+    }
+    Ok(amounts)
+}
+
+/// So many amounts: those of sink rows at their numbers, and 0 at others.
+fn sinks_at(
+    alloc: Global,
+    rows: &[SinkRow],
+    numbers: &[usize],
+    count: usize,
+) -> Result<Vec<u64>, NoMemory>
+    requires many { length numbers.now ≡ length rows.now }
+    requires within { (k : ℕ) → k < length numbers.now → slice_index numbers.now k < count }
+    requires apart { AreNumbersApart numbers.now }
+    ensures count { IfOk result (λ amounts. length amounts.items ≡ count) }
+    ensures set { IfOk result (λ amounts. (k : ℕ) → k < length numbers.now → slice_index amounts.items (slice_index numbers.now k) ≡ slice_index (map (λ row. row.amount) rows.now) k) }
+    ensures unset { IfOk result (λ amounts. (v : ℕ) → ((k : ℕ) → k < length numbers.now → slice_index numbers.now k ≢ v) → slice_index amounts.items v ≡ 0) }
+{
+    let mut amounts = vec![in alloc; 0; count]?;
+    for (place, row) in rows.iter().enumerate() {
+        amounts[numbers[place]] = row.amount;
+    }
+    Ok(amounts)
+}
+
+/// What a certificate states about the cells of a scene and their sides. Each row has to be about one of these.
+pub fn stated_by(
+    alloc: Global,
+    t: &Tetra,
+    fixed: &[bool],
+    cert: &Certificate,
+) -> Result<Stated, Stop>
+    requires formed { IsWellFormed (claim_of cert.now) }
+    requires cells { (s : Scene) × IsFlaggedFor s t.now.slots fixed.now }
+    requires few { length fixed.now < 2 ^ 32 }
+    ensures stated { IfOk result (IsStatedBy t.now.slots fixed.now (claim_of cert.now)) }
+    ensures there { (s : Scene) (complex : Complex) → IsFlaggedFor s t.now.slots fixed.now → IsComplexOf s complex → OnOk result (AreThere complex (claim_of cert.now)) }
+    ensures stray { (scan : Shown) (s : Scene) (complex : Complex) (mesh : List ℕ) → IsFlaggedFor s t.now.slots fixed.now → IsComplexOf s complex → IfErr result (StopsFor (IsReason scan s complex (claim_of cert.now) mesh)) }
+{
+    let limit = fixed.len();
+    let cells = cells_of_rows(alloc, t, limit, &cert.inside)?;
+    if let Some(place) = first_past(&cells, limit) {
+        return Err(Stop::Fault(Reason::NoSuchCell { row: place as u64 }));
+    }
+    let sides = sides_of_rows(alloc, t, fixed, &cert.flow)?;
+    if let Some(place) = first_past(&sides, 4 * limit) {
+        return Err(Stop::Fault(Reason::NoSuchFacet { row: place as u64 }));
+    }
+    let at_sinks = cells_of_rows(alloc, t, limit, &cert.sink)?;
+    if let Some(place) = first_past(&at_sinks, limit) {
+        return Err(Stop::Fault(Reason::NoSuchSink { row: place as u64 }));
+    }
+    let labels = Labels {
+        inside: Sequence::from(flags_at(alloc, &cells, limit)?),
+    };
+    let flow = Flow {
+        on_arc: Sequence::from(flow_at(alloc, &cert.flow, &sides, 4 * limit)?),
+        on_sink: Sequence::from(sinks_at(alloc, &cert.sink, &at_sinks, limit)?),
+    };
+    Ok(Stated {
+        cells,
+        sides,
+        at_sinks,
+        labels,
+        flow,
+    })
+}
