@@ -2,7 +2,6 @@
 use Rattle.std.proofs.Common.{ℕ, ◌≡◌, ◌<◌, ◌^◌, sym, subst, ◌∙◌, arith, Bool, List}
 use Rattle.cell_net.specs.declared.network.CellNetwork.{CellNetwork}
 use Rattle.cert_text.specs.Certificates.{Claim, IsWellFormed}
-use Rattle.flow_net.specs.NumberedFlows.{cost_of}
 use Rattle.flow_net.specs.Nets.{flag_at}
 use Rattle.flow_net.specs.declared.Labels.{Labels}
 use Rattle.flow_net.specs.declared.votes.Settings.{Settings}
@@ -19,7 +18,6 @@ use Rattle.vote_net.specs.ByNumber.{SaysOfCells}
 use Rattle.vote_net.specs.Counts.{AreCellsOf, AreCountsOf}
 use Rattle.vote_net.proofs.SceneNetwork.{stored_listing}
 use Rattle.scan_cut.proofs.Counted.{counts_are}
-use Rattle.recon_check.specs.ByRows.{numbers}
 use Rattle.recon_check.specs.Claims.{is_inside, AreThere}
 use Rattle.recon_check.specs.Faults.{IsBest}
 use Rattle.recon_check.specs.Over.{IsStatedOver}

@@ -7,19 +7,19 @@
 -- same as well (in_is, out_is), and a flow is valid by number where it is over cells and facets (numbered_valid). A row that states too
 -- much is found by the row, and rows rise, so its cell or facet is the first (KeyedRows). A cell that is not balanced is the first where
 -- its row is the least (KeyOrders).
-use Rattle.std.proofs.Common.{ℕ, ◌≡◌, ◌≢◌, ◌<◌, ◌≤◌, ◌+◌, ◌*◌, ◌/◌, ◌==◌, ◌^◌, ◌↔◌, ◌⊎◌, inl, inr, ⊎_elim, refl, ap, ap₂, sym, subst, ◌∙◌}
-use Rattle.std.proofs.Common.{arith, Bool, true, false, cond, List, [], length, map, get_or, All, AllPairs, Contains, Option}
+use Rattle.std.proofs.Common.{ℕ, ◌≡◌, ◌≢◌, ◌<◌, ◌≤◌, ◌+◌, ◌==◌, ◌↔◌, ⊎_elim, refl, ap, ap₂, sym, subst, ◌∙◌}
+use Rattle.std.proofs.Common.{arith, Bool, true, false, cond, List, [], length, get_or, All, Contains, Option}
 use Rattle.std.proofs.lemmas.Bool.{cases_eq, cases_lt, false_from_ne_true, false≢true}
 use Rattle.std.proofs.lemmas.List.Sorted.{sum_by-IsPermutation}
 use Rattle.std.specs.Str.{bytes_eq}
-use Rattle.cell_net.specs.Arcs.{IsShape, across, is_free}
+use Rattle.cell_net.specs.Arcs.{across, is_free}
 use Rattle.cell_net.specs.declared.network.CellNetwork.{CellNetwork}
 use Rattle.cert_text.specs.Certificates.{Claim}
 use Rattle.cert_text.specs.declared.certificate.FlowRow.{FlowRow}
 use Rattle.cert_text.specs.declared.certificate.SinkRow.{SinkRow}
 use Rattle.flow_check.specs.Firsts.{IsFirst, NoneBelow}
 use Rattle.flow_net.specs.Faults.{IsFixedInside, IsOverCapacity, sink_limit, IsOverSink, total_out, IsUnbalanced, IsNotLeast}
-use Rattle.flow_net.specs.Faults.{AreWithinArcs, AreWithinLimits}
+use Rattle.flow_net.specs.Faults.{AreWithinLimits}
 use Rattle.flow_net.specs.Nets.{flag_at}
 use Rattle.flow_net.specs.Networks.{Network, AgreeAsNetworks, amount_in, amount_out, IsValidFlow as IsValid}
 use Rattle.flow_net.specs.Numbered.{NumberedNetwork, network_by}
@@ -28,7 +28,6 @@ use Rattle.flow_net.specs.Paddings.{kept}
 use Rattle.flow_net.specs.Sums.{sum_below}
 use Rattle.flow_net.specs.declared.Flow.{Flow}
 use Rattle.flow_net.specs.declared.Labels.{Labels}
-use Rattle.flow_net.specs.declared.votes.Settings.{Settings}
 use Rattle.flow_net.proofs.Correspondences as judged
 use Rattle.flow_net.proofs.Correspondences.{Corresponds}
 use Rattle.flow_net.proofs.Duality.{equal_is_best}
@@ -45,15 +44,13 @@ use Rattle.visibility.specs.Scenes.{Scene}
 use Rattle.visibility.specs.Complexes.{Complex, cell_of}
 use Rattle.visibility.specs.Cuts.{network_over, cost, IsAdmissible, IsLeastInside}
 use Rattle.visibility.specs.Flows.{value, IsValidFlow}
-use Rattle.visibility.specs.Listings.{IsListingOf}
-use Rattle.visibility.specs.Votes.{is_fixed, capacity, IsComplexOf}
 use Rattle.visibility.proofs.Indices.{at_index, index_has, not_before_itself}
 use Rattle.visibility.proofs.ListingAgreements.{listings_agree}
 use Rattle.visibility.proofs.Listings.{rising_listing}
 use Rattle.visibility.proofs.Members.{same_sum}
 use Rattle.visibility.proofs.Ordered.{one_complex}
 use Rattle.vote_net.specs.CellRows.{risen, row_from}
-use Rattle.vote_net.specs.Counts.{AreCountsOf, row_of}
+use Rattle.vote_net.specs.Counts.{row_of}
 use Rattle.vote_net.specs.Gathered.{row_key}
 use Rattle.vote_net.specs.StoreLaws.{IsStoreNetwork}
 use Rattle.vote_net.specs.StoredComplexes.{stored_complex}

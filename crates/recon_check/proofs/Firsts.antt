@@ -1,7 +1,7 @@
 -- The first of a list, by number and as it stands.
-use Rattle.std.proofs.Common.{ℕ, ◌≡◌, ◌<◌, ◌↔◌, refl, ap, sym, subst, ◌∙◌, arith, List, [], length, get_or}
-use Rattle.flow_check.specs.Firsts.{IsFirst, NoneBelow}
-use Rattle.visibility.proofs.Indices.{at_index, index_has}
+use Rattle.std.proofs.Common.{ℕ, ◌≡◌, ◌<◌, ap, sym, ◌∙◌, arith, List, [], length, get_or}
+use Rattle.flow_check.specs.Firsts.{IsFirst}
+use Rattle.visibility.proofs.Indices.{index_has}
 use Rattle.recon_check.specs.Claims.{IsFirstOf, NoneOf}
 
 -- a property has one first number

@@ -1,6 +1,6 @@
 -- The first of rising rows that has a property is the first of rising keys that has it, where each row is among the keys and a key with
 -- the property has a row.
-use Rattle.std.proofs.Common.{ℕ, ◌≡◌, ◌<◌, ◌≤◌, ◌↔◌, inl, inr, ⊎_elim, sym, subst, ◌∙◌, arith, List, [], length, get_or}
+use Rattle.std.proofs.Common.{ℕ, ◌≡◌, ◌<◌, ◌≤◌, ◌↔◌, ⊎_elim, sym, subst, arith, List, [], length, get_or}
 use Rattle.std.proofs.Common.{All, AllPairs, Contains}
 use Rattle.std.proofs.lemmas.Bool.{cases_lt}
 use Rattle.std.proofs.lemmas.List.{get_or_default}

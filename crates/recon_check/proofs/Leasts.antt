@@ -1,12 +1,12 @@
 -- The search for the least cell that is not balanced, number by number.
-use Rattle.std.proofs.Common.{ℕ, ◌≡◌, ◌<◌, ◌≤◌, ◌+◌, ◌⊎◌, inl, inr, ⊎_elim, refl, ap, sym, subst, ◌∙◌, arith, Option, Some, None, IfSome}
+use Rattle.std.proofs.Common.{ℕ, ◌≡◌, ◌<◌, ◌≤◌, ◌+◌, ◌⊎◌, inl, inr, ⊎_elim, refl, sym, subst, arith, Option, Some, None, IfSome}
 use Rattle.std.proofs.lemmas.Bool.{cases_lt}
 use Rattle.cell_net.specs.declared.network.CellNetwork.{CellNetwork}
 use Rattle.flow_check.specs.Firsts.{NoneBelow}
 use Rattle.flow_net.specs.declared.Flow.{Flow}
 use Rattle.vote_net.specs.Counts.{row_of}
 use Rattle.vote_net.specs.Gathered.{row_key}
-use Rattle.recon_check.specs.ByRows.{IsUnbalanced, IsUnbalanceAt, IsLeastUnbalance}
+use Rattle.recon_check.specs.ByRows.{IsUnbalanced, IsUnbalanceAt}
 use Rattle.recon_check.specs.declared.balance.Unbalance.{Unbalance}
 
 -- the cell that was found, and no cell so far has a lesser row

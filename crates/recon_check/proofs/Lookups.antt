@@ -3,7 +3,7 @@
 -- A search halves the places between which a key can stand: the keys before them come before it, and those behind them do not
 -- (IsNarrowed). Behind the end of it only the key at the place that is left can be the one, since later ones come after that.
 -- The order is that of the comparison of lists, in which keys rise that rise by IsBefore.
-use Rattle.std.proofs.Common.{ℕ, ◌≡◌, ◌≢◌, ◌+◌, ◌-◌, ◌<◌, ◌≤◌, ◌⊎◌, ⊎_elim, refl, ap, sym, subst, ◌∙◌, arith, Bool, true, false}
+use Rattle.std.proofs.Common.{ℕ, ◌≡◌, ◌≢◌, ◌+◌, ◌-◌, ◌<◌, ◌≤◌, ⊎_elim, refl, ap, sym, subst, ◌∙◌, arith, Bool, true, false}
 use Rattle.std.proofs.Common.{List, [], ◌∷◌, ◌++◌, length, map, replicate, get_or}
 use Rattle.std.proofs.Common.{set, slice_index, AllPairs, Ordering, Less, Equal, Greater, Some}
 use Rattle.std.proofs.lemmas.Bool.{cases_lt, false≢true}

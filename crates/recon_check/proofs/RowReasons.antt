@@ -1,6 +1,6 @@
 -- Rows and cells at fault as reasons: what is told of a row is what the certificate has there, and what is told of a cell is what enters
 -- and leaves it.
-use Rattle.std.proofs.Common.{ℕ, ◌≡◌, ◌<◌, ap, sym, subst, ◌∙◌, arith, List, [], length, get_or, map}
+use Rattle.std.proofs.Common.{ℕ, ◌≡◌, ◌<◌, ap, sym, subst, ◌∙◌, arith, List, [], length, get_or}
 use Rattle.std.proofs.lemmas.Bool.{false_from_ne_true}
 use Rattle.std.proofs.lemmas.List.{get_or-map, get_or_read, length-map}
 use Rattle.cell_net.specs.declared.network.CellNetwork.{CellNetwork}
@@ -15,7 +15,7 @@ use Rattle.scan.specs.Shown.{Shown}
 use Rattle.solution.specs.Solutions.{flow_on, sink_at}
 use Rattle.visibility.specs.Scenes.{Scene}
 use Rattle.visibility.specs.Complexes.{Complex}
-use Rattle.visibility.specs.Cuts.{network_over, IsAdmissible}
+use Rattle.visibility.specs.Cuts.{network_over}
 use Rattle.recon_check.specs.Answers.{IsReason}
 use Rattle.recon_check.specs.ByRows.{numbers, IsFixedAt, IsOverAt, IsOverSinkAt, IsLeastUnbalance, IsUnbalanced}
 use Rattle.recon_check.specs.Claims.{is_inside, flow_facets, sink_cells, IsFirstOf, AreThere}

@@ -7,7 +7,6 @@
 -- amounts_say): the row with the key has the number, and where no row has it no row has the number.
 use Rattle.std.proofs.Common.{ℕ, ◌≡◌, ◌≢◌, ◌+◌, ◌*◌, ◌/◌, ◌%◌, ◌<◌, ◌≤◌, refl, ap, ap₂, sym, subst, ◌∙◌, arith, Bool, true, false, not}
 use Rattle.std.proofs.Common.{Option, Some, None, List, [], length, map, get_or, slice_index, All, AllPairs, Contains}
-use Rattle.std.specs.List.Sorted.{IsPermutation}
 use Rattle.std.proofs.lemmas.Bool.{false≢true}
 use Rattle.std.proofs.lemmas.List.{get_or-map, get_or_default, length-map, map-id}
 use Rattle.std.proofs.lemmas.List.Sorted.{IsPermutation-refl, Contains-permutation}
@@ -18,7 +17,7 @@ use Rattle.cert_text.specs.declared.certificate.SinkRow.{SinkRow}
 use Rattle.flow_check.specs.Firsts.{IsFirst}
 use Rattle.flow_net.specs.Nets.{flag_at}
 use Rattle.geo_sign.specs.Rising.{IsBefore}
-use Rattle.geo_sign.specs.Tetrahedron.{DirectedFacet, facet_at, facet_of}
+use Rattle.geo_sign.specs.Tetrahedron.{facet_at, facet_of}
 use Rattle.scan.specs.Shown.{Shown}
 use Rattle.solution.specs.Solutions.{stated, flow_on}
 use Rattle.tetra_store.specs.Links.{links_of, slot_at, IsLive}

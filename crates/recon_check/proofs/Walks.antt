@@ -1,17 +1,10 @@
 -- What rows state of a key: what the first row about it has, or nothing.
-use Rattle.std.proofs.Common.{ℕ, suc, ◌≡◌, ◌≢◌, ◌+◌, ◌<◌, ◌≤◌, ◌⊎◌, inl, inr, ⊎_elim, refl, ap, sym, subst, ◌∙◌, arith, Bool}
-use Rattle.std.proofs.Common.{true, false, cond, ◌||◌, List, [], ◌∷◌, ◌++◌, length, map, get_or, take, AllPairs, All, Contains}
-use Rattle.std.proofs.lemmas.Bool.{cases_lt, false_from_ne_true}
-use Rattle.std.proofs.lemmas.List.{take_more, take-map, length-take-le, get_or-take, get_or-map, get_or_default, length-map}
-use Rattle.std.proofs.lemmas.List.{map-append}
-use Rattle.line_text.proofs.Rows.{before_trans}
-use Rattle.flow_check.specs.Firsts.{IsFirst}
-use Rattle.geo_sign.specs.Rising.{IsBefore}
+use Rattle.std.proofs.Common.{ℕ, suc, ◌≡◌, ◌≢◌, ◌<◌, refl, ap, subst, ◌∙◌, arith, Bool}
+use Rattle.std.proofs.Common.{true, false, cond, List, [], ◌∷◌, ◌++◌, length, map, get_or}
+use Rattle.std.proofs.lemmas.Bool.{false_from_ne_true}
 use Rattle.solution.specs.Solutions.{stated}
 use Rattle.std.specs.Str.{bytes_eq}
 use Rattle.std.proofs.lemmas.Slice.Eq.{bytes_eq-Decides}
-use Rattle.visibility.proofs.Indices.{not_before_itself}
-use Rattle.recon_check.specs.Claims.{is_among_rows, IsStray}
 
 -- no row is about the key
 abbrev pub NoneAbout : {Row : Type 0} → (Row → List ℕ) → List Row → List ℕ → Type 0

@@ -1,4 +1,3 @@
-use Rattle.recon_check.proofs.CellFaults.{dropped}
 use Rattle.recon_check.proofs.Leasts.{balanced_more, unbalanced_more}
 use Rattle.recon_check.proofs.balance.first_by.Goals as goal
 use Rattle.recon_check.proofs.balance.first_by.Goals.{in-Some, in_default}

@@ -7,7 +7,7 @@ use Rattle.scan.specs.Views.{shown_of}
 use Rattle.solution.specs.Scans.{scene_of_scan}
 use Rattle.visibility.specs.Scenes.{Scene}
 use Rattle.recon_check.specs.Answers.{IsReason, IsFault}
-use Rattle.recon_check.proofs.BestLabels.{IsChecked, checked, cost_fits, counts_over, flagged, some_complex}
+use Rattle.recon_check.proofs.BestLabels.{IsChecked, checked, cost_fits, flagged, some_complex}
 use Rattle.recon_check.proofs.CellFaults.{cost_is}
 use Rattle.recon_check.proofs.Stopped.{passed_on, stop_weaker}
 use Rattle.recon_check.proofs.Whole.{reason_fault}

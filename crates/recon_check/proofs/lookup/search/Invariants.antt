@@ -1,4 +1,4 @@
-use Rattle.std.proofs.Common.{length, ◌-◌, ◌≡◌, ◌≢◌, ◌<◌, ◌≤◌, [], ℕ, map, slice_index_or}
+use Rattle.std.proofs.Common.{◌-◌, map}
 use Rattle.recon_check.proofs.Lookups.{IsNarrowed}
 use Rattle.recon_check.proofs.lookup.search.Given as goal
 
