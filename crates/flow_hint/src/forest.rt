@@ -1,9 +1,9 @@
 //! A forest that grows from nodes with excess, and sends along its branches to each sink with room that it meets. It
 //! stands on preflows.
 //!
-//! It is half of the two trees of Boykov and Kolmogorov (2004): a node whose branch is full looks for another parent that
-//! is nearer to a root, and else leaves the forest. The work is bounded by fuel; where it ends, the amounts are as good a
-//! start for another method as any.
+//! It is half of the two trees of Boykov and Kolmogorov (2004): what a full branch has cut off leaves the forest, and then each
+//! of these nodes joins it again by the neighbor nearest to a root, if one is still in it. The work is bounded by fuel; where
+//! it ends, the amounts are as good a start for another method as any.
 
 ghost use Rattle.std.specs.Prelude.{◌≡◌, ◌<◌, length, slice_index, EachIndex, IfOk, IfSome};
 
@@ -19,9 +19,6 @@ const FREE: u32 = u32::MAX;
 
 /// The parent of a root.
 const ROOT: u32 = u32::MAX - 1;
-
-/// The parent of a node that looks for one.
-const ORPHAN: u32 = u32::MAX - 2;
 
 /// How many arcs may be looked at for each arc that there is.
 const FUEL: usize = 8;
@@ -52,7 +49,7 @@ pub struct Forest<'a, N: FlowNetwork> {
     first: usize,
     /// How many nodes wait.
     waiting: usize,
-    /// The nodes that look for a parent, in the order in which they lost it.
+    /// The nodes that full branches have cut off, in the order in which they were.
     orphans: Vec<u32>,
     /// How many of them there are.
     orphaned: usize,
@@ -66,13 +63,6 @@ pub struct Forest<'a, N: FlowNetwork> {
     ghost first_in: { first < preflow.wiring.nodes },
     ghost orphan_count: { length orphans.items ≡ preflow.wiring.nodes },
     ghost orphans_in: { EachIndex orphans.items (λ k. slice_index orphans.items k < preflow.wiring.nodes) },
-}
-
-impl Branch {
-    /// Whether the node has a parent or is a root.
-    fn is_in_tree(self) -> bool {
-        self.parent != FREE && self.parent != ORPHAN
-    }
 }
 
 impl<'a, N: FlowNetwork> Forest<'a, N> {
@@ -149,12 +139,13 @@ impl<'a, N: FlowNetwork> Forest<'a, N> {
         Some(node)
     }
 
-    /// Makes a node look for a parent.
+    /// Takes a node that is cut off out of the forest.
     fn orphan(&mut self, node: usize)
         requires { node < self.old.preflow.wiring.nodes }
         ensures { self.new.preflow ≡ self.old.preflow }
     {
-        self.branch[node].parent = ORPHAN;
+        self.branch[node].parent = FREE;
+        self.is_free[node] = true;
         if self.orphaned < self.orphans.len() {
             self.orphans[self.orphaned] = node as u32;
             self.orphaned += 1;
@@ -179,7 +170,7 @@ impl<'a, N: FlowNetwork> Forest<'a, N> {
         0
     }
 
-    /// Takes an amount from a root. A root with no excess left looks for a parent.
+    /// Takes an amount from a root. A root with no excess left is cut off.
     fn take_from(&mut self, root: usize, amount: u64)
         requires { root < self.old.preflow.wiring.nodes }
         ensures { self.new.preflow.wiring ≡ self.old.preflow.wiring }
@@ -192,7 +183,7 @@ impl<'a, N: FlowNetwork> Forest<'a, N> {
         }
     }
 
-    /// Sends an amount to a node along its branch. Nodes that this cuts off look for a parent.
+    /// Sends an amount to a node along its branch, which cuts off what is below a full arc.
     fn send_along(&mut self, node: usize, amount: u64)
         requires { node < self.old.preflow.wiring.nodes }
         ensures { self.new.preflow.wiring ≡ self.old.preflow.wiring }
@@ -214,19 +205,19 @@ impl<'a, N: FlowNetwork> Forest<'a, N> {
         }
     }
 
-    /// The branch of a node by the parent nearest to a root, among those nearer to one than the node was.
+    /// The branch of a node by the parent nearest to a root.
     fn best_branch(&self, node: usize) -> Branch
         requires { node < self.now.preflow.wiring.nodes }
     {
         let mut parent = FREE;
-        let mut least = self.branch[node].distance;
+        let mut least = u32::MAX;
         let (start, end) = self.preflow.wiring.around(node);
         for place in start..end {
             let arc = self.preflow.wiring.arc(place);
             let ends = self.preflow.wiring.ends(arc);
             let other = self.branch[ends.head];
-            if other.distance < least
-                && other.is_in_tree()
+            if other.parent != FREE
+                && other.distance < least
                 && self.preflow.rooms.get(ends.twin) > 0
             {
                 least = other.distance;
@@ -239,79 +230,64 @@ impl<'a, N: FlowNetwork> Forest<'a, N> {
         }
     }
 
-    /// Takes a node out of the forest. Its children look for a parent, and those that could be its parent wait to grow.
+    /// Cuts off the children of a node.
     fn release(&mut self, node: usize)
         requires { node < self.old.preflow.wiring.nodes }
         ensures { self.new.preflow ≡ self.old.preflow }
     {
-        self.branch[node].parent = FREE;
-        self.is_free[node] = true;
         let (start, end) = self.preflow.wiring.around(node);
+        self.burn(end.saturating_sub(start).saturating_mul(2));
         for place in start..end {
             let arc = self.preflow.wiring.arc(place);
             let ends = self.preflow.wiring.ends(arc);
-            let parent = self.branch[ends.head].parent;
-            if parent as usize == ends.twin {
+            if self.branch[ends.head].parent as usize == ends.twin {
                 self.orphan(ends.head);
             }
-            if parent != FREE && self.preflow.rooms.get(ends.twin) > 0 {
-                self.enqueue(ends.head);
+        }
+    }
+
+    /// Cuts off all that is below the nodes that are cut off.
+    fn release_all(&mut self)
+        ensures { self.new.preflow ≡ self.old.preflow }
+    {
+        for place in 0..self.orphans.len() {
+            if place >= self.orphaned {
+                return;
             }
-        }
-    }
-
-    /// Gives a node that looks for a parent the best one, or takes it out of the forest.
-    fn adopt(&mut self, node: usize)
-        requires { node < self.old.preflow.wiring.nodes }
-        ensures { self.new.preflow ≡ self.old.preflow }
-    {
-        let (start, end) = self.preflow.wiring.around(node);
-        let arcs = end.saturating_sub(start);
-        self.burn(arcs.saturating_mul(2));
-        let best = self.best_branch(node);
-        if best.parent == FREE {
-            self.release(node);
-        } else {
-            self.branch[node] = best;
-        }
-    }
-
-    /// Lets the node at a place of the list find a parent or leave the forest, if it still looks for one.
-    fn adopt_at(&mut self, place: usize)
-        ensures { self.new.preflow ≡ self.old.preflow }
-    {
-        if place < self.orphans.len() {
             let node = self.orphans[place] as usize;
-            if self.branch[node].parent == ORPHAN {
-                self.adopt(node);
-            }
+            self.release(node);
         }
     }
 
-    /// Lets each node that a full branch has cut off find a parent or leave the forest, the one nearest to the root first.
-    fn adopt_cut(&mut self, cut: usize)
+    /// Lets each node that is cut off join the forest again, if it can.
+    fn adopt_all(&mut self)
         ensures { self.new.preflow ≡ self.old.preflow }
     {
-        for done in 0..cut {
-            self.adopt_at(cut - 1 - done);
-        }
-    }
-
-    /// Lets each further node that looks for a parent find one or leave the forest.
-    fn adopt_rest(&mut self, cut: usize)
-        ensures { self.new.preflow ≡ self.old.preflow }
-    {
-        for place in cut..self.orphans.len() {
+        for place in 0..self.orphans.len() {
             if place >= self.orphaned {
                 break;
             }
-            self.adopt_at(place);
+            let node = self.orphans[place] as usize;
+            let branch = self.best_branch(node);
+            if branch.parent != FREE {
+                self.join(node, branch);
+            }
         }
         self.orphaned = 0;
     }
 
+    /// Puts a node into the forest.
+    fn join(&mut self, node: usize, branch: Branch)
+        requires { node < self.old.preflow.wiring.nodes }
+        ensures { self.new.preflow ≡ self.old.preflow }
+    {
+        self.branch[node] = branch;
+        self.is_free[node] = false;
+        self.enqueue(node);
+    }
+
     /// Sends along an arc, from a node of the forest into the sink of its head, as much as goes there. Nodes that this cuts
-    /// off find a parent or leave the forest.
+    /// off join the forest again or leave it.
     fn feed(&mut self, node: usize, arc: usize, ends: Ends)
         requires node { node < self.old.preflow.wiring.nodes }
         requires head { ends.head < self.old.preflow.wiring.nodes }
@@ -324,24 +300,8 @@ impl<'a, N: FlowNetwork> Forest<'a, N> {
         preflow.sink[ends.head] = sink - amount;
         preflow.shift(arc, ends.twin, amount);
         self.send_along(node, amount);
-        let cut = self.orphaned;
-        self.adopt_cut(cut);
-        self.adopt_rest(cut);
-    }
-
-    /// Makes a node the parent of the head of an arc.
-    fn join(&mut self, node: usize, ends: Ends)
-        requires node { node < self.old.preflow.wiring.nodes }
-        requires head { ends.head < self.old.preflow.wiring.nodes }
-        requires twin { ends.twin < self.old.preflow.wiring.arcs }
-        ensures { self.new.preflow ≡ self.old.preflow }
-    {
-        self.branch[ends.head] = Branch {
-            parent: ends.twin as u32,
-            distance: self.branch[node].distance.saturating_add(1),
-        };
-        self.is_free[ends.head] = false;
-        self.enqueue(ends.head);
+        self.release_all();
+        self.adopt_all();
     }
 
     /// Goes along an arc from a node of the forest, while there is room, to a head outside: into its sink, and once that is full
@@ -354,11 +314,15 @@ impl<'a, N: FlowNetwork> Forest<'a, N> {
     {
         for _ in 0..self.fuel {
             let room = self.preflow.rooms.get(arc);
-            if self.fuel == 0 || room == 0 || !self.branch[node].is_in_tree() {
+            if self.fuel == 0 || room == 0 || self.is_free[node] {
                 return;
             }
             if self.preflow.sink[ends.head] == 0 {
-                self.join(node, ends);
+                let branch = Branch {
+                    parent: ends.twin as u32,
+                    distance: self.branch[node].distance.saturating_add(1),
+                };
+                self.join(ends.head, branch);
                 return;
             }
             self.feed(node, arc, ends);
@@ -392,9 +356,11 @@ impl<'a, N: FlowNetwork> Forest<'a, N> {
     {
         for node in 0..self.preflow.wiring.nodes {
             if self.preflow.excess[node] > 0 {
-                self.branch[node].parent = ROOT;
-                self.is_free[node] = false;
-                self.enqueue(node);
+                let root = Branch {
+                    parent: ROOT,
+                    distance: 0,
+                };
+                self.join(node, root);
             }
         }
     }

@@ -140,7 +140,7 @@ fn settled_and_kept<N: FlowNetwork>(
 /// between free nodes, or more arcs than fit in 32 bits, or giving back took too long.
 ///
 /// Nothing is promised of its time, which on the networks of scans is about linear in the network. Beside its answer it
-/// takes 4 bytes an arc, or 8 where capacities are large, 4 more where the arcs of a node do not stand side by side in the
+/// takes 8 bytes an arc, or 12 where capacities are large, 4 more where the arcs of a node do not stand side by side in the
 /// network, and at most 48 a node.
 pub fn find_hint<N: FlowNetwork>(alloc: Global, net: &N) -> Result<Option<Hint>, NoMemory>
     ensures arcs { IfOk result (λ found. IfSome found (λ hint. length hint.flow.on_arc ≡ (N.numbered net.now).arc_count)) }

@@ -106,7 +106,7 @@ impl<'a, N: FlowNetwork> Preflow<'a, N> {
         ensures { self.new.wiring ≡ self.old.wiring }
     {
         for arc in 0..self.wiring.arcs {
-            let twin = self.wiring.ends(arc).twin;
+            let twin = self.wiring.twin(arc);
             if arc < twin {
                 let there = self.rooms.get(arc);
                 let back = self.rooms.get(twin);

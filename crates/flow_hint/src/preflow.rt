@@ -57,33 +57,21 @@ fn free_sinks<N: FlowNetwork>(alloc: Global, net: &N, first: &[u64]) -> Result<V
     Ok(sinks)
 }
 
-/// How much more can flow along an arc between free nodes, where every arc is full or all are empty.
-fn room<N: FlowNetwork>(net: &N, number: usize, is_full: bool) -> u64
-    requires { number < (N.numbered net.now).arc_count }
-{
-    if !net.is_paired(number) {
-        return 0;
-    }
-    if !is_full {
-        return net.capacity(number);
-    }
-    // A pair of full arcs is the pair with its two rooms exchanged.
-    match net.reverse(number) {
-        Some(reverse) => net.capacity(reverse),
-        None => 0,
-    }
-}
-
-/// How much more can flow along each arc.
+/// How much more can flow along each arc, where every arc between free nodes is full or all are empty. It is nothing along other
+/// arcs.
 fn all_rooms<N: FlowNetwork>(
     alloc: Global,
-    net: &N,
+    wiring: &Wiring<'_, N>,
     is_full: bool,
     is_narrow: bool,
 ) -> Result<Amounts, NoMemory> {
-    let mut rooms = Amounts::new(alloc, net.arc_count(), is_narrow)?;
-    for number in 0..net.arc_count() {
-        rooms.set(number, room(net, number, is_full));
+    let mut rooms = Amounts::new(alloc, wiring.arcs, is_narrow)?;
+    for arc in 0..wiring.arcs {
+        let twin = wiring.twin(arc);
+        if twin != arc {
+            // A pair of full arcs is the pair with its two rooms exchanged.
+            rooms.set(if is_full { twin } else { arc }, wiring.cap(arc));
+        }
     }
     Ok(rooms)
 }
@@ -123,9 +111,10 @@ impl<'a, N: FlowNetwork> Preflow<'a, N> {
         } else {
             Vec::from_slice(alloc, source.as_slice())?
         };
+        let rooms = all_rooms(alloc, &wiring, is_full, is_narrow)?;
         let mut preflow = Preflow {
             wiring,
-            rooms: all_rooms(alloc, net, is_full, is_narrow)?,
+            rooms,
             excess,
             sink: free_sinks(alloc, net, first)?,
             source,

@@ -3,6 +3,7 @@
 ghost use Rattle.std.specs.Prelude.{◌≡◌, ◌<◌, length, IfOk};
 
 use crate::NoMemory;
+use crate::amounts::Amounts;
 use crate::preflow::Preflow;
 use flow_net::{Flow, FlowNetwork, Sequence};
 use std::alloc::Global;
@@ -47,59 +48,68 @@ impl<'a, N: FlowNetwork> Preflow<'a, N> {
         self.excess[node] = arrived - goes;
     }
 
-    /// The amount on an arc. From a fixed node goes what came to the free node, by one arc after the other.
-    fn on_arc(&mut self, arc: usize) -> u64
-        requires { arc < self.old.wiring.arcs }
-        ensures { self.new.wiring ≡ self.old.wiring }
-    {
-        let net = self.wiring.net;
-        let capacity = net.capacity(arc);
-        if net.is_paired(arc) {
-            return capacity.saturating_sub(self.rooms.get(arc));
-        }
-        let head = net.head(arc);
-        let amount = capacity.min(self.source[head]);
-        self.source[head] -= amount;
-        amount
-    }
-
-    /// The amount on each arc.
-    fn on_arcs(&mut self, alloc: Global) -> Result<Vec<u64>, NoMemory>
-        ensures amounts { IfOk result (λ amounts. length amounts.items ≡ (N.numbered self.old.wiring.net.now).arc_count) }
-        ensures wiring { self.new.wiring ≡ self.old.wiring }
-    {
-        let mut amounts = vec![in alloc; 0u64; self.wiring.arcs]?;
-        for arc in 0..self.wiring.arcs {
-            amounts[arc] = self.on_arc(arc);
-        }
-        Ok(amounts)
-    }
-
-    /// The amount at each sink: its capacity less what it still takes, and nothing where the node is fixed.
-    fn on_sinks(&self, alloc: Global) -> Result<Vec<u64>, NoMemory>
-        ensures { IfOk result (λ amounts. length amounts.items ≡ (N.numbered self.now.wiring.net.now).node_count) }
-    {
-        let net = self.wiring.net;
-        let mut amounts = vec![in alloc; 0u64; net.node_count()]?;
-        for node in 0..amounts.len() {
-            if !net.is_fixed(node) {
-                amounts[node] = net.sink(node).saturating_sub(self.sink[node]);
-            }
-        }
-        Ok(amounts)
-    }
-
     /// The amounts as a flow.
     pub fn into_flow(self, alloc: Global) -> Result<Flow, NoMemory>
         ensures arcs { IfOk result (λ flow. length flow.on_arc ≡ (N.numbered self.entry.wiring.net.now).arc_count) }
         ensures sinks { IfOk result (λ flow. length flow.on_sink ≡ (N.numbered self.entry.wiring.net.now).node_count) }
     {
-        let mut preflow = self;
-        let on_sink = preflow.on_sinks(alloc)?;
-        let on_arc = preflow.on_arcs(alloc)?;
+        // The answer takes the most memory of all, so what it is not made of is let go of before.
+        let (net, rooms, sink, source) = {
+            let Preflow {
+                wiring,
+                rooms,
+                excess: _excess,
+                sink,
+                source,
+                ..
+            } = self;
+            (wiring.net, rooms, sink, source)
+        };
+        let on_sink = on_sinks(alloc, net, &sink)?;
+        let on_arc = on_arcs(alloc, net, &rooms, source)?;
         Ok(Flow {
             on_arc: Sequence::from(on_arc),
             on_sink: Sequence::from(on_sink),
         })
     }
+}
+
+/// The amount on each arc, by how much more can flow along it. From a fixed node goes what came to the free node, by one arc after
+/// the other.
+fn on_arcs<N: FlowNetwork>(
+    alloc: Global,
+    net: &N,
+    rooms: &Amounts,
+    source: Vec<u64>,
+) -> Result<Vec<u64>, NoMemory>
+    requires { length source.items ≡ (N.numbered net.now).node_count }
+    ensures { IfOk result (λ amounts. length amounts.items ≡ (N.numbered net.now).arc_count) }
+{
+    let mut source = source;
+    let mut amounts = vec![in alloc; 0u64; net.arc_count()]?;
+    for arc in 0..net.arc_count() {
+        let capacity = net.capacity(arc);
+        if net.is_paired(arc) {
+            amounts[arc] = capacity.saturating_sub(rooms.get(arc));
+        } else if capacity > 0 {
+            let head = net.head(arc);
+            amounts[arc] = capacity.min(source[head]);
+            source[head] -= amounts[arc];
+        }
+    }
+    Ok(amounts)
+}
+
+/// The amount at each sink: its capacity less what it still takes, and nothing where the node is fixed.
+fn on_sinks<N: FlowNetwork>(alloc: Global, net: &N, room: &[u64]) -> Result<Vec<u64>, NoMemory>
+    requires { length room.now ≡ (N.numbered net.now).node_count }
+    ensures { IfOk result (λ amounts. length amounts.items ≡ (N.numbered net.now).node_count) }
+{
+    let mut amounts = vec![in alloc; 0u64; net.node_count()]?;
+    for node in 0..amounts.len() {
+        if !net.is_fixed(node) {
+            amounts[node] = net.sink(node).saturating_sub(room[node]);
+        }
+    }
+    Ok(amounts)
 }

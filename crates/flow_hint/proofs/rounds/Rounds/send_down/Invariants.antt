@@ -1,4 +1,4 @@
-use Rattle.std.proofs.Common.{◌≡◌, length}
+use Rattle.std.proofs.Common.{◌≡◌}
 use Rattle.flow_hint.proofs.rounds.Rounds.send_down.Given as goal
 
 abbrev pub invariant-loop-place : goal.invariant-loop-place

@@ -1,4 +1,4 @@
-use Rattle.std.proofs.Common.{◌≡◌, length}
+use Rattle.std.proofs.Common.{◌≡◌}
 use Rattle.flow_hint.proofs.walk.Walk.run.Given as goal
 
 abbrev pub invariant-loop-node : goal.invariant-loop-node

@@ -1,4 +1,4 @@
-use Rattle.std.proofs.Common.{◌≡◌, length}
+use Rattle.std.proofs.Common.{◌≡◌}
 use Rattle.flow_hint.proofs.walk.Walk.walk_from.Given as goal
 
 abbrev pub invariant-loop : goal.invariant-loop
