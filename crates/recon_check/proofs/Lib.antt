@@ -1,4 +1,4 @@
-pub mod Walks
+pub mod NoneStated
 pub mod Firsts
 pub mod Lists
 pub mod KeyedRows

@@ -18,7 +18,7 @@ use Rattle.std.specs.Str.{bytes_eq}
 use Rattle.std.proofs.lemmas.Slice.Eq.{bytes_eq-Decides}
 use Rattle.visibility.proofs.Indices.{not_before_itself}
 use Rattle.recon_check.specs.Claims.{is_among_rows}
-use Rattle.recon_check.proofs.Walks.{stated_says}
+use Rattle.recon_check.proofs.NoneStated.{none_stated}
 
 -- ---- what is among rows
 pub among_from : (rows : List (List ℕ)) (row : List ℕ) → Contains rows row → is_among_rows rows row ≡ true
@@ -92,7 +92,7 @@ about_one {Row} about amount rows key some = by (is_among_rows (map about rows) 
   where
     by : (b : Bool) → is_among_rows (map about rows) key ≡ b → Contains (map about rows) key
     by true e = among_means (map about rows) key e
-    by false e = absurd (some ((stated_says about amount).absent rows key (λ i l same.
+    by false e = absurd (some (none_stated about amount rows key (λ i l same.
         let there : Contains (map about rows) key = (
           i,
           omega (arith, l, length-map rows about),

@@ -49,7 +49,7 @@ use Rattle.recon_check.specs.Stated.{IsFlaggedFor, IsStatedBy}
 use Rattle.recon_check.specs.declared.answer.Reason.TheVariants.{NoSuchCell, NoSuchFacet, NoSuchSink}
 use Rattle.recon_check.specs.declared.stated.Stated.{Stated}
 use Rattle.recon_check.proofs.Lists.{among_from, among_means, stated_row}
-use Rattle.recon_check.proofs.Walks.{stated_says}
+use Rattle.recon_check.proofs.NoneStated.{none_stated}
 
 -- ---- rows and numbers
 -- the keys of what is there are those of the list, below the limit, and one key is that of one number
@@ -152,7 +152,7 @@ module _ {Row : Type 0} (about : Row → List ℕ) (amount : Row → ℕ) (rows 
           ∙ ap (stated about amount rows) (sym (get_or-map about rows k none [] m) ∙ same)
       by false e =
           unset j (no_number limit is_there key_at (map about rows) numbers h list covered below j e)
-          ∙ sym ((stated_says about amount).absent rows (key_at j) (λ i l same.
+          ∙ sym (none_stated about amount rows (key_at j) (λ i l same.
           let many = length-map rows about in
           let m : i < length (map about rows) = omega (arith, l, many) in
           false≢true (sym e ∙ among_from (map about rows) (key_at j)

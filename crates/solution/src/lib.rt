@@ -5,16 +5,14 @@
 //! numbers). `specs/Solutions` says what a solution is, over cells and directed facets alone, and `specs/Scans` what a scan
 //! shows. Whoever makes a solution and whoever checks one stand on it, and neither on the other.
 //!
-//! Of code it has what both need: the points and sights of a scan, and the cost of its least-inside labels.
+//! Of code it has what both need: the points and sights of a scan.
 //! The crate stands on `scan` and `merge` (what a scan shows, each point once), `visibility` and `flow_net` (cost and flows), `mesh_ply`
 //! and `cert_text` (what a mesh and a certificate are), and the laws of `cell_laws`.
 #![tactic(auto)]
 
-mod cost;
 mod laws;
 mod sights;
 
-pub use cost::least_cost;
 pub use laws::{least_costs_fit, solutions_differ_in_their_flows_alone};
 pub use sights::{SeenPoints, seen_in};
 use std::alloc::AllocError;

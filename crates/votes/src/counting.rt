@@ -114,21 +114,6 @@ pub fn count_votes(alloc: Global, t: &Tetra, scene: &Scene<'_>) -> Result<Counte
     ensures network { IfOk result (λ counted. IsNetworkOf (view_of scene.now) counted.voted) }
     ensures ids { IfOk result (λ counted. AreIdsOf t.now.slots counted.voted.cells counted.ids.items) }
 {
-    count_votes_watched(alloc, t, scene, &mut Silent)
-}
-
-/// The same, where a watch is told of the stage and of how many sights are counted.
-pub fn count_votes_watched<W: Watch>(
-    alloc: Global,
-    t: &Tetra,
-    scene: &Scene<'_>,
-    watch: &mut W,
-) -> Result<Counted, NoMemory>
-    requires cells { HasCellsOf t.now scene.now }
-    requires scene { IsSound scene.now }
-    ensures network { IfOk result (λ counted. IsNetworkOf (view_of scene.now) counted.voted) }
-    ensures ids { IfOk result (λ counted. AreIdsOf t.now.slots counted.voted.cells counted.ids.items) }
-{
-    let votes = counted(alloc, t, scene, watch)?;
+    let votes = counted(alloc, t, scene, &mut Silent)?;
     assemble(alloc, t, scene, &votes.store_counts())
 }

@@ -10,7 +10,7 @@ mod fixing;
 mod ordering;
 mod tally;
 
-pub use counting::{Votes, count_votes, count_votes_watched, counted};
+pub use counting::{Votes, count_votes, counted};
 use std::alloc::AllocError;
 
 /// Want of memory: the one answer that any input may get.
