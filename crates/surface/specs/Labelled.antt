@@ -7,17 +7,19 @@
 --   AreCutFacets slots inside facets          all of these, rising
 --   IsCutMesh points slots inside mesh        the mesh of these facets
 --   AreLabelsOver scene rising slots ..       the cells are those of the scene, labelled as by a test, and no fixed cell is inside
+--   OverScenes slots inside claim             the claim is true of each scene, rising complex and test that the labels are over
+--   mesh_over points scene rising test        the mesh of the scene's facets that the test cuts, among these points
 --   IsSortedCut slots outside facets          the facets, sorted, of the sides of cells with a flag whose neighbor has none
 use Rattle.std.specs.Prelude.{ℕ, ◌≡◌, ◌<◌, Bool, true, false, List, Option, Some, map, length, slice_index, AllPairs, Contains}
 use Rattle.std.specs.List.Sorted.{IsNonDecreasingBy}
 use Rattle.flow_net.specs.Nets.{flag_at}
 use Rattle.geo_sign.specs.Point.{Point}
 use Rattle.geo_sign.specs.Rising.{IsBefore}
-use Rattle.mesh_ply.specs.Meshes.{mesh_of}
+use Rattle.mesh_ply.specs.Meshes.{Surface, mesh_of}
 use Rattle.mesh_ply.specs.declared.mesh.Mesh.{Mesh}
 use Rattle.visibility.specs.Scenes.{Scene}
 use Rattle.visibility.specs.Complexes.{Complex}
-use Rattle.visibility.specs.Cuts.{IsAdmissible}
+use Rattle.visibility.specs.Cuts.{IsAdmissible, cut_facets}
 use Rattle.visibility.specs.Votes.{has_corner, IsComplexOf}
 use Rattle.tetra_store.specs.declared.link.Cell.{Cell}
 use Rattle.tetra_store.specs.Links.{links_of, IsLive}
@@ -77,6 +79,16 @@ pub record AreLabelsOver (s : Scene) (rising : Complex) (slots : List (Option Ce
   pub complex_is : IsComplexOf s rising
   pub says : SaysOfCells slots (flag_at inside) test
   pub admissible : IsAdmissible s rising test
+
+-- over each such scene, its rising complex and the test
+abbrev pub OverScenes : List (Option Cell) → List Bool → (Scene → Complex → (List ℕ → Bool) → Type 0) → Type 0
+OverScenes slots inside claim =
+    (scene : Scene) (rising : Complex) (test : List ℕ → Bool) → AreLabelsOver scene rising slots inside test
+    → claim scene rising test
+
+-- its faces are numbered by the points that they have
+abbrev pub mesh_over : List Point → Scene → Complex → (List ℕ → Bool) → Surface
+mesh_over points scene rising test = mesh_of points (cut_facets scene.vertices rising test)
 
 -- in the order of their numbers
 pub record IsSortedCut (slots : List (Option Cell)) (outside : List Bool) (facets : List (List ℕ)) : Type 0 where

@@ -1,13 +1,10 @@
 //! The mesh of labels.
 
-ghost use Rattle.std.specs.Prelude.{◌≡◌, ℕ, Bool, List, IfOk, AllPairs};
+ghost use Rattle.std.specs.Prelude.{◌≡◌, IfOk, AllPairs};
 ghost use Rattle.geo_sign.specs.Rising.{IsBefore};
-ghost use Rattle.mesh_ply.specs.Meshes.{mesh_of, IsMesh};
-ghost use Rattle.visibility.specs.Complexes.{Complex};
-ghost use Rattle.visibility.specs.Cuts.{cut_facets as cut_facets_in};
-ghost use Rattle.visibility.specs.Scenes.{Scene};
+ghost use Rattle.mesh_ply.specs.Meshes.{IsMesh};
 ghost use Rattle.surface.specs.Closed.{IsClosed};
-ghost use Rattle.surface.specs.Labelled.{AreLabelsOver, IsCutMesh, NoneHasCorner};
+ghost use Rattle.surface.specs.Labelled.{IsCutMesh, NoneHasCorner, OverScenes, mesh_over};
 
 use crate::NoMemory;
 use crate::cut::{cut_facets, outside_flags};
@@ -38,8 +35,8 @@ fn points_of(alloc: Global, t: &Tetra) -> Result<Vec<Point>, NoMemory>
 pub fn facets(alloc: Global, t: &Tetra, inside: &[bool]) -> Result<Mesh, NoMemory>
     requires { NoneHasCorner t.now.slots inside.now }
     ensures cut { IfOk result (IsCutMesh t.now.points t.now.slots inside.now) }
-    ensures points { (scene : Scene) (rising : Complex) (test : List ℕ → Bool) → AreLabelsOver scene rising t.now.slots inside.now test → IfOk result (λ mesh. mesh.points.items ≡ (mesh_of t.now.points (cut_facets_in scene.vertices rising test)).points) }
-    ensures faces { (scene : Scene) (rising : Complex) (test : List ℕ → Bool) → AreLabelsOver scene rising t.now.slots inside.now test → IfOk result (λ mesh. mesh.faces.items ≡ (mesh_of t.now.points (cut_facets_in scene.vertices rising test)).faces) }
+    ensures points { OverScenes t.now.slots inside.now (λ scene rising test. IfOk result (λ mesh. mesh.points.items ≡ (mesh_over t.now.points scene rising test).points)) }
+    ensures faces { OverScenes t.now.slots inside.now (λ scene rising test. IfOk result (λ mesh. mesh.faces.items ≡ (mesh_over t.now.points scene rising test).faces)) }
     ensures valid { IfOk result (λ mesh. IsMesh mesh.points.items mesh.faces.items) }
     ensures rising { IfOk result (λ mesh. AllPairs IsBefore mesh.faces.items) }
     ensures closed { IfOk result (λ mesh. IsClosed mesh.faces.items) }
