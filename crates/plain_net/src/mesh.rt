@@ -4,11 +4,9 @@ ghost use Rattle.std.specs.Prelude.{◌≡◌, ◌<◌, ◌≤◌, ◌++◌, IfO
 ghost use Rattle.flow_net.specs.Flows.{IsAdmissible};
 ghost use Rattle.geo_sign.specs.Vertices.{corners, boxed_vertices};
 ghost use Rattle.geo_sign.specs.Rising.{IsBefore};
-ghost use Rattle.mesh_ply.specs.Meshes.{mesh_of, IsMesh};
-ghost use Rattle.visibility.specs.Cuts.{cut_facets};
-ghost use Rattle.visibility.specs.Laws.{test_of};
-ghost use Rattle.visibility.specs.Networks.{complex_of, IsNetworkAmong};
-ghost use Rattle.plain_net.specs.CutRows.{is_cut_arc, cut_rows};
+ghost use Rattle.mesh_ply.specs.Meshes.{IsMesh};
+ghost use Rattle.visibility.specs.Networks.{IsNetworkAmong};
+ghost use Rattle.plain_net.specs.CutRows.{is_cut_arc, cut_rows, mesh_cut};
 ghost use Rattle.geo_tie.specs.declared.cells.TheConstants.{PLAIN_LIMIT};
 
 use crate::NoMemory;
@@ -81,8 +79,8 @@ pub fn plain_mesh(
     requires few { length points.now ≤ PLAIN_LIMIT }
     requires network { IsNetworkAmong (boxed_vertices points.now) voted.now }
     requires labels { IsAdmissible voted.now.net labels.now }
-    ensures points { IfOk result (λ mesh. mesh.points.items ≡ (mesh_of (corners ++ points.now) (cut_facets (boxed_vertices points.now) (complex_of voted.now) (test_of voted.now.cells labels.now.inside))).points) }
-    ensures faces { IfOk result (λ mesh. mesh.faces.items ≡ (mesh_of (corners ++ points.now) (cut_facets (boxed_vertices points.now) (complex_of voted.now) (test_of voted.now.cells labels.now.inside))).faces) }
+    ensures points { IfOk result (λ mesh. mesh.points.items ≡ (mesh_cut points.now voted.now labels.now).points) }
+    ensures faces { IfOk result (λ mesh. mesh.faces.items ≡ (mesh_cut points.now voted.now labels.now).faces) }
     ensures valid { IfOk result (λ mesh. IsMesh mesh.points.items mesh.faces.items) }
     ensures rising { IfOk result (λ mesh. AllPairs IsBefore mesh.faces.items) }
 {
