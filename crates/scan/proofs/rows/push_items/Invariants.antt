@@ -1,7 +1,7 @@
 use Rattle.std.proofs.Common.{◌≡◌, ◌≤◌, length}
-use Rattle.ply_rows.specs.Items.{items_in, items_from, HasItems}
+use Rattle.ply_rows.specs.Items.{items_from, HasItems}
 use Rattle.scan.specs.Needs.{type_of}
-use Rattle.scan.specs.Found.{scanner_named, each_of}
+use Rattle.scan.specs.Found.{scanner_named, scanners_in_list, each_of}
 use Rattle.scan.specs.ReadViews.{row_view}
 use Rattle.scan.proofs.SightSteps.{seen_behind}
 use Rattle.scan.proofs.rows.push_items.Given as goal
@@ -12,8 +12,7 @@ invariant-loop-left l = record {
       (each_of (scanner_named (row_view l.row) l.scanners)
       (items_from l.row.body.head.now.kind (type_of l.scanners.index.shape) l.row.body.bytes.now l.place l.left))
       ≡ seen_behind l.initial.seen.items l.point.row l.point.weight
-      (each_of (scanner_named (row_view l.row) l.scanners)
-      (items_in l.row.body.head.now.kind (type_of l.scanners.index.shape) l.row.body.bytes.now l.fn.field));
+      (scanners_in_list (row_view l.row) l.scanners l.fn.field);
   inside : l.place ≤ length l.row.body.bytes.now;
   there : HasItems l.row.body.head.now.kind (type_of l.scanners.index.shape) l.row.body.bytes.now l.place l.left;
 }
