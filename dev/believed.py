@@ -22,8 +22,8 @@ from report import begun
 CRATES = pathlib.Path(__file__).resolve().parent.parent / 'crates'
 PROMISES = CRATES.parent / 'docs' / 'promises.md'
 BY_DEFAULT = [
-    ('recon_cmd', 'CheckedMeshes', 'IsTextOf', 'IsBestMesh'),
-    ('recon_cmd', 'CheckedMeshes', 'IsBestOf'),
+    ('recon_cmd', 'CheckLaws', 'IsTextOf', 'IsBestMesh'),
+    ('recon_cmd', 'CheckLaws', 'IsBestOf'),
     ('recon_cmd', 'CheckLaws', 'CheckEnds'),
     ('recon_cmd', 'src/whole_run.rt', 'run'),
 ]

@@ -15,14 +15,12 @@ use Rattle.solid_query.proofs.Unique.{labels_are_unique_law}
 use Rattle.solid_query.specs.Labels.{AreLabels}
 use Rattle.solid_query.specs.Queries.{points_in}
 use Rattle.solution.specs.Scans.{points_of}
-use Rattle.recon_cmd.specs.Answers.{Answer, AskAnswer, FileTooLong, IsAsked, ScanAnswer, WritesLabels, ask_done, file_limit}
-use Rattle.recon_cmd.specs.Answers.{read_as, refusal}
+use Rattle.recon_cmd.specs.Answers.{Answer, FileTooLong, ScanAnswer, file_limit, read_as, refusal}
+use Rattle.recon_cmd.specs.Ask.{AskAnswer, IsAsked, WritesLabels, ask_done, too_long_points_line, query_refusal_line, QueryNames}
 use Rattle.recon_cmd.specs.Laws.{AskAnswerIsOne, AcceptedIsAsked, RefusedIsNotAsked, RefusesPoints}
-use Rattle.recon_cmd.specs.Lines.{too_long_points_line}
 use Rattle.recon_cmd.specs.Options.{Options}
-use Rattle.recon_cmd.specs.Outcome.{EndsWith, FaultsFit, StatusFits, Tells}
-use Rattle.recon_cmd.specs.QueryLines.{query_refusal_line}
-use Rattle.recon_cmd.specs.Words.{QueryNames, ask}
+use Rattle.recon_cmd.specs.Commands.{EndsWith, StatusFits, Tells, ask}
+use Rattle.recon_cmd.specs.Outcome.{FaultsFit}
 use Rattle.recon_cmd.specs.declared.status.Status.{Status}
 use Rattle.recon_cmd.specs.declared.status.Status.TheVariants.{Done, No, BadWords, Refused, Failed, NoMemory}
 use Rattle.recon_cmd.proofs.Completeness.{WhyUnread, not_unread, told_then, unread_not_done, why_unread}

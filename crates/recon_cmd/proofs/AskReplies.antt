@@ -1,6 +1,6 @@
 -- The answer of `ask` to what it reads behind the scan.
-use Rattle.std.proofs.Common.{◌≡◌, ◌⊎◌, inl, inr, ℕ, ◌+◌, ◌≤◌, List, [], ◌∷◌, length, count_by, Bool, Option, Some, None, IfSome}
-use Rattle.std.proofs.Common.{sym, ap, subst, ◌∙◌, arith, false}
+use Rattle.std.proofs.Common.{◌≡◌, ◌⊎◌, inl, inr, ℕ, ◌+◌, ◌≤◌, List, [], ◌∷◌, length, count_by, Bool, Option, Some, None, IfSome, sym, ap}
+use Rattle.std.proofs.Common.{subst, ◌∙◌, arith, false}
 use Rattle.flow_net.specs.declared.votes.Settings.{Settings}
 use Rattle.geo_sign.specs.Point.{Point}
 use Rattle.host.specs.State.{State, Told, Files}
@@ -11,24 +11,20 @@ use Rattle.solid_query.specs.Queries.{points_in, Fails}
 use Rattle.solid_query.specs.declared.refusal.QueryRefusal.{QueryRefusal}
 use Rattle.solid_query.specs.declared.refusal.QueryRefusal.TheVariants as queries
 use Rattle.solution.specs.Scans.{points_of}
-use Rattle.recon_cmd.specs.Answers.{Answer, AskAnswer, FileTooLong, IsAsked, PointsRefused, WritesLabels, Write}
-use Rattle.recon_cmd.specs.Answers.{file_limit, refusal}
-use Rattle.recon_cmd.specs.Checking.{IsReplyOf, ReadsOn}
-use Rattle.recon_cmd.specs.Lines.{too_long_points_line}
+use Rattle.recon_cmd.specs.Answers.{Answer, FileTooLong, Write, MayEnd, file_limit, refusal}
+use Rattle.recon_cmd.specs.Ask.{AskAnswer, IsAsked, PointsRefused, WritesLabels, ask_task, too_long_points_line, ask_line, labels_text}
+use Rattle.recon_cmd.specs.Ask.{query_refusal_line, QueryNames}
+use Rattle.recon_cmd.specs.Steps.{IsReplyOf, ReadsOn, IsAnswered}
 use Rattle.recon_cmd.specs.Options.{Options}
-use Rattle.recon_cmd.specs.Outcome.{StatusFits}
-use Rattle.recon_cmd.specs.QueryLines.{ask_line, labels_text, query_refusal_line}
 use Rattle.recon_cmd.specs.Replies.{answer_of}
-use Rattle.recon_cmd.specs.Steps.{IsAnswered}
-use Rattle.recon_cmd.specs.Words.{QueryNames, ask}
-use Rattle.recon_cmd.specs.declared.answer.Reply.{Reply}
+use Rattle.recon_cmd.specs.declared.reply.Reply.{Reply}
 use Rattle.recon_cmd.specs.declared.status.Status.{Status}
 use Rattle.recon_cmd.specs.declared.status.Status.TheVariants.{Done, Refused}
 use Rattle.recon_cmd.proofs.ScanBehind.{Answers, ReadsScanFirst}
 
 -- `ask` reads a scan first
 pub ask_first : (names : QueryNames) (options : Options)
-    → ReadsScanFirst (ask names options) names.input options (λ files _. AskAnswer names options files)
+    → ReadsScanFirst (ask_task names options) names.input options (λ files _. AskAnswer names options files)
 ask_first names options =
     record { unpack = λ files answer answers. answers; pack = λ files answer answers. answers; may_refuse = tt }
 
@@ -73,10 +69,10 @@ points_reads names options scan before after closed only =
 pub points_reply : (names : QueryNames) (options : Options) (scan : Shown) (bytes : List ℕ) (reply : Reply) (before : State)
     → IfSome before.told (λ told. told.files names.points ≡ Some bytes)
     → IsAsked names.output options scan bytes (answer_of 2 reply)
-    → IsReplyOf (ask names options) (ToPoints names options scan) reply before
+    → IsReplyOf (ask_task names options) (ToPoints names options scan) reply before
 points_reply names options scan bytes reply before there asked =
     record {
-      fits = with_status (λ s. StatusFits s (Some (ask names options))) tt tt;
+      fits = with_status (λ s. MayEnd (ask_task names options) s) tt tt;
       answered = with_status IsAnswered tt tt;
       answers = by_cases before.told there;
     }

@@ -1,7 +1,7 @@
 -- What `ask` writes, where `check` says yes of a certificate. The mesh and the certificate are then a solution of the scan.
 -- `ask` writes the labels of the same scan at the same weights, and labels agree with the inside cells of each solution.
-use Rattle.std.proofs.Common.{◌≡◌, ◌⊎◌, inl, inr, ◌<◌, ◌↔◌, ℕ, Bool, true, false, List, length, get_or, Option, Some, None, IfSome, Ok, refl, sym}
-use Rattle.std.proofs.Common.{ap, subst, ◌∙◌, arith}
+use Rattle.std.proofs.Common.{◌≡◌, ◌⊎◌, inl, inr, ◌<◌, ◌↔◌, ℕ, Bool, true, false, List, length, get_or, Option, Some, None, IfSome, Ok}
+use Rattle.std.proofs.Common.{refl, sym, ap, subst, ◌∙◌, arith}
 use Rattle.std.specs.Option.{IsSomeAnd}
 use Rattle.std.proofs.lemmas.List.{ext_get_or}
 use Rattle.cert_text.specs.Certificates.{Claim, IsWellFormed}
@@ -17,15 +17,13 @@ use Rattle.scan.specs.Shown.{Shown}
 use Rattle.solid_query.proofs.Unique.{labels_are_certified_law}
 use Rattle.solid_query.specs.Labels.{AreLabels}
 use Rattle.solid_query.specs.Laws.{HasPoint}
-use Rattle.recon_cmd.specs.Answers.{Answer, AskAnswer, FileTooLong, IsAsked, PointsAnswered, ScanAnswer, WritesLabels, read_as}
-use Rattle.recon_cmd.specs.CheckLaws.{CheckEnds, IsSolvedAt}
-use Rattle.recon_cmd.specs.CheckedLabels.{AreReadOff, CheckedIsAsked, ReadOffIsOne}
-use Rattle.recon_cmd.specs.Lines.{too_long_points_line}
+use Rattle.recon_cmd.specs.Answers.{Answer, FileTooLong, ScanAnswer, read_as}
+use Rattle.recon_cmd.specs.Ask.{AskAnswer, IsAsked, PointsAnswered, WritesLabels, too_long_points_line, labels_text, QueryNames}
+use Rattle.recon_cmd.specs.CheckLaws.{CheckEnds, IsSolvedAt, AreReadOff, CheckedIsAsked, ReadOffIsOne}
 use Rattle.recon_cmd.specs.Options.{Options}
-use Rattle.recon_cmd.specs.Outcome.{EndsWith, Tells, all_written}
-use Rattle.recon_cmd.specs.QueryLines.{labels_text}
+use Rattle.recon_cmd.specs.Commands.{EndsWith, Tells, ask}
+use Rattle.recon_cmd.specs.Outcome.{all_written}
 use Rattle.recon_cmd.specs.Stamps.{stamp_for}
-use Rattle.recon_cmd.specs.Words.{QueryNames, ask}
 use Rattle.recon_cmd.specs.declared.status.Status.TheVariants.{Done, Refused}
 use Rattle.recon_cmd.proofs.CheckEnds.{check_is_exact}
 use Rattle.recon_cmd.proofs.Completeness.{unread_not_done}

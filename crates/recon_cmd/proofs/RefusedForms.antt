@@ -5,10 +5,10 @@ use Rattle.host.specs.State.{State}
 use Rattle.mesh_form.specs.Received.{Received}
 use Rattle.mesh_ply.specs.Meshes.{Surface}
 use Rattle.scan.specs.Shown.{Shown}
-use Rattle.recon_cmd.specs.Exports.{FormsHandOut}
+use Rattle.recon_cmd.specs.Export.{FormsHandOut}
 use Rattle.recon_cmd.specs.Status.{code_of}
 use Rattle.recon_cmd.specs.Steps.{CarriesOut}
-use Rattle.recon_cmd.specs.Sweeps.{SweepAsked, SweepHandOut, sweep_line}
+use Rattle.recon_cmd.specs.Sweep.{SweepAsked, SweepHandOut, sweep_line}
 use Rattle.recon_cmd.specs.declared.status.Status.{Status}
 use Rattle.recon_cmd.specs.declared.status.Status.TheVariants.{Done, No, BadWords, Refused, Failed, NoMemory}
 

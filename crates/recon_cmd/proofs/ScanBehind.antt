@@ -5,23 +5,20 @@
 -- (others_to_scan, scan_to_others). Reading the scan has changed no file, so what is answered behind it holds from the
 -- beginning (reply_behind), and the files that are read behind it are one fewer than in all (reads_behind). The scan's own
 -- refusal, and a file that is too long, are answers of the whole (refused_first, too_long).
-use Rattle.std.proofs.Common.{◌≡◌, inl, inr, ℕ, ◌+◌, ◌≤◌, ◌<◌, List, [], length, Option, Some, None, IfSome, Result, Ok, Err, IfOk}
-use Rattle.std.proofs.Common.{refl, sym, ap, subst, ◌∙◌, arith, unwrap_or}
+use Rattle.std.proofs.Common.{◌≡◌, inl, inr, ℕ, ◌+◌, ◌≤◌, ◌<◌, List, [], length, Option, Some, None, IfSome, Result, Ok, Err, IfOk, refl}
+use Rattle.std.proofs.Common.{sym, ap, subst, ◌∙◌, arith, unwrap_or}
 use Rattle.host.specs.State.{State, Told, Files, file_bytes}
 use Rattle.host.specs.Whole.{OnlyReads, apart_from_left}
 use Rattle.scan.specs.Shown.{Shown}
 use Rattle.scan.specs.Views.{shown_of}
 use Rattle.scan.specs.declared.scan.Scan.{Scan}
-use Rattle.recon_cmd.specs.Answers.{Answer, AnswerOf, FileTooLong, IsUnread, ScanAnswer, file_limit, most_reads, refusal}
-use Rattle.recon_cmd.specs.Checking.{IsReplyOf, ReadsOn}
+use Rattle.recon_cmd.specs.Answers.{Answer, FileTooLong, IsUnread, ScanAnswer, file_limit, refusal, Task, MayEnd}
+use Rattle.recon_cmd.specs.Steps.{IsReplyOf, ReadsOn, Bytes, IsAnswered, IsReading, IsReplied, ReadsFor}
 use Rattle.recon_cmd.specs.Options.{Options}
-use Rattle.recon_cmd.specs.Outcome.{StatusFits}
 use Rattle.recon_cmd.specs.Replies.{answer_of, line_bytes}
-use Rattle.recon_cmd.specs.Steps.{Bytes, IsAnswered, IsReading, IsReplied, ReadsFor}
-use Rattle.recon_cmd.specs.Words.{Asked}
-use Rattle.recon_cmd.specs.declared.answer.Line.{Line}
-use Rattle.recon_cmd.specs.declared.answer.Reply.{Reply}
-use Rattle.recon_cmd.specs.declared.answer.reading.Reading.TheVariants as readings
+use Rattle.recon_cmd.specs.declared.reply.Line.{Line}
+use Rattle.recon_cmd.specs.declared.reply.Reply.{Reply}
+use Rattle.recon_cmd.specs.declared.whole_run.reading.Reading.TheVariants as readings
 use Rattle.recon_cmd.specs.declared.status.Status.{Status}
 use Rattle.recon_cmd.specs.declared.status.Status.TheVariants.{Refused}
 use Rattle.recon_cmd.proofs.Outcomes.{same_told}
@@ -35,9 +32,9 @@ abbrev pub Within : Answers → Answers → Option Told → Type 0
 Within A B o = IfSome o (λ (told : Told). (answer : Answer) → A told.files answer → B told.files answer)
 
 -- one file was read, and then others: the reply
-pub reply_behind : (asked : Asked) (A B : Answers) (reply : Reply) (before mid : State)
-    → OnlyReads before mid → Within A B before.told → IsReplyOf asked A reply mid → IsReplyOf asked B reply before
-reply_behind asked A B reply before mid only each is =
+pub reply_behind : (task : Task) (A B : Answers) (reply : Reply) (before mid : State)
+    → OnlyReads before mid → Within A B before.told → IsReplyOf task A reply mid → IsReplyOf task B reply before
+reply_behind task A B reply before mid only each is =
     record { fits = is.fits; answered = is.answered; answers = by_cases before.told mid.told only.told each is.answers }
   where
     by_cases : (b m : Option Told) → apart_from_left m ≡ apart_from_left b → Within A B b
@@ -52,22 +49,22 @@ reply_behind asked A B reply before mid only each is =
     )
 
 -- and where there may be no reply
-pub result_behind : {E : Type 0} (asked : Asked) (A B : Answers) (result : Result Reply E) (before mid : State)
-    → OnlyReads before mid → Within A B before.told → IfOk result (λ reply. IsReplyOf asked A reply mid)
-    → IfOk result (λ reply. IsReplyOf asked B reply before)
-result_behind asked A B (Err e) before mid only each is = tt
-result_behind asked A B (Ok reply) before mid only each is = reply_behind asked A B reply before mid only each is
+pub result_behind : {E : Type 0} (task : Task) (A B : Answers) (result : Result Reply E) (before mid : State)
+    → OnlyReads before mid → Within A B before.told → IfOk result (λ reply. IsReplyOf task A reply mid)
+    → IfOk result (λ reply. IsReplyOf task B reply before)
+result_behind task A B (Err e) before mid only each is = tt
+result_behind task A B (Ok reply) before mid only each is = reply_behind task A B reply before mid only each is
 
 -- a file behind the scan is longer than the limit
-pub too_long : (asked : Asked) (A : Answers) (name line : List ℕ) (reads : ℕ) (reply : Reply) (before : State)
-    → StatusFits Refused (Some asked) → answer_of reads reply ≡ refusal reads line
+pub too_long : (task : Task) (A : Answers) (name line : List ℕ) (reads : ℕ) (reply : Reply) (before : State)
+    → MayEnd task Refused → answer_of reads reply ≡ refusal reads line
     → IfSome before.told (λ told. file_limit < length (file_bytes told.files name))
     → ((files : Files) (bytes : List ℕ) → files name ≡ Some bytes → FileTooLong reads line bytes (answer_of reads reply)
     → A files (answer_of reads reply))
-    → IsReplyOf asked A reply before
-too_long asked A name line reads reply before may is longer each =
+    → IsReplyOf task A reply before
+too_long task A name line reads reply before may is longer each =
     record {
-      fits = subst (λ (s : Status). StatusFits s (Some asked)) (sym (ap (λ (a : Answer). a.status) is)) may;
+      fits = subst (λ (s : Status). MayEnd task s) (sym (ap (λ (a : Answer). a.status) is)) may;
       answered = subst IsAnswered (sym (ap (λ (a : Answer). a.status) is)) tt;
       answers = by_cases before.told longer;
     }
@@ -87,22 +84,22 @@ abbrev pub Others : Type 1
 Others = Files → (bytes : List ℕ) → Shown → Answer → Type 0
 
 -- a command that reads a scan first
-pub record ReadsScanFirst (asked : Asked) (input : List ℕ) (options : Options) (A : Others) : Type 0 where
-  pub unpack : (files : Files) (answer : Answer) → AnswerOf (Some asked) files answer
+pub record ReadsScanFirst (task : Task) (input : List ℕ) (options : Options) (A : Others) : Type 0 where
+  pub unpack : (files : Files) (answer : Answer) → task.Answers files answer
       → (bytes : List ℕ) × (files input ≡ Some bytes) × ScanAnswer options (A files) bytes answer
   pub pack : (files : Files) (answer : Answer)
       → (bytes : List ℕ) × (files input ≡ Some bytes) × ScanAnswer options (A files) bytes answer
-      → AnswerOf (Some asked) files answer
-  pub may_refuse : StatusFits Refused (Some asked)
+      → task.Answers files answer
+  pub may_refuse : MayEnd task Refused
 
-module _ (asked : Asked) (input : List ℕ) (options : Options) (A : Others)
-    (first : ReadsScanFirst asked input options A) where
+module _ (task : Task) (input : List ℕ) (options : Options) (A : Others)
+    (first : ReadsScanFirst task input options A) where
   -- what is answered where the bytes of the scan's file are these
   abbrev pub Behind : Scan → Bytes → Answers
   Behind scan held files answer = A files held.items (shown_of scan) answer
 
   others_to_scan : (scan : Scan) (held : Bytes) (o : Option Told)
-      → IfSome o (IsReading input options (readings.Scan scan held)) → Within (Behind scan held) (AnswerOf (Some asked)) o
+      → IfSome o (IsReading input options (readings.Scan scan held)) → Within (Behind scan held) task.Answers o
   others_to_scan scan held None reading = tt
   others_to_scan scan held (Some told) (bytes, there, (same, within, read)) = λ answer is.
       first.pack told.files answer (
@@ -118,7 +115,7 @@ module _ (asked : Asked) (input : List ℕ) (options : Options) (A : Others)
 
   -- where the scan is there and understood, the others decide
   scan_to_others : (scan : Scan) (held : Bytes) (o : Option Told)
-      → IfSome o (IsReading input options (readings.Scan scan held)) → Within (AnswerOf (Some asked)) (Behind scan held) o
+      → IfSome o (IsReading input options (readings.Scan scan held)) → Within task.Answers (Behind scan held) o
   scan_to_others scan held None reading = tt
   scan_to_others scan held (Some told) (bytes, there, (same, within, read)) = λ answer answers.
       let z = first.unpack told.files answer answers in
@@ -135,9 +132,9 @@ module _ (asked : Asked) (input : List ℕ) (options : Options) (A : Others)
           (subst (λ (s : Shown). A told.files others s answer) rows answered.answers)
 
   -- the scan was read, and then the others
-  pub reads_behind : (scan : Scan) (held : Bytes) (most : ℕ) (before mid after : State) → most + 1 ≤ most_reads (Some asked)
+  pub reads_behind : (scan : Scan) (held : Bytes) (most : ℕ) (before mid after : State) → most + 1 ≤ task.most
       → OnlyReads before mid → IfSome before.told (IsReading input options (readings.Scan scan held))
-      → ReadsOn 1 most (Behind scan held) mid after → ReadsFor (Some asked) before after
+      → ReadsOn 1 most (Behind scan held) mid after → ReadsFor task before after
   reads_behind scan held most before mid after few only reading reads =
       record {
         told = reads.told ∙ only.told;
@@ -148,10 +145,10 @@ module _ (asked : Asked) (input : List ℕ) (options : Options) (A : Others)
       }
     where
       by_cases : (b m : Option Told) → apart_from_left m ≡ apart_from_left b
-          → Within (AnswerOf (Some asked)) (Behind scan held) b
+          → Within task.Answers (Behind scan held) b
           → IfSome m (λ told. (answer : Answer) → Behind scan held told.files answer → after.opens + 1 ≤ mid.opens + answer.reads)
           → IfSome b
-          (λ told. (answer : Answer) → AnswerOf (Some asked) told.files answer → after.opens ≤ before.opens + answer.reads)
+          (λ told. (answer : Answer) → task.Answers told.files answer → after.opens ≤ before.opens + answer.reads)
       by_cases None m same within no_more = tt
       by_cases (Some old) None same within no_more = cc
       by_cases (Some old) (Some now) same within no_more = λ answer answers.
@@ -163,27 +160,27 @@ module _ (asked : Asked) (input : List ℕ) (options : Options) (A : Others)
   -- and the whole reply
   pub replied_behind : {E : Type 0} (scan : Scan) (held : Bytes) (result : Result Reply E) (before mid : State)
       → OnlyReads before mid → IfSome before.told (IsReading input options (readings.Scan scan held))
-      → IfOk result (λ reply. IsReplyOf asked (Behind scan held) reply mid)
-      → IfOk result (λ reply. IsReplied asked reply before)
+      → IfOk result (λ reply. IsReplyOf task (Behind scan held) reply mid)
+      → IfOk result (λ reply. IsReplied task reply before)
   replied_behind scan held (Err e) before mid only reading is = tt
   replied_behind scan held (Ok reply) before mid only reading is =
       let whole =
-      reply_behind asked (Behind scan held) (AnswerOf (Some asked)) reply before mid only
+      reply_behind task (Behind scan held) task.Answers reply before mid only
       (others_to_scan scan held before.told reading) is in
       record { fits = whole.fits; answered = whole.answered; answers = whole.answers }
 
   -- the scan's file is refused
   pub refused_first : (line : Line) (reply : Reply) (before : State) → answer_of 1 reply ≡ refusal 1 (line_bytes line)
-      → IfSome before.told (IsReading input options (readings.Refused line)) → IsReplied asked reply before
+      → IfSome before.told (IsReading input options (readings.Refused line)) → IsReplied task reply before
   refused_first line reply before is read =
       record {
-        fits = subst (λ (s : Status). StatusFits s (Some asked)) (sym (ap (λ (a : Answer). a.status) is)) first.may_refuse;
+        fits = subst (λ (s : Status). MayEnd task s) (sym (ap (λ (a : Answer). a.status) is)) first.may_refuse;
         answered = subst IsAnswered (sym (ap (λ (a : Answer). a.status) is)) tt;
         answers = by_cases before.told read;
       }
     where
       by_cases : (o : Option Told) → IfSome o (IsReading input options (readings.Refused line))
-          → IfSome o (λ told. (reads : ℕ) × AnswerOf (Some asked) told.files (answer_of reads reply))
+          → IfSome o (λ told. (reads : ℕ) × task.Answers told.files (answer_of reads reply))
       by_cases None reading = tt
       by_cases (Some told) (bytes, there, unread) = (
         1,

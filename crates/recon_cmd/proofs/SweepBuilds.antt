@@ -14,17 +14,16 @@ use Rattle.solution.specs.Scans.{points_of}
 use Rattle.sweep.proofs.FreshBuilds.{fresh_build_law, one_cost, one_surface}
 use Rattle.sweep.specs.Entries.{AreWeights, CostsAt, CostsLeast, Given, HasEntry, HaveEntries, IsSurfaceAt, IsSurfaceOf, given_by}
 use Rattle.sweep.specs.Entries.{given_scene, smoothing_of}
-use Rattle.recon_cmd.specs.Answers.{Answer, ScanAnswer, WritesSurface, file_limit, read_as}
+use Rattle.recon_cmd.specs.Answers.{Answer, ScanAnswer, file_limit, read_as, ToScan}
+use Rattle.recon_cmd.specs.Build.{WritesSurface}
 use Rattle.recon_cmd.specs.Laws.{texts_by}
-use Rattle.recon_cmd.specs.SweepLaws.{AreBuilt, Builds, EntriesAreBuilt, HasBuiltCost, HasBuiltMesh, SweepAnswerIsOne}
-use Rattle.recon_cmd.specs.SweepLaws.{entry_options}
-use Rattle.recon_cmd.specs.Sweeps.{SweepAsked, WritesSweep, sweep_line}
+use Rattle.recon_cmd.specs.SweepLaws.{AreBuilt, Builds, EntriesAreBuilt, HasBuiltCost, HasBuiltMesh, SweepAnswerIsOne, entry_options}
+use Rattle.recon_cmd.specs.Sweep.{SweepAsked, WritesSweep, sweep_line}
 use Rattle.recon_cmd.specs.Words.{SurfaceNames}
 use Rattle.recon_cmd.specs.declared.status.Status.TheVariants.{Done}
 use Rattle.recon_cmd.proofs.Completeness.{not_unread, unread_not_done, why_unread}
 use Rattle.recon_cmd.proofs.OneAnswer.{same_settings, unread_one}
 use Rattle.recon_cmd.proofs.OneMeshAnswer.{all_of, has_all}
-use Rattle.recon_cmd.proofs.ScanReplies.{ToFiles}
 
 -- ---- one surface and one cost at weights
 weighed : (a b : Settings) (vote smooth : ℕ) → AreWeights a vote smooth → AreWeights b vote smooth → b ≡ a
@@ -151,7 +150,7 @@ writes_of asked k names files built bytes scan has within read builds = by_answe
         let same : answered.scan ≡ scan = cc (answered.read, read) in
         subst (λ (s : Shown). WritesSurface names (entry_options asked k) bytes s built) same answered.answers
 
-    by_answer : ToFiles names.input (entry_options asked k) (WritesSurface names (entry_options asked k)) files built
+    by_answer : ToScan names.input (entry_options asked k) (WritesSurface names (entry_options asked k)) files built
         → WritesSurface names (entry_options asked k) bytes scan built
     by_answer (found, there, answers) =
         let same : found ≡ bytes = cc (there, has, ap files builds.input) in

@@ -4,11 +4,10 @@ use Rattle.host.specs.Counts.{Rose}
 use Rattle.host.specs.State.{State, Told}
 use Rattle.mesh_form.specs.Received.{Received}
 use Rattle.scan.specs.Shown.{Shown}
-use Rattle.recon_cmd.specs.Answers.{Answer, ScanAnswer, file_limit, read_as}
-use Rattle.recon_cmd.specs.Exports.{ExportFits}
+use Rattle.recon_cmd.specs.Answers.{Answer, ScanAnswer, file_limit, read_as, MayRefuse}
 use Rattle.recon_cmd.specs.Outcome.{EndsBy, FaultsFit, TellsBy}
 use Rattle.recon_cmd.specs.SweepLaws.{AcceptedIsSwept, RefusedIsNotSwept}
-use Rattle.recon_cmd.specs.Sweeps.{SweepAnswer, SweepAsked, WritesSweep}
+use Rattle.recon_cmd.specs.Sweep.{SweepAnswer, SweepAsked, WritesSweep}
 use Rattle.recon_cmd.specs.declared.status.Status.{Status}
 use Rattle.recon_cmd.specs.declared.status.Status.TheVariants.{Done, No, BadWords, Refused, Failed, NoMemory}
 use Rattle.recon_cmd.proofs.Completeness.{WhyUnread, not_unread, told_where, unread_not_done, why_unread}
@@ -54,7 +53,7 @@ accepted_is_swept = λ asked bytes scan status before after old new texts runs w
   where
     by_status : (asked : SweepAsked) (bytes : List ℕ) (scan : Shown) (status : Status) (before after : State)
         (forms : List Received) (texts : List (List ℕ)) → length bytes ≤ file_limit → read_as asked.options bytes ≡ Ok scan
-        → (told : Told) → told.files asked.input ≡ Some bytes → ¬ Rose before.faults after.faults → ExportFits status
+        → (told : Told) → told.files asked.input ≡ Some bytes → ¬ Rose before.faults after.faults → MayRefuse status
         → FaultsFit status before.faults after.faults
         → (now : Told) × TellsBy (SweepAnswer asked forms texts) status told now → (status ≡ Done) ⊎ (status ≡ NoMemory)
     by_status asked bytes scan Done before after forms texts within read told has none fits faults tells = inl refl
@@ -75,7 +74,7 @@ refused_is_not_swept = λ asked bytes status before after old new texts runs why
   where
     by_status : (asked : SweepAsked) (bytes : List ℕ) (status : Status) (before after : State)
         (forms : List Received) (texts : List (List ℕ)) → WhyUnread asked.options bytes
-        → (told : Told) → told.files asked.input ≡ Some bytes → ¬ Rose before.faults after.faults → ExportFits status
+        → (told : Told) → told.files asked.input ≡ Some bytes → ¬ Rose before.faults after.faults → MayRefuse status
         → FaultsFit status before.faults after.faults
         → (now : Told) × TellsBy (SweepAnswer asked forms texts) status told now → (status ≡ Refused) ⊎ (status ≡ NoMemory)
     by_status asked bytes Done before after forms texts why told has none fits faults (now, tells) =

@@ -6,8 +6,8 @@
 -- texts are carried out (handed), or a call fails on that way, or memory ends before all of them are handed out, and the
 -- forms hold fronts. What is true of files, faults and what was said comes from the lemmas for any run (failed_by,
 -- starved_by, obeyed_by).
-use Rattle.std.proofs.Common.{◌≡◌, inl, inr, ℕ, ◌+◌, ◌≤◌, ◌-◌, List, [], length, Option, Some, None, IfSome, Ok, false}
-use Rattle.std.proofs.Common.{refl, sym, ap, subst, ◌∙◌, arith, map, string_bytes}
+use Rattle.std.proofs.Common.{◌≡◌, inl, inr, ℕ, ◌+◌, ◌≤◌, ◌-◌, List, [], length, Option, Some, None, IfSome, Ok, false, refl, sym, ap}
+use Rattle.std.proofs.Common.{subst, ◌∙◌, arith, map, string_bytes}
 use Rattle.std.proofs.lemmas.List.{length-map}
 use Rattle.std.specs.List.{zip}
 use Rattle.host.specs.Counts.{Rose}
@@ -19,15 +19,14 @@ use Rattle.scan.specs.Views.{shown_of}
 use Rattle.scan.specs.declared.scan.Scan.{Scan}
 use Rattle.sweep.proofs.Handings.{fronts_of_entries}
 use Rattle.sweep.specs.Entries.{CostsAt, HaveEntries, given_by, smoothing_of}
-use Rattle.recon_cmd.specs.Answers.{Answer, read_as}
-use Rattle.recon_cmd.specs.Exports.{ExportFits}
+use Rattle.recon_cmd.specs.Answers.{Answer, read_as, MayRefuse}
 use Rattle.recon_cmd.specs.Replies.{line_bytes}
 use Rattle.recon_cmd.specs.Steps.{Bytes, CarriesOut, IsReading, ReadsBy}
-use Rattle.recon_cmd.specs.Sweeps.{IsFileOfScan, SweepAnswer, SweepAsked, SweepFormsAfter, SweepHandOut}
-use Rattle.recon_cmd.specs.Sweeps.{SweepOutcome, WritesSweep, sweep_asked, sweep_line}
-use Rattle.recon_cmd.specs.declared.words.sweeping.SweepWords.{SweepWords}
-use Rattle.recon_cmd.specs.declared.answer.Line.{Line}
-use Rattle.recon_cmd.specs.declared.answer.reading.Reading.TheVariants as readings
+use Rattle.recon_cmd.specs.Sweep.{IsFileOfScan, SweepAnswer, SweepAsked, SweepFormsAfter, SweepHandOut, SweepOutcome, WritesSweep}
+use Rattle.recon_cmd.specs.Sweep.{sweep_asked, sweep_line}
+use Rattle.recon_cmd.specs.declared.commands.sweeping.SweepWords.{SweepWords}
+use Rattle.recon_cmd.specs.declared.reply.Line.{Line}
+use Rattle.recon_cmd.specs.declared.whole_run.reading.Reading.TheVariants as readings
 use Rattle.recon_cmd.specs.declared.status.Status.{Status}
 use Rattle.recon_cmd.specs.declared.status.Status.TheVariants.{Done, Refused, Failed, NoMemory}
 use Rattle.recon_cmd.proofs.Outcomes.{failed_by, obeyed_by, starved_by}
@@ -135,7 +134,7 @@ pub swept_failed : (asked : SweepAsked) (before after : State) (old : List Recei
     → SweepOutcome asked Failed before after old old texts
 swept_failed asked before after old texts closed only rose =
     record {
-      run = failed_by ExportFits 1 (SweepAnswer asked old texts) before after tt
+      run = failed_by MayRefuse 1 (SweepAnswer asked old texts) before after tt
           (sweep_reads asked old texts before after closed only) rose;
       forms = inl refl;
     }
@@ -146,7 +145,7 @@ pub swept_starved : (asked : SweepAsked) (before after : State) (old : List Rece
     → SweepOutcome asked NoMemory before after old old texts
 swept_starved asked before after old texts closed only same =
     record {
-      run = starved_by ExportFits 1 (SweepAnswer asked old texts) before after tt
+      run = starved_by MayRefuse 1 (SweepAnswer asked old texts) before after tt
           (sweep_reads asked old texts before after closed only) same;
       forms = inl refl;
     }
@@ -158,7 +157,7 @@ pub swept_refused : (asked : SweepAsked) (line : Line) (result : Status) (before
     → CarriesOut [] (line_bytes line) Refused result mid after → SweepOutcome asked result before after old old texts
 swept_refused asked line result before mid after old texts closed only same read carried =
     record {
-      run = obeyed_by ExportFits 1 (SweepAnswer asked old texts) Refused [] (line_bytes line) result before mid after tt tt tt
+      run = obeyed_by MayRefuse 1 (SweepAnswer asked old texts) Refused [] (line_bytes line) result before mid after tt tt tt
           (refused_scan asked old texts line before.told read) (sweep_reads asked old texts before mid closed only) same carried;
       forms = by carried;
     }
@@ -174,14 +173,14 @@ pub swept : (asked : SweepAsked) (scan : Scan) (held : Bytes) (result : Status) 
     → SweepHandOut asked (shown_of scan) result mid after new texts → SweepOutcome asked result before after old new texts
 swept asked scan held result before mid after old new texts closed only same read (inl (is, fronts, still)) =
     subst (λ (s : Status). SweepOutcome asked s before after old new texts) (sym is) (record {
-      run = starved_by ExportFits 1 (SweepAnswer asked new texts) before after tt
+      run = starved_by MayRefuse 1 (SweepAnswer asked new texts) before after tt
           (subst (λ (s : State). ReadsBy 1 (SweepAnswer asked new texts) before s) (sym still)
           (sweep_reads asked new texts before mid closed only)) (ap (λ (s : State). s.faults) still ∙ same);
       forms = inr (shown_of scan, file_of asked scan held before read, fronts);
     })
 swept asked scan held result before mid after old new texts closed only same read (inr carries) =
     record {
-      run = obeyed_by ExportFits 1 (SweepAnswer asked new texts) Done (zip asked.outputs texts) line result before mid after tt
+      run = obeyed_by MayRefuse 1 (SweepAnswer asked new texts) Done (zip asked.outputs texts) line result before mid after tt
           tt tt
           (answered_scan asked new texts scan held answer before.told
           (record {

@@ -3,16 +3,16 @@
 -- Both commands are told by the first word, so words of one are none of the other (no_sweep, no_export). The code looks at
 -- the words behind the first in order, and each step is a lemma: too few (too_few), the scan and the three numbers (sweep_at),
 -- and behind them the outputs' names with options, beside which the scan's must be another (behind_none, behind_some).
-use Rattle.std.proofs.Common.{◌≡◌, ℕ, ◌-◌, ◌<◌, ◌≤◌, ◌==◌, Bool, true, false, cond, List, [], ◌∷◌, Option, Some, None}
-use Rattle.std.proofs.Common.{codes, length, map, take, drop, get_or, refl, sym, ap, subst, ◌∙◌, arith, eq-eqb, ne_eqb, nat_le, le-leb, leb-true, ◌&&◌}
+use Rattle.std.proofs.Common.{◌≡◌, ℕ, ◌-◌, ◌<◌, ◌≤◌, ◌==◌, Bool, true, false, cond, List, [], ◌∷◌, Option, Some, None, codes, length, map}
+use Rattle.std.proofs.Common.{take, drop, get_or, refl, sym, ap, subst, ◌∙◌, arith, eq-eqb, ne_eqb, nat_le, le-leb, leb-true, ◌&&◌}
 use Rattle.std.specs.Str.{bytes_eq}
 use Rattle.std.proofs.lemmas.List.{take_rest}
 use Rattle.flow_net.specs.declared.votes.TheConstants.{WEIGHT_LIMIT}
 use Rattle.ply_head.specs.Optional.{◌>>=◌}
 use Rattle.sweep.specs.Entries.{smoothing_of}
-use Rattle.recon_cmd.specs.Exports.{export_behind, export_of}
+use Rattle.recon_cmd.specs.Export.{export_behind, export_of}
 use Rattle.recon_cmd.specs.Options.{number_between, number_of_digits, within}
-use Rattle.recon_cmd.specs.Sweeps.{SweepAsked, asked_with, entries_behind, entries_of, sweep_behind, sweep_keys, sweep_of, sweep_words_of}
+use Rattle.recon_cmd.specs.Sweep.{SweepAsked, asked_with, entries_behind, entries_of, sweep_behind, sweep_keys, sweep_of, sweep_words_of}
 use Rattle.recon_cmd.specs.Words.{NamesAndOptions, is_name, named}
 use Rattle.recon_cmd.proofs.WordLemmas.{same_name}
 

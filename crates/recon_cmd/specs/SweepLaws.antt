@@ -10,23 +10,24 @@
 --   HasBuiltCost names built n    the number is the cost that the certificate of `build` states
 --   AreBuilt asked forms ..       the meshes and the costs of a sweep are those of `build`
 --   EntriesAreBuilt               so are all that an answer of `sweep` has which is done
-use Rattle.std.specs.Prelude.{◌≡◌, ◌⊎◌, ℕ, ◌-◌, ◌<◌, ◌≤◌, List, length, slice_index_or, Some, Ok, Err}
+use Rattle.std.specs.Prelude.{◌≡◌, ℕ, List, Some, ◌⊎◌, ◌≤◌, length, Ok, ◌<◌, Err, ◌-◌, slice_index_or}
 use Rattle.cert_text.specs.Certificates.{Claim}
 use Rattle.host.specs.Counts.{Rose}
-use Rattle.host.specs.State.{Files, State, Told}
+use Rattle.host.specs.State.{State, Told, Files}
 use Rattle.mesh_form.specs.Received.{Received, HasAll}
 use Rattle.mesh_ply.specs.Meshes.{Surface}
 use Rattle.scan.specs.Shown.{Shown}
 use Rattle.scan.specs.declared.refusal.ScanRefusal.{ScanRefusal}
 use Rattle.sweep.specs.Entries.{smoothing_of}
-use Rattle.recon_cmd.specs.Answers.{Answer, AnswerOf, file_limit, read_as}
+use Rattle.recon_cmd.specs.Answers.{file_limit, read_as, Answer}
+use Rattle.recon_cmd.specs.Build.{Shows}
+use Rattle.recon_cmd.specs.Commands.{AnswerOf, build}
 use Rattle.recon_cmd.specs.Laws.{texts_by}
 use Rattle.recon_cmd.specs.Options.{Options}
-use Rattle.recon_cmd.specs.Replies.{Shows}
-use Rattle.recon_cmd.specs.Sweeps.{SweepAnswer, SweepAsked, SweepOutcome, sweep_line}
-use Rattle.recon_cmd.specs.Words.{SurfaceNames, build}
+use Rattle.recon_cmd.specs.Sweep.{SweepAsked, SweepOutcome, SweepAnswer, sweep_line}
+use Rattle.recon_cmd.specs.Words.{SurfaceNames}
 use Rattle.recon_cmd.specs.declared.status.Status.{Status}
-use Rattle.recon_cmd.specs.declared.status.Status.TheVariants.{Done, Refused, NoMemory}
+use Rattle.recon_cmd.specs.declared.status.Status.TheVariants.{Done, NoMemory, Refused}
 
 -- a run of `sweep` over a host that tells its files, where the file of the scan has these bytes and no call failed
 pub record SweepsOn (asked : SweepAsked) (bytes : List ℕ) (status : Status) (before after : State) (old new : List Received)

@@ -1,6 +1,6 @@
 -- Forms of three types write PLY, OFF and OBJ: by type, in their order.
-use Rattle.std.proofs.Common.{◌≡◌, ◌⊎◌, inl, inr, ℕ, ◌+◌, ◌≤◌, ◌<◌, List, [], ◌∷◌, ◌++◌, length, map, All, Option, Some, None}
-use Rattle.std.proofs.Common.{IfSome, refl, sym, ap, subst, ◌∙◌, arith, unwrap_or}
+use Rattle.std.proofs.Common.{◌≡◌, ◌⊎◌, inl, inr, ℕ, ◌+◌, ◌≤◌, ◌<◌, List, [], ◌∷◌, ◌++◌, length, map, All, Option, Some, None, IfSome}
+use Rattle.std.proofs.Common.{refl, sym, ap, subst, ◌∙◌, arith, unwrap_or}
 use Rattle.std.specs.List.{zip}
 use Rattle.std.specs.Option.{IsSomeAnd}
 use Rattle.host.specs.State.{State, Told, Files}
@@ -9,15 +9,14 @@ use Rattle.mesh_form.specs.Received.{Received, HasAll}
 use Rattle.mesh_form.specs.Texts.{off_text, obj_text}
 use Rattle.mesh_ply.specs.Meshes.{Surface}
 use Rattle.mesh_ply.specs.Texts.{mesh_text}
-use Rattle.recon_cmd.specs.Answers.{Answer, IsUnreadMesh}
-use Rattle.recon_cmd.specs.Exports.{ExportAnswer, ExportFits, ExportNames, ExportOutcome, HaveAll, WritesForms, export_of}
-use Rattle.recon_cmd.specs.Exports.{exported_line}
-use Rattle.recon_cmd.specs.Outcome.{EndsBy, IsUntouched, Outcome, Run, StopsBy, TellsBy, WhereTold}
+use Rattle.recon_cmd.specs.Answers.{Answer, IsUnreadMesh, MayRefuse}
+use Rattle.recon_cmd.specs.Export.{ExportAnswer, ExportNames, ExportOutcome, HaveAll, WritesForms, export_of, exported_line}
+use Rattle.recon_cmd.specs.Outcome.{EndsBy, IsUntouched, Run, StopsBy, TellsBy, WhereTold}
+use Rattle.recon_cmd.specs.Commands.{Outcome, command_of}
 use Rattle.recon_cmd.specs.Status.{code_of}
-use Rattle.recon_cmd.specs.Words.{command_of}
 use Rattle.recon_cmd.specs.declared.status.Status.{Status}
 use Rattle.recon_cmd.specs.declared.status.Status.TheVariants.{Done, No, BadWords, Refused, Failed, NoMemory}
-use Rattle.recon_cmd.specs.Sweeps.{SweepAsked, entries_of, sweep_of}
+use Rattle.recon_cmd.specs.Sweep.{SweepAsked, entries_of, sweep_of}
 use Rattle.recon_cmd.proofs.MeshReplies.{unread_reads}
 use Rattle.recon_cmd.proofs.SweepWordLemmas.{no_sweep}
 use Rattle.recon_main.specs.Ends.{FormatsAnswer, RunsFor, RunsOn, WritesFormats, sweep_in}
@@ -117,7 +116,7 @@ module _ (A B : Files → Answer → Type 0) (each : (files : Files) (answer : A
   told_among status (Some old) (Some new) tells = tells_among status old new tells
 
   pub run_among : ((files : Files) (answer : Answer) → B files answer → answer.reads ≡ 1) → (status : Status) (before after : State)
-      → Run ExportFits 1 A status before after → Run ExportFits 1 B status before after
+      → Run MayRefuse 1 A status before after → Run MayRefuse 1 B status before after
   run_among one status before after run =
       record {
         fits = run.fits;

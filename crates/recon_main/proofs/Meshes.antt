@@ -1,6 +1,6 @@
 -- Forms that are all of one type write the surfaces of a sweep as PLY.
-use Rattle.std.proofs.Common.{◌≡◌, ℕ, ◌-◌, ◌<◌, List, [], ◌∷◌, length, map, get_or, All, Option, Some, None, IfSome, refl, sym, ap}
-use Rattle.std.proofs.Common.{◌++◌, subst, suc, ◌∙◌, arith, inl, inr, unwrap_or}
+use Rattle.std.proofs.Common.{◌≡◌, ℕ, ◌-◌, ◌<◌, List, [], ◌∷◌, length, map, get_or, All, Option, Some, None, IfSome, refl, sym, ap, ◌++◌}
+use Rattle.std.proofs.Common.{subst, suc, ◌∙◌, arith, inl, inr, unwrap_or}
 use Rattle.std.specs.List.{zip}
 use Rattle.std.proofs.lemmas.List.{get_or-map, length-map}
 use Rattle.std.proofs.lemmas.List.Elements.{All-append, All-cons, All-nil}
@@ -12,12 +12,12 @@ use Rattle.mesh_ply.specs.Meshes.{Surface}
 use Rattle.mesh_ply.specs.Texts.{mesh_text}
 use Rattle.scan.specs.Shown.{Shown}
 use Rattle.sweep.specs.Entries.{HasEntry, IsSurfaceAt, given_by, smoothing_of}
-use Rattle.recon_cmd.specs.Answers.{Answer}
-use Rattle.recon_cmd.specs.Exports.{ExportFits, export_of}
-use Rattle.recon_cmd.specs.Outcome.{Outcome, Run}
+use Rattle.recon_cmd.specs.Answers.{Answer, MayRefuse}
+use Rattle.recon_cmd.specs.Export.{export_of}
+use Rattle.recon_cmd.specs.Commands.{Outcome, command_of}
+use Rattle.recon_cmd.specs.Outcome.{Run}
 use Rattle.recon_cmd.specs.Status.{code_of}
-use Rattle.recon_cmd.specs.Sweeps.{SweepAnswer, SweepAsked, SweepOutcome, WritesSweep, entries_of, sweep_line, sweep_of}
-use Rattle.recon_cmd.specs.Words.{command_of}
+use Rattle.recon_cmd.specs.Sweep.{SweepAnswer, SweepAsked, SweepOutcome, WritesSweep, entries_of, sweep_line, sweep_of}
 use Rattle.recon_cmd.specs.declared.status.Status.{Status}
 use Rattle.recon_cmd.specs.declared.status.Status.TheVariants.{Done}
 use Rattle.recon_cmd.proofs.SweepWordLemmas.{no_export}

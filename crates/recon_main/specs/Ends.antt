@@ -14,8 +14,8 @@
 --     fresh_state                         a host that was not used
 --     EndsOver args status                the program ended so on these words, over that host
 --     EndsAfterARun status                it ended so on some words
-use Rattle.std.specs.Prelude.{◌≡◌, ◌≢◌, ◌⊎◌, ℕ, ◌-◌, ◌<◌, List, [], ◌∷◌, length, map, drop, slice_index_or, Result, Ok, Err}
-use Rattle.std.specs.Prelude.{Option, Some, None, false, string_bytes, unwrap_or}
+use Rattle.std.specs.Prelude.{◌≡◌, ◌≢◌, ◌⊎◌, ℕ, ◌-◌, ◌<◌, List, [], ◌∷◌, length, map, drop, slice_index_or, Result, Ok, Err, Option, Some}
+use Rattle.std.specs.Prelude.{None, false, string_bytes, unwrap_or}
 use Rattle.std.specs.IoError.{error_kind}
 use Rattle.std.specs.List.{zip}
 use Rattle.host.specs.State.{State, Files}
@@ -24,12 +24,12 @@ use Rattle.mesh_ply.specs.Meshes.{Surface}
 use Rattle.mesh_ply.specs.Texts.{mesh_text}
 use Rattle.scan.specs.Shown.{Shown}
 use Rattle.sweep.specs.Entries.{CostsAt, IsSurfaceAt, given_by, smoothing_of}
-use Rattle.recon_cmd.specs.Answers.{Answer, MeshFileAnswer, ScanAnswer}
-use Rattle.recon_cmd.specs.Exports.{ExportFits, ExportNames, export_of, exported_line}
-use Rattle.recon_cmd.specs.Outcome.{Outcome, Run}
+use Rattle.recon_cmd.specs.Answers.{Answer, MeshFileAnswer, ScanAnswer, MayRefuse}
+use Rattle.recon_cmd.specs.Export.{ExportNames, export_of, exported_line}
+use Rattle.recon_cmd.specs.Commands.{Outcome, command_of}
+use Rattle.recon_cmd.specs.Outcome.{Run}
 use Rattle.recon_cmd.specs.Status.{code_of}
-use Rattle.recon_cmd.specs.Sweeps.{SweepAsked, entries_of, sweep_line, sweep_of}
-use Rattle.recon_cmd.specs.Words.{command_of}
+use Rattle.recon_cmd.specs.Sweep.{SweepAsked, entries_of, sweep_line, sweep_of}
 use Rattle.recon_cmd.specs.declared.status.Status.{Status}
 use Rattle.recon_cmd.specs.declared.status.Status.TheVariants.{Done, NoMemory}
 use Rattle.std.specs.Vec.Iter.{into_iter_items}
@@ -85,8 +85,8 @@ sweep_in words = sweep_of (unwrap_or (entries_of words) 0) words
 
 -- what a run on these words does that ends so: `export` with three outputs, `sweep`, or else a command of `run`
 abbrev pub RunsFor : Option ExportNames → Option SweepAsked → List (List ℕ) → Status → State → State → Type 0
-RunsFor (Some names) sweep words status before after = Run ExportFits 1 (FormatsAnswer names) status before after
-RunsFor None (Some asked) words status before after = Run ExportFits 1 (MeshesAnswer asked) status before after
+RunsFor (Some names) sweep words status before after = Run MayRefuse 1 (FormatsAnswer names) status before after
+RunsFor None (Some asked) words status before after = Run MayRefuse 1 (MeshesAnswer asked) status before after
 RunsFor None None words status before after = Outcome (command_of words) status before after
 
 -- a run on these words ended with this status

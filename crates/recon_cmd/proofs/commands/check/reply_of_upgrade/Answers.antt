@@ -1,0 +1,18 @@
+use Rattle.std.proofs.Common.{◌≡◌, ap, ◌∙◌, ◌++◌, List, [], ◌∷◌}
+use Rattle.cert_text.specs.Certificates.{stamp_view}
+use Rattle.recon_cmd.specs.Replies.{texts_of}
+use Rattle.recon_cmd.specs.declared.reply.Text.{Text}
+use Rattle.recon_cmd.proofs.CheckReplies.{upgraded}
+use Rattle.recon_cmd.proofs.commands.check.reply_of_upgrade.Goals as goal
+
+pub returns : goal.returns
+returns c =
+    let writes_is : texts_of c.push.new.self.items ≡ (c.args.output.now, c.in_ok-text.text.items) ∷ [] =
+    ap texts_of
+    (c.in_ok-push.ensures.items
+    ∙ ap (λ (texts : List Text). texts ++ (record { name = c.args.output; bytes = c.in_ok-text.text } ∷ []))
+    c.new-texts.ensures.items) in
+    λ inside faces.
+    upgraded c.args.output.now c.in_ok-text.text.items c.in_ok-line.line.items c.args.cert.now (stamp_view c.args.stamp.now)
+    inside faces c.args.cost (texts_of c.push.new.self.items)
+    writes_is c.in_ok-line.ensures c.in_ok-text.ensures

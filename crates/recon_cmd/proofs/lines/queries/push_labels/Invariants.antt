@@ -1,7 +1,0 @@
-use Rattle.std.proofs.Common.{◌≡◌, ◌++◌, take}
-use Rattle.std.specs.List.{flat_map}
-use Rattle.recon_cmd.specs.QueryLines.{label_line}
-use Rattle.recon_cmd.proofs.lines.queries.push_labels.Given as goal
-
-abbrev pub invariant-loop-label : goal.invariant-loop-label
-invariant-loop-label l = l.text.items ≡ l.fn.text.items ++ flat_map label_line (take l.label-index l.labels)

@@ -1,0 +1,210 @@
+-- `check IN MESH CERT`: whether a mesh is the best surface of a scan, and a certificate shows it best. And
+-- `upgrade IN MESH CERT OUT`: where it is so, the certificate with the stamp of this run.
+--
+-- Yes says what was found; each reason against a mesh and a certificate has a number and a word of its own, and says where it is
+-- and what was compared. Rows are counted from 0 in their list.
+--
+--   check_names, output_of names       the first three names that the program holds, and the file that is written, if one is
+--   too_long_cert_line                 the line where the certificate's file is too long
+--   upgraded_line cost                 the line of `upgrade` where it says yes
+--   which_word which                   a number that a certificate states, in a word
+--   line_with_numbers text numbers     a line of a text and numbers
+--   amounts_line text a b              a line of a text and two amounts behind their labels
+--   digests_line text a b              a line of a text, and two digests that are stated and here
+--   scanner_text p                     a fixed scanner, or `none`
+--   scanners_line text a b             a line of a text, and two fixed scanners that are stated and here
+--   reason_line reason                 the line of a reason
+--   yes_line inside faces cost         the line of yes
+--   verdict_line verdict               the line of a verdict
+--   verdict_status verdict             its status
+--   restamped stamp claim              a certificate with this stamp
+--   IsConcluded output ..              what follows from a verdict: it is said, or a certificate is written
+--   HasVerdict output options ..       the verdict on a mesh and a certificate, and what follows from it
+--   CertAnswer, MeshAnswer             the answer to the bytes of a certificate, and to those of a mesh
+--   CheckAnswer names output ..        the answer to a scan
+--   check_task names output options    the command: `upgrade` where there is a file to write, and `check` where there is none
+--   IsCheckReply names output ..       the reply may end a run of such a command, and is one of these answers
+use Rattle.std.specs.Fmt.{signed_decimal}
+use Rattle.std.specs.Option.{option_map}
+use Rattle.std.specs.Prelude.{ℕ, List, Option, codes, [], ◌∷◌, ◌++◌, Some, None, ◌≡◌, ◌⊎◌, ◌≤◌, length, ⊤}
+use Rattle.cert_text.specs.Certificates.{Claim}
+use Rattle.cert_text.specs.Stamps.{StampView}
+use Rattle.cert_text.specs.Texts.{cert_text}
+use Rattle.flow_net.specs.declared.votes.Settings.{Settings}
+use Rattle.geo_sign.specs.Point.{Point}
+use Rattle.hex.specs.Hex.{encode_lower}
+use Rattle.host.specs.State.{Files, State}
+use Rattle.recon_check.specs.Answers.{HasCertificate, IsAnswer}
+use Rattle.recon_check.specs.declared.answer.Answer.{Answer as Verdict}
+use Rattle.recon_check.specs.declared.answer.Reason.{Reason}
+use Rattle.recon_check.specs.declared.answer.Reason.TheVariants.{CertLine, CertOrder, CertCut, OtherScan, OtherUnit, OtherFixed}
+use Rattle.recon_check.specs.declared.answer.Reason.TheVariants.{OtherCounts, NoSuchCell, NoSuchFacet, NoSuchSink, FixedInside}
+use Rattle.recon_check.specs.declared.answer.Reason.TheVariants.{OverCapacity, OverSink, Unbalanced, NotEqual, NotLeast, WrongCost}
+use Rattle.recon_check.specs.declared.answer.Reason.TheVariants.{MeshDiffers}
+use Rattle.recon_check.specs.declared.answer.Which.{Which}
+use Rattle.recon_check.specs.declared.answer.Which.TheVariants.{Points, Scanners, Sights, Vote, Smooth}
+use Rattle.scan.specs.PlainForm.{spaced}
+use Rattle.scan.specs.Shown.{Shown}
+use Rattle.recon_cmd.specs.Answers.{Answer, file_limit, FileTooLong, Task, ToScan}
+use Rattle.recon_cmd.specs.Lines.{labelled, too_long_mesh_line}
+use Rattle.recon_cmd.specs.Options.{Options}
+use Rattle.recon_cmd.specs.Refusals.{text_line, number_line}
+use Rattle.recon_cmd.specs.Stamps.{stamp_for}
+use Rattle.recon_cmd.specs.Words.{SurfaceNames}
+use Rattle.recon_cmd.specs.declared.commands.check.CheckNames.{CheckNames}
+use Rattle.recon_cmd.specs.declared.status.Status.{Status}
+use Rattle.recon_cmd.specs.declared.status.Status.TheVariants.{Done, No}
+use Rattle.recon_check.specs.declared.answer.Answer.TheVariants as verdicts
+use Rattle.recon_cmd.specs.Steps.{IsReplyOf}
+use Rattle.recon_cmd.specs.declared.reply.Reply.{Reply}
+
+-- the first three names of `check` and `upgrade` that the program holds
+abbrev pub check_names : CheckNames → SurfaceNames
+check_names names = record { input = names.input.now; mesh = names.mesh.now; cert = names.cert.now }
+
+-- the file that is written, if one is
+abbrev pub output_of : CheckNames → Option (List ℕ)
+output_of names = option_map (λ name. name.now) names.output
+
+unfoldable pub too_long_cert_line : List ℕ
+too_long_cert_line = codes "refused 19 too_long cert\n"
+
+-- `upgraded cost C`
+unfoldable pub upgraded_line : (cost : ℕ) → List ℕ
+upgraded_line cost = labelled (codes "upgraded cost ") cost ++ (10 ∷ [])
+
+-- a number that a certificate states, in a word
+abbrev pub which_word : Which → List ℕ
+which_word Points = codes "points"
+which_word Scanners = codes "scanners"
+which_word Sights = codes "sights"
+which_word Vote = codes "vote"
+which_word Smooth = codes "smooth"
+
+-- a text, and numbers behind it
+unfoldable pub line_with_numbers : (text numbers : List ℕ) → List ℕ
+line_with_numbers text numbers = text ++ (spaced numbers ++ (10 ∷ []))
+
+-- a text, and two amounts behind it, each behind its label
+unfoldable pub amounts_line : (text first second : List ℕ) → (a b : ℕ) → List ℕ
+amounts_line text first second a b = text ++ (labelled first a ++ (labelled second b ++ (10 ∷ [])))
+
+-- a text, and two digests in lower-case hexadecimal digits
+unfoldable pub digests_line : (text stated here : List ℕ) → List ℕ
+digests_line text stated here =
+    text ++ (codes " stated " ++ (encode_lower stated ++ (codes " here " ++ (encode_lower here ++ (10 ∷ [])))))
+
+-- where all points were seen from, or that there is no such place
+abbrev pub scanner_text : Option Point → List ℕ
+scanner_text None = codes "none"
+scanner_text (Some p) = signed_decimal p.x ++ (32 ∷ (signed_decimal p.y ++ (32 ∷ signed_decimal p.z)))
+
+-- a text, and two fixed scanners
+unfoldable pub scanners_line : (text : List ℕ) → (stated here : Option Point) → List ℕ
+scanners_line text stated here =
+    text ++ (codes " stated " ++ (scanner_text stated ++ (codes " here " ++ (scanner_text here ++ (10 ∷ [])))))
+
+-- the line of a reason
+abbrev pub reason_line : Reason → List ℕ
+reason_line (CertLine line) = number_line (codes "no 1 cert_line line ") line
+reason_line (CertOrder line) = number_line (codes "no 2 cert_order line ") line
+reason_line CertCut = text_line (codes "no 3 cert_cut")
+reason_line (OtherScan stated here) = digests_line (codes "no 16 other_scan") stated here
+reason_line (OtherUnit stated here) = amounts_line (codes "no 17 other_unit") (codes " stated ") (codes " here ") stated here
+reason_line (OtherFixed stated here) = scanners_line (codes "no 18 other_fixed") stated here
+reason_line (OtherCounts which stated here) =
+    amounts_line (codes "no 4 other_counts " ++ which_word which) (codes " stated ") (codes " here ") stated here
+reason_line (NoSuchCell row) = number_line (codes "no 5 no_such_cell row ") row
+reason_line (NoSuchFacet row) = number_line (codes "no 6 no_such_facet row ") row
+reason_line (NoSuchSink row) = number_line (codes "no 7 no_such_sink row ") row
+reason_line (FixedInside cell) = line_with_numbers (codes "no 8 fixed_inside") cell
+reason_line (OverCapacity facet flow cap) =
+    amounts_line (codes "no 9 over_capacity" ++ spaced facet) (codes " flow ") (codes " cap ") flow cap
+reason_line (OverSink cell flow cap) =
+    amounts_line (codes "no 10 over_sink" ++ spaced cell) (codes " flow ") (codes " cap ") flow cap
+reason_line (Unbalanced cell amount_in amount_out) =
+    amounts_line (codes "no 11 unbalanced" ++ spaced cell) (codes " in ") (codes " out ") amount_in amount_out
+reason_line (NotEqual value cost) = amounts_line (codes "no 12 not_equal") (codes " value ") (codes " cost ") value cost
+reason_line (NotLeast cell) = line_with_numbers (codes "no 13 not_least") cell
+reason_line (WrongCost stated cost) = amounts_line (codes "no 14 wrong_cost") (codes " stated ") (codes " cost ") stated cost
+reason_line (MeshDiffers place) = number_line (codes "no 15 mesh_differs at ") place
+
+-- `yes inside I faces F cost C`
+unfoldable pub yes_line : (inside faces cost : ℕ) → List ℕ
+yes_line inside faces cost =
+    labelled (codes "yes inside ") inside ++ (labelled (codes " faces ") faces ++ (labelled (codes " cost ") cost ++ (10 ∷ [])))
+
+-- the line of a verdict
+abbrev pub verdict_line : Verdict → List ℕ
+verdict_line (verdicts.Yes inside faces cost) = yes_line inside faces cost
+verdict_line (verdicts.No reason) = reason_line reason
+
+-- the status of a verdict
+abbrev pub verdict_status : Verdict → Status
+verdict_status (verdicts.Yes inside faces cost) = Done
+verdict_status (verdicts.No reason) = No
+
+-- the certificate with this stamp, whichever it had
+abbrev pub restamped : StampView → Claim → Claim
+restamped stamp claim = record claim { stamp = Some stamp }
+
+-- The verdict is said. Where it is yes and there is a file to write, the certificate is written there with this stamp, and its
+-- cost is said.
+abbrev pub IsConcluded : (output : Option (List ℕ)) → StampView → (cert : List ℕ) → Verdict → Answer → Type 0
+IsConcluded (Some output) stamp cert (verdicts.Yes inside faces cost) answer =
+    HasCertificate cert
+    (λ claim. answer ≡ record {
+      status = Done;
+      reads = 3;
+      writes = (output, cert_text (restamped stamp claim)) ∷ [];
+      line = upgraded_line cost;
+    })
+IsConcluded output stamp cert verdict answer =
+    answer ≡ record { status = verdict_status verdict; reads = 3; writes = []; line = verdict_line verdict }
+
+-- the mesh and the certificate are the best surface of the scan at the weights of these options and the certificate that
+-- shows it best, without a stamp or with this one, or the first reason why they are not is said
+pub record HasVerdict (output : Option (List ℕ)) (options : Options) (stamp : StampView) (scan : Shown) (mesh cert : List ℕ)
+    (answer : Answer) : Type 0 where
+  pub settings : Settings
+  pub vote : settings.vote ≡ options.vote
+  pub smooth : settings.smooth ≡ options.smooth
+  pub verdict : Verdict
+  pub holds : IsAnswer scan settings stamp mesh cert verdict
+  pub is : IsConcluded output stamp cert verdict answer
+
+-- the file of the certificate is too long, or it decides
+pub record CertAnswer (names : SurfaceNames) (Decides : (cert : List ℕ) → Answer → Type 0) (files : Files)
+    (answer : Answer) : Type 0 where
+  pub cert : List ℕ
+  pub there : files names.cert ≡ Some cert
+  pub answers : FileTooLong 3 too_long_cert_line cert answer ⊎ ((length cert ≤ file_limit) × Decides cert answer)
+
+-- the file of the mesh is too long, or it and the certificate decide
+pub record MeshAnswer (names : SurfaceNames) (Decide : (mesh cert : List ℕ) → Answer → Type 0) (files : Files)
+    (answer : Answer) : Type 0 where
+  pub mesh : List ℕ
+  pub there : files names.mesh ≡ Some mesh
+  pub answers : FileTooLong 2 too_long_mesh_line mesh answer
+      ⊎ ((length mesh ≤ file_limit) × CertAnswer names (Decide mesh) files answer)
+
+-- the mesh and the certificate decide which verdict there is
+abbrev pub CheckAnswer : SurfaceNames → (output : Option (List ℕ)) → Options → Files → (bytes : List ℕ) → Shown → Answer
+    → Type 0
+CheckAnswer names output options files bytes scan =
+    MeshAnswer names (HasVerdict output options (stamp_for options bytes) scan) files
+
+-- It reads the scan, then the mesh where the scan is not refused, then the certificate where the mesh is not too long. It says yes,
+-- or no, or refuses what is not readable.
+abbrev pub check_task : SurfaceNames → (output : Option (List ℕ)) → Options → Task
+check_task names output options =
+    record {
+      Denies = ⊤;
+      Refuses = ⊤;
+      most = 3;
+      Answers = λ files. ToScan names.input options (CheckAnswer names output options files) files;
+    }
+
+-- the reply may end a run of such a command, and is one of these answers
+abbrev pub IsCheckReply : SurfaceNames → (output : Option (List ℕ)) → Options → (Files → Answer → Type 0) → Reply → State → Type 0
+IsCheckReply names output options = IsReplyOf (check_task names output options)

@@ -1,0 +1,203 @@
+-- The commands: the words of each, and what it is.
+--
+--   Asked                               a command with its names and options
+--   asked_by make words                 what is made of names and options, if the words are such
+--   cells_of, build_of, check_of, upgrade_of, ask_of    what names and options ask each command for
+--   slice_of, demo_of                   what other words ask each command for
+--   command_of words                    the command that the words are, if they are one
+--   asked command                       what a command of the program is
+--   task_of asked                       what it is beside its words
+--   bad_words_answer                    the answer of words that are no command
+--   AnswerOf asked files answer         the answer of a command, or of words that are none, where the files are these
+--   most_reads asked                    how many files a command reads at most
+--   StatusFits status asked             the statuses that a command may end with at all
+--   EndsWith, Tells                     what is told after a run of a command
+--   Outcome asked status before after   what a run of a command does to its host
+--   asked_command request               the command that a run is asked for, if it is asked for one
+--   asked_export request                what `export` is asked for, if it is that
+--   asked_sweep request                 what `sweep` is asked for, if it is that
+--   IsCommand request command           it is this command, if there is one, and else nothing
+--   AsksForForms forms request          `export` and `sweep` ask for so many forms
+use Rattle.std.specs.Option.{option_map}
+use Rattle.std.specs.Prelude.{ℕ, ℤ, List, Option, [], ◌∷◌, Some, None, if◌then◌else◌, codes, ◌≡◌, ⊤, length}
+use Rattle.std.specs.Str.{bytes_eq}
+use Rattle.host.specs.State.{Files, Told, State}
+use Rattle.ply_head.specs.Optional.{◌>>=◌}
+use Rattle.scan.specs.ScanRows.{point_limit}
+use Rattle.recon_cmd.specs.Answers.{Answer, MayEnd, Task}
+use Rattle.recon_cmd.specs.Ask.{QueryNames, ask_names, ask_task}
+use Rattle.recon_cmd.specs.Build.{build_names, build_task}
+use Rattle.recon_cmd.specs.Cells.{cells_keys, cells_names, cells_task}
+use Rattle.recon_cmd.specs.Check.{check_names, output_of, check_task}
+use Rattle.recon_cmd.specs.Demo.{seed_of, demo_task}
+use Rattle.recon_cmd.specs.Export.{ExportNames, export_names}
+use Rattle.recon_cmd.specs.Lines.{bad_words_line}
+use Rattle.recon_cmd.specs.OptionViews.{options_view}
+use Rattle.recon_cmd.specs.Options.{Options, number_between}
+use Rattle.recon_cmd.specs.Outcome.{EndsBy, TellsBy, Run}
+use Rattle.recon_cmd.specs.Slice.{height_of, slice_names, slice_task}
+use Rattle.recon_cmd.specs.Sweep.{SweepAsked, sweep_asked, FitsForms}
+use Rattle.recon_cmd.specs.Words.{Names, SurfaceNames, NamesAndOptions, are_names, build_keys, named}
+use Rattle.recon_cmd.specs.declared.commands.Command.{Command}
+use Rattle.recon_cmd.specs.declared.commands.Request.{Request}
+use Rattle.recon_cmd.specs.declared.commands.Request.TheVariants as requests
+use Rattle.recon_cmd.specs.declared.status.Status.{Status}
+use Rattle.recon_cmd.specs.declared.status.Status.TheVariants.{BadWords, Done, No, Refused, Failed, NoMemory}
+use Rattle.recon_cmd.specs.declared.commands.Command.TheVariants as commands
+
+-- a command with its names and options
+pub data Asked : Type 0 where
+  cells : Names → Options → Asked
+  build : SurfaceNames → Options → Asked
+  -- `upgrade` where there is a file to write, and `check` where there is none
+  check : SurfaceNames → (output : Option (List ℕ)) → Options → Asked
+  -- the plane that cuts the mesh is half a unit above this height
+  slice : Names → (height : ℤ) → Asked
+  ask : QueryNames → Options → Asked
+  -- how many rows, and what their generator starts from
+  demo : (count seed : ℕ) → Asked
+
+-- what names and options ask for, if there are any
+abbrev pub asked_by : (List (List ℕ) → Options → Option Asked) → Option NamesAndOptions → Option Asked
+asked_by make words = words >>= λ held. make held.names held.options
+
+-- what two names and options ask `cells` for
+abbrev pub cells_of : List (List ℕ) → Options → Option Asked
+cells_of (input ∷ output ∷ []) options = Some (cells (record { input = input; output = output }) options)
+cells_of names options = None
+
+-- what three names and options ask `build` for
+abbrev pub build_of : List (List ℕ) → Options → Option Asked
+build_of (input ∷ mesh ∷ cert ∷ []) options = Some (build (record { input = input; mesh = mesh; cert = cert }) options)
+build_of names options = None
+
+-- what three names and options ask `check` for
+abbrev pub check_of : List (List ℕ) → Options → Option Asked
+check_of (input ∷ mesh ∷ cert ∷ []) options = Some (check (record { input = input; mesh = mesh; cert = cert }) None options)
+check_of names options = None
+
+-- what four names and options ask `upgrade` for
+abbrev pub upgrade_of : List (List ℕ) → Options → Option Asked
+upgrade_of (input ∷ mesh ∷ cert ∷ output ∷ []) options =
+    Some (check (record { input = input; mesh = mesh; cert = cert }) (Some output) options)
+upgrade_of names options = None
+
+-- what three names and options ask `ask` for
+abbrev pub ask_of : List (List ℕ) → Options → Option Asked
+ask_of (input ∷ points ∷ output ∷ []) options = Some (ask (record { input = input; points = points; output = output }) options)
+ask_of names options = None
+
+-- two names, and a height between them
+abbrev pub slice_of : List (List ℕ) → Option Asked
+slice_of (mesh ∷ height ∷ output ∷ []) =
+    if are_names (mesh ∷ output ∷ [])
+    then option_map (slice (record { input = mesh; output = output })) (height_of height)
+    else None
+slice_of words = None
+
+-- a number of rows that a scan may have, and a seed
+abbrev pub demo_of : List (List ℕ) → Option Asked
+demo_of (count ∷ seed ∷ []) = do
+  rows ← number_between 1 point_limit count
+  start ← seed_of seed
+  Some (demo rows start)
+demo_of words = None
+
+-- the command that the words are, if they are one
+abbrev pub command_of : List (List ℕ) → Option Asked
+command_of [] = None
+command_of (word ∷ words) =
+    if bytes_eq word (codes "cells") then asked_by cells_of (named 2 cells_keys words)
+    else (if bytes_eq word (codes "build") then asked_by build_of (named 3 build_keys words)
+    else (if bytes_eq word (codes "check") then asked_by check_of (named 3 build_keys words)
+    else (if bytes_eq word (codes "upgrade") then asked_by upgrade_of (named 4 build_keys words)
+    else (if bytes_eq word (codes "slice") then slice_of words
+    else (if bytes_eq word (codes "ask") then asked_by ask_of (named 3 build_keys words)
+    else (if bytes_eq word (codes "demo") then demo_of words
+    else None))))))
+
+-- what a command of the program is
+abbrev pub asked : Command → Asked
+asked (commands.Cells names options) = cells (cells_names names) (options_view options)
+asked (commands.Build names options) = build (build_names names) (options_view options)
+asked (commands.Check names options) = check (check_names names) (output_of names) (options_view options)
+asked (commands.Slice words) = slice (slice_names words) words.height
+asked (commands.Ask names options) = ask (ask_names names) (options_view options)
+asked (commands.Demo made) = demo made.count made.seed
+
+-- what it is beside its words
+abbrev pub task_of : Asked → Task
+task_of (cells names options) = cells_task names options
+task_of (build names options) = build_task names options
+task_of (check names output options) = check_task names output options
+task_of (slice names height) = slice_task names height
+task_of (ask names options) = ask_task names options
+task_of (demo count seed) = demo_task count seed
+
+-- words that are no command read and write nothing
+abbrev pub bad_words_answer : Answer
+bad_words_answer = record { status = BadWords; reads = 0; writes = []; line = bad_words_line }
+
+-- the answer of a command, or of words that are none, where the files are these
+abbrev pub AnswerOf : Option Asked → Files → Answer → Type 0
+AnswerOf None files answer = answer ≡ bad_words_answer
+AnswerOf (Some asked) files answer = (task_of asked).Answers files answer
+
+-- how many files a command reads at most
+abbrev pub most_reads : Option Asked → ℕ
+most_reads None = 0
+most_reads (Some asked) = (task_of asked).most
+
+-- the command's answer is carried out, and has this status
+abbrev pub EndsWith : Option Asked → Status → Told → Told → Type 0
+EndsWith asked = EndsBy (AnswerOf asked)
+
+-- what is told after a run of the command that ended so
+abbrev pub Tells : Option Asked → Status → Told → Told → Type 0
+Tells asked = TellsBy (AnswerOf asked)
+
+-- the statuses that a command may end with at all; words that are none are refused as such, or a call fails
+abbrev pub StatusFits : Status → Option Asked → Type 0
+StatusFits status (Some asked) = MayEnd (task_of asked) status
+StatusFits Done None = ⊥
+StatusFits No None = ⊥
+StatusFits BadWords None = ⊤
+StatusFits Refused None = ⊥
+StatusFits Failed None = ⊤
+StatusFits NoMemory None = ⊥
+
+-- what a run of a command, or on words that are none, does to its host
+abbrev pub Outcome : Option Asked → Status → State → State → Type 0
+Outcome asked = Run (λ status. StatusFits status asked) (most_reads asked) (AnswerOf asked)
+
+-- the command, if it is one
+abbrev pub asked_command : Option Request → Option Asked
+asked_command None = None
+asked_command (Some (requests.Command command)) = Some (asked command)
+asked_command (Some (requests.Export words)) = None
+asked_command (Some (requests.Sweep words)) = None
+
+-- what `export` is asked for, if it is that
+abbrev pub asked_export : Option Request → Option ExportNames
+asked_export None = None
+asked_export (Some (requests.Command command)) = None
+asked_export (Some (requests.Export words)) = Some (export_names words)
+asked_export (Some (requests.Sweep words)) = None
+
+-- what `sweep` is asked for, if it is that
+abbrev pub asked_sweep : Option Request → Option SweepAsked
+asked_sweep None = None
+asked_sweep (Some (requests.Command command)) = None
+asked_sweep (Some (requests.Export words)) = None
+asked_sweep (Some (requests.Sweep words)) = Some (sweep_asked words)
+
+-- what is asked for is this command, if there is one, and else nothing
+abbrev pub IsCommand : Option Request → Option Asked → Type 0
+IsCommand request command =
+    (asked_command request ≡ command) × (asked_export request ≡ None) × (asked_sweep request ≡ None)
+
+-- `export` and `sweep` ask for so many forms
+abbrev pub AsksForForms : (forms : ℕ) → Request → Type 0
+AsksForForms forms (requests.Command command) = ⊤
+AsksForForms forms (requests.Export words) = length words.outputs.now ≡ forms
+AsksForForms forms (requests.Sweep words) = FitsForms words forms

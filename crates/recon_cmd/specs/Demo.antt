@@ -1,0 +1,42 @@
+-- `demo N SEED`: what `build` says of a scan that is made from a number.
+--
+--   seed_of text                     the number that a seed is, if it is one
+--   demo_line count seed line        the line, before that of `build`
+--   generated_text count seed        the text of the generated scan
+--   Demonstrates count seed answer   what `build` says of a generated scan
+--   demo_task count seed             the command
+use Rattle.std.specs.Prelude.{ℕ, List, Option, ◌∷◌, ◌++◌, codes, ◌≡◌, []}
+use Rattle.gen_scan.specs.Generated.{generated}
+use Rattle.ply_head.specs.Optional.{◌>>=◌}
+use Rattle.scan.specs.PlainForm.{scan_text}
+use Rattle.scan.specs.Shown.{shown_by}
+use Rattle.recon_cmd.specs.Answers.{Answer, ScanAnswer, Task}
+use Rattle.recon_cmd.specs.Build.{WritesSurface}
+use Rattle.recon_cmd.specs.Lines.{labelled}
+use Rattle.recon_cmd.specs.Options.{number_of_digits, within, default_options}
+use Rattle.recon_cmd.specs.Words.{SurfaceNames}
+use Rattle.recon_cmd.specs.declared.status.Status.TheVariants.{Done}
+
+-- the number that 1 to 20 digits are, if it is below 2 ^ 64
+abbrev pub seed_of : List ℕ → Option ℕ
+seed_of text = number_of_digits 20 text >>= within 0 18446744073709551615
+
+-- `demo N SEED `, and then a line
+unfoldable pub demo_line : (count seed : ℕ) → (line : List ℕ) → List ℕ
+demo_line count seed line = labelled (codes "demo ") count ++ (labelled (codes " ") seed ++ (32 ∷ line))
+
+-- the text of the generated scan
+abbrev pub generated_text : (count seed : ℕ) → List ℕ
+generated_text count seed = scan_text (shown_by (generated count seed))
+
+-- What `build` at these options says of the text of the generated scan, where it is done. No file is written.
+pub record Demonstrates (count seed : ℕ) (answer : Answer) : Type 0 where
+  pub names : SurfaceNames
+  pub built : Answer
+  pub builds : ScanAnswer default_options (WritesSurface names default_options) (generated_text count seed) built
+  pub done : built.status ≡ Done
+  pub is : answer ≡ record { status = Done; reads = 0; writes = []; line = demo_line count seed built.line }
+
+-- it reads nothing, and refuses nothing
+abbrev pub demo_task : (count seed : ℕ) → Task
+demo_task count seed = record { Denies = ⊥; Refuses = ⊥; most = 0; Answers = λ files. Demonstrates count seed }

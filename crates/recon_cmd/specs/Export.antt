@@ -1,0 +1,116 @@
+-- `export MESH OUT1 .. OUTn`: a mesh in the forms that were handed in. Its answer is by what these make of the mesh, so it is no
+-- command of the program alone.
+--
+--   ExportNames                      the name of the mesh, and the names of the outputs
+--   export_behind forms words        what the words behind `export` ask for, if they name so many outputs
+--   export_of forms words            what the words ask for, if they are `export` with such words behind
+--   export_names words               the names that the program holds
+--   exported_line forms points faces
+--                                    the line
+--   HaveAll, HaveFronts mesh forms   each form has received the whole mesh; a front of it
+--   WritesForms outputs ..           the answer that writes the forms' texts
+--   ExportAnswer names ..            a refusal of the mesh, or this answer
+--   IsFileOf name mesh before        where the host tells its files, the named one is the mesh's text
+--   AreHandedFronts name before ..   the forms are as they were, or have received fronts of the mesh
+--   FormsAfter name status ..        what the forms have received after a run that ended so
+--   FormsHandOut outputs mesh ..     what follows where the mesh was read
+--   ExportOutcome names status ..    what a run does to its host and to the forms
+use Rattle.std.specs.List.{zip}
+use Rattle.std.specs.Prelude.{ℕ, List, [], ◌∷◌, ◌&&◌, ◌==◌, nat_le, length, Option, Some, None, if◌then◌else◌, codes, map, string_bytes}
+use Rattle.std.specs.Prelude.{◌++◌, All, ◌≡◌, ⊤, IfSome, ◌⊎◌}
+use Rattle.std.specs.Str.{bytes_eq}
+use Rattle.host.specs.State.{Files, State}
+use Rattle.mesh_form.specs.Received.{Received, HasAll, HasFront}
+use Rattle.mesh_ply.specs.Meshes.{Surface}
+use Rattle.mesh_ply.specs.Texts.{mesh_text}
+use Rattle.recon_cmd.specs.Answers.{Answer, MayRefuse, ToMesh}
+use Rattle.recon_cmd.specs.Lines.{labelled}
+use Rattle.recon_cmd.specs.Outcome.{Run}
+use Rattle.recon_cmd.specs.Steps.{CarriesOut}
+use Rattle.recon_cmd.specs.Words.{are_names}
+use Rattle.recon_cmd.specs.declared.commands.export.ExportWords.{ExportWords}
+use Rattle.recon_cmd.specs.declared.status.Status.{Status}
+use Rattle.recon_cmd.specs.declared.status.Status.TheVariants.{Done, No, BadWords, Refused, Failed, NoMemory}
+
+-- the names of `export MESH OUT1 .. OUTn`
+pub record ExportNames : Type 0 where
+  pub mesh : List ℕ
+  pub outputs : List (List ℕ)
+
+-- a mesh, and as many outputs as there are forms, at least one
+abbrev pub export_behind : (forms : ℕ) → List (List ℕ) → Option ExportNames
+export_behind forms (mesh ∷ outputs) =
+    if nat_le 1 forms && ((length outputs == forms) && are_names (mesh ∷ outputs))
+    then Some (record { mesh = mesh; outputs = outputs })
+    else None
+export_behind forms [] = None
+
+-- the command, and such words behind it
+abbrev pub export_of : (forms : ℕ) → List (List ℕ) → Option ExportNames
+export_of forms (word ∷ words) = if bytes_eq word (codes "export") then export_behind forms words else None
+export_of forms [] = None
+
+-- the names that the program holds
+abbrev pub export_names : ExportWords → ExportNames
+export_names words = record { mesh = words.mesh.now; outputs = map string_bytes words.outputs.now }
+
+-- `exported n points N faces M`
+unfoldable pub exported_line : (forms points faces : ℕ) → List ℕ
+exported_line forms points faces =
+    labelled (codes "exported ") forms
+    ++ (labelled (codes " points ") points ++ (labelled (codes " faces ") faces ++ (10 ∷ [])))
+
+-- each form has received the whole mesh
+abbrev pub HaveAll : Surface → List Received → Type 0
+HaveAll mesh forms = All (λ r. HasAll r mesh.points mesh.faces) forms
+
+-- each form has received a front of the mesh, the whole included
+abbrev pub HaveFronts : Surface → List Received → Type 0
+HaveFronts mesh forms = All (λ r. HasFront r mesh.points mesh.faces) forms
+
+-- each form has received the whole mesh, and their texts are written to the outputs, in order
+pub record WritesForms (outputs : List (List ℕ)) (forms : List Received) (texts : List (List ℕ)) (mesh : Surface)
+    (answer : Answer) : Type 0 where
+  pub each : HaveAll mesh forms
+  pub is : answer ≡ record {
+    status = Done;
+    reads = 1;
+    writes = zip outputs texts;
+    line = exported_line (length outputs) (length mesh.points) (length mesh.faces);
+  }
+
+-- the mesh is refused, or the texts of these forms are written
+abbrev pub ExportAnswer : ExportNames → (forms : List Received) → (texts : List (List ℕ)) → Files → Answer → Type 0
+ExportAnswer names forms texts = ToMesh names.mesh (WritesForms names.outputs forms texts)
+
+-- where the host tells its files, the named one is the mesh's text
+abbrev pub IsFileOf : (name : List ℕ) → Surface → State → Type 0
+IsFileOf name mesh before = IfSome before.told (λ told. told.files name ≡ Some (mesh_text mesh.points mesh.faces))
+
+-- the forms are as they were, or each has received a front of the mesh of the named file
+abbrev pub AreHandedFronts : (name : List ℕ) → State → (old new : List Received) → Type 0
+AreHandedFronts name before old new = (new ≡ old) ⊎ ((mesh : Surface) × IsFileOf name mesh before × HaveFronts mesh new)
+
+-- what the forms have received after a run that ended so
+abbrev pub FormsAfter : (name : List ℕ) → Status → State → (old new : List Received) → Type 0
+FormsAfter name Done before old new = (mesh : Surface) × IsFileOf name mesh before × HaveAll mesh new
+FormsAfter name Refused before old new = new ≡ old
+FormsAfter name Failed before old new = AreHandedFronts name before old new
+FormsAfter name NoMemory before old new = AreHandedFronts name before old new
+FormsAfter name No before old new = ⊥
+FormsAfter name BadWords before old new = ⊥
+
+-- What follows where the mesh was read: there was no memory, and each form has received a front of it; or each has received the
+-- whole, and their texts are written up to a call that failed.
+abbrev pub FormsHandOut : (outputs : List (List ℕ)) → Surface → Status → State → State → (new : List Received)
+    → (texts : List (List ℕ)) → Type 0
+FormsHandOut outputs mesh status before after new texts =
+    ((status ≡ NoMemory) × HaveFronts mesh new × (after ≡ before))
+    ⊎ (HaveAll mesh new × CarriesOut (zip outputs texts)
+    (exported_line (length outputs) (length mesh.points) (length mesh.faces)) Done status before after)
+
+-- what a run of `export` does to its host, and to forms that had received `old`, have received `new` and have these texts
+pub record ExportOutcome (names : ExportNames) (status : Status) (before after : State) (old new : List Received)
+    (texts : List (List ℕ)) : Type 0 where
+  pub run : Run MayRefuse 1 (ExportAnswer names new texts) status before after
+  pub forms : FormsAfter names.mesh status before old new

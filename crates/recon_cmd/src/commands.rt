@@ -1,0 +1,137 @@
+//! The commands: what the words of a command line ask for, and what each command answers. The words are understood without taking
+//! memory. Each command stands in a file of its own: its words, its answer in memory, and its lines.
+ghost use Rattle.std.specs.Prelude.{◌≡◌, IfSome, map, string_bytes, false, IfOk};
+ghost use Rattle.recon_cmd.specs.Answers.{file_limit};
+ghost use Rattle.recon_cmd.specs.Commands.{AsksForForms, asked_command, asked_export, asked_sweep, command_of, asked, task_of};
+ghost use Rattle.recon_cmd.specs.Export.{export_of};
+ghost use Rattle.recon_cmd.specs.Steps.{IsReplied, ReadsFor, CountsFaults};
+ghost use Rattle.recon_cmd.specs.Sweep.{sweep_of};
+
+mod ask;
+mod build;
+mod cells;
+mod check;
+mod demo;
+mod export;
+mod slice;
+mod sweeping;
+
+use crate::options::Options;
+use crate::reply::{Reply, Stop};
+use ask::{AskNames, ask_command, reply_to_ask};
+use build::{BuildNames, build_command, reply_to_build};
+use cells::{CellsNames, cells_command, reply_to_cells};
+use check::{CheckNames, check_command, reply_to_check, upgrade_command};
+use demo::{Demo, demo_command, reply_to_demo};
+pub use export::export_mesh;
+use export::{ExportWords, export_words};
+use host::Host;
+use slice::{SliceWords, reply_to_slice, slice_command};
+use std::alloc::Global;
+use sweeping::{SweepWords, sweep_words};
+pub use sweeping::{forms_wanted, sweep_scan};
+use watch::Watch;
+
+/// A command with its names and options, and the files that it opens to be read, in order.
+#[derive(Clone, Copy, Debug)]
+pub enum Command<'a> {
+    /// `cells IN OUT`: the Delaunay cells of a scan. It reads the scan. Its weights are the defaults and count for nothing.
+    Cells(CellsNames<'a>, Options),
+    /// `build IN MESH CERT`: the best surface of a scan, and the certificate that shows it best. It reads the scan.
+    Build(BuildNames<'a>, Options),
+    /// `check IN MESH CERT`: whether a mesh is the best surface of a scan, and a certificate shows it best. And
+    /// `upgrade IN MESH CERT OUT`: where it is so, the certificate with the stamp of this run is written. They read the scan, then
+    /// the mesh if the scan is not refused, then the certificate if the mesh is not too long.
+    Check(CheckNames<'a>, Options),
+    /// `slice MESH H OUT`: the closed loops in which a level plane cuts a mesh. It reads the mesh.
+    Slice(SliceWords<'a>),
+    /// `ask IN POINTS OUT`: whether points are inside or outside the best surface of a scan. It reads the scan, then the points
+    /// if the scan is not refused.
+    Ask(AskNames<'a>, Options),
+    /// `demo N SEED`: what `build` says of a scan that is made from a number. It reads no file, and writes none.
+    Demo(Demo),
+}
+
+/// What a run is asked for.
+#[derive(Clone, Copy, Debug)]
+pub enum Request<'a> {
+    /// A command that has one answer whatever forms are handed in.
+    Command(Command<'a>),
+    /// `export MESH OUT1 .. OUTn`: a mesh in the forms that are handed in.
+    Export(ExportWords<'a>),
+    /// `sweep IN FROM STEP N OUT1 .. OUTN`: best surfaces of a scan in the forms that are handed in.
+    Sweep(SweepWords<'a>),
+}
+
+/// What the words ask for where so many forms are handed in, and None exactly where they ask for nothing.
+///
+/// The words are those after the program's name. Names take the places right after the command, whatever they look
+/// like; they are not empty, and no two are one. Behind them stand options, each a key with its value, in any order, and
+/// none with the key of another.
+///
+/// | Command | Options |
+/// |---|---|
+/// | `cells IN OUT` | `unit=`, `scanner=` |
+/// | `build IN MESH CERT` | `unit=`, `vote=`, `smooth=`, `scanner=` |
+/// | `check IN MESH CERT` | `unit=`, `vote=`, `smooth=`, `scanner=` |
+/// | `upgrade IN MESH CERT OUT` | `unit=`, `vote=`, `smooth=`, `scanner=` |
+/// | `ask IN POINTS OUT` | `unit=`, `vote=`, `smooth=`, `scanner=` |
+/// | `slice MESH H OUT` | none; H is 1 to 7 digits behind an optional `-`, at most 8,388,608 from 0 |
+/// | `demo N SEED` | none; N is 1 to 1,048,576 in 1 to 10 digits, SEED at most 2^64 - 1 in 1 to 20 |
+/// | `export MESH OUT1 .. OUTn` | none; n is the number of forms, at least 1 |
+/// | `sweep IN FROM STEP N OUT1 .. OUTN` | `unit=`, `vote=`, `scanner=`; N is the number of forms, 1 to 64 |
+///
+/// FROM of `sweep` is 0 to 65,535 and STEP 1 to 65,535, each in 1 to 10 digits, and FROM + (N - 1) * STEP at most 65,535.
+pub fn understand(words: &[String], forms: usize) -> Option<Request<'_>>
+    ensures command { asked_command result ≡ command_of (map string_bytes words.now) }
+    ensures export { asked_export result ≡ export_of forms (map string_bytes words.now) }
+    ensures sweep { asked_sweep result ≡ sweep_of forms (map string_bytes words.now) }
+    ensures fits { IfSome result (AsksForForms forms) }
+{
+    let [command, words @ ..] = words else {
+        return None;
+    };
+    match command.as_str() {
+        "cells" => cells_command(words),
+        "build" => build_command(words),
+        "check" => check_command(words),
+        "upgrade" => upgrade_command(words),
+        "slice" => slice_command(words),
+        "ask" => ask_command(words),
+        "demo" => demo_command(words),
+        "export" => match export_words(words, forms) {
+            Some(words) => Some(Request::Export(words)),
+            None => None,
+        },
+        "sweep" => match sweep_words(words, forms) {
+            Some(words) => Some(Request::Sweep(words)),
+            None => None,
+        },
+        _ => None,
+    }
+}
+
+/// Reads what a command reads, each file of as many bytes as the limit at most, and makes its answer. Nothing is written or
+/// said.
+pub fn reply_to<'a, H: Host, W: Watch>(
+    alloc: Global,
+    host: &mut H,
+    command: &Command<'a>,
+    limit: u64,
+    watch: &mut W,
+) -> Result<Reply<'a>, Stop>
+    requires { (H.state host.old).writing ≡ false }
+    ensures replied { limit ≡ file_limit → IfOk result (λ reply. IsReplied (task_of (asked command.now)) reply (H.state host.old)) }
+    ensures reads { limit ≡ file_limit → ReadsFor (task_of (asked command.now)) (H.state host.old) (H.state host.new) }
+    ensures closed { (H.state host.new).writing ≡ false }
+    ensures cause { CountsFaults result (H.state host.old).faults (H.state host.new).faults }
+{
+    match command {
+        Command::Cells(names, options) => reply_to_cells(alloc, host, names, options, limit, watch),
+        Command::Build(names, options) => reply_to_build(alloc, host, names, options, limit, watch),
+        Command::Check(names, options) => reply_to_check(alloc, host, names, options, limit, watch),
+        Command::Slice(words) => reply_to_slice(alloc, host, words, limit),
+        Command::Ask(names, options) => reply_to_ask(alloc, host, names, options, limit, watch),
+        Command::Demo(demo) => Ok(reply_to_demo(alloc, *demo, watch)?),
+    }
+}

@@ -1,0 +1,265 @@
+//! The answer of `ask IN POINTS OUT`: whether points are inside or outside the best surface of a scan. It stands on `solid_query`,
+//! which reads the points and finds their labels, and on `merge`, which finds the distinct points of the scan.
+ghost use Rattle.std.specs.List.{flat_map};
+ghost use Rattle.std.specs.Prelude.{map, string_bytes, ◌≡◌, false, IfOk, ◌≤◌, length, All, count_by, Some, ◌++◌, OnOk};
+ghost use Rattle.geo_sign.specs.Point.{IsWithin};
+ghost use Rattle.geo_sign.specs.declared.point.TheConstants.{DATA_LIMIT};
+ghost use Rattle.scan.specs.Views.{shown_of};
+ghost use Rattle.solution.specs.Scans.{points_of};
+ghost use Rattle.recon_cmd.specs.Answers.{file_limit};
+ghost use Rattle.recon_cmd.specs.Ask.{ask_names, AskAnswer, IsAsked, WritesLabels, too_long_points_line, query_refusal_line, ask_line, labels_text, label_line, ask_task};
+ghost use Rattle.recon_cmd.specs.Commands.{IsCommand, ask_of, asked_by};
+ghost use Rattle.recon_cmd.specs.OptionViews.{options_view};
+ghost use Rattle.recon_cmd.specs.Replies.{answer_of};
+ghost use Rattle.recon_cmd.specs.Steps.{IsReplied, ReadsFor, CountsFaults, IsReplyOf, ReadsOn};
+ghost use Rattle.recon_cmd.specs.Words.{build_keys, named};
+
+use crate::NoMemory;
+use crate::commands::{Command, Request};
+use crate::lines::{line_of_number, push_labelled};
+use crate::names::{BUILD_KEYS, NamesAndOptions, named};
+use crate::options::Options;
+use crate::reply::{Line, Reply, Stop, Text, refusal};
+use crate::status::Status;
+use crate::whole_run::{Reading, read_input};
+use geo_sign::Point;
+use host::{Host, ReadRefusal, read_all};
+use merge::merge;
+use num_text::push_ended;
+use scan::Scan;
+use solid_query::{QueryRefusal, ask_watched, read_queries};
+use std::alloc::{AllocError, Global};
+use watch::Watch;
+
+/// The names of `ask IN POINTS OUT`.
+#[derive(Clone, Copy, Debug)]
+pub struct AskNames<'a> {
+    /// The scan that is read.
+    pub input: &'a str,
+    /// The points that are asked for.
+    pub points: &'a str,
+    /// The file that the labels are written to.
+    pub output: &'a str,
+}
+
+/// What the words behind `ask` ask for.
+pub fn ask_command(words: &[String]) -> Option<Request<'_>>
+    ensures { IsCommand result (asked_by ask_of (named 3 build_keys (map string_bytes words.now))) }
+{
+    let Some(NamesAndOptions { names, options }) = named(words, 3, &BUILD_KEYS) else {
+        return None;
+    };
+    let [input, points, output] = names else {
+        return None;
+    };
+    let names = AskNames {
+        input: input.as_str(),
+        points: points.as_str(),
+        output: output.as_str(),
+    };
+    Some(Request::Command(Command::Ask(names, options)))
+}
+
+/// Reads the scan and, where it is not refused, the points, and makes the answer of `ask`. Nothing is written or said.
+pub fn reply_to_ask<'a, H: Host, W: Watch>(
+    alloc: Global,
+    host: &mut H,
+    names: &AskNames<'a>,
+    options: &Options,
+    limit: u64,
+    watch: &mut W,
+) -> Result<Reply<'a>, Stop>
+    requires { (H.state host.old).writing ≡ false }
+    ensures replied { limit ≡ file_limit → IfOk result (λ reply. IsReplied (ask_task (ask_names names.now) (options_view options.now)) reply (H.state host.old)) }
+    ensures reads { limit ≡ file_limit → ReadsFor (ask_task (ask_names names.now) (options_view options.now)) (H.state host.old) (H.state host.new) }
+    ensures closed { (H.state host.new).writing ≡ false }
+    ensures cause { CountsFaults result (H.state host.old).faults (H.state host.new).faults }
+{
+    match read_input(alloc, host, names.input, options, limit)? {
+        Reading::Scan(scan, bytes) => {
+            drop(bytes);
+            reply_to_scan(alloc, host, &scan, names, options, limit, watch)
+        }
+        Reading::Refused(line) => Ok(refusal(alloc, line)),
+    }
+}
+
+/// Reads the points, and answers to a scan.
+fn reply_to_scan<'a, H: Host, W: Watch>(
+    alloc: Global,
+    host: &mut H,
+    scan: &Scan,
+    names: &AskNames<'a>,
+    options: &Options,
+    limit: u64,
+    watch: &mut W,
+) -> Result<Reply<'a>, Stop>
+    requires { (H.state host.old).writing ≡ false }
+    ensures replied { limit ≡ file_limit → IfOk result (λ reply. IsReplyOf (ask_task (ask_names names.now) (options_view options.now))
+        (λ files. AskAnswer (ask_names names.now) (options_view options.now) files (shown_of scan.now)) reply (H.state host.old)) }
+    ensures reads { limit ≡ file_limit → ReadsOn 1 1 (λ files. AskAnswer (ask_names names.now) (options_view options.now) files (shown_of scan.now))
+        (H.state host.old) (H.state host.new) }
+    ensures closed { (H.state host.new).writing ≡ false }
+    ensures cause { CountsFaults result (H.state host.old).faults (H.state host.new).faults }
+{
+    let bytes = match read_all(alloc, host, names.points, limit) {
+        Ok(bytes) => bytes,
+        Err(ReadRefusal::TooLong) => return Ok(refusal(
+            alloc,
+            Line::Fixed(line_of_too_long_points()),
+        )),
+        Err(ReadRefusal::Failed) => return Err(Stop::Failed),
+        Err(ReadRefusal::NoMemory) => return Err(Stop::NoMemory),
+    };
+    Ok(reply_to_points(alloc, scan, bytes, names.output, options, watch)?)
+}
+
+/// The answer to a scan and the bytes of the points' file, which are let go before the scan is solved.
+fn reply_to_points<'a, W: Watch>(
+    alloc: Global,
+    scan: &Scan,
+    bytes: Vec<u8>,
+    output: &'a str,
+    options: &Options,
+    watch: &mut W,
+) -> Result<Reply<'a>, NoMemory>
+    ensures { length bytes.items ≤ file_limit → IfOk result (λ reply. IsAsked output.now (options_view options.now) (shown_of scan.now) bytes.items (answer_of 2 reply)) }
+{
+    match read_queries(alloc, &bytes, options.unit) {
+        Ok(points) => {
+            drop(bytes);
+            reply_to_queries(alloc, scan, &points, output, options, watch)
+        }
+        Err(why) => {
+            let line = line_of_query_refusal(alloc, why)?;
+            Ok(refusal(alloc, Line::Made(line)))
+        }
+    }
+}
+
+/// The labels of points, and the line.
+fn reply_to_queries<'a, W: Watch>(
+    alloc: Global,
+    scan: &Scan,
+    points: &[Point],
+    output: &'a str,
+    options: &Options,
+    watch: &mut W,
+) -> Result<Reply<'a>, NoMemory>
+    requires { All (IsWithin DATA_LIMIT) points.now }
+    ensures { IfOk result (λ reply. WritesLabels output.now (options_view options.now) (shown_of scan.now) points.now (answer_of 2 reply)) }
+{
+    let labels = ask_watched(alloc, scan, options.settings, points, watch)?;
+    let count = point_count(alloc, scan)?;
+    let text = text_of_labels(alloc, &labels)?;
+    let line = line_of_ask(
+        alloc,
+        count as u64,
+        labels.len() as u64,
+        inside_count(&labels),
+    )?;
+    let mut texts = Vec::new(alloc);
+    texts.push(Text {
+        name: output,
+        bytes: text,
+    })?;
+    Ok(Reply {
+        status: Status::Done,
+        texts,
+        line: Line::Made(line),
+    })
+}
+
+/// How many distinct points a scan has.
+fn point_count(alloc: Global, scan: &Scan) -> Result<usize, NoMemory>
+    ensures { IfOk result (λ count. count ≡ length (points_of (shown_of scan.now))) }
+{
+    let merged = merge(alloc, &scan.points)?;
+    Ok(merged.points.len())
+}
+
+/// How many labels are inside.
+fn inside_count(labels: &[bool]) -> u64
+    ensures { result ≡ count_by (λ label. label) labels.now }
+{
+    labels.iter().filter(|label| **label).count() as u64
+}
+
+/// What is said where the file of the points is longer than the limit.
+#[tactic(auto, unfolding(crate::specs::Ask::too_long_points_line))]
+pub fn line_of_too_long_points() -> &'static [u8]
+    ensures { result.now ≡ too_long_points_line }
+{
+    b"refused 19 too_long points\n"
+}
+
+/// What is said of points that are refused. Want of memory is no refusal that is said.
+pub fn line_of_query_refusal(alloc: Global, why: QueryRefusal) -> Result<Vec<u8>, NoMemory>
+    ensures { IfOk result (λ line. query_refusal_line why ≡ Some line.items) }
+{
+    match why {
+        QueryRefusal::BadToken(token) => {
+            line_of_number(alloc, b"refused 23 bad_query token ", u64::from(token))
+        }
+        QueryRefusal::LongNumber(token) => {
+            line_of_number(alloc, b"refused 24 long_query token ", u64::from(token))
+        }
+        QueryRefusal::OutOfRange(token) => {
+            line_of_number(alloc, b"refused 25 query_range token ", u64::from(token))
+        }
+        QueryRefusal::Uneven { tokens } => {
+            line_of_number(alloc, b"refused 26 query_cut tokens ", u64::from(tokens))
+        }
+        QueryRefusal::TooMany { tokens } => {
+            line_of_number(alloc, b"refused 27 too_many_queries tokens ", tokens)
+        }
+        QueryRefusal::NoMemory => Err(AllocError),
+    }
+}
+
+/// The line of `ask`: the number of points of the scan, of those that were asked for, and of those that are inside.
+#[tactic(auto, unfolding(crate::specs::Ask::ask_line))]
+pub fn line_of_ask(alloc: Global, points: u64, asked: u64, inside: u64) -> Result<Vec<u8>, NoMemory>
+    ensures { IfOk result (λ line. line.items ≡ ask_line points asked inside) }
+{
+    let mut line = Vec::new(alloc);
+    push_labelled(&mut line, b"points ", points)?;
+    push_labelled(&mut line, b" asked ", asked)?;
+    push_labelled(&mut line, b" inside ", inside)?;
+    line.push(b'\n')?;
+    Ok(line)
+}
+
+/// The text of labels: their number, and a line for each.
+#[tactic(auto, unfolding(crate::specs::Ask::labels_text))]
+pub fn text_of_labels(alloc: Global, labels: &[bool]) -> Result<Vec<u8>, NoMemory>
+    ensures { IfOk result (λ text. text.items ≡ labels_text labels.now) }
+{
+    let mut text = Vec::new(alloc);
+    text.extend_from_slice(b"answers ")?;
+    push_ended(&mut text, labels.len() as i128, b'\n')?;
+    push_labels(&mut text, labels)?;
+    Ok(text)
+}
+
+/// Adds a line for each label.
+fn push_labels(text: &mut Vec<u8>, labels: &[bool]) -> Result<(), NoMemory>
+    ensures { OnOk result (text.new.items ≡ text.old.items ++ flat_map label_line labels.now) }
+{
+    for label in labels {
+        push_label(text, *label)?;
+    }
+    Ok(())
+}
+
+/// Adds the line of a label.
+#[tactic(auto, unfolding(crate::specs::Ask::label_line))]
+fn push_label(text: &mut Vec<u8>, label: bool) -> Result<(), NoMemory>
+    ensures { OnOk result (text.new.items ≡ text.old.items ++ label_line label) }
+{
+    if label {
+        text.extend_from_slice(b"inside\n")
+    } else {
+        text.extend_from_slice(b"outside\n")
+    }
+}

@@ -1,0 +1,323 @@
+//! The answer of `check IN MESH CERT`: whether a mesh is the best surface of a scan, and a certificate shows it best. And that
+//! of `upgrade IN MESH CERT OUT`: where it is so, the certificate with the stamp of this run. It stands on `recon_check`, which
+//! decides, and on `cert_text`.
+ghost use Rattle.std.specs.Option.{option_map};
+ghost use Rattle.std.specs.Prelude.{map, string_bytes, ◌≡◌, false, IfOk, ℕ, ⊤, Some, []};
+ghost use Rattle.cert_text.specs.Certificates.{stamp_view};
+ghost use Rattle.cert_text.specs.Texts.{cert_text};
+ghost use Rattle.recon_check.specs.Answers.{HasCertificate};
+ghost use Rattle.scan.specs.Views.{shown_of};
+ghost use Rattle.recon_cmd.specs.Answers.{file_limit};
+ghost use Rattle.recon_cmd.specs.Check.{check_names, output_of, HasVerdict, MeshAnswer, IsCheckReply, CertAnswer, IsConcluded, restamped, too_long_cert_line, upgraded_line, check_task};
+ghost use Rattle.recon_cmd.specs.Commands.{IsCommand, asked_by, check_of, upgrade_of};
+ghost use Rattle.recon_cmd.specs.OptionViews.{options_view};
+ghost use Rattle.recon_cmd.specs.Replies.{answer_of};
+ghost use Rattle.recon_cmd.specs.Steps.{IsReplied, ReadsFor, CountsFaults, ReadsOn};
+ghost use Rattle.recon_cmd.specs.Words.{build_keys, named};
+ghost use Rattle.recon_check.specs.declared.answer.Answer.TheVariants as verdicts;
+
+mod lines;
+
+use crate::NoMemory;
+use crate::commands::{Command, Request};
+use crate::lines::{line_of_too_long_mesh, push_labelled};
+use crate::names::{BUILD_KEYS, NamesAndOptions, named};
+use crate::options::Options;
+use crate::reply::{Line, Reply, Stop, Text, refusal};
+use crate::stamps::stamp_of;
+use crate::status::Status;
+use crate::whole_run::{Reading, read_input};
+use cert_text::{Stamp, push_cert, read_cert};
+use host::{Host, ReadRefusal, read_all};
+use lines::{line_of_reason, line_of_yes};
+use recon_check::{Answer, CheckedTexts, check_all_watched};
+use scan::Scan;
+use std::alloc::{AllocError, Global};
+use watch::Watch;
+
+/// The names of `check IN MESH CERT` and of `upgrade IN MESH CERT OUT`.
+#[derive(Clone, Copy, Debug)]
+pub struct CheckNames<'a> {
+    /// The scan that is read.
+    pub input: &'a str,
+    /// The mesh that is checked.
+    pub mesh: &'a str,
+    /// The certificate that is checked.
+    pub cert: &'a str,
+    /// The file that the certificate is written to with the stamp of this run: `upgrade` has one, and `check` has none.
+    pub output: Option<&'a str>,
+}
+
+/// A scan and the stamp of its file.
+#[derive(Drop)]
+struct StampedScan {
+    scan: Scan,
+    stamp: Stamp,
+}
+
+/// What `check` or `upgrade` is asked for, and how many bytes a file that is read may have.
+#[derive(Clone, Copy)]
+struct CheckAsked<'w, 'a> {
+    names: &'w CheckNames<'a>,
+    options: &'w Options,
+    limit: u64,
+}
+
+/// What the words behind `check` ask for.
+pub fn check_command(words: &[String]) -> Option<Request<'_>>
+    ensures { IsCommand result (asked_by check_of (named 3 build_keys (map string_bytes words.now))) }
+{
+    let Some(NamesAndOptions { names, options }) = named(words, 3, &BUILD_KEYS) else {
+        return None;
+    };
+    let [input, mesh, cert] = names else {
+        return None;
+    };
+    let names = CheckNames {
+        input: input.as_str(),
+        mesh: mesh.as_str(),
+        cert: cert.as_str(),
+        output: None,
+    };
+    Some(Request::Command(Command::Check(names, options)))
+}
+
+/// What the words behind `upgrade` ask for.
+pub fn upgrade_command(words: &[String]) -> Option<Request<'_>>
+    ensures { IsCommand result (asked_by upgrade_of (named 4 build_keys (map string_bytes words.now))) }
+{
+    let Some(NamesAndOptions { names, options }) = named(words, 4, &BUILD_KEYS) else {
+        return None;
+    };
+    let [input, mesh, cert, output] = names else {
+        return None;
+    };
+    let names = CheckNames {
+        input: input.as_str(),
+        mesh: mesh.as_str(),
+        cert: cert.as_str(),
+        output: Some(output.as_str()),
+    };
+    Some(Request::Command(Command::Check(names, options)))
+}
+
+/// Reads the scan, the mesh and the certificate, each only where the one before is not refused, and makes the answer of
+/// `check` or `upgrade`. Nothing is written or said.
+pub fn reply_to_check<'a, H: Host, W: Watch>(
+    alloc: Global,
+    host: &mut H,
+    names: &CheckNames<'a>,
+    options: &Options,
+    limit: u64,
+    watch: &mut W,
+) -> Result<Reply<'a>, Stop>
+    requires { (H.state host.old).writing ≡ false }
+    ensures replied { limit ≡ file_limit → IfOk result (λ reply. IsReplied (check_task (check_names names.now) (output_of names.now) (options_view options.now)) reply (H.state host.old)) }
+    ensures reads { limit ≡ file_limit → ReadsFor (check_task (check_names names.now) (output_of names.now) (options_view options.now)) (H.state host.old) (H.state host.new) }
+    ensures closed { (H.state host.new).writing ≡ false }
+    ensures cause { CountsFaults result (H.state host.old).faults (H.state host.new).faults }
+{
+    match read_input(alloc, host, names.input, options, limit)? {
+        Reading::Scan(scan, bytes) => {
+            let stamp = stamp_of(bytes, options.unit, options.fixed);
+            let scan = StampedScan { scan, stamp };
+            let asked = CheckAsked {
+                names,
+                options,
+                limit,
+            };
+            reply_to_scan(alloc, host, &scan, &asked, watch)
+        }
+        Reading::Refused(line) => Ok(refusal(alloc, line)),
+    }
+}
+
+/// Reads the mesh and the certificate, and answers to a scan and the stamp of its file.
+fn reply_to_scan<'a, H: Host, W: Watch>(
+    alloc: Global,
+    host: &mut H,
+    scan: &StampedScan,
+    asked: &CheckAsked<'_, 'a>,
+    watch: &mut W,
+) -> Result<Reply<'a>, Stop>
+    requires { (H.state host.old).writing ≡ false }
+    ensures replied { asked.now.limit ≡ file_limit → IfOk result (λ reply. IsCheckReply (check_names asked.now.names.now) (output_of asked.now.names.now) (options_view asked.now.options.now)
+        (MeshAnswer (check_names asked.now.names.now) (HasVerdict (output_of asked.now.names.now) (options_view asked.now.options.now) (stamp_view scan.now.stamp) (shown_of scan.now.scan))) reply (H.state host.old)) }
+    ensures reads { asked.now.limit ≡ file_limit → ReadsOn 1 2 (MeshAnswer (check_names asked.now.names.now) (HasVerdict (output_of asked.now.names.now) (options_view asked.now.options.now) (stamp_view scan.now.stamp) (shown_of scan.now.scan)))
+        (H.state host.old) (H.state host.new) }
+    ensures closed { (H.state host.new).writing ≡ false }
+    ensures cause { CountsFaults result (H.state host.old).faults (H.state host.new).faults }
+{
+    let mesh = match read_all(alloc, host, asked.names.mesh, asked.limit) {
+        Ok(mesh) => mesh,
+        Err(ReadRefusal::TooLong) => return Ok(refusal(
+            alloc,
+            Line::Fixed(line_of_too_long_mesh()),
+        )),
+        Err(ReadRefusal::Failed) => return Err(Stop::Failed),
+        Err(ReadRefusal::NoMemory) => return Err(Stop::NoMemory),
+    };
+    reply_to_mesh(alloc, host, scan, asked, &mesh, watch)
+}
+
+/// Reads the certificate, and answers to a scan and a mesh.
+fn reply_to_mesh<'a, H: Host, W: Watch>(
+    alloc: Global,
+    host: &mut H,
+    scan: &StampedScan,
+    asked: &CheckAsked<'_, 'a>,
+    mesh: &[u8],
+    watch: &mut W,
+) -> Result<Reply<'a>, Stop>
+    requires { (H.state host.old).writing ≡ false }
+    ensures replied { asked.now.limit ≡ file_limit → IfOk result (λ reply. IsCheckReply (check_names asked.now.names.now) (output_of asked.now.names.now) (options_view asked.now.options.now)
+        (CertAnswer (check_names asked.now.names.now) (HasVerdict (output_of asked.now.names.now) (options_view asked.now.options.now) (stamp_view scan.now.stamp) (shown_of scan.now.scan) mesh.now)) reply (H.state host.old)) }
+    ensures reads { asked.now.limit ≡ file_limit → ReadsOn 2 1 (CertAnswer (check_names asked.now.names.now) (HasVerdict (output_of asked.now.names.now) (options_view asked.now.options.now) (stamp_view scan.now.stamp) (shown_of scan.now.scan) mesh.now))
+        (H.state host.old) (H.state host.new) }
+    ensures closed { (H.state host.new).writing ≡ false }
+    ensures cause { CountsFaults result (H.state host.old).faults (H.state host.new).faults }
+{
+    let cert = match read_all(alloc, host, asked.names.cert, asked.limit) {
+        Ok(cert) => cert,
+        Err(ReadRefusal::TooLong) => return Ok(refusal(
+            alloc,
+            Line::Fixed(line_of_too_long_cert()),
+        )),
+        Err(ReadRefusal::Failed) => return Err(Stop::Failed),
+        Err(ReadRefusal::NoMemory) => return Err(Stop::NoMemory),
+    };
+    let texts = CheckedTexts { mesh, cert: &cert };
+    Ok(reply_to_texts(
+        alloc,
+        scan,
+        asked.names.output,
+        asked.options,
+        &texts,
+        watch,
+    )?)
+}
+
+/// The verdict on a mesh and a certificate, and what follows from it.
+fn reply_to_texts<'a, W: Watch>(
+    alloc: Global,
+    scan: &StampedScan,
+    output: Option<&'a str>,
+    options: &Options,
+    texts: &CheckedTexts,
+    watch: &mut W,
+) -> Result<Reply<'a>, NoMemory>
+    ensures { IfOk result (λ reply. HasVerdict (option_map (λ name. name.now) output.entry) (options_view options.now) (stamp_view scan.now.stamp) (shown_of scan.now.scan) texts.now.mesh.now texts.now.cert.now (answer_of 3 reply)) }
+{
+    match check_all_watched(
+        alloc,
+        &scan.scan,
+        options.settings,
+        &scan.stamp,
+        texts,
+        watch,
+    ) {
+        Ok(verdict) => reply_to_verdict(alloc, &verdict, &scan.stamp, output, texts.cert),
+        Err(_) => Err(AllocError),
+    }
+}
+
+/// What follows from a verdict.
+fn reply_to_verdict<'a>(
+    alloc: Global,
+    verdict: &Answer,
+    stamp: &Stamp,
+    output: Option<&'a str>,
+    cert: &[u8],
+) -> Result<Reply<'a>, NoMemory>
+    requires { (inside faces cost : ℕ) → verdict.now ≡ verdicts.Yes inside faces cost → HasCertificate cert.now (λ claim. ⊤) }
+    ensures { IfOk result (λ reply. IsConcluded (option_map (λ name. name.now) output.entry) (stamp_view stamp.now) cert.now verdict.now (answer_of 3 reply)) }
+{
+    match verdict {
+        Answer::Yes {
+            inside,
+            faces,
+            cost,
+        } => match output {
+            None => {
+                let line = line_of_yes(alloc, *inside, *faces, *cost)?;
+                Ok(said(alloc, Status::Done, line))
+            }
+            Some(output) => reply_of_upgrade(alloc, stamp, cert, *cost, output),
+        },
+        Answer::No(reason) => {
+            let line = line_of_reason(alloc, reason)?;
+            Ok(said(alloc, Status::No, line))
+        }
+    }
+}
+
+/// A certificate of which the verdict is yes is written with this stamp, whichever it had.
+fn reply_of_upgrade<'a>(
+    alloc: Global,
+    stamp: &Stamp,
+    cert: &[u8],
+    cost: u64,
+    output: &'a str,
+) -> Result<Reply<'a>, NoMemory>
+    requires { HasCertificate cert.now (λ claim. ⊤) }
+    ensures { IfOk result (λ reply. (inside faces : ℕ) → IsConcluded (Some output.now) (stamp_view stamp.now) cert.now (verdicts.Yes inside faces cost) (answer_of 3 reply)) }
+{
+    let text = restamped_text(alloc, stamp, cert)?;
+    let line = line_of_upgrade(alloc, cost)?;
+    let mut texts = Vec::new(alloc);
+    texts.push(Text {
+        name: output,
+        bytes: text,
+    })?;
+    Ok(Reply {
+        status: Status::Done,
+        texts,
+        line: Line::Made(line),
+    })
+}
+
+/// The text of the certificate whose text `cert` is, with this stamp, whichever it had.
+fn restamped_text(alloc: Global, stamp: &Stamp, cert: &[u8]) -> Result<Vec<u8>, NoMemory>
+    requires { HasCertificate cert.now (λ claim. ⊤) }
+    ensures { IfOk result (λ text. HasCertificate cert.now (λ claim. text.items ≡ cert_text (restamped (stamp_view stamp.now) claim))) }
+{
+    let mut stated = match read_cert(alloc, cert) {
+        Ok(stated) => stated,
+        // It is the text of a certificate: there was no memory.
+        Err(_) => return Err(AllocError),
+    };
+    stated.stamp = Some(*stamp);
+    let mut text = Vec::new(alloc);
+    push_cert(&mut text, &stated)?;
+    Ok(text)
+}
+
+/// A reply that says a line and writes nothing.
+fn said<'a>(alloc: Global, status: Status, line: Vec<u8>) -> Reply<'a>
+    ensures { answer_of 3 result ≡ record { status = status; reads = 3; writes = []; line = line.items } }
+{
+    Reply {
+        status,
+        texts: Vec::new(alloc),
+        line: Line::Made(line),
+    }
+}
+
+/// What is said where the certificate's file is longer than the limit.
+#[tactic(auto, unfolding(crate::specs::Check::too_long_cert_line))]
+pub fn line_of_too_long_cert() -> &'static [u8]
+    ensures { result.now ≡ too_long_cert_line }
+{
+    b"refused 19 too_long cert\n"
+}
+
+/// The line of `upgrade` where it says yes: the cost of the labels.
+#[tactic(auto, unfolding(crate::specs::Check::upgraded_line))]
+pub fn line_of_upgrade(alloc: Global, cost: u64) -> Result<Vec<u8>, NoMemory>
+    ensures { IfOk result (λ line. line.items ≡ upgraded_line cost) }
+{
+    let mut line = Vec::new(alloc);
+    push_labelled(&mut line, b"upgraded cost ", cost)?;
+    line.push(b'\n')?;
+    Ok(line)
+}

@@ -1,0 +1,113 @@
+//! The answer of `demo N SEED`: what `build` says of a scan that is made from a number. It stands on `gen_scan`, which makes
+//! the scan.
+ghost use Rattle.std.specs.Prelude.{map, string_bytes, ◌≡◌, IfOk, ◌≤◌, Ok, OnOk, length};
+ghost use Rattle.scan.specs.Views.{shown_of};
+ghost use Rattle.recon_cmd.specs.Answers.{file_limit, read_as};
+ghost use Rattle.recon_cmd.specs.Commands.{IsCommand, demo_of};
+ghost use Rattle.recon_cmd.specs.Demo.{seed_of, Demonstrates, generated_text, demo_line};
+ghost use Rattle.recon_cmd.specs.Options.{default_options};
+ghost use Rattle.recon_cmd.specs.Replies.{answer_of};
+
+mod words;
+
+use crate::NoMemory;
+use crate::commands::build::line_of_build;
+use crate::commands::{Command, Request};
+use crate::lines::push_labelled;
+use crate::options::{DEFAULT_SMOOTH, DEFAULT_UNIT, DEFAULT_VOTE, number_in};
+use crate::reply::{Line, Reply};
+use crate::stamps::stamp_of;
+use crate::status::Status;
+use flow_net::Settings;
+use gen_scan::gen_scan;
+use num_text::all_digits;
+use recon_build::solve_scan_watched;
+use scan::{POINT_LIMIT, Scan, ScanRefusal, push_scan, read_scan};
+use std::alloc::{AllocError, Global};
+use watch::Watch;
+pub use words::Demo;
+
+/// The most digits of a seed.
+const MOST_DIGITS: usize = 20;
+
+/// What the words behind `demo` ask for.
+pub fn demo_command(words: &[String]) -> Option<Request<'_>>
+    ensures { IsCommand result (demo_of (map string_bytes words.now)) }
+{
+    let [count, seed] = words else {
+        return None;
+    };
+    let count = number_in(count.as_bytes(), 1, POINT_LIMIT)?;
+    let seed = seed_in(seed.as_str())?;
+    Some(Request::Command(Command::Demo(Demo { count, seed })))
+}
+
+/// The number that 1 to 20 digits are, if it is at most 2^64 - 1.
+pub fn seed_in(text: &str) -> Option<u64>
+    ensures { result ≡ seed_of text.now }
+{
+    if text.len() > MOST_DIGITS || !all_digits(text.as_bytes()) {
+        return None;
+    }
+    match text.parse::<u64>() {
+        Ok(seed) => Some(seed),
+        Err(_) => None,
+    }
+}
+
+/// Makes the answer of `demo`. The scan is printed and read as a file would be, and its surface is found; no text of it is
+/// made.
+pub fn reply_to_demo<'a, W: Watch>(
+    alloc: Global,
+    demo: Demo,
+    watch: &mut W,
+) -> Result<Reply<'a>, NoMemory>
+    ensures { IfOk result (λ reply. Demonstrates demo.count demo.seed (answer_of 0 reply)) }
+{
+    let (scan, text) = reread_scan(alloc, demo)?;
+    let stamp = stamp_of(text, DEFAULT_UNIT, None);
+    let settings = Settings {
+        vote: DEFAULT_VOTE,
+        smooth: DEFAULT_SMOOTH,
+    };
+    let solved = solve_scan_watched(alloc, &scan, settings, Some(stamp), watch)?;
+    let built = line_of_build(alloc, &solved.cert, solved.mesh.faces.len())?;
+    let line = line_of_demo(alloc, demo.count, demo.seed, &built)?;
+    Ok(Reply {
+        status: Status::Done,
+        texts: Vec::new(alloc),
+        line: Line::Made(line),
+    })
+}
+
+/// The scan that the text of the generated one is read as, and that text.
+fn reread_scan(alloc: Global, demo: Demo) -> Result<(Scan, Vec<u8>), NoMemory>
+    ensures read { IfOk result (λ read. read_as default_options (generated_text demo.count demo.seed) ≡ Ok (shown_of read.0)) }
+    ensures text { IfOk result (λ read. read.1.items ≡ generated_text demo.count demo.seed) }
+    ensures within { OnOk result (length (generated_text demo.count demo.seed) ≤ file_limit) }
+{
+    let scan = gen_scan(alloc, demo.count, demo.seed)?;
+    let mut text = Vec::new(alloc);
+    push_scan(&mut text, &scan)?;
+    match read_scan(alloc, &text, DEFAULT_UNIT, None) {
+        Ok(read) => Ok((read, text)),
+        Err(why) => match why {
+            ScanRefusal::NoMemory => Err(AllocError),
+            // A printed scan is read.
+            _ => unreachable!(),
+        },
+    }
+}
+
+/// The line of `demo`: the number of rows, the seed, and then what `build` says.
+#[tactic(auto, unfolding(crate::specs::Demo::demo_line))]
+pub fn line_of_demo(alloc: Global, count: u32, seed: u64, built: &[u8]) -> Result<Vec<u8>, NoMemory>
+    ensures { IfOk result (λ line. line.items ≡ demo_line count seed built.now) }
+{
+    let mut line = Vec::new(alloc);
+    push_labelled(&mut line, b"demo ", u64::from(count))?;
+    push_labelled(&mut line, b" ", seed)?;
+    line.push(b' ')?;
+    line.extend_from_slice(built)?;
+    Ok(line)
+}

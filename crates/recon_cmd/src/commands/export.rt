@@ -1,0 +1,122 @@
+//! The answer of `export MESH OUT1 .. OUTn`: a mesh in the forms that the caller hands in. It stands on `mesh_form`, which hands
+//! them the mesh.
+ghost use Rattle.std.specs.Option.{option_map};
+ghost use Rattle.std.specs.Prelude.{◌≡◌, IfSome, length, map, string_bytes, false, All, IfOk};
+ghost use Rattle.mesh_form.specs.Received.{IsFresh};
+ghost use Rattle.mesh_ply.specs.Texts.{IsPrinted};
+ghost use Rattle.solution.specs.Solutions.{surface_of};
+ghost use Rattle.recon_cmd.specs.Answers.{file_limit};
+ghost use Rattle.recon_cmd.specs.Export.{export_behind, export_names, ExportOutcome, FormsHandOut, exported_line};
+ghost use Rattle.recon_cmd.specs.declared.status.Status.TheVariants.{Refused};
+
+use crate::NoMemory;
+use crate::lines::push_labelled;
+use crate::names::are_names;
+use crate::reply::Stop;
+use crate::status::Status;
+use crate::whole_run::{MeshReading, conclude, read_mesh_file, write_forms};
+use host::Host;
+use mesh_form::{Form, drive_all};
+use mesh_ply::Mesh;
+use std::alloc::Global;
+
+/// The words behind `export MESH OUT1 .. OUTn`.
+#[derive(Clone, Copy, Debug)]
+pub struct ExportWords<'a> {
+    /// The mesh that is read.
+    pub mesh: &'a str,
+    /// The files that the forms' texts are written to, one for each form.
+    pub outputs: &'a [String],
+}
+
+/// What the words behind `export` ask for, if they are a mesh and as many outputs as there are forms, and at least one. Names are
+/// not empty, and no two are one.
+pub fn export_words(words: &[String], forms: usize) -> Option<ExportWords<'_>>
+    ensures is { option_map export_names result ≡ export_behind forms (map string_bytes words.now) }
+    ensures fits { IfSome result (λ words. length words.outputs.now ≡ forms) }
+{
+    let [mesh, outputs @ ..] = words else {
+        return None;
+    };
+    if forms == 0 || outputs.len() != forms || !are_names(words) {
+        return None;
+    }
+    Some(ExportWords {
+        mesh: mesh.as_str(),
+        outputs,
+    })
+}
+
+/// Reads the mesh, whose file may have as many bytes as the limit, hands it to each form, and writes their texts, in order. No
+/// file is made before all texts stand in memory.
+pub fn export_mesh<H: Host>(
+    alloc: Global,
+    host: &mut H,
+    words: &ExportWords,
+    forms: &mut [Box<dyn Form>],
+    limit: u64,
+) -> Status
+    requires closed { (H.state host.old).writing ≡ false }
+    requires fresh { All IsFresh (map (λ form. received form) forms.old) }
+    requires as_many { length words.now.outputs.now ≡ length forms.old }
+    ensures outcome { limit ≡ file_limit → ExportOutcome (export_names words.now) result (H.state host.old) (H.state host.new)
+        (map (λ form. received form) forms.old) (map (λ form. received form) forms.new) (map (λ form. text_of form) forms.new) }
+    ensures refused { result ≡ Refused → forms.new ≡ forms.old }
+    ensures kinds { map (λ form. form.vtable) forms.new ≡ map (λ form. form.vtable) forms.old }
+{
+    let reading = match read_mesh_file(alloc, host, words.mesh, limit) {
+        Ok(reading) => reading,
+        Err(Stop::Failed) => return Status::Failed,
+        Err(Stop::NoMemory) => return Status::NoMemory,
+    };
+    match reading {
+        MeshReading::Mesh(mesh) => hand_out(alloc, host, &mesh, words.outputs, forms),
+        MeshReading::Refused(line) => conclude(host, &[], line.as_bytes(), Status::Refused),
+    }
+}
+
+/// Hands the mesh to each form, and writes their texts.
+fn hand_out<H: Host>(
+    alloc: Global,
+    host: &mut H,
+    mesh: &Mesh,
+    outputs: &[String],
+    forms: &mut [Box<dyn Form>],
+) -> Status
+    requires closed { (H.state host.old).writing ≡ false }
+    requires fresh { All IsFresh (map (λ form. received form) forms.old) }
+    requires as_many { length outputs.now ≡ length forms.old }
+    requires printed { IsPrinted mesh.now.points.items mesh.now.faces.items }
+    ensures handed { FormsHandOut (map string_bytes outputs.now) (surface_of mesh.now) result (H.state host.old) (H.state host.new)
+        (map (λ form. received form) forms.new) (map (λ form. text_of form) forms.new) }
+    ensures kinds { map (λ form. form.vtable) forms.new ≡ map (λ form. form.vtable) forms.old }
+{
+    match drive_all(forms, mesh) {
+        Ok(()) => {}
+        Err(_) => return Status::NoMemory,
+    }
+    let points = mesh.points.len() as u64;
+    let faces = mesh.faces.len() as u64;
+    match line_of_export(alloc, outputs.len() as u64, points, faces) {
+        Ok(line) => write_forms(host, outputs, forms, &line),
+        Err(_) => Status::NoMemory,
+    }
+}
+
+/// The line of `export`: the number of forms, and those of points and faces.
+#[tactic(auto, unfolding(crate::specs::Export::exported_line))]
+pub fn line_of_export(
+    alloc: Global,
+    forms: u64,
+    points: u64,
+    faces: u64,
+) -> Result<Vec<u8>, NoMemory>
+    ensures { IfOk result (λ line. line.items ≡ exported_line forms points faces) }
+{
+    let mut line = Vec::new(alloc);
+    push_labelled(&mut line, b"exported ", forms)?;
+    push_labelled(&mut line, b" points ", points)?;
+    push_labelled(&mut line, b" faces ", faces)?;
+    line.push(b'\n')?;
+    Ok(line)
+}

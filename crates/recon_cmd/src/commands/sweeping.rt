@@ -1,0 +1,199 @@
+//! The answer of `sweep IN FROM STEP N OUT1 .. OUTN`: the best surfaces of a scan at rising smoothing weights, each handed to a form
+//! of the caller. It stands on `sweep`, which finds them and hands them on.
+ghost use Rattle.std.specs.Option.{option_map};
+ghost use Rattle.std.specs.Prelude.{◌≡◌, IfSome, map, string_bytes, ◌≤◌, false, length, All, IfOk};
+ghost use Rattle.flow_net.specs.declared.votes.TheConstants.{WEIGHT_LIMIT};
+ghost use Rattle.mesh_form.specs.Received.{IsFresh};
+ghost use Rattle.scan.specs.Views.{shown_of};
+ghost use Rattle.recon_cmd.specs.Answers.{file_limit};
+ghost use Rattle.recon_cmd.specs.Sweep.{FitsForms, sweep_asked, sweep_words_of, entries_of, sweep_behind, SweepOutcome, SweepHandOut, sweep_line};
+ghost use Rattle.recon_cmd.specs.declared.status.Status.TheVariants.{Refused};
+
+use crate::NoMemory;
+use crate::lines::push_labelled;
+use crate::names::{NamesAndOptions, is_name, named};
+use crate::options::{Key, Options, number_in};
+use crate::reply::Stop;
+use crate::status::Status;
+use crate::whole_run::{Reading, conclude, read_input, write_forms};
+use flow_net::{Settings, WEIGHT_LIMIT};
+use host::Host;
+use mesh_form::Form;
+use scan::Scan;
+use std::alloc::Global;
+use sweep::hand_surfaces_watched;
+use watch::{Stage, Watch};
+
+/// The options of `sweep`.
+const SWEEP_KEYS: [Key; 3] = [Key::Unit, Key::Vote, Key::Scanner];
+
+/// The most weights of a sweep.
+const ENTRY_LIMIT: u32 = 64;
+
+/// The words behind `sweep IN FROM STEP N OUT1 .. OUTN`.
+#[derive(Clone, Copy, Debug)]
+pub struct SweepWords<'a> {
+    /// The scan that is read.
+    pub input: &'a str,
+    /// How much the smoothing rises from each surface to the next.
+    pub step: u32,
+    /// The files that the forms' texts are written to, one for each form.
+    pub outputs: &'a [String],
+    /// The options, at the first smoothing.
+    pub options: Options,
+}
+
+/// What the words behind `sweep` ask for, if they are `IN FROM STEP N OUT1 .. OUTN` with options behind, where N is the number of
+/// forms, 1 to 64. FROM is 0 to 65,535 and STEP 1 to 65,535, each in 1 to 10 digits, and so is the largest weight,
+/// FROM + (N - 1) * STEP. Names are not empty, and no two are one. The options are `unit=`, `vote=` and `scanner=`.
+pub fn sweep_words(words: &[String], forms: usize) -> Option<SweepWords<'_>>
+    ensures is { option_map sweep_asked result ≡ sweep_words_of forms (map string_bytes words.now) }
+    ensures fits { IfSome result (λ words. FitsForms words forms) }
+{
+    let [input, from, step, count, behind @ ..] = words else {
+        return None;
+    };
+    let from = number_in(from.as_bytes(), 0, WEIGHT_LIMIT)?;
+    let step = number_in(step.as_bytes(), 1, WEIGHT_LIMIT)?;
+    let count = number_in(count.as_bytes(), 1, ENTRY_LIMIT)?;
+    if count as usize != forms {
+        return None;
+    }
+    understand_behind(input.as_str(), from, step, count, behind)
+}
+
+/// How many forms `sweep` is to be handed: as many as its fifth word says, if that is 1 to 64 in 1 to 10 digits, and else 0. None
+/// where the first word is not `sweep`.
+pub fn forms_wanted(words: &[String]) -> Option<u32>
+    ensures { result ≡ entries_of (map string_bytes words.now) }
+{
+    let [command, behind @ ..] = words else {
+        return None;
+    };
+    if command.as_str() != "sweep" {
+        return None;
+    }
+    let [_, _, _, count, ..] = behind else {
+        return Some(0);
+    };
+    Some(number_in(count.as_bytes(), 1, ENTRY_LIMIT).unwrap_or(0))
+}
+
+/// What the words behind the numbers ask for: so many outputs, and then options.
+fn understand_behind<'a>(
+    input: &'a str,
+    from: u32,
+    step: u32,
+    count: u32,
+    words: &'a [String],
+) -> Option<SweepWords<'a>>
+    requires from { from ≤ WEIGHT_LIMIT }
+    requires least_step { 1 ≤ step }
+    requires step { step ≤ WEIGHT_LIMIT }
+    requires some { 1 ≤ count }
+    requires few { count ≤ 64 }
+    ensures is { option_map sweep_asked result ≡ sweep_behind input.now from step count (map string_bytes words.now) }
+    ensures fits { IfSome result (λ words. FitsForms words count) }
+{
+    if from + (count - 1) * step > WEIGHT_LIMIT {
+        return None;
+    }
+    let Some(NamesAndOptions { names, options }) = named(words, count as usize, &SWEEP_KEYS) else {
+        return None;
+    };
+    if !is_name(input, names) {
+        return None;
+    }
+    Some(SweepWords {
+        input,
+        step,
+        outputs: names,
+        options: Options {
+            unit: options.unit,
+            settings: Settings {
+                vote: options.settings.vote,
+                smooth: from,
+            },
+            fixed: options.fixed,
+        },
+    })
+}
+
+/// Reads the scan, whose file may have as many bytes as the limit, hands its best surface at each weight to a form, and writes the
+/// forms' texts, in order. No file is made before all texts stand in memory.
+pub fn sweep_scan<H: Host, W: Watch>(
+    alloc: Global,
+    host: &mut H,
+    words: &SweepWords,
+    forms: &mut [Box<dyn Form>],
+    limit: u64,
+    watch: &mut W,
+) -> Status
+    requires closed { (H.state host.old).writing ≡ false }
+    requires fresh { All IsFresh (map (λ form. received form) forms.old) }
+    requires fits { FitsForms words.now (length forms.old) }
+    ensures outcome { limit ≡ file_limit → SweepOutcome (sweep_asked words.now) result (H.state host.old) (H.state host.new)
+        (map (λ form. received form) forms.old) (map (λ form. received form) forms.new) (map (λ form. text_of form) forms.new) }
+    ensures refused { result ≡ Refused → forms.new ≡ forms.old }
+    ensures kinds { map (λ form. form.vtable) forms.new ≡ map (λ form. form.vtable) forms.old }
+{
+    let reading = match read_input(alloc, host, words.input, &words.options, limit) {
+        Ok(reading) => reading,
+        Err(Stop::Failed) => return Status::Failed,
+        Err(Stop::NoMemory) => return Status::NoMemory,
+    };
+    match reading {
+        Reading::Scan(scan, bytes) => {
+            drop(bytes);
+            hand_out(alloc, host, &scan, words, forms, watch)
+        }
+        Reading::Refused(line) => conclude(host, &[], line.as_bytes(), Status::Refused),
+    }
+}
+
+/// Hands the surface of each weight to its form, and writes their texts.
+fn hand_out<H: Host, W: Watch>(
+    alloc: Global,
+    host: &mut H,
+    scan: &Scan,
+    words: &SweepWords,
+    forms: &mut [Box<dyn Form>],
+    watch: &mut W,
+) -> Status
+    requires closed { (H.state host.old).writing ≡ false }
+    requires fresh { All IsFresh (map (λ form. received form) forms.old) }
+    requires fits { FitsForms words.now (length forms.old) }
+    ensures handed { SweepHandOut (sweep_asked words.now) (shown_of scan.now) result (H.state host.old) (H.state host.new)
+        (map (λ form. received form) forms.new) (map (λ form. text_of form) forms.new) }
+    ensures kinds { map (λ form. form.vtable) forms.new ≡ map (λ form. form.vtable) forms.old }
+{
+    let settings = words.options.settings;
+    let handed = hand_surfaces_watched(alloc, scan, settings, words.step, forms, watch);
+    watch.stage(Stage::Over, 0);
+    let costs = match handed {
+        Ok(costs) => costs,
+        Err(_) => return Status::NoMemory,
+    };
+    match line_of_sweep(alloc, words.outputs.len() as u64, costs.first, costs.last) {
+        Ok(line) => write_forms(host, words.outputs, forms, &line),
+        Err(_) => Status::NoMemory,
+    }
+}
+
+/// The line of `sweep`: the number of surfaces, and what the first and the last cost.
+#[tactic(auto, unfolding(crate::specs::Sweep::sweep_line))]
+pub fn line_of_sweep(
+    alloc: Global,
+    entries: u64,
+    first: u64,
+    last: u64,
+) -> Result<Vec<u8>, NoMemory>
+    ensures { IfOk result (λ line. line.items ≡ sweep_line entries first last) }
+{
+    let mut line = Vec::new(alloc);
+    push_labelled(&mut line, b"sweep ", entries)?;
+    push_labelled(&mut line, b" first_cost ", first)?;
+    push_labelled(&mut line, b" last_cost ", last)?;
+    line.push(b'\n')?;
+    Ok(line)
+}

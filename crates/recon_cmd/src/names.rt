@@ -1,0 +1,66 @@
+//! Names in their places, and the options behind them, as commands share them. It stands on the options.
+ghost use Rattle.std.specs.Option.{option_map};
+ghost use Rattle.std.specs.Prelude.{◌≡◌, IfSome, length, map, string_bytes};
+ghost use Rattle.recon_cmd.specs.Words.{named, named_view, are_names, is_name, is_other};
+
+use crate::options::{Key, Options, understand_options};
+
+/// All options, where one best surface is meant.
+pub const BUILD_KEYS: [Key; 4] = [Key::Unit, Key::Vote, Key::Smooth, Key::Scanner];
+
+/// Names, and the options behind them.
+#[derive(Clone, Copy, Debug)]
+pub struct NamesAndOptions<'a> {
+    /// The names, in order.
+    pub names: &'a [String],
+    /// The options.
+    pub options: Options,
+}
+
+/// So many names, and then options with these keys, and None exactly where the words are not that. Names are not empty, and no two
+/// are one.
+pub fn named<'a>(words: &'a [String], count: usize, keys: &[Key]) -> Option<NamesAndOptions<'a>>
+    ensures is { option_map named_view result ≡ named count keys.now (map string_bytes words.now) }
+    ensures many { IfSome result (λ held. length held.names.now ≡ count) }
+{
+    if words.len() < count {
+        return None;
+    }
+    let names = &words[..count];
+    if !are_names(names) {
+        return None;
+    }
+    let options = understand_options(keys, &words[count..])?;
+    Some(NamesAndOptions { names, options })
+}
+
+/// Whether none of the names is empty, and no two are one.
+pub fn are_names(names: &[String]) -> bool
+    ensures { result ≡ are_names (map string_bytes names.now) }
+{
+    for k in 0..names.len() {
+        if !is_name(names[k].as_str(), &names[k + 1..]) {
+            return false;
+        }
+    }
+    true
+}
+
+/// Whether the name is not empty, and none of these.
+pub fn is_name(name: &str, others: &[String]) -> bool
+    ensures { result ≡ is_name name.now (map string_bytes others.now) }
+{
+    !name.is_empty() && is_none_of(name, others)
+}
+
+/// Whether the name is none of these.
+fn is_none_of(name: &str, others: &[String]) -> bool
+    ensures { result ≡ is_other name.now (map string_bytes others.now) }
+{
+    for other in others {
+        if name == other.as_str() {
+            return false;
+        }
+    }
+    true
+}

@@ -1,0 +1,72 @@
+//! What a command comes to, in memory. It stands on nothing.
+ghost use Rattle.std.specs.Prelude.{◌≡◌, ℕ};
+ghost use Rattle.recon_cmd.specs.Answers.{refusal as refused};
+ghost use Rattle.recon_cmd.specs.Replies.{line_bytes, answer_of};
+ghost use Rattle.recon_cmd.specs.declared.reply.Stop.TheVariants as stops;
+
+use crate::status::Status;
+use std::alloc::{AllocError, Global};
+
+/// A line that is said last.
+#[derive(Drop)]
+pub enum Line {
+    /// A line without numbers.
+    Fixed(&'static [u8]),
+    /// A line that was made in memory.
+    Made(Vec<u8>),
+}
+
+impl Line {
+    /// The bytes of the line.
+    pub fn as_bytes(&self) -> &[u8]
+        ensures { result.now ≡ line_bytes self.now }
+    {
+        match self {
+            Line::Fixed(bytes) => bytes,
+            Line::Made(bytes) => bytes,
+        }
+    }
+}
+
+/// A text that is written as a file of this name.
+#[derive(Drop)]
+pub struct Text<'a> {
+    pub name: &'a str,
+    pub bytes: Vec<u8>,
+}
+
+/// What a command comes to: its status, the texts that it writes in order, and its line.
+#[derive(Drop)]
+pub struct Reply<'a> {
+    pub status: Status,
+    pub texts: Vec<Text<'a>>,
+    pub line: Line,
+}
+
+/// Why a command comes to nothing.
+#[derive(Clone, Copy, Debug, PartialEq, Eq)]
+pub enum Stop {
+    /// A call of the host failed.
+    Failed,
+    /// There was no memory.
+    NoMemory,
+}
+
+impl From<AllocError> for Stop {
+    ghost from_gives = { λ _ stop. stop ≡ stops.NoMemory };
+
+    fn from(_: AllocError) -> Self {
+        Stop::NoMemory
+    }
+}
+
+/// A refusal writes no file, and says this line.
+pub fn refusal<'a>(alloc: Global, line: Line) -> Reply<'a>
+    ensures { (reads : ℕ) → answer_of reads result ≡ refused reads (line_bytes line) }
+{
+    Reply {
+        status: Status::Refused,
+        texts: Vec::new(alloc),
+        line,
+    }
+}

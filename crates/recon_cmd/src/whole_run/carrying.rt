@@ -1,0 +1,35 @@
+//! The writing of texts and the saying of a line, of whichever command. It stands on `host`.
+ghost use Rattle.std.specs.Prelude.{◌≡◌, false};
+ghost use Rattle.recon_cmd.specs.Replies.{line_bytes, texts_of};
+ghost use Rattle.recon_cmd.specs.Steps.{CarriesOut};
+
+use crate::reply::{Reply, Text};
+use crate::status::Status;
+use host::{Host, say_all, write_file};
+
+/// Writes the texts of a reply in order and says its line. The answer is the reply's status, or `Failed` at the first
+/// call that fails. It takes no memory.
+pub fn carry_out<H: Host>(host: &mut H, reply: &Reply) -> Status
+    requires { (H.state host.old).writing ≡ false }
+    ensures { CarriesOut (texts_of reply.now.texts.items) (line_bytes reply.now.line) reply.now.status result (H.state host.old) (H.state host.new) }
+{
+    conclude(host, &reply.texts, reply.line.as_bytes(), reply.status)
+}
+
+/// Writes the texts in order and says the line. The answer is the status, or `Failed` at the first call that fails.
+#[tactic(auto, using(crate::proofs::Carrying::written_none))]
+pub fn conclude<H: Host>(host: &mut H, texts: &[Text], line: &[u8], status: Status) -> Status
+    requires { (H.state host.old).writing ≡ false }
+    ensures { CarriesOut (texts_of texts.now) line.now status result (H.state host.old) (H.state host.new) }
+{
+    for text in texts {
+        match write_file(host, text.name, &text.bytes) {
+            Ok(()) => {}
+            Err(_) => return Status::Failed,
+        }
+    }
+    match say_all(host, line) {
+        Ok(()) => status,
+        Err(_) => Status::Failed,
+    }
+}

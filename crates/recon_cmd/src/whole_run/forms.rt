@@ -1,0 +1,42 @@
+//! The writing of the texts of forms, and the saying of a line. It stands on `host`, and on the forms of `mesh_form`.
+ghost use Rattle.std.specs.List.{zip};
+ghost use Rattle.std.specs.Prelude.{◌≡◌, false, length, map, string_bytes, All};
+ghost use Rattle.mesh_form.specs.declared.stage.Stage.TheVariants.{Ended};
+ghost use Rattle.recon_cmd.specs.Steps.{CarriesOut};
+ghost use Rattle.recon_cmd.specs.declared.status.Status.TheVariants.{Done};
+
+use crate::status::Status;
+use host::{Host, say_all, write_file};
+use mesh_form::Form;
+
+/// Writes the text of each form to its output, in order, and says the line.
+pub fn write_forms<H: Host>(
+    host: &mut H,
+    outputs: &[String],
+    forms: &[Box<dyn Form>],
+    line: &[u8],
+) -> Status
+    requires closed { (H.state host.old).writing ≡ false }
+    requires as_many { length outputs.now ≡ length forms.now }
+    requires ended { All (λ r. r.stage ≡ Ended) (map (λ form. received form) forms.now) }
+    ensures { CarriesOut (zip (map string_bytes outputs.now) (map (λ form. text_of form) forms.now)) line.now Done result (H.state host.old) (H.state host.new) }
+{
+    for k in 0..forms.len() {
+        match write_file(host, outputs[k].as_str(), text_of(&forms[k])) {
+            Ok(()) => {}
+            Err(_) => return Status::Failed,
+        }
+    }
+    match say_all(host, line) {
+        Ok(()) => Status::Done,
+        Err(_) => Status::Failed,
+    }
+}
+
+/// The text of an ended form.
+fn text_of(form: &Box<dyn Form>) -> &[u8]
+    requires { (received form.now).stage ≡ Ended }
+    ensures { result.now ≡ text_of form.now }
+{
+    form.text()
+}

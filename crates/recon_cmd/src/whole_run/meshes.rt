@@ -1,0 +1,56 @@
+//! The reading of the mesh that a command begins with. It stands on `mesh_ply`, which understands the bytes of a file.
+ghost use Rattle.std.specs.Prelude.{◌≡◌, false, IfOk, IfSome, ◌≤◌, length};
+ghost use Rattle.host.specs.Whole.{OnlyReads};
+ghost use Rattle.recon_cmd.specs.Answers.{file_limit};
+ghost use Rattle.recon_cmd.specs.Steps.{IsMeshReading, IsPrintedIfRead, CountsFaults, IsUnderstoodMesh};
+
+use crate::NoMemory;
+use crate::lines::{line_of_mesh_refusal, line_of_too_long_mesh};
+use crate::reply::{Line, Stop};
+use host::{Host, ReadRefusal, read_all};
+use mesh_ply::{Mesh, read_mesh};
+use std::alloc::Global;
+
+/// What the reading of a mesh comes to.
+#[derive(Drop)]
+pub enum MeshReading {
+    /// The mesh of the file.
+    Mesh(Mesh),
+    /// The file is refused, and this line says why.
+    Refused(Line),
+}
+
+/// Reads the mesh of the named file. Its bytes are let go. The file may have as many bytes as the limit.
+pub fn read_mesh_file<H: Host>(
+    alloc: Global,
+    host: &mut H,
+    name: &str,
+    limit: u64,
+) -> Result<MeshReading, Stop>
+    requires { (H.state host.old).writing ≡ false }
+    ensures read { limit ≡ file_limit → IfOk result (λ reading. IfSome (H.state host.old).told (IsMeshReading name.now reading)) }
+    ensures printed { IfOk result IsPrintedIfRead }
+    ensures only { OnlyReads (H.state host.old) (H.state host.new) }
+    ensures cause { CountsFaults result (H.state host.old).faults (H.state host.new).faults }
+{
+    let bytes = match read_all(alloc, host, name, limit) {
+        Ok(bytes) => bytes,
+        Err(ReadRefusal::TooLong) => return Ok(MeshReading::Refused(Line::Fixed(
+            line_of_too_long_mesh(),
+        ))),
+        Err(ReadRefusal::Failed) => return Err(Stop::Failed),
+        Err(ReadRefusal::NoMemory) => return Err(Stop::NoMemory),
+    };
+    Ok(understand_mesh(alloc, &bytes)?)
+}
+
+/// What the bytes of a mesh's file come to.
+fn understand_mesh(alloc: Global, bytes: &[u8]) -> Result<MeshReading, NoMemory>
+    ensures understood { length bytes.now ≤ file_limit → IfOk result (IsUnderstoodMesh bytes.now) }
+    ensures printed { IfOk result IsPrintedIfRead }
+{
+    match read_mesh(alloc, bytes) {
+        Ok(mesh) => Ok(MeshReading::Mesh(mesh)),
+        Err(why) => Ok(MeshReading::Refused(Line::Made(line_of_mesh_refusal(alloc, why)?))),
+    }
+}

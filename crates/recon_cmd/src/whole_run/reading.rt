@@ -1,0 +1,61 @@
+//! The reading of the scan of a command. It stands on `scan`, which understands the bytes of a file.
+ghost use Rattle.std.specs.Prelude.{◌≡◌, false, IfOk, IfSome, ◌≤◌, length};
+ghost use Rattle.host.specs.Whole.{OnlyReads};
+ghost use Rattle.recon_cmd.specs.Answers.{file_limit};
+ghost use Rattle.recon_cmd.specs.OptionViews.{options_view};
+ghost use Rattle.recon_cmd.specs.Steps.{IsReading, CountsFaults, IsUnderstood};
+
+use crate::NoMemory;
+use crate::lines::{line_of_refusal, line_of_too_long_scan};
+use crate::options::Options;
+use crate::reply::{Line, Stop};
+use host::{Host, ReadRefusal, read_all};
+use scan::{Scan, read_scan};
+use std::alloc::Global;
+
+/// How many bytes a file that is read may have.
+pub const FILE_LIMIT: u64 = 4_294_967_296;
+
+/// What the reading of a scan comes to.
+#[derive(Drop)]
+pub enum Reading {
+    /// The scan of the file, and the file's bytes.
+    Scan(Scan, Vec<u8>),
+    /// The file is refused, and this line says why.
+    Refused(Line),
+}
+
+/// Reads the scan of the named file, in the unit and with the fixed scanner of these options. The file may have as many bytes
+/// as the limit.
+pub fn read_input<H: Host>(
+    alloc: Global,
+    host: &mut H,
+    name: &str,
+    options: &Options,
+    limit: u64,
+) -> Result<Reading, Stop>
+    requires { (H.state host.old).writing ≡ false }
+    ensures read { limit ≡ file_limit → IfOk result (λ reading. IfSome (H.state host.old).told (IsReading name.now (options_view options.now) reading)) }
+    ensures only { OnlyReads (H.state host.old) (H.state host.new) }
+    ensures cause { CountsFaults result (H.state host.old).faults (H.state host.new).faults }
+{
+    let bytes = match read_all(alloc, host, name, limit) {
+        Ok(bytes) => bytes,
+        Err(ReadRefusal::TooLong) => return Ok(Reading::Refused(Line::Fixed(
+            line_of_too_long_scan(),
+        ))),
+        Err(ReadRefusal::Failed) => return Err(Stop::Failed),
+        Err(ReadRefusal::NoMemory) => return Err(Stop::NoMemory),
+    };
+    Ok(understand_scan(alloc, bytes, options)?)
+}
+
+/// What the bytes of a scan's file come to.
+fn understand_scan(alloc: Global, bytes: Vec<u8>, options: &Options) -> Result<Reading, NoMemory>
+    ensures { length bytes.items ≤ file_limit → IfOk result (IsUnderstood bytes.items (options_view options.now)) }
+{
+    match read_scan(alloc, &bytes, options.unit, options.fixed) {
+        Ok(scan) => Ok(Reading::Scan(scan, bytes)),
+        Err(why) => Ok(Reading::Refused(Line::Made(line_of_refusal(alloc, why)?))),
+    }
+}
