@@ -37,7 +37,7 @@ use Rattle.recon_cmd.specs.Options.{Options, number_between}
 use Rattle.recon_cmd.specs.Outcome.{EndsBy, TellsBy, Run}
 use Rattle.recon_cmd.specs.Slice.{height_of, slice_names, slice_task}
 use Rattle.recon_cmd.specs.Sweep.{SweepAsked, sweep_asked, FitsForms}
-use Rattle.recon_cmd.specs.Words.{Names, SurfaceNames, NamesAndOptions, are_names, build_keys, named}
+use Rattle.recon_cmd.specs.Words.{Names, SurfaceNames, NamesAndOptions, are_names, all_keys, named}
 use Rattle.recon_cmd.specs.declared.commands.Command.{Command}
 use Rattle.recon_cmd.specs.declared.commands.Request.{Request}
 use Rattle.recon_cmd.specs.declared.commands.Request.TheVariants as requests
@@ -108,11 +108,11 @@ abbrev pub command_of : List (List ℕ) → Option Asked
 command_of [] = None
 command_of (word ∷ words) =
     if bytes_eq word (codes "cells") then asked_by cells_of (named 2 cells_keys words)
-    else (if bytes_eq word (codes "build") then asked_by build_of (named 3 build_keys words)
-    else (if bytes_eq word (codes "check") then asked_by check_of (named 3 build_keys words)
-    else (if bytes_eq word (codes "upgrade") then asked_by upgrade_of (named 4 build_keys words)
+    else (if bytes_eq word (codes "build") then asked_by build_of (named 3 all_keys words)
+    else (if bytes_eq word (codes "check") then asked_by check_of (named 3 all_keys words)
+    else (if bytes_eq word (codes "upgrade") then asked_by upgrade_of (named 4 all_keys words)
     else (if bytes_eq word (codes "slice") then slice_of words
-    else (if bytes_eq word (codes "ask") then asked_by ask_of (named 3 build_keys words)
+    else (if bytes_eq word (codes "ask") then asked_by ask_of (named 3 all_keys words)
     else (if bytes_eq word (codes "demo") then demo_of words
     else None))))))
 

@@ -5,7 +5,7 @@ ghost use Rattle.recon_cmd.specs.Answers.{file_limit};
 ghost use Rattle.recon_cmd.specs.Commands.{AsksForForms, asked_command, asked_export, asked_sweep, command_of, asked, task_of};
 ghost use Rattle.recon_cmd.specs.Export.{export_of};
 ghost use Rattle.recon_cmd.specs.Steps.{IsReplied, ReadsFor, CountsFaults};
-ghost use Rattle.recon_cmd.specs.Sweep.{sweep_of};
+ghost use Rattle.recon_cmd.specs.Sweep.{entries_of, sweep_of};
 
 mod ask;
 mod build;
@@ -28,8 +28,8 @@ use export::{ExportWords, export_words};
 use host::Host;
 use slice::{SliceWords, reply_to_slice, slice_command};
 use std::alloc::Global;
-use sweeping::{SweepWords, sweep_words};
-pub use sweeping::{forms_wanted, sweep_scan};
+use sweeping::{SweepWords, sweep_entries, sweep_words};
+pub use sweeping::sweep_scan;
 use watch::Watch;
 
 /// A command with its names and options, and the files that it opens to be read, in order.
@@ -61,6 +61,16 @@ pub enum Request<'a> {
     Export(ExportWords<'a>),
     /// `sweep IN FROM STEP N OUT1 .. OUTN`: best surfaces of a scan in the forms that are handed in.
     Sweep(SweepWords<'a>),
+}
+
+impl<'a> Request<'a> {
+    /// How many forms are to be handed in, where the words say it themselves: as many as the fifth word of `sweep` says, if that is
+    /// 1 to 64 in 1 to 10 digits, and else 0. None where the first word is not `sweep`.
+    pub fn forms_wanted(words: &[String]) -> Option<u32>
+        ensures { result ≡ entries_of (map string_bytes words.now) }
+    {
+        sweep_entries(words)
+    }
 }
 
 /// What the words ask for where so many forms are handed in, and None exactly where they ask for nothing.

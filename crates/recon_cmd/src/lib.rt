@@ -19,7 +19,7 @@ mod stamps;
 mod status;
 mod whole_run;
 
-pub use commands::{Command, Request, forms_wanted, understand};
+pub use commands::{Command, Request, understand};
 pub use laws::{
     a_check_says_what_its_files_are, a_command_has_one_answer, a_mesh_that_was_checked_is_best,
     a_refused_scan_is_refused, a_surface_that_was_built_is_accepted,

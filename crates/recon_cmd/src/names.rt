@@ -6,7 +6,7 @@ ghost use Rattle.recon_cmd.specs.Words.{named, named_view, are_names, is_name, i
 use crate::options::{Key, Options, understand_options};
 
 /// All options, where one best surface is meant.
-pub const BUILD_KEYS: [Key; 4] = [Key::Unit, Key::Vote, Key::Smooth, Key::Scanner];
+pub const ALL_KEYS: [Key; 4] = [Key::Unit, Key::Vote, Key::Smooth, Key::Scanner];
 
 /// Names, and the options behind them.
 #[derive(Clone, Copy, Debug)]

@@ -10,7 +10,7 @@ use crate::real::RealHost;
 use crate::unnamed::Unnamed;
 use host::Host;
 use mesh_form::{Form, ObjForm, OffForm, PlyForm};
-use recon_cmd::{FILE_LIMIT, Status, forms_wanted, run, run_forms_within};
+use recon_cmd::{FILE_LIMIT, Request, Status, run, run_forms_within};
 use std::alloc::{AllocError, Global};
 use std::env::Args;
 use std::io::ErrorKind;
@@ -97,7 +97,7 @@ fn run_in_forms<H: Host, W: Watch>(
     ensures ran { IfOk result (λ status. RunsOn (map string_bytes words.now) status (H.state host.old) (H.state host.new)) }
     ensures idle { OnErr result (H.state host.new ≡ H.state host.old) }
 {
-    match forms_wanted(words) {
+    match Request::forms_wanted(words) {
         Some(entries) => run_in_meshes(alloc, words, host, entries, watch),
         None => run_in_formats(alloc, words, host, watch),
     }

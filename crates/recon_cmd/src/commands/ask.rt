@@ -12,12 +12,12 @@ ghost use Rattle.recon_cmd.specs.Commands.{IsCommand, ask_of, asked_by};
 ghost use Rattle.recon_cmd.specs.OptionViews.{options_view};
 ghost use Rattle.recon_cmd.specs.Replies.{answer_of};
 ghost use Rattle.recon_cmd.specs.Steps.{IsReplied, ReadsFor, CountsFaults, IsReplyOf, ReadsOn};
-ghost use Rattle.recon_cmd.specs.Words.{build_keys, named};
+ghost use Rattle.recon_cmd.specs.Words.{all_keys, named};
 
 use crate::NoMemory;
 use crate::commands::{Command, Request};
 use crate::lines::{line_of_number, push_labelled};
-use crate::names::{BUILD_KEYS, NamesAndOptions, named};
+use crate::names::{ALL_KEYS, NamesAndOptions, named};
 use crate::options::Options;
 use crate::reply::{Line, Reply, Stop, Text, refusal};
 use crate::status::Status;
@@ -44,9 +44,9 @@ pub struct AskNames<'a> {
 
 /// What the words behind `ask` ask for.
 pub fn ask_command(words: &[String]) -> Option<Request<'_>>
-    ensures { IsCommand result (asked_by ask_of (named 3 build_keys (map string_bytes words.now))) }
+    ensures { IsCommand result (asked_by ask_of (named 3 all_keys (map string_bytes words.now))) }
 {
-    let Some(NamesAndOptions { names, options }) = named(words, 3, &BUILD_KEYS) else {
+    let Some(NamesAndOptions { names, options }) = named(words, 3, &ALL_KEYS) else {
         return None;
     };
     let [input, points, output] = names else {

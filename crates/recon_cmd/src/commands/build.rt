@@ -11,12 +11,12 @@ ghost use Rattle.recon_cmd.specs.Commands.{IsCommand, asked_by, build_of};
 ghost use Rattle.recon_cmd.specs.OptionViews.{options_view};
 ghost use Rattle.recon_cmd.specs.Replies.{answer_of};
 ghost use Rattle.recon_cmd.specs.Steps.{IsReplied, ReadsFor, CountsFaults};
-ghost use Rattle.recon_cmd.specs.Words.{build_keys, named};
+ghost use Rattle.recon_cmd.specs.Words.{all_keys, named};
 
 use crate::NoMemory;
 use crate::commands::{Command, Request};
 use crate::lines::push_labelled;
-use crate::names::{BUILD_KEYS, NamesAndOptions, named};
+use crate::names::{ALL_KEYS, NamesAndOptions, named};
 use crate::options::Options;
 use crate::reply::{Line, Reply, Stop, Text, refusal};
 use crate::stamps::stamp_of;
@@ -43,9 +43,9 @@ pub struct BuildNames<'a> {
 
 /// What the words behind `build` ask for.
 pub fn build_command(words: &[String]) -> Option<Request<'_>>
-    ensures { IsCommand result (asked_by build_of (named 3 build_keys (map string_bytes words.now))) }
+    ensures { IsCommand result (asked_by build_of (named 3 all_keys (map string_bytes words.now))) }
 {
-    let Some(NamesAndOptions { names, options }) = named(words, 3, &BUILD_KEYS) else {
+    let Some(NamesAndOptions { names, options }) = named(words, 3, &ALL_KEYS) else {
         return None;
     };
     let [input, mesh, cert] = names else {

@@ -13,7 +13,7 @@ ghost use Rattle.recon_cmd.specs.Commands.{IsCommand, asked_by, check_of, upgrad
 ghost use Rattle.recon_cmd.specs.OptionViews.{options_view};
 ghost use Rattle.recon_cmd.specs.Replies.{answer_of};
 ghost use Rattle.recon_cmd.specs.Steps.{IsReplied, ReadsFor, CountsFaults, ReadsOn};
-ghost use Rattle.recon_cmd.specs.Words.{build_keys, named};
+ghost use Rattle.recon_cmd.specs.Words.{all_keys, named};
 ghost use Rattle.recon_check.specs.declared.answer.Answer.TheVariants as verdicts;
 
 mod lines;
@@ -21,7 +21,7 @@ mod lines;
 use crate::NoMemory;
 use crate::commands::{Command, Request};
 use crate::lines::{line_of_too_long_mesh, push_labelled};
-use crate::names::{BUILD_KEYS, NamesAndOptions, named};
+use crate::names::{ALL_KEYS, NamesAndOptions, named};
 use crate::options::Options;
 use crate::reply::{Line, Reply, Stop, Text, refusal};
 use crate::stamps::stamp_of;
@@ -65,9 +65,9 @@ struct CheckAsked<'w, 'a> {
 
 /// What the words behind `check` ask for.
 pub fn check_command(words: &[String]) -> Option<Request<'_>>
-    ensures { IsCommand result (asked_by check_of (named 3 build_keys (map string_bytes words.now))) }
+    ensures { IsCommand result (asked_by check_of (named 3 all_keys (map string_bytes words.now))) }
 {
-    let Some(NamesAndOptions { names, options }) = named(words, 3, &BUILD_KEYS) else {
+    let Some(NamesAndOptions { names, options }) = named(words, 3, &ALL_KEYS) else {
         return None;
     };
     let [input, mesh, cert] = names else {
@@ -84,9 +84,9 @@ pub fn check_command(words: &[String]) -> Option<Request<'_>>
 
 /// What the words behind `upgrade` ask for.
 pub fn upgrade_command(words: &[String]) -> Option<Request<'_>>
-    ensures { IsCommand result (asked_by upgrade_of (named 4 build_keys (map string_bytes words.now))) }
+    ensures { IsCommand result (asked_by upgrade_of (named 4 all_keys (map string_bytes words.now))) }
 {
-    let Some(NamesAndOptions { names, options }) = named(words, 4, &BUILD_KEYS) else {
+    let Some(NamesAndOptions { names, options }) = named(words, 4, &ALL_KEYS) else {
         return None;
     };
     let [input, mesh, cert, output] = names else {

@@ -64,7 +64,7 @@ pub fn sweep_words(words: &[String], forms: usize) -> Option<SweepWords<'_>>
 
 /// How many forms `sweep` is to be handed: as many as its fifth word says, if that is 1 to 64 in 1 to 10 digits, and else 0. None
 /// where the first word is not `sweep`.
-pub fn forms_wanted(words: &[String]) -> Option<u32>
+pub fn sweep_entries(words: &[String]) -> Option<u32>
     ensures { result ≡ entries_of (map string_bytes words.now) }
 {
     let [command, behind @ ..] = words else {
