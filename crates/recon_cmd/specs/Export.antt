@@ -17,7 +17,7 @@
 --   ExportOutcome names status ..    what a run does to its host and to the forms
 use Rattle.std.specs.List.{zip}
 use Rattle.std.specs.Prelude.{ℕ, List, [], ◌∷◌, ◌&&◌, ◌==◌, nat_le, length, Option, Some, None, if◌then◌else◌, codes, map, string_bytes}
-use Rattle.std.specs.Prelude.{◌++◌, All, ◌≡◌, ⊤, IfSome, ◌⊎◌}
+use Rattle.std.specs.Prelude.{◌++◌, All, ◌≡◌, IfSome, ◌⊎◌}
 use Rattle.std.specs.Str.{bytes_eq}
 use Rattle.host.specs.State.{Files, State}
 use Rattle.mesh_form.specs.Received.{Received, HasAll, HasFront}

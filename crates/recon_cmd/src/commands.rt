@@ -28,8 +28,8 @@ use export::{ExportWords, export_words};
 use host::Host;
 use slice::{SliceWords, reply_to_slice, slice_command};
 use std::alloc::Global;
-use sweeping::{SweepWords, sweep_entries, sweep_words};
 pub use sweeping::sweep_scan;
+use sweeping::{SweepWords, sweep_entries, sweep_words};
 use watch::Watch;
 
 /// A command with its names and options, and the files that it opens to be read, in order.
