@@ -2,14 +2,15 @@
 --
 --     Handed                       a name, and the bytes of its file if there is one
 --     files_handed, names_handed   the files by name; the names, in their order
+--     state_handed files           a host that has these files, with none open and nothing said
 --     NamesApart files             no two names are one
 --     IsMadeOf room file handed    a file was made of what was handed in
-use Rattle.std.specs.Prelude.{◌≡◌, ◌≢◌, ℕ, zero, suc, ◌<◌, List, [], ◌∷◌, length, map, Vec, String, Option, None, string_bytes}
-use Rattle.std.specs.Prelude.{if◌then◌else◌}
+use Rattle.std.specs.Prelude.{◌≡◌, ◌≢◌, ℕ, zero, suc, ◌<◌, List, [], ◌∷◌, length, map, Vec, String, Option, Some, None, string_bytes}
+use Rattle.std.specs.Prelude.{false, if◌then◌else◌}
 use Rattle.std.specs.Option.{option_map}
 use Rattle.std.specs.Str.{bytes_eq}
 use Rattle.std.specs.declared.alloc.Global.{Global}
-use Rattle.host.specs.State.{Files}
+use Rattle.host.specs.State.{Files, State}
 use Rattle.host.specs.Files.{content}
 use Rattle.host.specs.declared.files.MemFile.{MemFile}
 
@@ -22,6 +23,16 @@ abbrev pub files_handed : List Handed → Files
 files_handed [] name = None
 files_handed (file ∷ files) name =
     if bytes_eq name (string_bytes file.0) then option_map (λ bytes. bytes.items) file.1 else files_handed files name
+
+-- a host that has these files, with no call so far
+abbrev pub state_handed : List Handed → State
+state_handed files = record {
+  told = Some (record { files = files_handed files; left = []; target = []; said = [] });
+  faults = 0;
+  opens = 0;
+  reading = false;
+  writing = false;
+}
 
 -- the names, in their order
 abbrev pub names_handed : List Handed → List (List ℕ)

@@ -3,7 +3,7 @@
 //! It keeps a list of named files with memory for their bytes (`files`, `store`), the plan of its failures (`plan`),
 //! and which file is open. All its memory is taken when it is made. A call has the clauses of the trait, and others
 //! behind them that say exactly how far it moves, where it fails, and what it counts.
-ghost use Rattle.std.specs.Prelude.{◌≡◌, Some, IfSome, min, IsTrue, ◌+◌, ◌%◌, ◌≤◌, ◌<◌, ◌↔◌, ◌⊎◌, ℕ, true, false, None, IsErr, IfOk, OnOk, OnErr, All, Contains, length, take};
+ghost use Rattle.std.specs.Prelude.{◌≡◌, IfSome, min, IsTrue, ◌+◌, ◌%◌, ◌≤◌, ◌<◌, ◌↔◌, ◌⊎◌, ℕ, true, false, None, IsErr, IfOk, OnOk, OnErr, All, Contains, length, take};
 ghost use Rattle.std.specs.Option.{option_map};
 ghost use Rattle.host.specs.State.{HasFile, IsFrontCount, IsNextPiece, FailedFrom, opens_file, opens_none, takes, creates, stops_reading, appends, finishes, says};
 ghost use Rattle.host.specs.Counts.{next, Rose};
@@ -216,7 +216,7 @@ impl Host for MemHost {
 
 impl MemHost {
     ghost use Rattle.std.specs.Prelude.{[], ◌∷◌};
-    ghost use Rattle.host.specs.Handed.{files_handed, names_handed, NamesApart};
+    ghost use Rattle.host.specs.Handed.{names_handed, state_handed, NamesApart};
     ghost use Rattle.host.specs.Memory.{state_of, told_of, names_of, pieces_of, turn_of, piece_of, byte_room, failing_of, calls_of, AreNumbers};
     ghost use Rattle.host.specs.declared.plan.HostCall.{HostCall};
 
@@ -235,13 +235,7 @@ impl MemHost {
         requires names { NamesApart files.items }
         requires piece { 0 < piece }
         requires numbers { AreNumbers failing.items }
-        ensures state { IfOk result (λ host. state_of host ≡ record {
-          told = Some (record { files = files_handed files.items; left = []; target = []; said = [] });
-          faults = 0;
-          opens = 0;
-          reading = false;
-          writing = false;
-        }) }
+        ensures state { IfOk result (λ host. state_of host ≡ state_handed files.items) }
         ensures names { IfOk result (λ host. names_of host ≡ names_handed files.items) }
         ensures piece { IfOk result (λ host. piece_of host ≡ piece) }
         ensures alone { IfOk result (λ host. pieces_of host ≡ piece ∷ []) }
@@ -268,13 +262,7 @@ impl MemHost {
         requires one_piece { 0 < length pieces.items }
         requires pieces { All (λ piece. 0 < piece) pieces.items }
         requires numbers { AreNumbers failing.items }
-        ensures state { IfOk result (λ host. state_of host ≡ record {
-          told = Some (record { files = files_handed files.items; left = []; target = []; said = [] });
-          faults = 0;
-          opens = 0;
-          reading = false;
-          writing = false;
-        }) }
+        ensures state { IfOk result (λ host. state_of host ≡ state_handed files.items) }
         ensures names { IfOk result (λ host. names_of host ≡ names_handed files.items) }
         ensures pieces { IfOk result (λ host. pieces_of host ≡ pieces.items) }
         ensures first { IfOk result (λ host. turn_of host ≡ 0) }
