@@ -1,5 +1,5 @@
-//! The answer of `ask IN POINTS OUT`: whether points are inside or outside the best surface of a scan. It stands on `solid_query`,
-//! which reads the points and finds their labels, and on `merge`, which finds the distinct points of the scan.
+//! `ask IN POINTS OUT`, its words, answer and lines: whether points are inside or outside the best surface of a scan. It stands on
+//! `solid_query`, which reads the points and finds their labels, and on `merge`, which finds the distinct points of the scan.
 ghost use Rattle.std.specs.List.{flat_map};
 ghost use Rattle.std.specs.Prelude.{map, string_bytes, ◌≡◌, false, IfOk, ◌≤◌, length, All, count_by, Some, ◌++◌, OnOk};
 ghost use Rattle.geo_sign.specs.Point.{IsWithin};

@@ -1,5 +1,5 @@
-//! The answer of `build IN MESH CERT`: the best surface of a scan, and the certificate that shows it best. It stands on
-//! `recon_build`, which finds both, and on `mesh_ply` and `cert_text`, which print them.
+//! `build IN MESH CERT`, its words, answer and lines: the best surface of a scan, and the certificate that shows it best. It stands
+//! on `recon_build`, which finds both, and on `mesh_ply` and `cert_text`, which print them.
 ghost use Rattle.std.specs.Prelude.{map, string_bytes, ◌≡◌, false, IfOk, length};
 ghost use Rattle.cert_text.specs.Certificates.{claim_of, IsWellFormed};
 ghost use Rattle.mesh_ply.specs.Meshes.{IsMesh};

@@ -1,5 +1,5 @@
-//! The answer of `cells IN OUT`: the Delaunay cells of a scan's points and the box's corners. It stands on `merge`, which
-//! finds the distinct points, on `delaunay`, which links their cells, and on `vote_net`, which lists these.
+//! `cells IN OUT`, its words, answer and lines: the Delaunay cells of a scan's points and the box's corners. It stands on `merge`,
+//! which finds the distinct points, on `delaunay`, which links their cells, and on `vote_net`, which lists these.
 ghost use Rattle.std.specs.List.{flat_map};
 ghost use Rattle.std.specs.Prelude.{map, string_bytes, ◌≡◌, false, IfOk, ◌++◌, OnOk};
 ghost use Rattle.geo_sign.specs.Cells.{IsCellList};

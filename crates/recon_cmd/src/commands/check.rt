@@ -1,6 +1,6 @@
-//! The answer of `check IN MESH CERT`: whether a mesh is the best surface of a scan, and a certificate shows it best. And that
-//! of `upgrade IN MESH CERT OUT`: where it is so, the certificate with the stamp of this run. It stands on `recon_check`, which
-//! decides, and on `cert_text`.
+//! `check IN MESH CERT`, its words, answer and lines: whether a mesh is the best surface of a scan, and a certificate shows it
+//! best. And `upgrade IN MESH CERT OUT`: where it is so, the certificate with the stamp of this run. It stands on `recon_check`,
+//! which decides, and on `cert_text`.
 ghost use Rattle.std.specs.Option.{option_map};
 ghost use Rattle.std.specs.Prelude.{map, string_bytes, ◌≡◌, false, IfOk, ℕ, ⊤, Some, []};
 ghost use Rattle.cert_text.specs.Certificates.{stamp_view};

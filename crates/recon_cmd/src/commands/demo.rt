@@ -1,5 +1,5 @@
-//! The answer of `demo N SEED`: what `build` says of a scan that is made from a number. It stands on `gen_scan`, which makes
-//! the scan.
+//! `demo N SEED`, its words, answer and lines: what `build` says of a scan that is made from a number. It stands on `gen_scan`,
+//! which makes the scan.
 ghost use Rattle.std.specs.Prelude.{map, string_bytes, ◌≡◌, IfOk, ◌≤◌, Ok, OnOk, length};
 ghost use Rattle.scan.specs.Views.{shown_of};
 ghost use Rattle.recon_cmd.specs.Answers.{file_limit, read_as};

@@ -1,5 +1,5 @@
-//! The answer of `export MESH OUT1 .. OUTn`: a mesh in the forms that the caller hands in. It stands on `mesh_form`, which hands
-//! them the mesh.
+//! `export MESH OUT1 .. OUTn`, its words, answer and lines: a mesh in the forms that the caller hands in. It stands on `mesh_form`,
+//! which hands them the mesh.
 ghost use Rattle.std.specs.Option.{option_map};
 ghost use Rattle.std.specs.Prelude.{◌≡◌, IfSome, length, map, string_bytes, false, All, IfOk};
 ghost use Rattle.mesh_form.specs.Received.{IsFresh};

@@ -1,5 +1,5 @@
-//! The answer of `slice MESH H OUT`: the closed loops in which a level plane cuts a mesh. It stands on `solid_slice`, which
-//! finds and prints them.
+//! `slice MESH H OUT`, its words, answer and lines: the closed loops in which a level plane cuts a mesh. It stands on
+//! `solid_slice`, which finds and prints them.
 ghost use Rattle.std.specs.Prelude.{map, string_bytes, ◌≡◌, ◌≤◌, IfSome, unsigned_abs, false, IfOk, ◌<◌, ◌^◌, length, sum_by};
 ghost use Rattle.geo_sign.specs.declared.point.TheConstants.{BOX_LIMIT};
 ghost use Rattle.mesh_ply.specs.Texts.{IsPrinted};

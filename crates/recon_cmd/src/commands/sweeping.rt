@@ -1,5 +1,5 @@
-//! The answer of `sweep IN FROM STEP N OUT1 .. OUTN`: the best surfaces of a scan at rising smoothing weights, each handed to a form
-//! of the caller. It stands on `sweep`, which finds them and hands them on.
+//! `sweep IN FROM STEP N OUT1 .. OUTN`, its words, answer and lines: the best surfaces of a scan at rising smoothing weights, each
+//! handed to a form of the caller. It stands on `sweep`, which finds them and hands them on.
 ghost use Rattle.std.specs.Option.{option_map};
 ghost use Rattle.std.specs.Prelude.{◌≡◌, IfSome, map, string_bytes, ◌≤◌, false, length, All, IfOk};
 ghost use Rattle.flow_net.specs.declared.votes.TheConstants.{WEIGHT_LIMIT};
