@@ -27,9 +27,10 @@ test:
 	@echo "every proof, every edit that must be refused, every test, then the tests of tools/; all that they print goes to test.log"
 	python3 dev/progress.py test.log bash .ci/run
 
-# The wrong bodies of attack/, which the gate leaves out: all (hours), or those of some crates, as make attack CRATES="votes sight".
+# The wrong bodies of attack/, which the gate leaves out: all (half an hour on four processors where the gate has passed before, an hour where it
+# has not), or those of some crates, as make attack CRATES="votes sight".
 attack:
-	@echo "wrong bodies of attack/, about half a minute each: a line for each crate; all that is printed goes to attack.log"
+	@echo "wrong bodies of attack/: what begins, and a line for each crate at the end; all that is printed goes to attack.log"
 	python3 dev/attack.py $(CRATES)
 
 # Times calls of linked cells and walks along sights at 100,000 points, then build and check on scans of 10,000 to 1,000,000 points,

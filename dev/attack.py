@@ -1,12 +1,14 @@
 #!/usr/bin/env python3
 """Tries the wrong bodies of attack/NAME/, which the gate leaves out: none may be proved.
 
-usage: dev/attack.py [CRATE ..]               (at the top of the repository; without a name all crates, which takes hours)
+usage: dev/attack.py [CRATE ..]               (at the top of the repository; without a name those of all crates)
 
-It copies the repository to a folder of its own, puts the edits of attack/NAME/ in the place of crates/NAME/must-fail/, and runs
-`rt must-fail NAME` there, crate by crate, lowest first. A line for each crate says how many were tried and refused, how many only by a name that
-a proof lost or by a limit of the prover (which says less of the contract), and how many were not refused or are bad: such an edit is told by its name
-and what `rt` said. All that `rt` prints goes to attack.log. The status is 1 where one was not refused.
+It copies the repository to a folder of its own, puts the edits of attack/NAME/ in the place of crates/NAME/must-fail/, and runs `rt ci` there, of
+the crates that are named or of all. So what the gate has proved on this machine is not proved again, edits are tried side by side, and one that was
+tried here over the same text is not tried again. What begins is told as it does, as dev/progress.py tells it. At the end a line for each crate says
+how many were tried and refused, how many only by a name that a proof lost or by a limit of the prover (which says less of the contract), and how
+many were not refused or are bad: such an edit is told by its name and what `rt` said. All that `rt` prints goes to attack.log. The status is 1
+where one was not refused.
 """
 from __future__ import annotations
 
@@ -18,13 +20,13 @@ import subprocess
 import sys
 import tempfile
 import time
-from typing import Any, TextIO
 
 from levels import uses_of
 from report import begun
 
 TOP = pathlib.Path(__file__).resolve().parent.parent
-RESULT = re.compile(r'(?:rt: )?must-fail \w+/(\S+)\.edit: (.*)')
+LOG = TOP / 'attack.log'
+RESULT = re.compile(r'(?:rt: )?must-fail (\w+/\S+)\.edit: (.*)')
 
 
 def kind_of(said: str) -> str:
@@ -35,41 +37,34 @@ def kind_of(said: str) -> str:
 
 
 def results_of(text: str) -> dict[str, str]:
-    """Returns the last thing that was said of each edit."""
+    """Returns the last thing that was said of each edit, by CRATE/NAME."""
     return {found[1]: found[2] for found in map(RESULT.match, text.splitlines()) if found}
 
 
-def copied(to: pathlib.Path) -> None:
-    """Copies the repository without what proofs left and without the edits of the gate."""
-    leave = shutil.ignore_patterns('out', '.git', 'must-fail', 'bench_scans', '__pycache__')
+def copied(to: pathlib.Path, crates: list[str]) -> None:
+    """Copies the repository without what proofs left, with the edits of attack/ of these crates in the place of those of the gate."""
+    leave = shutil.ignore_patterns('out', '.git', 'must-fail', 'bench_scans', '__pycache__', '*.log')
     shutil.copytree(TOP, to, ignore=leave, symlinks=True)
+    for crate in crates:
+        shutil.copytree(TOP / 'attack' / crate, to / 'crates' / crate / 'must-fail')
 
 
-def tried(crate: str, room: pathlib.Path, log: TextIO) -> dict[str, str]:
-    """Tries the edits of a crate in the copy and returns what was said of each, by its name."""
-    edits = sorted((TOP / 'attack' / crate).glob('*.edit'))
-    folder = room / 'crates' / crate / 'must-fail'
-    folder.mkdir()
-    for edit in edits:
-        shutil.copy(edit, folder)
-    how: dict[str, Any] = {'stdin': subprocess.DEVNULL, 'stdout': subprocess.PIPE, 'stderr': subprocess.STDOUT, 'text': True, 'errors': 'replace'}
-    ran = subprocess.run(['rt', 'must-fail', crate], cwd=room, **how)
-    log.write(f'== {crate}\n{ran.stdout}')
-    log.flush()
-    said = results_of(ran.stdout)
-    return {edit.stem: said.get(edit.stem, f'NOT TRIED: rt must-fail ended with status {ran.returncode}') for edit in edits}
+def tried(room: pathlib.Path, names: list[str]) -> dict[str, str]:
+    """Runs the gate in the copy and returns what was said of each edit."""
+    subprocess.run([sys.executable, str(TOP / 'dev/progress.py'), str(LOG), 'rt', 'ci', *names], cwd=room, stdin=subprocess.DEVNULL)
+    return results_of(LOG.read_text(encoding='utf-8', errors='replace'))
 
 
-def line_of(crate: str, said: dict[str, str], minutes: int) -> str:
+def line_of(crate: str, said: dict[str, str]) -> str:
     """Returns what is said of a crate."""
     count = collections.Counter(map(kind_of, said.values()))
     less = f" ({count['less']} by a name or a limit alone)" if count['less'] else ''
     return (f"{crate}: {len(said)} tried, {count['refused'] + count['less']} refused{less}, {count['missed']} not refused, "
-            f"{count['bad']} bad, {minutes} min")
+            f"{count['bad']} bad")
 
 
 def crates_of(names: list[str]) -> tuple[list[str], list[str]]:
-    """Returns the crates with edits, lowest first, or those that are named."""
+    """Returns the crates with edits, lowest first, or those that are named; and the names of which there are no edits."""
     with_edits = [it for it in uses_of((TOP / 'crates.txt').read_text()) if any((TOP / 'attack' / it).glob('*.edit'))]
     return [it for it in with_edits if not names or it in names], [it for it in names if it not in with_edits]
 
@@ -79,20 +74,23 @@ def main() -> int:
     if unknown:
         print(f"attack: no edits of {' '.join(unknown)} stand in attack/", file=sys.stderr)
         return 2
-    began, faults, count = time.monotonic(), 0, 0
-    with tempfile.TemporaryDirectory(prefix='attack-') as place, open(TOP / 'attack.log', 'w', encoding='utf-8') as log:
+    began = time.monotonic()
+    counts: collections.Counter[str] = collections.Counter()
+    with tempfile.TemporaryDirectory(prefix='attack-') as place:
         room = pathlib.Path(place) / 'copy'
-        copied(room)
-        for crate in crates:
-            said = tried(crate, room, log)
-            for name, text in said.items():
-                if kind_of(text) in ('missed', 'bad'):
-                    print(f'  {crate}/{name}: {text}', flush=True)
-                    faults += 1
-            count += len(said)
-            print(line_of(crate, said, int((time.monotonic() - began) / 60)), flush=True)
-    print(f'attack: {count - faults} of {count} refused; the full text is in attack.log')
-    return 1 if faults else 0
+        copied(room, crates)
+        found = tried(room, sys.argv[1:])
+    for crate in crates:
+        edits = sorted(it.stem for it in (TOP / 'attack' / crate).glob('*.edit'))
+        said = {name: found.get(f'{crate}/{name}', f'NOT TRIED: {LOG.name} says why') for name in edits}
+        counts.update(kind_of(it) for it in said.values())
+        for name, text in said.items():
+            if kind_of(text) in ('missed', 'bad'):
+                print(f'  {crate}/{name}: {text}')
+        print(line_of(crate, said))
+    refused, tries = counts['refused'] + counts['less'], sum(counts.values())
+    print(f'attack: {refused} of {tries} refused, {int((time.monotonic() - began) / 60)} min; the full text is in {LOG.name}')
+    return 0 if refused == tries else 1
 
 
 if __name__ == '__main__':

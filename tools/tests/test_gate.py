@@ -118,7 +118,7 @@ class Gate(InFolder):
                 'rt: must-fail low/three.edit: NOT REFUSED: the crate\nrt: must-fail low/four.edit: BAD EDIT: it\n')
         results = attack.results_of(text)
         equal([attack.kind_of(it) for it in results.values()], ['refused', 'less', 'missed', 'bad'])
-        equal(attack.line_of('low', results, 7),
-              'low: 4 tried, 2 refused (1 by a name or a limit alone), 1 not refused, 1 bad, 7 min')
+        equal(list(results)[0], 'low/one')
+        equal(attack.line_of('low', results), 'low: 4 tried, 2 refused (1 by a name or a limit alone), 1 not refused, 1 bad')
         equal(attack.crates_of(['no_crate'])[1], ['no_crate'])
         equal(os.path.isdir(os.path.join(ROOT, 'attack')), True)
