@@ -1,6 +1,5 @@
 //! Calls of `cell` and `across`.
 
-ghost use Rattle.std.specs.Prelude.{◌≡◌};
 ghost use Rattle.tetra_store.specs.Links.{links_of, IsLive};
 
 use tetra_store::{CellId, Tetra};

@@ -1,6 +1,6 @@
 //! The points whose cells are timed.
 
-ghost use Rattle.std.specs.Prelude.{◌≡◌, ◌<◌, ◌≤◌, ◌^◌, ◌≤ℤ◌, ℕ, pos, IfOk, OnOk, OnErr, All, length, get_or};
+ghost use Rattle.std.specs.Prelude.{◌≡◌, ◌<◌, ◌≤◌, ◌≤ℤ◌, ℕ, pos, IfOk, All, length, get_or};
 ghost use Rattle.geo_sign.specs.declared.point.TheConstants.{DATA_LIMIT};
 ghost use Rattle.geo_sign.specs.Point.{origin, IsWithin};
 ghost use Rattle.tetra_store.specs.declared.boxed.TheConstants.{VERTEX_LIMIT};

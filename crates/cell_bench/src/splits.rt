@@ -1,6 +1,6 @@
 //! Replacements of the two cells at a facet.
 
-ghost use Rattle.std.specs.Prelude.{◌≡◌, ◌<◌, true, false, OnOk, IfOk, length, slice_index_or, slice_set};
+ghost use Rattle.std.specs.Prelude.{◌≡◌, ◌<◌, false, OnOk, IfOk, length, slice_index_or};
 ghost use Rattle.tetra_store.specs.Links.{links_of, IsLive};
 ghost use Rattle.tetra_store.specs.Store.{vertices_of};
 ghost use Rattle.tetra_store.specs.Delaunay.{IsDelaunay};

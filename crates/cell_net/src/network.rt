@@ -1,8 +1,7 @@
 //! The network of linked cells.
 
-ghost use Rattle.std.specs.Prelude.{◌≡◌, ◌<◌, ◌≤◌, ◌+◌, ◌*◌, ◌/◌, ◌%◌, ◌^◌, ◌||◌, ℕ, Some, IfSome, IsSome, IfNone, true, false, not, length, slice_index, if◌then◌else◌};
+ghost use Rattle.std.specs.Prelude.{◌≡◌, ◌<◌, ◌≤◌, ◌+◌, ◌*◌, ◌/◌, ◌%◌, ◌^◌, ◌||◌, Some, IfSome, IsSome, IfNone, true, false, length};
 ghost use Rattle.tetra_store.specs.Links.{links_of, IsLive};
-ghost use Rattle.flow_net.specs.Nets.{flag_at};
 ghost use Rattle.cell_net.specs.Arcs.{IsShape, across, is_free};
 
 use crate::StoreCounts;

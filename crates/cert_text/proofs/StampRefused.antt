@@ -8,7 +8,7 @@ use Rattle.hex.specs.Hex.{encode_lower, decode_sized}
 use Rattle.hex.proofs.HexLemmas.{decode_sized-encode_lower}
 use Rattle.line_text.specs.Numbers.{signed_ended, Lacks, BeginsWithNone}
 use Rattle.line_text.specs.declared.refusal.LineRefusal.{LineRefusal}
-use Rattle.line_text.proofs.Codes.{IsCode, behind_same, one_split, none_behind}
+use Rattle.line_text.proofs.Codes.{behind_same, one_split, none_behind}
 use Rattle.line_text.proofs.Fronts.{cut_or_bad_same}
 use Rattle.line_text.proofs.Parts.{IsOnce, IsPassed, part_once, part_passed, word_once, word_passed, number_once, number_passed}
 use Rattle.num_text.specs.declared.decimal.TheConstants.{UNIT_LIMIT}

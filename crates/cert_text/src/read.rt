@@ -2,7 +2,7 @@
 //! other text the first refusal in line order is answered. Nothing is reserved by a stated
 //! count, so time and memory are linear in the bytes. It stands on `line_text`.
 
-ghost use Rattle.std.specs.Prelude.{◌≡◌, ◌≤◌, ◌<◌, ◌^◌, ◌+◌, ◌++◌, IfOk, IfErr, IsErr, MatchResult, List, Some, length};
+ghost use Rattle.std.specs.Prelude.{◌≡◌, ◌<◌, ◌+◌, ◌++◌, IfOk, IfErr, IsErr, MatchResult, List, Some, length};
 ghost use Rattle.std.specs.Bool.{OnTrue, OnFalse};
 ghost use Rattle.std.specs.List.{flat_map};
 ghost use Rattle.line_text.specs.Numbers.{counted, IsBetween};

@@ -1,6 +1,6 @@
 //! The first line of a certificate and its stamp, read. It stands on `line_text`.
 
-ghost use Rattle.std.specs.Prelude.{◌≡◌, ◌<◌, ◌++◌, ◌∷◌, IfOk, IfErr, IfSome, IfNone};
+ghost use Rattle.std.specs.Prelude.{◌≡◌, ◌<◌, ◌++◌, IfOk, IfErr, IfSome, IfNone};
 ghost use Rattle.std.specs.Option.{option_map};
 ghost use Rattle.geo_sign.specs.Point.{IsWithin};
 ghost use Rattle.line_text.specs.Numbers.{signed_ended, BeginsWithNone};

@@ -29,10 +29,6 @@ same_if : (b : Bool) (m n : ℕ) → (b ≡ true → m ≡ n) → cond b m 0 ≡
 same_if true m n h = h refl
 same_if false m n h = refl
 
-and_both : (a b : Bool) → a ≡ true → b ≡ true → (a && b) ≡ true
-and_both true b e f = f
-and_both false b e f = absurd (false≢true e)
-
 and_first : (a b : Bool) → (a && b) ≡ true → a ≡ true
 and_first true b e = refl
 and_first false b e = absurd (false≢true e)

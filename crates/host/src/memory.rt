@@ -3,7 +3,7 @@
 //! It keeps a list of named files with memory for their bytes (`files`, `store`), the plan of its failures (`plan`),
 //! and which file is open. All its memory is taken when it is made. A call has the clauses of the trait, and others
 //! behind them that say exactly how far it moves, where it fails, and what it counts.
-ghost use Rattle.std.specs.Prelude.{◌≡◌, IfSome, min, IsTrue, ◌+◌, ◌%◌, ◌≤◌, ◌<◌, ◌↔◌, ◌⊎◌, ℕ, true, false, None, IsErr, IfOk, OnOk, OnErr, All, Contains, length, take};
+ghost use Rattle.std.specs.Prelude.{◌≡◌, min, IsTrue, ◌+◌, ◌%◌, ◌≤◌, ◌<◌, ◌↔◌, ◌⊎◌, ℕ, true, false, None, IsErr, IfOk, OnOk, OnErr, All, Contains, length, take};
 ghost use Rattle.std.specs.Option.{option_map};
 ghost use Rattle.host.specs.State.{HasFile, IsFrontCount, IsNextPiece, FailedFrom, opens_file, opens_none, takes, creates, stops_reading, appends, finishes, says};
 ghost use Rattle.host.specs.Counts.{next, Rose};

@@ -6,7 +6,7 @@
 ghost use Rattle.std.specs.Prelude.{◌≡◌, ◌≤◌, ◌<◌, ◌^◌, length, true, false, IfOk, IfSome};
 ghost use Rattle.flow_net.specs.Nets.{flag_at};
 ghost use Rattle.flow_net.specs.NumberedFlows.{IsValidFlow};
-ghost use Rattle.max_flow.specs.Residual.{tail_of, head_of, room_of};
+ghost use Rattle.max_flow.specs.Residual.{head_of, room_of};
 ghost use Rattle.max_flow.specs.Paths.{HasRoom};
 ghost use Rattle.max_flow.specs.Levels.{IsOnward, AreLeading, IsClosedArc, IsClosedBelow, AreLevels};
 

@@ -1,7 +1,7 @@
 //! The lines of a mesh's points and faces at the front of a text, read. It stands on
 //! `line_text` and on the points of `geo_sign`.
 
-ghost use Rattle.std.specs.Prelude.{◌≡◌, ◌<◌, ◌≤◌, ◌^◌, ◌++◌, IfSome, IfNone};
+ghost use Rattle.std.specs.Prelude.{◌≡◌, ◌<◌, ◌^◌, ◌++◌, IfSome, IfNone};
 ghost use Rattle.std.specs.Bool.{OnTrue, OnFalse};
 ghost use Rattle.geo_sign.specs.Point.{IsWithin};
 ghost use Rattle.line_text.specs.Numbers.{signed_ended, BeginsWithNone};

@@ -2,7 +2,7 @@
 //! the first refusal in line order is answered. Nothing is reserved by a stated count, so
 //! time and memory are linear in the bytes. It stands on `line_text`.
 
-ghost use Rattle.std.specs.Prelude.{◌≡◌, ◌<◌, ◌≤◌, ◌^◌, ◌++◌, ◌⊎◌, None, IfOk, IfErr, IsErr, MatchResult, length};
+ghost use Rattle.std.specs.Prelude.{◌≡◌, ◌<◌, ◌^◌, ◌++◌, ◌⊎◌, None, IfOk, IfErr, IsErr, MatchResult, length};
 ghost use Rattle.std.specs.List.{flat_map};
 ghost use Rattle.geo_sign.specs.Point.{Point, IsWithin};
 ghost use Rattle.line_text.specs.Refusals.{AreCountedRows, IsRefusedRow};

@@ -1,8 +1,8 @@
 -- The points of tokens, three at a time: those read so far stand before those of the tokens that are left.
-use Rattle.std.proofs.Common.{ℕ, ◌+◌, ◌*◌, ◌<◌, ◌≤◌, ◌≡◌, refl, ap, sym, ◌∙◌, arith, List, [], ◌∷◌, ◌++◌, length, get_or, drop}
+use Rattle.std.proofs.Common.{ℕ, ◌+◌, ◌*◌, ◌<◌, ◌≡◌, refl, ap, sym, ◌∙◌, arith, List, [], ◌∷◌, ◌++◌, length, get_or, drop}
 use Rattle.std.proofs.Common.{Result, Ok, Err, Bor, map, append_assoc}
 use Rattle.std.specs.Result.{IsErrAnd}
-use Rattle.std.proofs.lemmas.List.{append-nil, drop_all, drop_more, get_or-map}
+use Rattle.std.proofs.lemmas.List.{drop_more, get_or-map}
 use Rattle.geo_sign.specs.Point.{Point}
 use Rattle.solid_query.specs.Queries.{token_coordinate, point_or_refusal, before, points_from, Fails, Gives}
 use Rattle.solid_query.specs.declared.refusal.QueryRefusal.{QueryRefusal}
@@ -19,11 +19,6 @@ onto_more front p (Ok points) =
     let e : front ++ (p ∷ points) ≡ (front ++ p ∷ []) ++ points = sym (append_assoc front (p ∷ []) points) in
     ap (λ (all : List Point). Ok all) e
 onto_more front p (Err why) = refl
-
--- the first points are their own
-pub onto_none : (rest : Result (List Point) QueryRefusal) → rest ≡ onto [] rest
-onto_none (Ok points) = refl
-onto_none (Err why) = refl
 
 -- three of a list, and the others
 three : (tokens : List (List ℕ)) (n : ℕ) → n + 2 < length tokens
@@ -68,13 +63,6 @@ module _ (unit k : ℕ) (tokens : List (List ℕ)) (points : List Point) (l : 3 
   point_refused why e =
       split
       ∙ ap (λ (r : Result Point QueryRefusal). onto points (before r (points_from unit (3 * k + 3) (drop (3 * k + 3) tokens)))) e
-
--- no token is left
-pub all_read : (unit n : ℕ) (tokens : List (List ℕ)) (points : List Point) → length tokens ≤ n
-    → points_from unit 0 tokens ≡ onto points (points_from unit n (drop n tokens)) → points_from unit 0 tokens ≡ Ok points
-all_read unit n tokens points l e =
-    e ∙ ap (λ (rest : List (List ℕ)). onto points (points_from unit n rest)) (drop_all n tokens l)
-    ∙ ap (λ (all : List Point). Ok all) (append-nil points)
 
 -- the point of three tokens, as the code holds them
 pub as_held : (unit n : ℕ) (tokens : List (Bor (List ℕ))) (d : Bor (List ℕ)) → n + 2 < length tokens

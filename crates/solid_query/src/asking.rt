@@ -1,6 +1,6 @@
 //! The labels of points in the best surface of a scan.
 
-ghost use Rattle.std.specs.Prelude.{◌≡◌, ◌<◌, ◌^◌, ℕ, IfOk, All, length};
+ghost use Rattle.std.specs.Prelude.{◌<◌, ◌^◌, ℕ, IfOk, All, length};
 ghost use Rattle.geo_sign.specs.declared.point.TheConstants.{DATA_LIMIT};
 ghost use Rattle.geo_sign.specs.Point.{IsWithin};
 ghost use Rattle.scan.specs.Views.{shown_of};

@@ -1,11 +1,11 @@
 //! Points from a text of decimals. It stands on `num_text`, which reads a decimal in units.
 
-ghost use Rattle.std.specs.Prelude.{◌≡◌, ◌≤◌, ◌<◌, ◌+◌, ◌*◌, ◌%◌, ◌^◌, IfOk, All, length, map, slice_index_or, [], unsigned_abs};
+ghost use Rattle.std.specs.Prelude.{◌≡◌, ◌≤◌, ◌<◌, ◌+◌, ◌*◌, ◌%◌, ◌^◌, IfOk, All, length, map, [], unsigned_abs};
 ghost use Rattle.geo_sign.specs.declared.point.TheConstants.{DATA_LIMIT};
 ghost use Rattle.geo_sign.specs.Point.{IsWithin};
 ghost use Rattle.num_text.specs.declared.decimal.TheConstants.{UNIT_LIMIT};
 ghost use Rattle.ply_rows.specs.Tokens.{is_white_space as is_white_space_in};
-ghost use Rattle.solid_query.specs.Queries.{token_coordinate, point_or_refusal, points_among, points_from, points_in, units_or_refusal, tokens_of as tokens_in, Gives};
+ghost use Rattle.solid_query.specs.Queries.{token_coordinate, point_or_refusal, points_from, points_in, units_or_refusal, tokens_of as tokens_in, Gives};
 
 use crate::NoMemory;
 use crate::refusal::QueryRefusal;

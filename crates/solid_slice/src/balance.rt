@@ -4,10 +4,10 @@
 //! back. Sorted, the two are the same exactly where all edges are balanced, and where they first differ stands the smallest
 //! pair that is not.
 
-ghost use Rattle.std.specs.Prelude.{◌≡◌, ◌≢◌, ◌<◌, ◌≤◌, ◌^◌, ℕ, OnOk, IfOk, IfErr, IfSome, IfNone, All, length};
+ghost use Rattle.std.specs.Prelude.{◌≡◌, ◌≢◌, ◌<◌, ◌^◌, ℕ, OnOk, IfOk, IfErr, IfSome, IfNone, All};
 ghost use Rattle.std.specs.List.Sorted.{IsNonDecreasingBy};
 ghost use Rattle.mesh_ply.specs.Meshes.{IsFace, IsMesh};
-ghost use Rattle.solid_slice.specs.Edges.{is_edge, has_edge, faces_with_edge, IsBalanced};
+ghost use Rattle.solid_slice.specs.Edges.{is_edge, has_edge, IsBalanced};
 ghost use Rattle.solid_slice.specs.Pairs.{key_of_pair, key_count, HasGained, IsPairOf, AreRising, IsFirstUnequalPair};
 ghost use Rattle.solid_slice.specs.Refusals.{IsRefusedSlice};
 

@@ -2,7 +2,7 @@
 
 ghost use Rattle.std.specs.Prelude.{◌≡◌, List};
 ghost use Rattle.std.specs.List.Sorted.{IsPermutation, IsNonDecreasingBy};
-ghost use Rattle.solid_slice.specs.Pairs.{key_of, key_of_pair};
+ghost use Rattle.solid_slice.specs.Pairs.{key_of_pair};
 
 /// Two vertices: of an edge without its direction, the smaller first; of one that goes through the height, the lower first.
 #[derive(Clone, Copy, Debug, PartialEq, Eq)]

@@ -1,5 +1,5 @@
 -- The certificate of labels and a flow by number, said over cells and facets.
-use Rattle.std.proofs.Common.{ℕ, ◌≡◌, refl, ap, sym, subst, ◌∙◌, Bool, false, List, [], get_or, map, filter, AllPairs, Contains}
+use Rattle.std.proofs.Common.{ℕ, ◌≡◌, refl, ap, sym, ◌∙◌, Bool, false, List, [], get_or, map, filter, AllPairs, Contains}
 use Rattle.std.proofs.lemmas.List.{get_or-map}
 use Rattle.cert_text.specs.Certificates.{Claim}
 use Rattle.cert_text.specs.declared.certificate.FlowRow.{FlowRow}
@@ -30,17 +30,6 @@ pub flags_are : (s : Scene) (voted : Voted) (labels : Labels) → IsNetworkInAny
 flags_are s voted labels network least =
     map_of_indices voted.cells labels.inside false (nodes_once s voted network)
     (least.count ∙ node_count s voted network)
-
--- the labels as a test are the least inside
-pub least_inside_is : (s : Scene) (voted : Voted) (labels : Labels) → (network : IsNetworkInAnyOrder s voted)
-    → IsLeastInsideNet voted.net labels → IsLeastInside s network.listing.complex (test_of voted.cells labels.inside)
-least_inside_is s voted labels network least =
-    let agree : AgreeAsLabels s voted (test_of voted.cells labels.inside) =
-    labels_agree s voted (test_of voted.cells labels.inside) network in
-    ((with_rising s (complex_of voted) network.listing).least_inside (test_of voted.cells labels.inside)).0
-    (agree.least_inside.0
-    (subst (λ (flags : List Bool). IsLeastInsideNet voted.net (record { inside = flags }))
-    (sym (flags_are s voted labels network least)) least))
 
 -- and cost the same
 pub cost_over : (s : Scene) (voted : Voted) (labels : Labels) → (network : IsNetworkInAnyOrder s voted)

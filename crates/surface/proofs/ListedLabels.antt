@@ -1,6 +1,6 @@
 -- Labels at the numbers that cells have in the store are labels over the scene (labels_over), and labels in the order of a listing of the
 -- scene's cells can be put there (numbered).
-use Rattle.std.proofs.Common.{ℕ, ◌<◌, ◌≡◌, sym, subst, ◌∙◌, Bool, List, Option, length, get_or}
+use Rattle.std.proofs.Common.{ℕ, ◌<◌, ◌≡◌, sym, subst, Bool, List, Option, length, get_or}
 use Rattle.flow_net.specs.Nets.{flag_at}
 use Rattle.visibility.specs.Scenes.{Scene}
 use Rattle.visibility.specs.Complexes.{Complex}
@@ -13,8 +13,8 @@ use Rattle.visibility.proofs.Ordered.{one_complex}
 use Rattle.tetra_store.specs.declared.link.Cell.{Cell}
 use Rattle.vote_net.specs.ByNumber.{SaysOfCells}
 use Rattle.vote_net.specs.Counts.{AreCellsOf, AreIdsOf}
-use Rattle.surface.specs.Labelled.{AreAllLive, AreLabelsOver}
-use Rattle.surface.proofs.Listed.{all_live, says_by_number}
+use Rattle.surface.specs.Labelled.{AreLabelsOver}
+use Rattle.surface.proofs.Listed.{says_by_number}
 
 -- what labels by number say is over the scene, whatever their list is called
 pub labels_over : (s : Scene) (listing : Complex) (slots : List (Option Cell)) (given inside : List Bool) (test : List ℕ → Bool)
@@ -38,14 +38,6 @@ pub record AreListed (s : Scene) (listing : Complex) (slots : List (Option Cell)
 
 module _ (s : Scene) (listing : Complex) (slots : List (Option Cell)) (ids : List ℕ) (labels : List Bool)
     (listed : AreListed s listing slots ids labels) where
-  -- as they are wanted for that
-  pub can_be_numbered : AreAllLive slots ids × (length labels ≡ length ids)
-  can_be_numbered =
-      let lists = listed.lists in (
-        all_live s slots listed.cells lists.complex lists.complex_is listing.cells lists.cells_are ids listed.ids_are,
-        listed.count ∙ sym listed.ids_are.count,
-      )
-
   -- what comes of it, whatever the list by numbers is called
   pub numbered : (rising : Complex) → IsComplexOf s rising → (given inside : List Bool) → given ≡ inside
       → ((k : ℕ) → k < length ids → flag_at inside (get_or ids k 0) ≡ flag_at labels k)

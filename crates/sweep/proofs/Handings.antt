@@ -60,13 +60,6 @@ pub front_of : (w : Swept) (mesh : Mesh) (r : Received) → IsSurfaceOf (scene_i
 front_of w mesh r surface front = inr (surface_of mesh, surface_at w (surface_of mesh) surface, inl front)
 
 -- ---- the weights of entries
--- the smoothing of an entry is no smaller than that of the one before, and no larger than that of the last
-pub step_up : (from step k : ℕ) → smoothing_of from step (k - 1) ≤ smoothing_of from step k
-step_up from step zero = omega arith
-step_up from step (suc k) =
-    let same : suc k - 1 ≡ k = omega arith in
-    subst (λ (i : ℕ). smoothing_of from step i ≤ smoothing_of from step (suc k)) (sym same) (omega arith)
-
 -- behind one entry more
 pub one_back : (from step k : ℕ) → smoothing_of from step (k + 1 - 1) ≡ smoothing_of from step k
 one_back from step k =
@@ -199,10 +192,3 @@ boxes_stopped received g h vote v from step k smooth boxes box same votes at han
 pub boxes_left : {B : Type 0} (received : B → Received) (g : Given) (vote from step k : ℕ) (boxes : List B)
     → AreHanded g vote from step k (map received boxes) → HaveEntryFronts g vote from step (map received boxes)
 boxes_left received g vote from step k boxes handed = fronts_of g vote from step k (map received boxes) handed
-
--- all forms were handed their meshes
-pub boxes_done : {B : Type 0} (received : B → Received) (g : Given) (vote from step k : ℕ) (boxes : List B)
-    → length boxes ≤ k → AreHanded g vote from step k (map received boxes)
-    → HaveEntries g vote from step (map received boxes)
-boxes_done received g vote from step k boxes l handed = λ j d m.
-    handed.done j d (omega (arith, length-map boxes received)) m

@@ -35,7 +35,7 @@ use Rattle.vote_net.proofs.CellSides.{across_has}
 use Rattle.vote_net.proofs.Entries.{IsRowAt, IsSideAt, row_is, side_is}
 use Rattle.vote_net.proofs.Stored.{listed, live}
 use Rattle.vote_net.proofs.Nodes as made
-use Rattle.vote_net.proofs.Nodes.{no_row, no_side}
+use Rattle.vote_net.proofs.Nodes.{no_row}
 use Rattle.vote_net.proofs.Sorting.{sorted_of}
 use Rattle.tetra_store.specs.Stored.{live_of}
 use Rattle.tetra_store.proofs.Observed.{slot_in}

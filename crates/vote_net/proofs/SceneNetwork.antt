@@ -95,10 +95,6 @@ flag_of : (b c : Bool) → b ≡ true → (not b || c) ≡ c
 flag_of true c e = refl
 flag_of false c e = absurd (false≢true e)
 
-no_cell : (o : Option Cell) → is_some o ≡ false → o ≡ None
-no_cell None e = refl
-no_cell (Some c) e = absurd (false≢true (sym e))
-
 module _ (s : Scene) (slots : List (Option Cell)) (crossed behind : List ℕ) (fixed : List Bool) (settings : Settings)
     (asked : AreCountsOf s slots crossed behind fixed) (shape : IsShape slots crossed behind fixed settings)
     (same_settings : s.settings ≡ settings) where

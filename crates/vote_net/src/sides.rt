@@ -4,7 +4,7 @@ ghost use Rattle.std.specs.Prelude.{◌≡◌, ◌++◌, ◌<◌, IfOk};
 ghost use Rattle.std.specs.List.Sorted.{IsPermutation, IsNonDecreasingBy};
 ghost use Rattle.geo_sign.specs.Tetrahedron.{facet_at, numbers_of};
 ghost use Rattle.flow_net.specs.Nets.{flag_at};
-ghost use Rattle.tetra_store.specs.Links.{tetrahedron_from, next_in};
+ghost use Rattle.tetra_store.specs.Links.{tetrahedron_from};
 ghost use Rattle.vote_net.specs.CellRows.{least_first as least_first_in, facet_row as facet_row_in};
 ghost use Rattle.vote_net.specs.CutSides.{AreCutSides};
 ghost use Rattle.vote_net.specs.Gathered.{side_at, side_if_open, open_at, cut_at, key_of_side, all_open, all_cut};

@@ -1,6 +1,6 @@
 //! What no contract says of plain networks: the mesh of four points.
 
-ghost use Rattle.std.specs.Prelude.{◌≡◌, IfOk, not, map};
+ghost use Rattle.std.specs.Prelude.{IfOk};
 ghost use Rattle.flow_net.specs.Flows.{IsAdmissible};
 
 use super::points::{five_scanners, five_sights, four_points, point, scene_of};

@@ -5,9 +5,8 @@
 -- for the number that it is (stored).
 use Rattle.std.proofs.Common.{ℕ, ◌≡◌, ◌∙◌, ap, sym, subst, arith, List, [], length, ℤ, to_z, of_z}
 use mir.Syntax.{w32}
-use Rattle.std.specs.List.{All}
 use Rattle.std.proofs.lemmas.Int.{ints}
-use Rattle.geo_sign.specs.Point.{Point, IsWithin}
+use Rattle.geo_sign.specs.Point.{Point}
 use Rattle.solid_slice.specs.Cuts.{is_above, face_at, IsUpEdge, rise, at_height}
 use Rattle.mesh_ply.specs.Meshes.{point_at}
 use Rattle.solid_slice.proofs.FaceEdges.{edge_within}
