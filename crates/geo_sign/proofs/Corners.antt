@@ -4,7 +4,7 @@ use Rattle.std.proofs.Common.{neg_ℤ, unsigned_abs, List, ◌++◌, length, get
 use Rattle.std.proofs.lemmas.Int.{ints}
 use Rattle.std.proofs.lemmas.List.{length-append, get_or-append_right}
 use Rattle.geo_sign.specs.Point.{Point, IsWithin, corner_point, origin}
-use Rattle.geo_sign.specs.declared.point.TheConstants.{BOX_LIMIT}
+use Rattle.geo_sign.specs.declared.point.TheConstants.{BOX_LIMIT, CORNERS}
 use Rattle.geo_sign.specs.Vertices.{corners, point_of}
 
 pub corner_within : (k : ℕ) → IsWithin BOX_LIMIT (corner_point k)
@@ -18,7 +18,7 @@ corner_within k = record {
     wall_within true = omega (arith, ints)
     wall_within false = omega (arith, ints)
 
-pub corner_at : (points : List Point) (k : ℕ) → k < 8 → point_of points k ≡ corner_point k
+pub corner_at : (points : List Point) (k : ℕ) → k < CORNERS → point_of points k ≡ corner_point k
 corner_at points zero l = refl
 corner_at points (suc zero) l = refl
 corner_at points (suc (suc zero)) l = refl
@@ -30,9 +30,9 @@ corner_at points (suc (suc (suc (suc (suc (suc (suc zero))))))) l = refl
 corner_at points (suc (suc (suc (suc (suc (suc (suc (suc k)))))))) l = absurd (omega arith)
 
 -- how many vertices the corners and the points are
-pub vertex_count : (points : List Point) → length (corners ++ points) ≡ 8 + length points
+pub vertex_count : (points : List Point) → length (corners ++ points) ≡ CORNERS + length points
 vertex_count points = length-append corners points
 
 -- the points follow
-pub point_after : (points : List Point) (k : ℕ) → 8 ≤ k → point_of points k ≡ get_or points (k - 8) origin
-point_after points k l = get_or-append_right corners points 8 k origin refl l
+pub point_after : (points : List Point) (k : ℕ) → CORNERS ≤ k → point_of points k ≡ get_or points (k - CORNERS) origin
+point_after points k l = get_or-append_right corners points CORNERS k origin refl l

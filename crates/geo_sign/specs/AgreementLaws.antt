@@ -9,6 +9,7 @@
 --   SightsAgree              sides, crossings, and the tests of cells
 --   AllInAgree               where all are in, it is the vertices of these points
 use Rattle.std.specs.Prelude.{ℕ, ◌<◌, ◌≡◌, ◌↔◌, ◌+◌, Bool, true, false, List, [], ◌∷◌, length, get_or}
+use Rattle.geo_sign.specs.declared.point.TheConstants.{CORNERS}
 use Rattle.geo_sign.specs.Point.{Point}
 use Rattle.geo_sign.specs.Rational.{RationalPoint}
 use Rattle.geo_sign.specs.Tetrahedron.{Tetrahedron, tetrahedron, DirectedFacet}
@@ -75,5 +76,5 @@ SightsAgree = (v w : Vertices) → Agree v w → SightsAgreeOn v w
 -- the flags of all are set
 abbrev pub AllInAgree : Type 0
 AllInAgree =
-    (points : List Point) (flags : List Bool) → ((u : ℕ) → u < 8 + length points → get_or flags u false ≡ true)
+    (points : List Point) (flags : List Bool) → ((u : ℕ) → u < CORNERS + length points → get_or flags u false ≡ true)
     → Agree (inserted_vertices points flags) (boxed_vertices points)

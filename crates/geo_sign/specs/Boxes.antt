@@ -9,7 +9,7 @@
 --   IsClearOf v p t                  it is not
 --   Agree v w                        the same vertices are in, at the same points and heights
 use Rattle.std.specs.Prelude.{ℕ, ◌<◌, ◌≤◌, ◌≡◌, ◌↔◌, ◌+◌, ◌==◌, ◌||◌, Bool, false, pos, ◌<ℤ◌, ◌≤ℤ◌, List, length, get_or}
-use Rattle.geo_sign.specs.declared.point.TheConstants.{DATA_LIMIT}
+use Rattle.geo_sign.specs.declared.point.TheConstants.{CORNERS, DATA_LIMIT}
 use Rattle.geo_sign.specs.Point.{Point, IsWithin, corner_point}
 use Rattle.geo_sign.specs.Tetrahedron.{Tetrahedron}
 use Rattle.geo_sign.specs.Tie.{height}
@@ -20,8 +20,8 @@ abbrev pub inserted_vertices : List Point → List Bool → Vertices
 inserted_vertices points flags =
     record {
       at = point_of points;
-      high = λ u. height (8 + length points) u (point_of points u);
-      count = 8 + length points;
+      high = λ u. height (CORNERS + length points) u (point_of points u);
+      count = CORNERS + length points;
       is_in = λ u. get_or flags u false;
     }
 
@@ -32,9 +32,9 @@ IsTied v = (u : ℕ) → v.high u ≡ height v.count u (v.at u)
 -- The corners are vertices 0 to 7 and are in, the other vertices are data points, no two are at one point, and all have
 -- the heights of the tie rule. Which of the data points are in is left open.
 pub record IsBoxed (v : Vertices) : Type 0 where
-  pub corner_in : (k : ℕ) → k < 8 → Has v k
-  pub corner_at : (k : ℕ) → k < 8 → v.at k ≡ corner_point k
-  pub data_at : (u : ℕ) → 8 ≤ u → u < v.count → IsWithin DATA_LIMIT (v.at u)
+  pub corner_in : (k : ℕ) → k < CORNERS → Has v k
+  pub corner_at : (k : ℕ) → k < CORNERS → v.at k ≡ corner_point k
+  pub data_at : (u : ℕ) → CORNERS ≤ u → u < v.count → IsWithin DATA_LIMIT (v.at u)
   pub apart : (u w : ℕ) → u < v.count → w < v.count → v.at u ≡ v.at w → u ≡ w
   pub tied : IsTied v
 
@@ -44,7 +44,7 @@ with_vertex v p = record { at = v.at; high = v.high; count = v.count; is_in = λ
 
 -- a data point that is not in yet
 pub record IsNew (v : Vertices) (p : ℕ) : Type 0 where
-  pub above : 8 ≤ p
+  pub above : CORNERS ≤ p
   pub below : p < v.count
   pub out : v.is_in p ≡ false
 

@@ -7,6 +7,7 @@
 --   IsWall vertices f           a facet on a wall of the box
 --   boxed_vertices points       the box's corners and these points, all in, with the heights of the tie rule
 use Rattle.std.specs.Prelude.{ℕ, ◌<◌, ◌≡◌, ◌⊎◌, ◌+◌, Bool, true, ℤ, List, [], ◌∷◌, ◌++◌, length, get_or}
+use Rattle.geo_sign.specs.declared.point.TheConstants.{CORNERS}
 use Rattle.geo_sign.specs.Point.{Point, origin, corner_point}
 use Rattle.geo_sign.specs.Orientation.{orientation}
 use Rattle.geo_sign.specs.Power.{power}
@@ -35,9 +36,9 @@ HaveCoordinate p q r = ((p.x ≡ q.x) × (p.x ≡ r.x)) ⊎ (((p.y ≡ q.y) × (
 
 -- three corners of the box that agree in one coordinate
 pub record AreOnWall (at : ℕ → Point) (f : DirectedFacet) : Type 0 where
-  pub first : f.a < 8
-  pub second : f.b < 8
-  pub third : f.c < 8
+  pub first : f.a < CORNERS
+  pub second : f.b < CORNERS
+  pub third : f.c < CORNERS
   pub agree : HaveCoordinate (at f.a) (at f.b) (at f.c)
 
 -- It looks at nothing but where the vertices are, so it is the same with a vertex more.
@@ -59,7 +60,7 @@ abbrev pub boxed_vertices : List Point → Vertices
 boxed_vertices points =
     record {
       at = point_of points;
-      high = λ u. height (8 + length points) u (point_of points u);
-      count = 8 + length points;
+      high = λ u. height (CORNERS + length points) u (point_of points u);
+      count = CORNERS + length points;
       is_in = λ _. true;
     }

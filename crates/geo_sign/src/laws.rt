@@ -8,7 +8,7 @@ ghost use Rattle.geo_sign.specs.RowLaws.{RowsExist, RowsAreWritten, RowsAreKept,
 ghost use Rattle.geo_sign.specs.AgreementLaws.{AgreeLaw, SignsAgree, CellsAgree, SightsAgree, AllInAgree};
 ghost use Rattle.geo_sign.specs.DeterminantLaws.{CramerLaw, OrientationIsSum, PointIsSum, PowerIsSum};
 ghost use Rattle.geo_sign.specs.SizeLaws.{NormalsAreSmall, PowersAreSmall};
-ghost use Rattle.geo_sign.specs.declared.point.TheConstants.{BOX_LIMIT, DATA_LIMIT};
+ghost use Rattle.geo_sign.specs.declared.point.TheConstants.{BOX_LIMIT, CORNERS, DATA_LIMIT};
 
 /// What a rising list contains determines it. So the cells of given vertices have one list.
 pub fn rising_list_law()
@@ -70,11 +70,13 @@ pub fn determinant_law()
     ensures power { PowerIsSum }
 {}
 
-/// Where the walls of the box are, and the outermost data points. A component of a facet's normal in the box is at most 2^49, and the
-/// plain power of five points of the box at most 72 * 2^120, so both fit the integers that they are computed in.
+/// Where the walls of the box are, and the outermost data points, and how many corners it has. A component of a facet's normal in the
+/// box is at most 2^49, and the plain power of five points of the box at most 72 * 2^120, so both fit the integers that they are
+/// computed in.
 pub fn size_law()
     ensures walls { BOX_LIMIT ≡ 8388608 }
     ensures data { DATA_LIMIT ≡ 2097151 }
+    ensures corners { CORNERS ≡ 8 }
     ensures normals { NormalsAreSmall }
     ensures powers { PowersAreSmall }
 {}

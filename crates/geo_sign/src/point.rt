@@ -2,7 +2,7 @@
 
 ghost use Rattle.std.specs.Prelude.{◌≡◌, ◌<◌, ◌^◌, IfSome, IfNone};
 ghost use Rattle.geo_sign.specs.Point.{point, IsWithin, corner_point, step};
-ghost use Rattle.geo_sign.specs.declared.point.TheConstants.{BOX_LIMIT, DATA_LIMIT};
+ghost use Rattle.geo_sign.specs.declared.point.TheConstants.{BOX_LIMIT, CORNERS, DATA_LIMIT};
 
 use crate::vector::Vector;
 use std::marker::Model;
@@ -127,7 +127,7 @@ impl Point {
 /// Corner k of the box, with 2^23 along the axis of each bit that is set in k (bit 0 is x, bit 1 y, bit 2 z) and -2^23
 /// along the others.
 pub fn corner(k: u8) -> Point
-    requires { k < 8 }
+    requires { k < CORNERS }
     ensures { result ≡ corner_point k }
 {
     Point {
