@@ -16,7 +16,7 @@ use Rattle.geo_sign.specs.Polynomial.{difference, negation, product, sum, variab
 use Rattle.geo_sign.proofs.Ring.{ring}
 use Rattle.geo_sign.specs.Orientation.{orientation}
 use Rattle.geo_sign.specs.Point.{corner_point, cross, IsWithin, Point, point, step}
-use Rattle.geo_sign.specs.declared.point.TheConstants.{BOX_LIMIT, DATA_LIMIT}
+use Rattle.geo_sign.specs.declared.point.TheConstants.{BOX_LIMIT, CORNERS, DATA_LIMIT}
 use Rattle.geo_sign.proofs.Written.{coordinates, cross', orientation', step', Symbols, symbols}
 use Rattle.geo_sign.specs.Cells.{IsCell}
 use Rattle.geo_sign.specs.Tetrahedron.{facet}
@@ -217,7 +217,7 @@ not_low n p h (inr e) = absurd (pick (int_lt n (pos 0)) e)
     pick false e = absurd (omega (arith, ints))
 
 -- a data point is before each outer facet of a cell
-pub data_inner : (v : Vertices) → IsBoxed v → (p : ℕ) → 8 ≤ p → p < v.count → IsInner v p
+pub data_inner : (v : Vertices) → IsBoxed v → (p : ℕ) → CORNERS ≤ p → p < v.count → IsInner v p
 data_inner v x p h l =
     record {
       weak = λ a b c o.
@@ -242,7 +242,7 @@ zero_or_not (pos (suc n)) = inr (λ e. absurd (omega (arith, ints, e)))
 zero_or_not (negsuc n) = inr (λ e. absurd (omega (arith, ints, e)))
 
 -- a vertex at an edge of the box is a corner
-is_corner : (v : Vertices) → IsBoxed v → (u : ℕ) → u < v.count → (((w : IsWithin DATA_LIMIT (v.at u)) → ⊥)) → u < 8
+is_corner : (v : Vertices) → IsBoxed v → (u : ℕ) → u < v.count → (((w : IsWithin DATA_LIMIT (v.at u)) → ⊥)) → u < CORNERS
 is_corner v x u h f = ⊎_elim (λ l. l) (λ (l : 8 ≤ u). absurd (f (x.data_at u l h))) (cases_lt u 8)
 
 at_low : (n p : ℤ) → n ≢ pos 0 → (n ≡ pos 0) ⊎ (p ≡ low n) → p ≡ low n

@@ -9,6 +9,7 @@
 -- Stands on: Corners (they are cells) and LinkedCells (linked cells are all cells).
 use Rattle.std.proofs.Common.{ℕ, zero, suc, ◌+◌, ◌<◌, ◌≡◌, refl, ap, sym, subst, ◌∙◌, inl, inr, arith, eqb, cond, Some, None}
 use Rattle.std.proofs.lemmas.Option.{same_Some, none-some}
+use Rattle.geo_sign.specs.declared.point.TheConstants.{CORNERS}
 use Rattle.geo_sign.specs.Point.{Point, corner_point}
 use Rattle.geo_sign.specs.Tetrahedron.{Tetrahedron, tetrahedron, facet, facet_of, vertex_of, IsRotated}
 use Rattle.geo_sign.specs.Vertices.{Vertices, Has, IsWall}
@@ -117,11 +118,11 @@ listed x i =
     at_name (λ y. IsIn six (six_cell y)) (inl refl) (inr (inl refl)) (inr (inr (inl refl))) (inr (inr (inr (inl refl))))
     (inr (inr (inr (inr (inl refl))))) (inr (inr (inr (inr (inr (inl refl)))))) x i
 
-cells : (v : Vertices) → IsBoxed v → ((u : ℕ) → Has v u → u < 8) → AreCells v six_names six_cell
+cells : (v : Vertices) → IsBoxed v → ((u : ℕ) → Has v u → u < CORNERS) → AreCells v six_names six_cell
 cells v b f x i = six_cells v b f (listed x i)
 
 apart :
-    (v : Vertices) → IsBoxed v → ((u : ℕ) → Has v u → u < 8) → (x y j k : ℕ) → IsIn six_names x → IsIn six_names y → j < 4 →
+    (v : Vertices) → IsBoxed v → ((u : ℕ) → Has v u → u < CORNERS) → (x y j k : ℕ) → IsIn six_names x → IsIn six_names y → j < 4 →
     k < 4 → IsRotated (facet_of (six_cell x) j) (facet_of (six_cell y) k) → x ≡ y
 apart v b f x y j k ix iy hj hk r =
     let t = facet_of (six_cell x) j in

@@ -11,6 +11,7 @@ use Rattle.std.proofs.Common.{ℕ, ◌+◌, ◌<◌, ◌≡◌, refl, sym, ap, s
 use Rattle.std.proofs.Common.{Option, Some, None, List, [], ◌∷◌}
 use Rattle.std.proofs.lemmas.Bool.{and_parts, and_from, not-true, not_from_false}
 use Rattle.std.proofs.lemmas.List.Sums.{sum_by-cons}
+use Rattle.geo_sign.specs.declared.point.TheConstants.{CORNERS}
 use Rattle.geo_sign.specs.Tetrahedron.{Tetrahedron, DirectedFacet, facet_of, IsRotated}
 use Rattle.cell_laws.specs.ClosedLaws.{edges_of, edge_count, facets_at, HasNoCorner, IsCutList, ClosedLaw}
 use Rattle.cell_laws.specs.LinkLaws.{IsNamedBack}
@@ -32,7 +33,7 @@ pub record AreMatched (live : List ℕ) (cell : ℕ → Tetrahedron) (next : ℕ
       (x y j k : ℕ) → IsIn live x → IsIn live y → j < 4 → k < 4 → IsRotated (facet_of (cell x) j) (facet_of (cell y) k) →
       (x ≡ y) × (j ≡ k)
   pub back : (x k y : ℕ) → IsIn live x → k < 4 → next x k ≡ Some y → IsIn live y × IsNamedBack cell next x k y
-  pub walls : (x k : ℕ) → IsIn live x → k < 4 → next x k ≡ None → (facet_of (cell x) k).a < 8
+  pub walls : (x k : ℕ) → IsIn live x → k < 4 → next x k ≡ None → (facet_of (cell x) k).a < CORNERS
 
 module _ (live : List ℕ) (cell : ℕ → Tetrahedron) (next : ℕ → ℕ → Option ℕ) (matched : AreMatched live cell next)
     (inside : ℕ → Bool) (free : HasNoCorner live cell inside) where

@@ -6,6 +6,7 @@ use Rattle.std.proofs.Common.{ℕ, zero, suc, ◌≡◌, ◌<◌, ◌≤◌, ◌
 use Rattle.std.proofs.Common.{true, not, ◌&&◌, ◌==◌, int_lt, unsigned_abs, ℤ, pos, ◌*ℤ◌, ◌+ℤ◌, ◌≤ℤ◌, ◌<ℤ◌, [], ◌∷◌}
 use Rattle.std.proofs.lemmas.Bool.{cases_lt, eqb-true, and_parts}
 use Rattle.std.proofs.lemmas.Int.{ints}
+use Rattle.geo_sign.specs.declared.point.TheConstants.{CORNERS}
 use lib.IntN.{*ℤ-zero}
 use Rattle.geo_sign.specs.Polynomial.{product, sum, variable}
 use Rattle.geo_sign.proofs.Ring.{ring}
@@ -75,7 +76,7 @@ zero_abs z h = let e : unsigned_abs z ≡ 0 = eqb-true (unsigned_abs z) 0 h in o
 pub not_lower : (z : ℤ) → not (int_lt z (pos 0)) ≡ true → pos 0 ≤ℤ z
 not_lower z h = grind (arith, ints)
 
-corner_cell : (v : Vertices) → IsBoxed v → ((u : ℕ) → Has v u → u < 8) → (r : Tetrahedron) → r.a < 8 → r.b < 8 → r.c < 8
+corner_cell : (v : Vertices) → IsBoxed v → ((u : ℕ) → Has v u → u < CORNERS) → (r : Tetrahedron) → r.a < 8 → r.b < 8 → r.c < 8
     → r.d < 8
     → int_lt (pos 0) (orientation (corner_point r.a) (corner_point r.b) (corner_point r.c) (corner_point r.d)) ≡ true
     → all_below 8 (is_clear_of r) ≡ true → IsCellOf v r
@@ -127,7 +128,7 @@ corner_cell v x f r ha hb hc hd o k =
         let m = not_lower (tie r u) (and_parts (unsigned_abs (sphere r u) == 0) _ b).1 in
         omega (arith, ints, e, g, y, m)
 
-pub six_cells : (v : Vertices) → IsBoxed v → ((u : ℕ) → Has v u → u < 8) → {r : Tetrahedron} → IsIn six r → IsCellOf v r
+pub six_cells : (v : Vertices) → IsBoxed v → ((u : ℕ) → Has v u → u < CORNERS) → {r : Tetrahedron} → IsIn six r → IsCellOf v r
 unfolding orientation power
 six_cells v x f (inl e) =
     subst (λ r. IsCellOf v r) e

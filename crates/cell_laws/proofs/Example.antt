@@ -4,7 +4,7 @@ use Rattle.std.proofs.Common.{ℕ, ◌≡◌, ◌<◌, ◌+◌, ◌*◌, refl, a
 use Rattle.std.proofs.Common.{int_lt, pos}
 use Rattle.std.proofs.lemmas.Bool.{eqb-true, ltb-true}
 use Rattle.geo_sign.specs.Point.{corner_point, IsWithin, Point, point}
-use Rattle.geo_sign.specs.declared.point.TheConstants.{DATA_LIMIT}
+use Rattle.geo_sign.specs.declared.point.TheConstants.{CORNERS, DATA_LIMIT}
 use Rattle.geo_sign.specs.Tie.{height}
 use Rattle.geo_sign.specs.Vertices.{Vertices, Has}
 use Rattle.geo_sign.specs.Boxes.{IsBoxed, IsNew}
@@ -42,8 +42,8 @@ example_boxed =
       tied = λ u. refl;
     }
 
-pub example_new : IsNew example 8
+pub example_new : IsNew example CORNERS
 example_new = record { above = omega arith; below = omega arith; out = refl }
 
-pub example_corners : (u : ℕ) → Has example u → u < 8
+pub example_corners : (u : ℕ) → Has example u → u < CORNERS
 example_corners u h = ltb-true u 8 h.1

@@ -11,7 +11,7 @@ use Rattle.geo_sign.specs.Polynomial.{difference, Polynomial, product, variable}
 use Rattle.geo_sign.proofs.Ring.{ring}
 use Rattle.geo_sign.specs.Orientation.{orientation}
 use Rattle.geo_sign.specs.Point.{IsWithin, origin, Point, point, wall}
-use Rattle.geo_sign.specs.declared.point.TheConstants.{BOX_LIMIT}
+use Rattle.geo_sign.specs.declared.point.TheConstants.{BOX_LIMIT, CORNERS}
 use Rattle.geo_sign.specs.Rational.{displaced, side}
 use Rattle.geo_sign.proofs.Digits.{side_on_line}
 use Rattle.geo_sign.proofs.Identities.{side_digits}
@@ -39,7 +39,7 @@ not_behind :
 not_behind o x y z h k l m = omega (arith, ints)
 
 -- the displaced place of a data point can stand for it
-pub goal : (v : Vertices) → IsBoxed v → (p : ℕ) → 8 ≤ p → p < v.count → IsGoal v p (displaced (v.at p))
+pub goal : (v : Vertices) → IsBoxed v → (p : ℕ) → CORNERS ≤ p → p < v.count → IsGoal v p (displaced (v.at p))
 goal v x p h l =
     record {
       near = near;

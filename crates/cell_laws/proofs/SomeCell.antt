@@ -6,6 +6,7 @@
 use Rattle.std.proofs.Common.{ℕ, zero, suc, ◌+◌, ◌-◌, ◌<◌, ◌≤◌, ◌≡◌, refl, sym, ap, subst, ◌∙◌, inl, ⊎_elim, arith, Bool, true}
 use Rattle.std.proofs.Common.{false, true≢false, ◌&&◌, ◌||◌, nat_lt, eqb}
 use Rattle.std.proofs.lemmas.Bool.{ltb-true, lt-ltb, eqb-true, eq-eqb, and_parts, and_from, or_cases}
+use Rattle.geo_sign.specs.declared.point.TheConstants.{CORNERS}
 use Rattle.geo_sign.proofs.Booleans.{same_bools}
 use Rattle.geo_sign.specs.Rational.{rational}
 use Rattle.geo_sign.specs.Tetrahedron.{Tetrahedron, tetrahedron}
@@ -39,7 +40,7 @@ same_in v f g e t k =
     }
 
 module _ (v : Vertices) (b : IsBoxed v) where
-  front_boxed : (k : ℕ) → 8 ≤ k → IsBoxed (front k v)
+  front_boxed : (k : ℕ) → CORNERS ≤ k → IsBoxed (front k v)
   front_boxed k l =
       record {
         corner_in =
@@ -50,7 +51,7 @@ module _ (v : Vertices) (b : IsBoxed v) where
         tied = b.tied;
       }
 
-  in_box : (k : ℕ) → 8 ≤ k → k < v.count → IsInBox (rational (v.at k))
+  in_box : (k : ℕ) → CORNERS ≤ k → k < v.count → IsInBox (rational (v.at k))
   in_box k l m =
       let w = b.data_at k l m in
       let x = w.x_within in
@@ -90,7 +91,7 @@ module _ (v : Vertices) (b : IsBoxed v) where
           let n : u ≡ k → ⊥ = λ q. true≢false (sym (eq-eqb u k q) ∙ i) in
           and_from (nat_lt u k) (v.is_in u) (lt-ltb u k (omega (arith, l, n))) h
 
-  new_one : (k : ℕ) → 8 ≤ k → k < v.count → IsNew (front k v) k
+  new_one : (k : ℕ) → CORNERS ≤ k → k < v.count → IsNew (front k v) k
   new_one k l m = record { above = l; below = m; out = by (nat_lt k k && v.is_in k) refl }
     where
       by : (c : Bool) → (nat_lt k k && v.is_in k) ≡ c → (nat_lt k k && v.is_in k) ≡ false
@@ -99,7 +100,7 @@ module _ (v : Vertices) (b : IsBoxed v) where
 
   -- one vertex more
   one_more :
-      (k : ℕ) → 8 ≤ k → k < v.count → (t : Tetrahedron) × IsCellOf (front k v) t →
+      (k : ℕ) → CORNERS ≤ k → k < v.count → (t : Tetrahedron) × IsCellOf (front k v) t →
       (t : Tetrahedron) × IsCellOf (front (suc k) v) t
   one_more k l m c = by (v.is_in k) refl
     where

@@ -8,7 +8,7 @@ use Rattle.std.proofs.lemmas.Bool.{cases_lt, eqb-true, eqb-false}
 use Rattle.std.proofs.lemmas.Int.{ints}
 use Rattle.std.proofs.lemmas.List.{get_or-set_same, get_or-set_other}
 use Rattle.geo_sign.specs.Point.{Point, IsWithin, corner_point, origin}
-use Rattle.geo_sign.specs.declared.point.TheConstants.{DATA_LIMIT}
+use Rattle.geo_sign.specs.declared.point.TheConstants.{CORNERS, DATA_LIMIT}
 use Rattle.geo_sign.specs.Tetrahedron.{Tetrahedron}
 use Rattle.geo_sign.specs.Vertices.{Vertices, point_of, boxed_vertices}
 use Rattle.geo_sign.specs.Cells.{IsCell}
@@ -22,9 +22,9 @@ use Rattle.cell_laws.proofs.Goal.{corner_edge}
 
 -- ---- where the vertices are
 abbrev IsPoint : List Point → ℕ → Type 0
-IsPoint points u = (i : ℕ) × (u ≡ 8 + i) × (point_of points u ≡ get_or points i origin)
+IsPoint points u = (i : ℕ) × (u ≡ CORNERS + i) × (point_of points u ≡ get_or points i origin)
 
-at_point : (points : List Point) (u : ℕ) → 8 ≤ u → IsPoint points u
+at_point : (points : List Point) (u : ℕ) → CORNERS ≤ u → IsPoint points u
 at_point points (suc (suc (suc (suc (suc (suc (suc (suc i)))))))) h = (i, omega arith, refl)
 at_point points (suc (suc (suc (suc (suc (suc (suc zero))))))) h = absurd (omega (arith, h))
 at_point points (suc (suc (suc (suc (suc (suc zero)))))) h = absurd (omega (arith, h))
@@ -36,7 +36,7 @@ at_point points (suc zero) h = absurd (omega (arith, h))
 at_point points zero h = absurd (omega (arith, h))
 
 data_within :
-    (points : List Point) → All (IsWithin DATA_LIMIT) points → (u : ℕ) → 8 ≤ u → u < 8 + length points →
+    (points : List Point) → All (IsWithin DATA_LIMIT) points → (u : ℕ) → CORNERS ≤ u → u < CORNERS + length points →
     IsWithin DATA_LIMIT (point_of points u)
 data_within points w u h l =
     let z = at_point points u h in
@@ -58,11 +58,11 @@ corner_outside k w =
 
 apart :
     (points : List Point) → All (IsWithin DATA_LIMIT) points → AllPairs (λ p q. p ≢ q) points → (u w : ℕ)
-    → u < 8 + length points
-    → w < 8 + length points → point_of points u ≡ point_of points w → u ≡ w
+    → u < CORNERS + length points
+    → w < CORNERS + length points → point_of points u ≡ point_of points w → u ≡ w
 apart points all distinct u w hu hw e = by (cases_lt u 8) (cases_lt w 8)
   where
-    mixed : (k i : ℕ) → k < 8 → 8 ≤ i → i < 8 + length points → point_of points k ≡ point_of points i → ⊥
+    mixed : (k i : ℕ) → k < 8 → 8 ≤ i → i < CORNERS + length points → point_of points k ≡ point_of points i → ⊥
     mixed k i h l m f =
         corner_outside k
         (subst (λ (p : Point). IsWithin DATA_LIMIT p) (sym f ∙ corner_at points k h) (data_within points all i l m))
@@ -97,7 +97,7 @@ flag_set flags p h i = pick (eqb i p) refl
 -- ---- all vertices in
 
 all_cells :
-    (points : List Point) (flags : List Bool) → ((u : ℕ) → u < 8 + length points → get_or flags u false ≡ true) →
+    (points : List Point) (flags : List Bool) → ((u : ℕ) → u < CORNERS + length points → get_or flags u false ≡ true) →
     (a b c d : ℕ) → IsCell (inserted_vertices points flags) a b c d → IsCell (boxed_vertices points) a b c d
 all_cells points flags f a b c d k =
     record {
@@ -110,7 +110,7 @@ all_cells points flags f a b c d k =
     }
 
 cells_all :
-    (points : List Point) (flags : List Bool) → ((u : ℕ) → u < 8 + length points → get_or flags u false ≡ true) →
+    (points : List Point) (flags : List Bool) → ((u : ℕ) → u < CORNERS + length points → get_or flags u false ≡ true) →
     (a b c d : ℕ) → IsCell (boxed_vertices points) a b c d → IsCell (inserted_vertices points flags) a b c d
 cells_all points flags f a b c d k =
     record {
@@ -123,7 +123,7 @@ cells_all points flags f a b c d k =
     }
 
 whole :
-    (points : List Point) (flags : List Bool) → ((u : ℕ) → u < 8 + length points → get_or flags u false ≡ true) →
+    (points : List Point) (flags : List Bool) → ((u : ℕ) → u < CORNERS + length points → get_or flags u false ≡ true) →
     (live : List ℕ) (cell : ℕ → Tetrahedron) (next : ℕ → ℕ → Option ℕ) →
     AreAllCells (inserted_vertices points flags) live cell next → AreAllCells (boxed_vertices points) live cell next
 whole points flags f live cell next h =

@@ -14,6 +14,7 @@
 --   JoinedLaw         a list of cells that has one, and with each those across its facets, has all
 --   six, CornerLaw    the six cells of the box, which are all cells of the corners alone
 use Rattle.std.specs.Prelude.{ℕ, ◌<◌, ◌≡◌, ◌⊎◌, ℤ, pos, ◌+ℤ◌, ◌*ℤ◌, ◌<ℤ◌, ◌≤ℤ◌, List, [], ◌∷◌}
+use Rattle.geo_sign.specs.declared.point.TheConstants.{CORNERS}
 use Rattle.geo_sign.specs.Point.{Point}
 use Rattle.geo_sign.specs.Orientation.{orientation}
 use Rattle.geo_sign.specs.Power.{power}
@@ -102,4 +103,4 @@ six =
 
 -- for every number of vertices, of which the corners alone are in
 abbrev pub CornerLaw : Type 0
-CornerLaw = (v : Vertices) → IsBoxed v → ((u : ℕ) → Has v u → u < 8) → IsFull v six (λ t. t)
+CornerLaw = (v : Vertices) → IsBoxed v → ((u : ℕ) → Has v u → u < CORNERS) → IsFull v six (λ t. t)

@@ -8,6 +8,7 @@
 --   ClosedLaw                          each directed edge stands in these facets as often as its reverse
 use Rattle.std.specs.Prelude.{ℕ, ◌+◌, ◌<◌, ◌≤◌, ◌≡◌, ◌≢◌, ◌==◌, ◌&&◌, Bool, true, false, Option, Some, List, map, AllPairs}
 use Rattle.std.specs.List.{sum_by}
+use Rattle.geo_sign.specs.declared.point.TheConstants.{CORNERS}
 use Rattle.geo_sign.specs.Tetrahedron.{Tetrahedron, DirectedFacet, facet_of, vertex_of}
 use Rattle.geo_sign.specs.Vertices.{Vertices}
 use Rattle.geo_sign.specs.Boxes.{IsBoxed}
@@ -25,7 +26,7 @@ abbrev pub edge_count : (u w : ℕ) → List DirectedFacet → ℕ
 edge_count u w facets = sum_by (edges_of u w) facets
 
 abbrev pub HasNoCorner : (live : List ℕ) (cell : ℕ → Tetrahedron) (inside : ℕ → Bool) → Type 0
-HasNoCorner live cell inside = (x k : ℕ) → IsIn live x → inside x ≡ true → k < 4 → 8 ≤ vertex_of (cell x) k
+HasNoCorner live cell inside = (x k : ℕ) → IsIn live x → inside x ≡ true → k < 4 → CORNERS ≤ vertex_of (cell x) k
 
 pub record IsCutList (live : List ℕ) (next : ℕ → ℕ → Option ℕ) (inside : ℕ → Bool) (sides : List Side) : Type 0 where
   pub listed : (s : Side) → IsIn sides s → IsIn live s.at

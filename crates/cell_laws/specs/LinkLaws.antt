@@ -15,6 +15,7 @@
 --   RenewLaw      a replacement of all cells in conflict leaves all cells with one vertex more, each once
 use Rattle.std.specs.Prelude.{ℕ, zero, suc, ◌<◌, ◌≡◌, ◌⊎◌, ◌↔◌, pos, ◌<ℤ◌, Bool, true, false, Option, Some, None, List, [], ◌∷◌}
 use Rattle.std.specs.Prelude.{length, slice_index_or}
+use Rattle.geo_sign.specs.declared.point.TheConstants.{CORNERS}
 use Rattle.geo_sign.specs.Rational.{rational}
 use Rattle.geo_sign.specs.Tetrahedron.{Tetrahedron, tetrahedron, DirectedFacet, facet_of, IsTurned}
 use Rattle.geo_sign.specs.Vertices.{Vertices, Has, IsWall, orientation_of}
@@ -183,4 +184,4 @@ six_next (suc (suc (suc (suc zero)))) = four_links None (Some 5) (Some 3) (Some 
 six_next (suc (suc (suc (suc (suc x))))) = four_links None None (Some 4) None
 
 abbrev pub BoxLaw : Type 0
-BoxLaw = (v : Vertices) → IsBoxed v → ((u : ℕ) → Has v u → u < 8) → AreAllCells v six_names six_cell six_next
+BoxLaw = (v : Vertices) → IsBoxed v → ((u : ℕ) → Has v u → u < CORNERS) → AreAllCells v six_names six_cell six_next

@@ -6,7 +6,7 @@
 --   RowSightLaw      each list of all cells has these
 use Rattle.std.specs.Prelude.{ℕ, ◌≤◌, ◌≡◌, List, count_by}
 use Rattle.geo_sign.specs.Point.{Point, IsWithin}
-use Rattle.geo_sign.specs.declared.point.TheConstants.{DATA_LIMIT}
+use Rattle.geo_sign.specs.declared.point.TheConstants.{CORNERS, DATA_LIMIT}
 use Rattle.geo_sign.specs.Rational.{displaced}
 use Rattle.geo_sign.specs.Vertices.{Vertices, Has}
 use Rattle.geo_sign.specs.Cells.{IsCellList, written}
@@ -20,8 +20,8 @@ ListLaw = (v : Vertices) (rows : List (List ℕ)) → IsCellList v rows → IsLi
 
 pub record HasOneEach (v : Vertices) (rows : List (List ℕ)) (s : Point) : Type 0 where
   pub scanner : count_by (λ row. is_cell_of v (displaced s) (written v row)) rows ≡ 1
-  pub towards : (p : ℕ) → Has v p → 8 ≤ p → count_by (λ row. is_towards v p (displaced s) (written v row)) rows ≡ 1
-  pub behind : (p : ℕ) → Has v p → 8 ≤ p → count_by (λ row. is_behind v p (displaced s) (written v row)) rows ≡ 1
+  pub towards : (p : ℕ) → Has v p → CORNERS ≤ p → count_by (λ row. is_towards v p (displaced s) (written v row)) rows ≡ 1
+  pub behind : (p : ℕ) → Has v p → CORNERS ≤ p → count_by (λ row. is_behind v p (displaced s) (written v row)) rows ≡ 1
 
 abbrev pub RowSightLaw : Type 0
 RowSightLaw =

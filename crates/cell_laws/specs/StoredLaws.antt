@@ -9,7 +9,7 @@
 use Rattle.std.specs.Prelude.{ℕ, ◌<◌, ◌≡◌, ◌≢◌, ◌↔◌, ◌+◌, Bool, true, false, Option, List, length, get_or, set, All, AllPairs}
 use Rattle.geo_sign.specs.Boxes.{inserted_vertices, IsBoxed, with_vertex}
 use Rattle.geo_sign.specs.Point.{Point, IsWithin}
-use Rattle.geo_sign.specs.declared.point.TheConstants.{DATA_LIMIT}
+use Rattle.geo_sign.specs.declared.point.TheConstants.{CORNERS, DATA_LIMIT}
 use Rattle.geo_sign.specs.Tetrahedron.{Tetrahedron}
 use Rattle.geo_sign.specs.Vertices.{Vertices, boxed_vertices}
 use Rattle.geo_sign.specs.Cells.{IsCell, IsRisingCell}
@@ -26,15 +26,15 @@ AllLaw =
 -- vertex more, and with all of them in
 pub record AreStored (points : List Point) (flags : List Bool) : Type 0 where
   pub boxed :
-      All (IsWithin DATA_LIMIT) points → AllPairs (λ p q. p ≢ q) points → ((k : ℕ) → k < 8 → get_or flags k false ≡ true) →
+      All (IsWithin DATA_LIMIT) points → AllPairs (λ p q. p ≢ q) points → ((k : ℕ) → k < CORNERS → get_or flags k false ≡ true) →
       IsBoxed (inserted_vertices points flags)
   pub one_more :
       (p : ℕ) → p < length flags → inserted_vertices points (set flags p true) ≡ with_vertex (inserted_vertices points flags) p
   pub all :
-      ((u : ℕ) → u < 8 + length points → get_or flags u false ≡ true) → (a b c d : ℕ) →
+      ((u : ℕ) → u < CORNERS + length points → get_or flags u false ≡ true) → (a b c d : ℕ) →
       IsCell (inserted_vertices points flags) a b c d ↔ IsCell (boxed_vertices points) a b c d
   pub whole :
-      ((u : ℕ) → u < 8 + length points → get_or flags u false ≡ true) →
+      ((u : ℕ) → u < CORNERS + length points → get_or flags u false ≡ true) →
       (live : List ℕ) (cell : ℕ → Tetrahedron) (next : ℕ → ℕ → Option ℕ) →
       AreAllCells (inserted_vertices points flags) live cell next →
       AreAllCells (boxed_vertices points) live cell next

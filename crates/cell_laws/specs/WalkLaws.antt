@@ -10,7 +10,7 @@
 --   PathLaw       the way of a sight over linked cells: there is one, and it has each crossed facet once, the nearer first
 use Rattle.std.specs.Prelude.{ℕ, ◌<◌, ◌≤◌, ◌≡◌, ◌⊎◌, true, pos, ◌<ℤ◌, Option, Some, List}
 use Rattle.geo_sign.specs.Point.{Point, IsWithin}
-use Rattle.geo_sign.specs.declared.point.TheConstants.{BOX_LIMIT, DATA_LIMIT}
+use Rattle.geo_sign.specs.declared.point.TheConstants.{BOX_LIMIT, CORNERS, DATA_LIMIT}
 use Rattle.geo_sign.specs.Orientation.{orientation, IsOnLine}
 use Rattle.geo_sign.specs.Rational.{RationalPoint, displaced, side}
 use Rattle.geo_sign.specs.Signs.{sign_of, first_sign, opposite_sign}
@@ -94,7 +94,7 @@ pub record HasSightCells (v : Vertices) (p : ℕ) (s : Point) : Type 0 where
       is_behind v p (displaced s) r ≡ true → IsRewritten t r
   -- for a data point there are two such cells
   pub some :
-      8 ≤ p → ((t : Tetrahedron) × IsCell v t.a t.b t.c t.d × (is_towards v p (displaced s) t ≡ true)) ×
+      CORNERS ≤ p → ((t : Tetrahedron) × IsCell v t.a t.b t.c t.d × (is_towards v p (displaced s) t ≡ true)) ×
       ((t : Tetrahedron) × IsCell v t.a t.b t.c t.d × (is_behind v p (displaced s) t ≡ true))
 
 abbrev pub VertexSightLaw : Type 0
