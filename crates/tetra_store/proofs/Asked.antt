@@ -4,7 +4,6 @@
 -- of such a cell, so its three vertices are distinct, and the cell across names that cell back, so it is live and has the facet
 -- turned round.
 use Rattle.std.proofs.Common.{ℕ, ◌≡◌, ◌<◌, ◌≤◌, ◌^◌, List, length, Some, sym, ◌∙◌, inl, inr, subst, arith}
-use Rattle.std.specs.List.{Contains}
 use Rattle.geo_sign.specs.Tetrahedron.{vertex_of, facet_of}
 use Rattle.geo_sign.specs.Vertices.{Has}
 use Rattle.tetra_store.specs.declared.fan.Facet.{Facet}
@@ -83,6 +82,3 @@ module _ (s : Store) (old : List ℕ) (fan : List Facet) (p : ℕ) (store : IsSt
         let e = store.keeps in
         subst (λ (z : ℕ). vertex_of (over (fan_facet fan i) p) z < length s.kept) (sym t) (omega arith)
   ]
-
-  pub old_below : (id k : ℕ) → Contains old id → k < 4 → vertex_of ((links_of s.slots).at id) k < length s.kept
-  old_below id k h l = let m = (store.linked.has id k (can.live id h) l).0 in let e = store.keeps in omega arith

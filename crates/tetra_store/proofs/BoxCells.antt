@@ -8,6 +8,7 @@ use Rattle.std.proofs.Common.{◌<ℤ◌, ◌≤ℤ◌, int_lt, List, length, ge
 use Rattle.std.proofs.Common.{subst, arith, slice_index}
 use Rattle.std.proofs.lemmas.Bool.{cases_lt, false≢true, or_cases, and_parts, eq-eqb, eqb-true, both_ways, not-true}
 use Rattle.std.proofs.lemmas.Int.{ints}
+use Rattle.geo_sign.specs.declared.point.TheConstants.{CORNERS}
 use Rattle.geo_sign.specs.Point.{Point, origin, corner_point}
 use Rattle.geo_sign.specs.Orientation.{orientation}
 use Rattle.geo_sign.specs.Power.{power, plain_power}
@@ -105,8 +106,8 @@ five_apart a b c d p h =
       d_p = differs d p r9.1;
     }
 
-module _ (points : List Point) (flags : List Bool) (wide : 8 ≤ length points)
-    (corners : (k : ℕ) → k < 8 → get_or points k origin ≡ corner_point k) where
+module _ (points : List Point) (flags : List Bool) (wide : CORNERS ≤ length points)
+    (corners : (k : ℕ) → k < CORNERS → get_or points k origin ≡ corner_point k) where
   abbrev v : Vertices
   v = vertices_at points flags
 
@@ -221,7 +222,7 @@ module _ (points : List Point) (flags : List Bool) (wide : 8 ≤ length points)
   unfolding all_of some_of four_test six_test of_test met_test five_differ conflict_test orientation power
   four_all = refl
 
-  others : (a b c d : ℕ) → a < 8 → b < 8 → c < 8 → d < 8 → IsCell v a b c d → ((u : ℕ) → u < 8 → Has v u)
+  others : (a b c d : ℕ) → a < 8 → b < 8 → c < 8 → d < 8 → IsCell v a b c d → ((u : ℕ) → u < CORNERS → Has v u)
       → (i : ℕ) × (i < 6) × IsVertexOf (box_tetrahedron i) a × IsVertexOf (box_tetrahedron i) b
       × IsVertexOf (box_tetrahedron i) c × IsVertexOf (box_tetrahedron i) d
   unfolding four_test six_test met_test
@@ -252,8 +253,8 @@ module _ (points : List Point) (flags : List Bool) (wide : 8 ≤ length points)
         ]
       ]
 
-  pub box_delaunay : (links : Links) (ids : List ℕ) → AreBoxCells links ids → ((u : ℕ) → u < 8 → Has v u)
-      → ((u : ℕ) → Has v u → u < 8) → IsDelaunay v links
+  pub box_delaunay : (links : Links) (ids : List ℕ) → AreBoxCells links ids → ((u : ℕ) → u < CORNERS → Has v u)
+      → ((u : ℕ) → Has v u → u < CORNERS) → IsDelaunay v links
   box_delaunay links ids box inside only = record {
     cells = λ x live.
         let i = box.only x live in

@@ -8,6 +8,7 @@ use Rattle.std.proofs.Common.{ℕ, zero, suc, ◌≡◌, ◌<◌, Bool, true, fa
 use Rattle.std.proofs.Common.{if◌then◌else◌, List, [], ◌∷◌, Option, Some, None, refl, sym, ap, ◌∙◌, ◌⊎◌, inl, inr, subst, arith}
 use Rattle.std.proofs.Common.{slice_index, slice_index_or}
 use Rattle.std.proofs.lemmas.Bool.{false≢true, or_cases, and_parts, eq-eqb, ltb-true, eqb-true}
+use Rattle.geo_sign.specs.declared.point.TheConstants.{CORNERS}
 use Rattle.geo_sign.specs.Point.{Point, corner_point}
 use Rattle.geo_sign.specs.Orientation.{orientation}
 use Rattle.geo_sign.specs.Tetrahedron.{Tetrahedron, vertex_of, facet_of, IsRotated, IsTurned}
@@ -43,7 +44,7 @@ keeper_side u = slice_index keeper_sides u
 abbrev below_test : ℕ → ℕ → Bool
 below_test i k = nat_lt (vertex_of (box_tetrahedron i) k) 8
 
-pub box_below : (i k : ℕ) → i < 6 → k < 4 → vertex_of (box_tetrahedron i) k < 8
+pub box_below : (i k : ℕ) → i < 6 → k < 4 → vertex_of (box_tetrahedron i) k < CORNERS
 box_below i k l m =
     ltb-true (vertex_of (box_tetrahedron i) k) 8
     (every_at 4 (below_test i) (every_at 6 (λ j. every 4 (below_test j)) refl i l) k m)
@@ -132,7 +133,7 @@ abbrev keeper_test : ℕ → Bool
 keeper_test u =
     nat_lt (box_keeper u) 6 && (nat_lt (keeper_side u) 4 && (vertex_of (box_tetrahedron (box_keeper u)) (keeper_side u) == u))
 
-pub box_keeps : (u : ℕ) → u < 8 → (box_keeper u < 6) × IsVertexOf (box_tetrahedron (box_keeper u)) u
+pub box_keeps : (u : ℕ) → u < CORNERS → (box_keeper u < 6) × IsVertexOf (box_tetrahedron (box_keeper u)) u
 box_keeps u l =
     let t = every_at 8 keeper_test refl u l in
     let a = nat_lt (box_keeper u) 6 in
@@ -158,7 +159,7 @@ across_none true x h = refl
 across_none false x h = absurd cc
 
 module _ (v : Vertices) (links : Links) (ids : List ℕ) (box : AreBoxCells links ids)
-    (corners : (k : ℕ) → k < 8 → v.at k ≡ corner_point k) (inside : (k : ℕ) → k < 8 → Has v k) where
+    (corners : (k : ℕ) → k < CORNERS → v.at k ≡ corner_point k) (inside : (k : ℕ) → k < CORNERS → Has v k) where
   facet_below : (i k u : ℕ) → i < 6 → HasVertex (facet_of (box_tetrahedron i) k) u → u < 8
   facet_below i k u l h =
       let o = place_of (box_tetrahedron i) u (in_of (box_tetrahedron i) k u h) in

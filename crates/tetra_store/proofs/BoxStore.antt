@@ -7,7 +7,7 @@ use borrow.Author.Tests.{ltb-true}
 use Rattle.std.proofs.lemmas.Int.{ints}
 use Rattle.std.proofs.lemmas.Bool.Decides.{nat_tests}
 use Rattle.geo_sign.specs.Point.{Point, origin, corner_point, IsWithin}
-use Rattle.geo_sign.specs.declared.point.TheConstants.{BOX_LIMIT, DATA_LIMIT}
+use Rattle.geo_sign.specs.declared.point.TheConstants.{BOX_LIMIT, CORNERS, DATA_LIMIT}
 use Rattle.geo_sign.specs.Tetrahedron.{Tetrahedron}
 use Rattle.geo_sign.specs.Vertices.{Has, corners}
 use Rattle.tetra_store.specs.declared.boxed.TheConstants.{VERTEX_LIMIT}
@@ -53,11 +53,11 @@ not_data a p w e =
 module _ (points : List Point) (data_points : (k : ℕ) → k < length points → IsWithin DATA_LIMIT (get_or points k origin))
     (distinct : (j k : ℕ) → j < length points → k < length points → get_or points j origin ≡ get_or points k origin → j ≡ k)
     (few : length points ≤ VERTEX_LIMIT)
-    (flags : List Bool) (flags_are : (u : ℕ) → slice_index_or flags u false ≡ nat_lt u 8) where
+    (flags : List Bool) (flags_are : (u : ℕ) → slice_index_or flags u false ≡ nat_lt u CORNERS) where
   abbrev all : List Point
   all = corners ++ points
 
-  within_at : (u : ℕ) → 8 ≤ u → u < length all → IsWithin DATA_LIMIT (get_or all u origin)
+  within_at : (u : ℕ) → CORNERS ≤ u → u < length all → IsWithin DATA_LIMIT (get_or all u origin)
   within_at u l m =
       let n = vertex_count points in
       subst (λ (p : Point). IsWithin DATA_LIMIT p) (sym (point_after points u l)) (data_points (u - 8) (omega arith))
@@ -95,14 +95,14 @@ module _ (points : List Point) (data_points : (k : ℕ) → k < length points �
       lt_yes : (k : ℕ) → k < 8 → nat_lt k 8 ≡ true
       lt_yes k l = grind (arith, nat_tests)
 
-  corner_has : (u : ℕ) → u < 8 → Has (vertices_at all flags) u
+  corner_has : (u : ℕ) → u < CORNERS → Has (vertices_at all flags) u
   corner_has = box_vertices.boxed.corner_in
 
-  corner_only : (u : ℕ) → Has (vertices_at all flags) u → u < 8
+  corner_only : (u : ℕ) → Has (vertices_at all flags) u → u < CORNERS
   corner_only u h = ltb-true u 8 (sym (flags_are u) ∙ h.1)
 
   module _ (slots : List (Option Cell)) (ids kept : List ℕ) (box : AreBoxCells (links_of slots) ids)
-      (keeps : (u : ℕ) → u < 8 → slice_index kept u ≡ slice_index ids (box_keeper u)) where
+      (keeps : (u : ℕ) → u < CORNERS → slice_index kept u ≡ slice_index ids (box_keeper u)) where
     kept_at : (u : ℕ) → Has (vertices_at all flags) u
         → IsLive (links_of slots) (slice_index kept u) × IsVertexOf ((links_of slots).at (slice_index kept u)) u
     kept_at u h =

@@ -29,15 +29,6 @@ some_is : {m n : ℕ} → Some m ≡ Some n → m ≡ n
 some_is h = cc
 
 -- ---- places
-pub none_assigned : (links : Links) (places : List (Option ℕ)) → ((x : ℕ) → slice_index_or places x None ≡ None)
-    → AreAssigned links places []
-none_assigned links places h = record {
-  forth = λ x n e. absurd (none_some (sym (h x) ∙ e));
-  back = λ n l. absurd (omega (arith, l));
-  live = λ n l. absurd (omega (arith, l));
-  few = omega arith;
-}
-
 -- a number that is there and not free has a place
 pub placed_or : (places : List (Option ℕ)) (x : ℕ) → ¬ (slice_index_or places x None ≡ None) → HasPlace places x
 placed_or places x h = by (slice_index_or places x None) refl

@@ -3,6 +3,7 @@ use Rattle.std.proofs.Common.{ℕ, zero, suc, ◌≡◌, ◌≢◌, ◌<◌, ◌
 use Rattle.std.proofs.Common.{◌⊎◌, inl, inr, subst, arith, slice_index}
 use Rattle.std.specs.List.{Contains}
 use Rattle.std.proofs.lemmas.Bool.{cases_eq}
+use Rattle.geo_sign.specs.declared.point.TheConstants.{CORNERS}
 use Rattle.geo_sign.specs.Point.{Point}
 use Rattle.geo_sign.specs.Tetrahedron as geo
 use Rattle.geo_sign.specs.Tetrahedron.{Tetrahedron, facet, vertex_of, facet_of, IsRotated, IsTurned}
@@ -33,7 +34,7 @@ pub record IsRebuilding (points : List Point) (flags flags' : List Bool) (a b : 
   pub edges : HasPairedEdges fan
   pub before : (i : ℕ) → i < length fan
       → pos 0 <ℤ orientation_of (vertices_at points flags) (fan_facet fan i).a (fan_facet fan i).b (fan_facet fan i).c p
-  pub above : 8 ≤ p
+  pub above : CORNERS ≤ p
   pub new : ¬ Has (vertices_at points flags) p
   pub in_now : Has (vertices_at points flags') p
   pub more : (u : ℕ) → Has (vertices_at points flags) u → Has (vertices_at points flags') u
@@ -80,7 +81,7 @@ wall_turned v f g t w =
     let b : geo.DirectedFacet = facet f.a f.c f.b in
     wall_rotated v b g (turned_turned b f g (turned_back f b (inl refl)) t) (wall_back v f w)
 
-pub wall_below : (v : Vertices) (f : geo.DirectedFacet) (u : ℕ) → IsWall v f → HasVertex f u → u < 8
+pub wall_below : (v : Vertices) (f : geo.DirectedFacet) (u : ℕ) → IsWall v f → HasVertex f u → u < CORNERS
 wall_below v f u w (inl e) = let h = w.first in omega arith
 wall_below v f u w (inr (inl e)) = let h = w.second in omega arith
 wall_below v f u w (inr (inr e)) = let h = w.third in omega arith

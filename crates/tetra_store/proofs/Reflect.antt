@@ -4,7 +4,7 @@ use Rattle.std.proofs.Common.{neg_ℤ, refl, sym, ap, ◌∙◌, inl, inr, subst
 use Rattle.std.proofs.lemmas.Bool.{cases_lt, eqb-true, eq-eqb, false≢true, or_left, or_right, and_from, or_cases, and_parts}
 use Rattle.std.proofs.lemmas.Int.{ints}
 use Rattle.geo_sign.specs.Point.{Point, corner_point}
-use Rattle.geo_sign.specs.declared.point.TheConstants.{BOX_LIMIT}
+use Rattle.geo_sign.specs.declared.point.TheConstants.{BOX_LIMIT, CORNERS}
 use Rattle.geo_sign.specs.Tetrahedron as geo
 use Rattle.geo_sign.specs.Tetrahedron.{facet, IsRotated, IsTurned}
 use Rattle.geo_sign.specs.Vertices.{Vertices, IsWall}
@@ -99,7 +99,7 @@ abbrev pub wall_test : geo.DirectedFacet → Bool
 wall_test f = agree_test 1 f || (agree_test 2 f || agree_test 4 f)
 
 abbrev AreCorners : Vertices → Type 0
-AreCorners v = (k : ℕ) → k < 8 → v.at k ≡ corner_point k
+AreCorners v = (k : ℕ) → k < CORNERS → v.at k ≡ corner_point k
 
 agree_yes : (v : Vertices) → AreCorners v → (bit : ℕ) (f : geo.DirectedFacet) → f.a < 8 → f.b < 8 → f.c < 8 → (x : Point → ℤ)
     → ((k : ℕ) → x (corner_point k) ≡ side_of (low bit k))

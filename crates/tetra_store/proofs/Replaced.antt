@@ -12,6 +12,7 @@ use Rattle.std.specs.List.{Contains}
 use Rattle.std.proofs.lemmas.Bool.{cases_eq, cases_lt, false≢true}
 use Rattle.std.proofs.lemmas.List.{get_or-set_same, get_or-set_other, take_at}
 use Rattle.std.proofs.lemmas.List.Elements.{Contains-get_or}
+use Rattle.geo_sign.specs.declared.point.TheConstants.{CORNERS}
 use Rattle.geo_sign.specs.Tetrahedron.{Tetrahedron, vertex_of}
 use Rattle.geo_sign.specs.Boxes.{IsBoxed}
 use Rattle.geo_sign.specs.Vertices.{Has}
@@ -27,7 +28,6 @@ use Rattle.tetra_store.specs.Steps.{AreOut}
 use Rattle.tetra_store.proofs.Facets.{place_of}
 use Rattle.tetra_store.proofs.Rebuilt.{IsRebuilt, IsRebuilding, listed_or_not}
 use Rattle.tetra_store.proofs.Again.{linked_again}
-use Rattle.tetra_store.proofs.Asked.{old_below}
 use Rattle.tetra_store.proofs.Grown.{place_in, none_not_live}
 
 -- what a vector holds after a write to all of it
@@ -43,17 +43,8 @@ module _ (s : Store) (old : List ℕ) (fan : List Facet) (p : ℕ) (store : IsSt
     new_out : (i : ℕ) → i < length fan → ¬ Contains old (slice_index ids i)
     new_out i l h = grown.fresh (slice_index ids i) (new_listed i l) (can.live (slice_index ids i) h)
 
-    pub old_live : (id : ℕ) → Contains old id → IsLive (links_of s1) id
-    old_live id h = grown.stays id (can.live id h)
-
     old_at : (id : ℕ) → Contains old id → (links_of s1).at id ≡ (links_of s.slots).at id
     old_at id h = grown.same id (can.live id h)
-
-    pub old_vertices : (id k : ℕ) → Contains old id → k < 4 → vertex_of ((links_of s1).at id) k < length kept1
-    old_vertices id k h l =
-        let b = old_below s old fan p store can id k h l in
-        let e = keeps.count in
-        subst (λ (t : Tetrahedron). vertex_of t k < length kept1) (sym (old_at id h)) (omega arith)
 
     held_now : (u : ℕ) → IsHeld (links_of s.slots) old u → IsHeld (links_of s1) old u
     held_now u h = record {
@@ -179,14 +170,14 @@ module _ (s : Store) (old : List ℕ) (fan : List Facet) (p : ℕ) (store : IsSt
       flag_same : slice_index_or flags p false ≡ true
       flag_same = let b = can.below in let e = store.flags in get_or-set_same s.inserted p true false (omega arith)
 
-      corner_apart : (k : ℕ) → k < 8 → k ≢ p
+      corner_apart : (k : ℕ) → k < CORNERS → k ≢ p
       corner_apart k l e =
           let t : slice_index_or s.inserted p false ≡ true =
           subst (λ (z : ℕ). slice_index_or s.inserted z false ≡ true) e ((store.vertices.boxed.corner_in k l).1) in
           false≢true (sym can.out ∙ t)
 
-      above : 8 ≤ p
-      above = elim (cases_lt p 8) [
+      above : CORNERS ≤ p
+      above = elim (cases_lt p CORNERS) [
         | inl l ↦ absurd (corner_apart p l refl)
         | inr l ↦ l
       ]

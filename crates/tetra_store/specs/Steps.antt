@@ -9,6 +9,7 @@
 --   CanGrow a fan                      what is asked where all of these are done
 --   IsGrown a b fan p ids              all of these
 --   AreKeptNew old new fan ids p n     the kept cells of the fan's vertices and of p are those over the fan
+--   IsKeeperHeld links old kept id k   vertex k of the cell id, where that is its kept cell, has another that is not in old
 --   AreMended links old kept kept' n   the kept cells that were among old are others
 --   AreOut old slots slots' n          the cells old are out
 use Rattle.std.specs.Prelude.{ℕ, ◌≡◌, ◌≢◌, ◌<◌, ◌≤◌, ◌+◌, ◌*◌, ◌^◌, ◌⊎◌, List, [], ◌∷◌, Option, Some, None, length, slice_index}
@@ -22,7 +23,7 @@ use Rattle.geo_sign.specs.Writings.{IsVertexOf}
 use Rattle.tetra_store.specs.Links.{Links, slot_at, IsLive}
 use Rattle.tetra_store.specs.Edges.{edge_at, ArePairs}
 use Rattle.geo_sign.specs.Edges.{over, edge_start, edge_end}
-use Rattle.tetra_store.specs.Fan.{fan_facet, fan_outer, HasPairedEdges}
+use Rattle.tetra_store.specs.Fan.{fan_facet, fan_outer, HasPairedEdges, IsHeld}
 
 pub record IsSideWritten (a b : Links) (id k other : ℕ) : Type 0 where
   pub live : (x : ℕ) → b.is_live x ≡ a.is_live x
@@ -195,6 +196,11 @@ pub record AreKeptNew (old new : List ℕ) (fan : List Facet) (ids : List ℕ) (
   pub count : length new ≡ length old
   pub each : (u : ℕ) → (slice_index new u ≡ slice_index old u) ⊎ IsKeptNew new fan ids p u
   pub done : (i k : ℕ) → i < n → k < 4 → IsKeptNew new fan ids p (vertex_of (over (fan_facet fan i) p) k)
+
+-- vertex k of the cell id is a vertex of a live cell that is not in old, if its kept cell is id
+abbrev pub IsKeeperHeld : (links : Links) (old kept : List ℕ) (id k : ℕ) → Type 0
+IsKeeperHeld links old kept id k =
+    slice_index kept (vertex_of (links.at id) k) ≡ id → IsHeld links old (vertex_of (links.at id) k)
 
 -- the cell is live and not among old, and has u
 pub record IsOutsideWith (links : Links) (old : List ℕ) (u id : ℕ) : Type 0 where

@@ -10,6 +10,7 @@
 --   store_from points ..             what a store is seen as, from its parts
 use Rattle.std.specs.Prelude.{ℕ, ◌≡◌, ◌≤◌, ◌+◌, ◌-◌, ◌/◌, Bool, false, List, Option, length, get_or, slice_index}
 use Rattle.std.specs.Prelude.{slice_index_or, min, if◌then◌else◌, nat_lt}
+use Rattle.geo_sign.specs.declared.point.TheConstants.{CORNERS}
 use Rattle.geo_sign.specs.Point.{Point, origin}
 use Rattle.geo_sign.specs.Tie.{height}
 use Rattle.geo_sign.specs.Boxes.{IsBoxed}
@@ -44,7 +45,7 @@ vertices_of s = vertices_at s.points s.inserted
 
 -- The corners of the box, inserted, and then distinct data points: VERTEX_LIMIT of them at most.
 pub record AreVertices (points : List Point) (inserted : List Bool) : Type 0 where
-  pub few : length points ≤ 8 + VERTEX_LIMIT
+  pub few : length points ≤ CORNERS + VERTEX_LIMIT
   pub boxed : IsBoxed (vertices_at points inserted)
 
 -- the kept cell of each inserted vertex is live and has it

@@ -3,7 +3,7 @@
 ghost use Rattle.std.specs.Prelude.{◌≡◌, ◌<◌, ◌≤◌, ◌+◌, ◌^◌, ◌++◌, ℕ, true, false, [], IfOk, length, get_or, slice_index, slice_index_or, nat_lt};
 ghost use Rattle.slab.specs.Slab.{ContainsKey};
 ghost use Rattle.geo_sign.specs.Point.{origin, IsWithin};
-ghost use Rattle.geo_sign.specs.declared.point.TheConstants.{DATA_LIMIT};
+ghost use Rattle.geo_sign.specs.declared.point.TheConstants.{CORNERS, DATA_LIMIT};
 ghost use Rattle.geo_sign.specs.Vertices.{corners};
 ghost use Rattle.tetra_store.specs.declared.boxed.TheConstants.{VERTEX_LIMIT};
 ghost use Rattle.tetra_store.specs.Links.{links_of, IsLive};
@@ -111,9 +111,9 @@ fn with_corners(alloc: Global, points: &[Point]) -> Result<Vec<Point>, NoMemory>
 
 /// Flags of so many vertices, of which the corners are inserted.
 fn corner_flags(alloc: Global, count: usize) -> Result<Vec<bool>, NoMemory>
-    requires { 8 ≤ count }
+    requires { CORNERS ≤ count }
     ensures count { IfOk result (λ flags. length flags.items ≡ count) }
-    ensures flags { IfOk result (λ flags. (u : ℕ) → slice_index_or flags.items u false ≡ nat_lt u 8) }
+    ensures flags { IfOk result (λ flags. (u : ℕ) → slice_index_or flags.items u false ≡ nat_lt u CORNERS) }
 {
     let mut flags = vec![in alloc; false; count]?;
     for u in 0..8 {
@@ -124,11 +124,11 @@ fn corner_flags(alloc: Global, count: usize) -> Result<Vec<bool>, NoMemory>
 
 /// Kept cells of so many vertices, of which each corner's has it.
 fn corner_keeps(alloc: Global, count: usize, ids: &[CellId]) -> Result<Vec<KeptCell>, NoMemory>
-    requires count { 8 ≤ count }
+    requires count { CORNERS ≤ count }
     requires ids { length ids.now ≡ 6 }
     requires small { (i : ℕ) → i < 6 → slice_index ids.now i + 1 < 2 ^ 32 }
     ensures count { IfOk result (λ kept. length kept.items ≡ count) }
-    ensures kept { IfOk result (λ kept. (u : ℕ) → u < 8 → slice_index kept.items u ≡ slice_index ids.now (box_keeper u)) }
+    ensures kept { IfOk result (λ kept. (u : ℕ) → u < CORNERS → slice_index kept.items u ≡ slice_index ids.now (box_keeper u)) }
 {
     let mut kept = vec![in alloc; KeptCell::new(ids[0]); count]?;
     for u in 0..8 {
@@ -160,7 +160,7 @@ impl Tetra {
         requires distinct { (j k : ℕ) → j < length points.now → k < length points.now → get_or points.now j origin ≡ get_or points.now k origin → j ≡ k }
         requires few { length points.now ≤ VERTEX_LIMIT }
         ensures points { IfOk result (λ t. t.points ≡ corners ++ points.now) }
-        ensures inserted { IfOk result (λ t. (u : ℕ) → slice_index_or t.inserted u false ≡ nat_lt u 8) }
+        ensures inserted { IfOk result (λ t. (u : ℕ) → slice_index_or t.inserted u false ≡ nat_lt u CORNERS) }
         ensures cells { IfOk result (λ t. IsDelaunay (vertices_of t) (links_of t.slots)) }
     {
         let all = with_corners(alloc, points)?;

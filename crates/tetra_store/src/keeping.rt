@@ -7,7 +7,7 @@ ghost use Rattle.geo_sign.specs.Writings.{IsVertexOf};
 ghost use Rattle.tetra_store.specs.Links.{links_of, tetrahedron_from, IsLive};
 ghost use Rattle.geo_sign.specs.Edges.{over};
 ghost use Rattle.tetra_store.specs.Fan.{fan_facet, IsHeld};
-ghost use Rattle.tetra_store.specs.Steps.{IsKeptAt, AreKeptNew, IsOutsideWith, IsMendedAt, AreMended};
+ghost use Rattle.tetra_store.specs.Steps.{IsKeptAt, AreKeptNew, IsKeeperHeld, IsOutsideWith, IsMendedAt, AreMended};
 
 use crate::kept::KeptCell;
 use crate::linked::Linked;
@@ -71,7 +71,7 @@ fn mend_cell(kept: &mut [KeptCell], cells: &Slab<Linked>, old: &[CellId], id: Ce
     requires live { IsLive (links_of cells.now.slots) id }
     requires listed { Contains old.now id }
     requires vertices { (k : ℕ) → k < 4 → vertex_of ((links_of cells.now.slots).at id) k < length kept.old }
-    requires held { (k : ℕ) → k < 4 → slice_index kept.old (vertex_of ((links_of cells.now.slots).at id) k) ≡ id → IsHeld (links_of cells.now.slots) old.now (vertex_of ((links_of cells.now.slots).at id) k) }
+    requires held { (k : ℕ) → k < 4 → IsKeeperHeld (links_of cells.now.slots) old.now kept.old id k }
     ensures { IsMendedAt (links_of cells.now.slots) old.now kept.old kept.new id 4 }
 {
     let v = cells[id.number()].vertices();
@@ -87,7 +87,7 @@ pub(crate) fn mend(kept: &mut [KeptCell], cells: &Slab<Linked>, old: &[CellId])
     requires few { cells.now.capacity < 2 ^ 32 }
     requires live { (id : ℕ) → Contains old.now id → IsLive (links_of cells.now.slots) id }
     requires vertices { (id k : ℕ) → Contains old.now id → k < 4 → vertex_of ((links_of cells.now.slots).at id) k < length kept.old }
-    requires held { (id k : ℕ) → Contains old.now id → k < 4 → slice_index kept.old (vertex_of ((links_of cells.now.slots).at id) k) ≡ id → IsHeld (links_of cells.now.slots) old.now (vertex_of ((links_of cells.now.slots).at id) k) }
+    requires held { (id k : ℕ) → Contains old.now id → k < 4 → IsKeeperHeld (links_of cells.now.slots) old.now kept.old id k }
     ensures { AreMended (links_of cells.now.slots) old.now kept.old kept.new (length old.now) }
 {
     for i in 0..old.len() {

@@ -4,6 +4,7 @@
 -- keeps one of the six cells, read in the list of their numbers (keeps). That such parts are a store is box_store, and
 -- that their cells are the Delaunay cells of the corners is box_is_delaunay.
 use Rattle.std.proofs.Common.{ℕ, ◌≡◌, ◌<◌, ◌++◌, List, length, ap, sym, ◌∙◌, subst, arith, slice_index, vec_capacity}
+use Rattle.geo_sign.specs.declared.point.TheConstants.{CORNERS}
 use Rattle.slab.specs.Slab.{slab_len}
 use Rattle.geo_sign.specs.Point.{Point}
 use Rattle.geo_sign.specs.Vertices.{corners}
@@ -22,7 +23,7 @@ invariant_of-result c =
     let kept = c.in_ok-kept.kept.items in
     let slots = c.in_ok-cells.cells.slots in
     let ids = c.in_ok-cells.ids.items in
-    let keeps : (u : ℕ) → u < 8 → slice_index kept u ≡ slice_index ids (box_keeper u) =
+    let keeps : (u : ℕ) → u < CORNERS → slice_index kept u ≡ slice_index ids (box_keeper u) =
     λ u l. c.in_ok-kept.ensures.kept u l ∙ ap (λ (xs : List ℕ). slice_index xs (box_keeper u)) c.deref.ensures.value in
     let spare =
     spare_room c.in_ok-cells.cells.capacity (slab_len c.in_ok-cells.cells) (vec_capacity c.in_ok-cells.ids)
@@ -44,7 +45,7 @@ returns-clause-cells c =
     let kept = c.in_ok-kept.kept.items in
     let slots = c.in_ok-cells.cells.slots in
     let ids = c.in_ok-cells.ids.items in
-    let keeps : (u : ℕ) → u < 8 → slice_index kept u ≡ slice_index ids (box_keeper u) =
+    let keeps : (u : ℕ) → u < CORNERS → slice_index kept u ≡ slice_index ids (box_keeper u) =
     λ u l. c.in_ok-kept.ensures.kept u l ∙ ap (λ (xs : List ℕ). slice_index xs (box_keeper u)) c.deref.ensures.value in
     subst (λ (z : List Point). IsDelaunay (vertices_at z flags) (links_of slots)) (sym c.in_ok-all.ensures)
     (box_is_delaunay points c.requires.within c.requires.distinct c.requires.few flags c.in_ok-inserted.ensures.flags slots ids
