@@ -4,6 +4,7 @@ use Rattle.std.proofs.Common.{false, true≢false, IsTrue, pos, ◌≤ℤ◌, �
 use Rattle.std.proofs.Common.{◌+◌, ◌++◌}
 use Rattle.std.proofs.lemmas.Int.{ints}
 use Rattle.std.proofs.lemmas.List.{get_or_default}
+use Rattle.geo_sign.specs.declared.point.TheConstants.{CORNERS}
 use Rattle.geo_sign.specs.declared.sign.Sign.{Sign}
 use Rattle.geo_sign.specs.Point.{Point, origin}
 use Rattle.geo_sign.specs.Orientation.{orientation}
@@ -71,7 +72,7 @@ form_flat points a b c d o =
 -- ---- the corners and the points after them
 pub all_with_corners : (points : List Point) → all_at (corners ++ points) ≡ boxed_vertices points
 all_with_corners points =
-    let e : length (corners ++ points) ≡ 8 + length points = omega arith in
+    let e : length (corners ++ points) ≡ CORNERS + length points = omega arith in
     let counted : ℕ → Vertices =
     λ n. record { at = point_of points; high = λ u. height n u (point_of points u); count = n; is_in = λ _. true } in
     ap counted e
