@@ -8,6 +8,7 @@ use Rattle.std.proofs.Common.{arith, get_or, set, slice_index, slice_index_or}
 use Rattle.std.specs.Prelude.{nat_lt}
 use Rattle.std.proofs.lemmas.Bool.{cases_lt, le-ltb}
 use Rattle.std.proofs.lemmas.List.{get_or-set_same, get_or-set_other}
+use Rattle.geo_sign.specs.declared.point.TheConstants.{CORNERS}
 use Rattle.geo_sign.specs.Point.{Point, origin}
 use Rattle.geo_sign.specs.Tie.{height}
 use Rattle.geo_sign.specs.Vertices.{boxed_vertices}
@@ -21,48 +22,48 @@ use Rattle.curve_order.specs.Order.{IsOrder}
 
 -- the first n of the order are in, and the others are not
 pub record AreInserted (inserted : List Bool) (order : List ℕ) (n : ℕ) : Type 0 where
-  pub done : (k : ℕ) → k < n → slice_index_or inserted (8 + slice_index order k) false ≡ true
-  pub left : (k : ℕ) → n ≤ k → k < length order → slice_index_or inserted (8 + slice_index order k) false ≡ false
+  pub done : (k : ℕ) → k < n → slice_index_or inserted (CORNERS + slice_index order k) false ≡ true
+  pub left : (k : ℕ) → n ≤ k → k < length order → slice_index_or inserted (CORNERS + slice_index order k) false ≡ false
 
-pub none_inserted : (inserted : List Bool) (order : List ℕ) → ((u : ℕ) → slice_index_or inserted u false ≡ nat_lt u 8)
+pub none_inserted : (inserted : List Bool) (order : List ℕ) → ((u : ℕ) → slice_index_or inserted u false ≡ nat_lt u CORNERS)
     → AreInserted inserted order 0
 none_inserted inserted order h = record {
   done = λ k l. absurd (omega arith);
-  left = λ k l m. h (8 + slice_index order k) ∙ le-ltb (8 + slice_index order k) 8 (omega arith);
+  left = λ k l m. h (CORNERS + slice_index order k) ∙ le-ltb (CORNERS + slice_index order k) CORNERS (omega arith);
 }
 
 pub more_inserted : (count : ℕ) (inserted : List Bool) (order : List ℕ) (n : ℕ) → IsOrder count order → n < length order
-    → 8 + slice_index order n < length inserted → AreInserted inserted order n
-    → AreInserted (set inserted (8 + slice_index order n) true) order (n + 1)
+    → CORNERS + slice_index order n < length inserted → AreInserted inserted order n
+    → AreInserted (set inserted (CORNERS + slice_index order n) true) order (n + 1)
 more_inserted count inserted order n is l below h =
     let c = is.count in
-    let p = 8 + slice_index order n in
+    let p = CORNERS + slice_index order n in
     record {
       done = λ k m.
           ⊎_elim
           (λ (a : k < n).
-          get_or-set_other inserted p (8 + slice_index order k) true false
+          get_or-set_other inserted p (CORNERS + slice_index order k) true false
           (λ e. absurd (let q : k ≡ n = is.once k n (omega arith) (omega arith) (omega arith) in omega arith)) ∙ h.done k a)
           (λ (a : n ≤ k).
           let q : k ≡ n = omega arith in
-          ap (λ (z : ℕ). slice_index_or (set inserted p true) (8 + slice_index order z) false) q
+          ap (λ (z : ℕ). slice_index_or (set inserted p true) (CORNERS + slice_index order z) false) q
           ∙ get_or-set_same inserted p true false below) (cases_lt k n);
       left =
-          λ k m o. get_or-set_other inserted p (8 + slice_index order k) true false
+          λ k m o. get_or-set_other inserted p (CORNERS + slice_index order k) true false
           (λ e. absurd (let q : k ≡ n = is.once k n (omega arith) (omega arith) (omega arith) in omega arith))
           ∙ h.left k (omega arith) o;
     }
 
-pub all_inserted : (s : Store) (count : ℕ) (order : List ℕ) (n : ℕ) → IsStore s → length s.points ≡ 8 + count
+pub all_inserted : (s : Store) (count : ℕ) (order : List ℕ) (n : ℕ) → IsStore s → length s.points ≡ CORNERS + count
     → IsOrder count order → length order ≤ n → AreInserted s.inserted order n → (u : ℕ) → u < length s.points
     → slice_index_or s.inserted u false ≡ true
 all_inserted s count order n store points is l h u u_in =
-    ⊎_elim (λ (a : u < 8). (store.vertices.boxed.corner_in u a).1)
-    (λ (a : 8 ≤ u).
-    let z = is.all (u - 8) (omega arith) in
-    let e : 8 + slice_index order z.0 ≡ u = (let q : slice_index order z.0 ≡ u - 8 = z.2 in omega arith) in
+    ⊎_elim (λ (a : u < CORNERS). (store.vertices.boxed.corner_in u a).1)
+    (λ (a : CORNERS ≤ u).
+    let z = is.all (u - CORNERS) (omega arith) in
+    let e : CORNERS + slice_index order z.0 ≡ u = (let q : slice_index order z.0 ≡ u - CORNERS = z.2 in omega arith) in
     subst (λ (w : ℕ). slice_index_or s.inserted w false ≡ true) e
-    (h.done z.0 (let c = is.count in let m : z.0 < count = z.1 in omega arith))) (cases_lt u 8)
+    (h.done z.0 (let c = is.count in let m : z.0 < count = z.1 in omega arith))) (cases_lt u CORNERS)
 
 -- ---- the cells of the points
 
@@ -75,8 +76,8 @@ counted n points inserted = record {
 }
 
 to_points : (points : List Point) (inserted : List Bool)
-    → ((u : ℕ) → u < 8 + length points → slice_index_or inserted u false ≡ true) → (a b c d : ℕ)
-    → IsCell (counted (8 + length points) points inserted) a b c d → IsCell (boxed_vertices points) a b c d
+    → ((u : ℕ) → u < CORNERS + length points → slice_index_or inserted u false ≡ true) → (a b c d : ℕ)
+    → IsCell (counted (CORNERS + length points) points inserted) a b c d → IsCell (boxed_vertices points) a b c d
 to_points points inserted h a b c d k = record {
   has_a = (k.has_a.0, refl);
   has_b = (k.has_b.0, refl);
@@ -87,8 +88,8 @@ to_points points inserted h a b c d k = record {
 }
 
 of_points : (points : List Point) (inserted : List Bool)
-    → ((u : ℕ) → u < 8 + length points → slice_index_or inserted u false ≡ true) → (a b c d : ℕ)
-    → IsCell (boxed_vertices points) a b c d → IsCell (counted (8 + length points) points inserted) a b c d
+    → ((u : ℕ) → u < CORNERS + length points → slice_index_or inserted u false ≡ true) → (a b c d : ℕ)
+    → IsCell (boxed_vertices points) a b c d → IsCell (counted (CORNERS + length points) points inserted) a b c d
 of_points points inserted h a b c d k =
     record {
       has_a = (k.has_a.0, h a k.has_a.0);
@@ -103,9 +104,9 @@ pub of_all : (s : Store) (points : List Point) → s.points ≡ corners ++ point
     → ((u : ℕ) → u < length s.points → slice_index_or s.inserted u false ≡ true) → IsDelaunay (vertices_of s) (links_of s.slots)
     → IsDelaunay (boxed_vertices points) (links_of s.slots)
 of_all s points e h delaunay =
-    let h' : (u : ℕ) → u < 8 + length points → slice_index_or s.inserted u false ≡ true =
+    let h' : (u : ℕ) → u < CORNERS + length points → slice_index_or s.inserted u false ≡ true =
     λ u l. h u (let n = ap length e ∙ vertex_count points in omega arith) in
-    let d : IsDelaunay (counted (8 + length points) points s.inserted) (links_of s.slots) =
+    let d : IsDelaunay (counted (CORNERS + length points) points s.inserted) (links_of s.slots) =
     subst (λ (n : ℕ). IsDelaunay (counted n points s.inserted) (links_of s.slots)) (vertex_count points)
     (subst (λ (z : List Point). IsDelaunay (vertices_at z s.inserted) (links_of s.slots)) e delaunay) in
     record {

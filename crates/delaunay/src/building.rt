@@ -2,7 +2,7 @@
 
 ghost use Rattle.std.specs.Prelude.{◌≡◌, ◌<◌, ◌≤◌, ◌++◌, ℕ, true, false, IfOk, length, get_or, slice_index_or, nat_lt};
 ghost use Rattle.geo_sign.specs.Point.{origin, IsWithin};
-ghost use Rattle.geo_sign.specs.declared.point.TheConstants.{DATA_LIMIT};
+ghost use Rattle.geo_sign.specs.declared.point.TheConstants.{CORNERS, DATA_LIMIT};
 ghost use Rattle.geo_sign.specs.Vertices.{corners, boxed_vertices};
 ghost use Rattle.tetra_store.specs.declared.boxed.TheConstants.{VERTEX_LIMIT};
 ghost use Rattle.tetra_store.specs.Links.{links_of};
@@ -73,7 +73,7 @@ fn box_with(alloc: Global, points: &[Point]) -> Result<Tetra, NoMemory>
     requires distinct { (j k : ℕ) → j < length points.now → k < length points.now → get_or points.now j origin ≡ get_or points.now k origin → j ≡ k }
     requires few { length points.now ≤ VERTEX_LIMIT }
     ensures points { IfOk result (λ t. t.points ≡ corners ++ points.now) }
-    ensures inserted { IfOk result (λ t. (u : ℕ) → slice_index_or t.inserted u false ≡ nat_lt u 8) }
+    ensures inserted { IfOk result (λ t. (u : ℕ) → slice_index_or t.inserted u false ≡ nat_lt u CORNERS) }
     ensures cells { IfOk result (λ t. IsDelaunay (vertices_of t) (links_of t.slots)) }
 {
     let mut t = Tetra::with_box(alloc, points)?;
