@@ -7,7 +7,7 @@ use Rattle.std.specs.Prelude.{ℕ, ◌+◌, ◌<◌, ◌≤◌, List, All, lengt
 use Rattle.flow_net.specs.declared.votes.Sight.{Sight}
 use Rattle.flow_net.specs.Weights.{IsSightList}
 use Rattle.geo_sign.specs.Point.{Point, IsWithin}
-use Rattle.geo_sign.specs.declared.point.TheConstants.{DATA_LIMIT}
+use Rattle.geo_sign.specs.declared.point.TheConstants.{CORNERS, DATA_LIMIT}
 use Rattle.visibility.specs.Scenes as scenes
 use Rattle.visibility.specs.Scenes.{scene_of}
 use Rattle.visibility.specs.declared.scene.Scene.{Scene}
@@ -18,8 +18,8 @@ view_of given = scene_of given.points.now given.scanners.now given.sights.now gi
 
 -- of a vertex behind the eight corners, from a scanner that is there
 pub record IsSightOf (points scanners : List Point) (sight : Sight) : Type 0 where
-  pub data_vertex : 8 ≤ sight.vertex
-  pub vertex : sight.vertex < 8 + length points
+  pub data_vertex : CORNERS ≤ sight.vertex
+  pub vertex : sight.vertex < CORNERS + length points
   pub scanner : sight.scanner < length scanners
 
 -- each sight is one of the points from the scanners; they are not too many, and each is of a weight that it may have

@@ -1,7 +1,8 @@
 -- What sights vote for (Labatut, Pons and Keriven 2007, with whole numbers): a sight penalises each facet that it crosses
 -- on its way from the scanner to the vertex, and favours the cell behind the vertex as inside.
 --
---   is_fixed v scanners row     the cell has a corner or a scanner, and stays outside
+--   is_fixed_in v scanners t    the cell has a corner or a scanner, and stays outside
+--   is_fixed v scanners row     so it is of a cell by its row
 --   crossings s f               what the sights that cross the directed facet weigh together
 --   capacity s f                the facet's capacity
 --   sights_before s row         what the sights that the cell is behind weigh together
@@ -11,6 +12,7 @@
 --   IsComplexOf s complex       all cells of the scene, and all facets that have a capacity
 use Rattle.std.specs.Prelude.{ℕ, ◌≡◌, ◌+◌, ◌*◌, ◌||◌, nat_lt, Bool, false, List, AllPairs, Contains}
 use Rattle.std.specs.List.{list_any}
+use Rattle.geo_sign.specs.declared.point.TheConstants.{CORNERS}
 use Rattle.flow_net.specs.Weights.{weight_where}
 use Rattle.geo_sign.specs.Point.{Point}
 use Rattle.geo_sign.specs.Rational.{displaced}
@@ -24,15 +26,19 @@ use Rattle.visibility.specs.Complexes.{Complex, HasFacet, cell_of}
 
 -- one of the four vertices is a corner of the box
 abbrev pub has_corner : Tetrahedron → Bool
-has_corner t = nat_lt t.a 8 || nat_lt t.b 8 || nat_lt t.c 8 || nat_lt t.d 8
+has_corner t = nat_lt t.a CORNERS || nat_lt t.b CORNERS || nat_lt t.c CORNERS || nat_lt t.d CORNERS
 
 -- a scanner lies in the cell, whether it sees a vertex or none
 abbrev pub has_scanner : Vertices → List Point → Tetrahedron → Bool
 has_scanner v scanners t = list_any (λ q. is_cell_of v (displaced q) t) scanners
 
 -- the cell is fixed: it stays outside. Other cells are free.
+abbrev pub is_fixed_in : Vertices → List Point → Tetrahedron → Bool
+is_fixed_in v scanners t = has_corner t || has_scanner v scanners t
+
+-- the cell with this row is
 unfoldable pub is_fixed : Vertices → List Point → List ℕ → Bool
-is_fixed v scanners row = has_corner (written v row) || has_scanner v scanners (written v row)
+is_fixed v scanners row = is_fixed_in v scanners (written v row)
 
 -- what the sights that cross the directed facet weigh together
 unfoldable pub crossings : Scene → DirectedFacet → ℕ
