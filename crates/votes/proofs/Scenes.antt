@@ -9,6 +9,7 @@ use Rattle.std.specs.List.{list_any}
 use Rattle.std.specs.List.Sorted.{IsPermutation}
 use Rattle.std.proofs.lemmas.List.Elements.{All-weaker}
 use Rattle.std.proofs.lemmas.List.Sorted.{sum_by-IsPermutation}
+use Rattle.geo_sign.specs.declared.point.TheConstants.{CORNERS}
 use Rattle.geo_sign.specs.Boxes.{inserted_vertices}
 use Rattle.geo_sign.specs.Point.{Point}
 use Rattle.geo_sign.specs.Rational.{RationalPoint, displaced}
@@ -182,5 +183,5 @@ module _ (s : Store) (given : Scene) (store : IsStore s) (cells : HasCellsOf s g
         flags = fixed_are flags l f;
       }
     where
-      count : 8 + length points ≤ 2 ^ 32
+      count : CORNERS + length points ≤ 2 ^ 32
       count = let n = store.vertices.few in let m = ap length e in let k = vertex_count points in omega (arith, n, m, k)

@@ -13,6 +13,7 @@
 use Rattle.std.specs.Prelude.{ℕ, ◌≡◌, ◌<◌, ◌≤◌, ◌+◌, ◌*◌, ◌++◌, ◌&&◌, Bool, true, false, List, length, slice_index}
 use Rattle.std.specs.Prelude.{slice_index_or, if◌then◌else◌}
 use Rattle.std.specs.List.{sum_by}
+use Rattle.geo_sign.specs.declared.point.TheConstants.{CORNERS}
 use Rattle.geo_sign.specs.Point.{Point, origin}
 use Rattle.geo_sign.specs.Rational.{RationalPoint, displaced}
 use Rattle.geo_sign.specs.Sights.{is_crossed, is_behind, is_cell_of}
@@ -29,7 +30,7 @@ use Rattle.sight.specs.Walks.{IsEndCell}
 -- it goes from an inserted data point to one of the scanners
 pub record IsInRange (v : Vertices) (scanners : List Point) (sight : Sight) : Type 0 where
   pub inserted : Has v sight.vertex
-  pub data_vertex : 8 ≤ sight.vertex
+  pub data_vertex : CORNERS ≤ sight.vertex
   pub scanner : sight.scanner < length scanners
 
 -- the store has the Delaunay cells of the box's corners and the scene's points, all inserted

@@ -7,7 +7,7 @@
 --   HasCounterRoom sides amount counters   the counter of the first of the facets to come has room for an amount
 --   IsCountedStep                        a walk went on by one facet, whose counter was raised
 use Rattle.std.specs.Prelude.{ℕ, ◌≡◌, ◌<◌, ◌≤◌, ◌+◌, ◌*◌, ◌^◌, List, ◌∷◌, set, slice_index, slice_index_or, if◌then◌else◌}
-use Rattle.geo_sign.specs.declared.point.TheConstants.{DATA_LIMIT}
+use Rattle.geo_sign.specs.declared.point.TheConstants.{CORNERS, DATA_LIMIT}
 use Rattle.geo_sign.specs.Point.{Point, origin, IsWithin}
 use Rattle.geo_sign.specs.Rational.{displaced}
 use Rattle.geo_sign.specs.Vertices.{Has}
@@ -28,7 +28,7 @@ pub record IsLineOf (scanners : List Point) (cells : List ℕ) (sight : Sight) (
 -- from an inserted data point to a data point, whose cell is known
 pub record IsLineIn (s : Store) (line : Line) : Type 0 where
   pub inserted : Has (vertices_of s) line.vertex
-  pub data_vertex : 8 ≤ line.vertex
+  pub data_vertex : CORNERS ≤ line.vertex
   pub data_point : IsWithin DATA_LIMIT line.scanner
   pub end : IsEndCell s line.scanner line.end
 

@@ -1,14 +1,14 @@
 //! Which cells are fixed.
 
-ghost use Rattle.std.specs.Prelude.{◌≡◌, ◌≤◌, ◌||◌, ℕ, IfOk, All, length};
+ghost use Rattle.std.specs.Prelude.{◌≡◌, ◌≤◌, ℕ, IfOk, All, length};
 ghost use Rattle.geo_sign.specs.declared.point.TheConstants.{DATA_LIMIT};
 ghost use Rattle.geo_sign.specs.Point.{IsWithin};
 ghost use Rattle.flow_net.specs.Nets.{flag_at};
-ghost use Rattle.visibility.specs.Votes.{has_corner as has_corner_in, has_scanner};
+ghost use Rattle.visibility.specs.Votes.{has_corner as has_corner_in, is_fixed_in};
 ghost use Rattle.tetra_store.specs.Delaunay.{IsDelaunay};
 ghost use Rattle.tetra_store.specs.Links.{links_of, tetrahedron_from, IsLive};
 ghost use Rattle.tetra_store.specs.Store.{vertices_of};
-ghost use Rattle.votes.specs.Counts.{IsScannerCell, AreScannerCells};
+ghost use Rattle.votes.specs.Counts.{AreScannerCells};
 
 use crate::NoMemory;
 use geo_sign::{CORNERS, Point};
@@ -63,7 +63,7 @@ pub(crate) fn fixed_cells(
 ) -> Result<Vec<bool>, NoMemory>
     requires { AreScannerCells t.now scanners.now cells.now }
     ensures count { IfOk result (λ flags. length t.now.slots ≤ length flags.items) }
-    ensures at { IfOk result (λ flags. (id : ℕ) → IsLive (links_of t.now.slots) id → flag_at flags.items id ≡ (has_corner_in ((links_of t.now.slots).at id) || has_scanner (vertices_of t.now) scanners.now ((links_of t.now.slots).at id))) }
+    ensures at { IfOk result (λ flags. (id : ℕ) → IsLive (links_of t.now.slots) id → flag_at flags.items id ≡ is_fixed_in (vertices_of t.now) scanners.now ((links_of t.now.slots).at id)) }
 {
     let _scanners = scanners;
     let mut flags = corner_flags(alloc, t)?;
