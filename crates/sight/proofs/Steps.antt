@@ -8,6 +8,7 @@
 -- is it (ahead_there).
 use Rattle.std.proofs.Common.{ℕ, ◌<◌, ◌≡◌, inl, ⊎_elim, refl, sym, ap, subst, ◌∙◌, Bool, true, false, Some, None, List, [], ◌∷◌}
 use Rattle.std.proofs.Common.{slice_index, length}
+use Rattle.geo_sign.specs.Cells.{IsCell}
 use Rattle.geo_sign.specs.Point.{Point}
 use Rattle.geo_sign.specs.Rational.{RationalPoint, displaced}
 use Rattle.geo_sign.specs.Sights.{is_crossed, is_towards, is_cell_of}
@@ -26,76 +27,70 @@ use Rattle.tetra_store.proofs.Keeps.{vertex_index}
 use Rattle.tetra_walk.proofs.Bridge.{listed, live}
 use Rattle.tetra_walk.proofs.Backs.{one_back}
 use Rattle.tetra_walk.proofs.Ends.{walks, one_scanner_cell}
+use Rattle.sight.specs.declared.exit.Reached.{Reached}
+use Rattle.sight.specs.declared.image.Ray.{Ray}
 use Rattle.sight.specs.Exits.{IsExit}
-use Rattle.sight.specs.declared.exit.Front.{Front}
-use Rattle.sight.specs.declared.image.Screen.{Screen}
-use Rattle.sight.specs.Fronts.{AreSeen}
-use Rattle.sight.specs.Walks.{sides_from, IsSight, IsGoneOn, IsEndCell, IsWalking, IsAhead}
+use Rattle.sight.specs.Fronts.{AreSeen, KeepsFront, GoesOut, HasArrived}
+use Rattle.sight.specs.Walks.{sides_from, walk_of, IsSight, IsGoneOn, IsEndCell, IsWalking}
 use Rattle.sight.proofs.Exits.{on_sight}
 use Rattle.sight.proofs.Paths.{IsGiven, passed, paths, IsPathOf, IsStepOf, comes_in, step_is, sides_are}
 
 -- ---- what a walk keeps
-pub given : (s : Store) (p : ℕ) (o : Point) (x : ℕ) (v : List ℕ) (k : ℕ) → IsStore s → IsWalking s p o x v k → IsGiven s p o
-given s p o x v k i w = record { store = i; delaunay = w.delaunay; inserted = w.inserted; data_point = w.data_point }
+given : (s : Store) (r : Ray) (c : Reached) → IsStore s → IsWalking s r c → IsGiven s r.vertex r.scanner
+given s r c i w = record { store = i; delaunay = w.delaunay; inserted = w.inserted; data_point = w.data_point }
 
-pub exit_at : (s : Store) (p : ℕ) (o : Point) (x : ℕ) (v : List ℕ) (k j : ℕ) → IsWalking s p o x v k
-    → IsExit (vertices_of s) p (displaced o) (tetrahedron_from v) j
-    → IsExit (vertices_of s) p (displaced o) ((links_of s.slots).at x) j
-exit_at s p o x v k j w h = subst (λ (t : Tetrahedron). IsExit (vertices_of s) p (displaced o) t j) (sym w.loaded) h
+exit_at : (s : Store) (r : Ray) (c : Reached) (j : ℕ) → IsWalking s r c → GoesOut s r c j
+    → IsExit (vertices_of s) r.vertex (displaced r.scanner) ((links_of s.slots).at c.at) j
+exit_at s r c j w h = subst (λ (t : Tetrahedron). IsExit (vertices_of s) r.vertex (displaced r.scanner) t j) (sym w.loaded) h
 
-pub goes_on : (s : Store) (p : ℕ) (o : Point) (x : ℕ) (v : List ℕ) (k j : ℕ) → IsStore s → IsWalking s p o x v k
-    → IsExit (vertices_of s) p (displaced o) (tetrahedron_from v) j → (links_of s.slots).next x j ≡ None → ⊥
-goes_on s p o x v k j i w h e =
-    let x_out = exit_at s p o x v k j w h in
-    let z : (y : ℕ) × ((links_of s.slots).next x j ≡ Some y) × IsIn (live_of s.slots) y =
-    (walks s i w.delaunay (displaced o) (near_law o o w.data_point w.data_point).scanner_in_box).goes_on x j
-    (listed s.slots x w.live) x_out.side_in
-    (left_of (vertices_of s) p (displaced o) (facet_of ((links_of s.slots).at x) j) x_out.left).ahead in
+-- the cell reached is a cell over distinct vertices that there are, and the sight passes it once
+pub cell_at : (s : Store) (r : Ray) (c : Reached) → IsWalking s r c → let t = tetrahedron_from c.vertices in
+    IsCell (vertices_of s) t.a t.b t.c t.d
+cell_at s r c w = subst (λ (t : Tetrahedron). IsCell (vertices_of s) t.a t.b t.c t.d) w.loaded (w.delaunay.cells c.at w.live)
+
+pub distinct_at : (s : Store) (r : Ray) (c : Reached) → IsStore s → IsWalking s r c → (i j : ℕ) → i < 4 → j < 4
+    → slice_index c.vertices i ≡ slice_index c.vertices j → i ≡ j
+distinct_at s r c h w i j l m e =
+    h.linked.distinct c.at i j w.live l m
+    (subst (λ (t : Tetrahedron). vertex_of t i ≡ vertex_of t j) (sym w.loaded)
+    (vertex_index c.vertices i l ∙ e ∙ sym (vertex_index c.vertices j m)))
+
+pub known_at : (s : Store) (r : Ray) (c : Reached) → IsStore s → IsWalking s r c → (i : ℕ) → i < 4
+    → slice_index c.vertices i < length s.points
+known_at s r c h w i l =
+    subst (λ (n : ℕ). n < length s.points) (vertex_index c.vertices i l)
+    (subst (λ (t : Tetrahedron). vertex_of t i < length s.points) w.loaded (h.linked.has c.at i w.live l).0)
+
+pub passed_at : (s : Store) (r : Ray) (c : Reached) → IsStore s → IsWalking s r c
+    → IsPassedOnce (vertices_of s) r.vertex (displaced r.scanner) (tetrahedron_from c.vertices)
+passed_at s r c i w =
+    subst (λ (t : Tetrahedron). IsPassedOnce (vertices_of s) r.vertex (displaced r.scanner) t) w.loaded
+    (passed s r.vertex r.scanner (given s r c i w) c.at w.live)
+
+pub goes_on : (s : Store) (r : Ray) (c : Reached) (j : ℕ) → IsStore s → IsWalking s r c → GoesOut s r c j
+    → (links_of s.slots).next c.at j ≡ None → ⊥
+goes_on s r c j i w h e =
+    let out = exit_at s r c j w h in
+    let z : (y : ℕ) × ((links_of s.slots).next c.at j ≡ Some y) × IsIn (live_of s.slots) y =
+    (walks s i w.delaunay (displaced r.scanner) (near_law r.scanner r.scanner w.data_point w.data_point).scanner_in_box).goes_on c.at j
+    (listed s.slots c.at w.live) out.side_in
+    (left_of (vertices_of s) r.vertex (displaced r.scanner) (facet_of ((links_of s.slots).at c.at) j) out.left).ahead in
     let f : None ≡ Some z.0 = sym e ∙ z.1 in
     cc
 
--- the crossing that is taken is the first to come
-pub taken : (s : Store) (p : ℕ) (o : Point) (x : ℕ) (v : List ℕ) (k j y m : ℕ) → IsStore s → IsWalking s p o x v k
-    → IsExit (vertices_of s) p (displaced o) (tetrahedron_from v) j → (links_of s.slots).next x j ≡ Some y → m < 4
-    → (links_of s.slots).next y m ≡ Some x
-    → sides_from s p o x ≡ record { at = y; side = m } ∷ sides_from s p o y
-taken s p o x v k j y m i w h e b n = by path.0 path.1
+pub none_left : (s : Store) (r : Ray) (c : Reached) → IsStore s → IsWalking s r c → HasArrived s r c → (walk_of s r c).to_come ≡ []
+none_left s r c i w h =
+    sides_are s r.vertex r.scanner (given s r c i w) [] c.at w.live
+    (subst (λ (t : Tetrahedron). is_cell_of (vertices_of s) (displaced r.scanner) t ≡ true) (sym w.loaded) h)
+
+pub not_end : (s : Store) (r : Ray) (c : Reached) (j : ℕ) → IsStore s → IsWalking s r c → GoesOut s r c j
+    → is_cell_of (vertices_of s) (displaced r.scanner) ((links_of s.slots).at c.at) ≡ false
+not_end s r c j i w h = by (is_cell_of (vertices_of s) (displaced r.scanner) ((links_of s.slots).at c.at)) refl
   where
-    g : IsGiven s p o
-    g = given s p o x v k i w
-
-    x_out : IsExit (vertices_of s) p (displaced o) ((links_of s.slots).at x) j
-    x_out = exit_at s p o x v k j w h
-
-    path : (cs : List Side) × IsPathOf s p o x cs
-    path =
-        (paths s p o g).some x (listed s.slots x w.live)
-        (subst (λ (t : Tetrahedron). IsOnSight (vertices_of s) p (displaced o) t) (sym w.loaded)
-        (on_sight (vertices_of s) p (displaced o) (tetrahedron_from v) k w.came))
-
-    by : (cs : List Side) → IsPathOf s p o x cs → sides_from s p o x ≡ record { at = y; side = m } ∷ sides_from s p o y
-    by [] q = absurd ((passed s p o g x w.live).not_both j x_out.left q)
-    by (c ∷ cs) q =
-        let t : IsStepOf s p o x c = q.0 in
-        let d : c ≡ record { at = y; side = m } = step_is s p o g x j y m w.live x_out e b n c t in
-        let rest : sides_from s p o c.at ≡ cs = sides_are s p o g cs c.at (live s.slots c.at t.listed) q.1 in
-        sides_are s p o g (c ∷ cs) x w.live q ∙ ap (λ (ds : List Side). c ∷ ds) (sym rest)
-        ∙ ap (λ (z : Side). z ∷ sides_from s p o z.at) d
-
-pub none_left : (s : Store) (p : ℕ) (o : Point) (x : ℕ) (v : List ℕ) (k : ℕ) → IsStore s → IsWalking s p o x v k
-    → is_cell_of (vertices_of s) (displaced o) (tetrahedron_from v) ≡ true → sides_from s p o x ≡ []
-none_left s p o x v k i w h =
-    sides_are s p o (given s p o x v k i w) [] x w.live
-    (subst (λ (t : Tetrahedron). is_cell_of (vertices_of s) (displaced o) t ≡ true) (sym w.loaded) h)
-
-pub not_end : (s : Store) (p : ℕ) (o : Point) (x : ℕ) (v : List ℕ) (k j : ℕ) → IsStore s → IsWalking s p o x v k
-    → IsExit (vertices_of s) p (displaced o) (tetrahedron_from v) j
-    → is_cell_of (vertices_of s) (displaced o) ((links_of s.slots).at x) ≡ false
-not_end s p o x v k j i w h = by (is_cell_of (vertices_of s) (displaced o) ((links_of s.slots).at x)) refl
-  where
-    by : (b : Bool) → is_cell_of (vertices_of s) (displaced o) ((links_of s.slots).at x) ≡ b
-        → is_cell_of (vertices_of s) (displaced o) ((links_of s.slots).at x) ≡ false
-    by true e = absurd ((passed s p o (given s p o x v k i w) x w.live).not_both j (exit_at s p o x v k j w h).left e)
+    by : (b : Bool) → is_cell_of (vertices_of s) (displaced r.scanner) ((links_of s.slots).at c.at) ≡ b
+        → is_cell_of (vertices_of s) (displaced r.scanner) ((links_of s.slots).at c.at) ≡ false
+    by true e =
+        absurd ((passed s r.vertex r.scanner (given s r c i w) c.at w.live).not_both j (exit_at s r c j w h).left e)
     by false e = e
 
 -- ---- the sight
@@ -118,94 +113,99 @@ sight s p o x g l h =
     })
 
 -- ---- how a walk goes on
-pub distinct_at : (s : Store) (p : ℕ) (o : Point) (x : ℕ) (v : List ℕ) (k : ℕ) → IsStore s → IsWalking s p o x v k → (i j : ℕ)
-    → i < 4 → j < 4 → slice_index v i ≡ slice_index v j → i ≡ j
-distinct_at s p o x v k h w i j l m e =
-    h.linked.distinct x i j w.live l m
-    (subst (λ (t : Tetrahedron). vertex_of t i ≡ vertex_of t j) (sym w.loaded)
-    (vertex_index v i l ∙ e ∙ sym (vertex_index v j m)))
+-- d is the cell across side j of c, entered through the side of it that names c
+pub record IsNext (s : Store) (c : Reached) (j : ℕ) (d : Reached) : Type 0 where
+  pub across : (links_of s.slots).next c.at j ≡ Some d.at
+  pub loaded : tetrahedron_from d.vertices ≡ (links_of s.slots).at d.at
+  pub side_in : d.entered < 4
+  pub back : (links_of s.slots).next d.at d.entered ≡ Some c.at
 
--- the cell reached has vertices that there are; and the cell across the exit, with its vertices and the side of it that names the cell left
-pub known_at : (s : Store) (p : ℕ) (o : Point) (x : ℕ) (v : List ℕ) (k : ℕ) → IsStore s → IsWalking s p o x v k → (i : ℕ)
-    → i < 4 → slice_index v i < length s.points
-known_at s p o x v k h w i l =
-    subst (λ (n : ℕ). n < length s.points) (vertex_index v i l)
-    (subst (λ (t : Tetrahedron). vertex_of t i < length s.points) w.loaded (h.linked.has x i w.live l).0)
+-- the crossing that is taken is the first to come
+taken : (s : Store) (r : Ray) (c : Reached) (j : ℕ) (d : Reached) → IsStore s → IsWalking s r c → GoesOut s r c j → IsNext s c j d
+    → (walk_of s r c).to_come ≡ record { at = d.at; side = d.entered } ∷ (walk_of s r d).to_come
+taken s r c j d i w h n = by path.0 path.1
+  where
+    g : IsGiven s r.vertex r.scanner
+    g = given s r c i w
 
-pub walks_on : (s : Store) (p : ℕ) (o : Point) (x : ℕ) (v : List ℕ) (k j y m : ℕ) (u : List ℕ) → IsStore s
-    → IsWalking s p o x v k → IsExit (vertices_of s) p (displaced o) (tetrahedron_from v) j
-    → (links_of s.slots).next x j ≡ Some y → tetrahedron_from u ≡ (links_of s.slots).at y → m < 4
-    → (links_of s.slots).next y m ≡ Some x → IsWalking s p o y u m
-walks_on s p o x v k j y m u i w h e f b n =
-    let z = comes_in s p o i x j y m w.live (exit_at s p o x v k j w h) e b n in
+    out : IsExit (vertices_of s) r.vertex (displaced r.scanner) ((links_of s.slots).at c.at) j
+    out = exit_at s r c j w h
+
+    path : (cs : List Side) × IsPathOf s r.vertex r.scanner c.at cs
+    path =
+        (paths s r.vertex r.scanner g).some c.at (listed s.slots c.at w.live)
+        (subst (λ (t : Tetrahedron). IsOnSight (vertices_of s) r.vertex (displaced r.scanner) t) (sym w.loaded)
+        (on_sight (vertices_of s) r.vertex (displaced r.scanner) (tetrahedron_from c.vertices) c.entered w.came))
+
+    by : (cs : List Side) → IsPathOf s r.vertex r.scanner c.at cs
+        → (walk_of s r c).to_come ≡ record { at = d.at; side = d.entered } ∷ (walk_of s r d).to_come
+    by [] q = absurd ((passed s r.vertex r.scanner g c.at w.live).not_both j out.left q)
+    by (e ∷ es) q =
+        let t : IsStepOf s r.vertex r.scanner c.at e = q.0 in
+        let is : e ≡ record { at = d.at; side = d.entered } =
+        step_is s r.vertex r.scanner g c.at j d.at d.entered w.live out n.across n.side_in n.back e t in
+        let rest : sides_from s r.vertex r.scanner e.at ≡ es =
+        sides_are s r.vertex r.scanner g es e.at (live s.slots e.at t.listed) q.1 in
+        sides_are s r.vertex r.scanner g (e ∷ es) c.at w.live q ∙ ap (λ (ds : List Side). e ∷ ds) (sym rest)
+        ∙ ap (λ (z : Side). z ∷ sides_from s r.vertex r.scanner z.at) is
+
+pub walks_on : (s : Store) (r : Ray) (c : Reached) (j : ℕ) (d : Reached) → IsStore s → IsWalking s r c → GoesOut s r c j
+    → IsNext s c j d → IsWalking s r d
+walks_on s r c j d i w h n =
+    let z = comes_in s r.vertex r.scanner i c.at j d.at d.entered w.live (exit_at s r c j w h) n.across n.side_in n.back in
     record {
       delaunay = w.delaunay;
       inserted = w.inserted;
       data_point = w.data_point;
       live = z.0;
-      loaded = sym f;
+      loaded = sym n.loaded;
       came =
           inl (
-            b,
-            subst (λ (t : Tetrahedron). is_crossed (vertices_of s) p (displaced o) (facet_of t m) ≡ true) (sym f) z.1,
+            n.side_in,
+            subst (λ (t : Tetrahedron). is_crossed (vertices_of s) r.vertex (displaced r.scanner) (facet_of t d.entered) ≡ true)
+                (sym n.loaded) z.1,
           );
     }
 
 -- the facet of the exit in the other direction is that through which the sight comes in
-pub front_on : (s : Store) (p : ℕ) (o : Point) (x : ℕ) (v : List ℕ) (k j y m : ℕ) (u : List ℕ) (point : Point) (c : Screen) (old g : Front)
-    → IsStore s → IsWalking s p o x v k → IsExit (vertices_of s) p (displaced o) (tetrahedron_from v) j
-    → (links_of s.slots).next x j ≡ Some y → tetrahedron_from u ≡ (links_of s.slots).at y → m < 4
-    → (links_of s.slots).next y m ≡ Some x → IsAhead s p o point c v k old → length g.vertices ≡ 3 → length g.images ≡ 3
-    → IsTurned (facet_of (tetrahedron_from v) j) (facet_at g.vertices) → AreSeen s.points c point g → IsAhead s p o point c u m g
-front_on s p o x v k j y m u point c old g i w h e f b n is three images r seen =
-    let back : IsBack (links_of s.slots) x j y = i.linked.back x j y w.live h.side_in e in
-    let t = one_back (vertices_of s) (links_of s.slots) i.linked x j y m w.live h.side_in e back.live b n in
-    let own : IsTurned (facet_of (tetrahedron_from v) j) (facet_of (tetrahedron_from u) m) =
-    subst (λ (q : Tetrahedron). IsTurned (facet_of q j) (facet_of (tetrahedron_from u) m)) w.loaded
-    (subst (λ (q : Tetrahedron). IsTurned (facet_of ((links_of s.slots).at x) j) (facet_of q m)) (sym f) t) in
+pub front_on : (s : Store) (r : Ray) (c : Reached) (j : ℕ) (d : Reached) → IsStore s → IsWalking s r c → GoesOut s r c j
+    → IsNext s c j d → length d.front.vertices ≡ 3 → length d.front.images ≡ 3
+    → IsTurned (facet_of (tetrahedron_from c.vertices) j) (facet_at d.front.vertices) → AreSeen s r d.front → KeepsFront s r d
+front_on s r c j d i w h n three images turned seen =
+    let back : IsBack (links_of s.slots) c.at j d.at = i.linked.back c.at j d.at w.live h.side_in n.across in
+    let t = one_back (vertices_of s) (links_of s.slots) i.linked c.at j d.at d.entered w.live h.side_in n.across back.live n.side_in n.back in
+    let f = facet_of (tetrahedron_from c.vertices) j in let g = facet_of (tetrahedron_from d.vertices) d.entered in
+    let own : IsTurned f g =
+    subst (λ (q : Tetrahedron). IsTurned (facet_of q j) g) w.loaded
+    (subst (λ (q : Tetrahedron). IsTurned (facet_of ((links_of s.slots).at c.at) j) (facet_of q d.entered)) (sym n.loaded) t) in
     record {
-      start = is.start;
-      within = is.within;
-      screen = is.screen;
-      came =
-          record {
-            three = three;
-            three_images = images;
-            facet = λ l.
-                (turned_turned (facet_of (tetrahedron_from u) m) (facet_of (tetrahedron_from v) j) (facet_at g.vertices)
-                (turned_back (facet_of (tetrahedron_from v) j) (facet_of (tetrahedron_from u) m) own) r);
-            seen = seen;
-          };
+      three = three;
+      three_images = images;
+      facet = λ l. turned_turned g f (facet_at d.front.vertices) (turned_back f g own) turned;
+      seen = seen;
     }
 
 -- the walk before and after a step
-pub gone_on : (s : Store) (p : ℕ) (o : Point) (x : ℕ) (v : List ℕ) (k j y m : ℕ) → IsStore s → IsWalking s p o x v k
-    → IsExit (vertices_of s) p (displaced o) (tetrahedron_from v) j → (links_of s.slots).next x j ≡ Some y → m < 4
-    → (links_of s.slots).next y m ≡ Some x
-    → IsGoneOn (record { store = s; vertex = p; scanner = o; at = x; entered = k; to_come = sides_from s p o x })
-    (record { store = s; vertex = p; scanner = o; at = y; entered = m; to_come = sides_from s p o y })
-gone_on s p o x v k j y m i w h e b n =
+pub gone_on : (s : Store) (r : Ray) (c : Reached) (j : ℕ) (d : Reached) → IsStore s → IsWalking s r c → GoesOut s r c j
+    → IsNext s c j d → IsGoneOn (walk_of s r c) (walk_of s r d)
+gone_on s r c j d i w h n =
     record {
       same = (refl, refl, refl);
-      first = taken s p o x v k j y m i w h e b n;
-      side_in = b;
-      live = (comes_in s p o i x j y m w.live (exit_at s p o x v k j w h) e b n).0;
-      across = n;
+      first = taken s r c j d i w h n;
+      side_in = n.side_in;
+      live = (comes_in s r.vertex r.scanner i c.at j d.at d.entered w.live (exit_at s r c j w h) n.across n.side_in n.back).0;
+      across = n.back;
     }
 
 -- ---- a walk whose end is known
-pub ahead_there : (s : Store) (p : ℕ) (o : Point) (x : ℕ) (v : List ℕ) (k j e : ℕ) → IsStore s → IsWalking s p o x v k
-    → IsEndCell s o e → ¬ (x ≡ e) → ((i : ℕ) → IsExit (vertices_of s) p (displaced o) (tetrahedron_from v) i → i ≡ j)
-    → IsExit (vertices_of s) p (displaced o) (tetrahedron_from v) j
-ahead_there s p o x v k j e h w end n only =
-    let q : RationalPoint = displaced o in let t = tetrahedron_from v in
-    let pass : IsPassedOnce (vertices_of s) p q t =
-    subst (λ (r : Tetrahedron). IsPassedOnce (vertices_of s) p q r) w.loaded (passed s p o (given s p o x v k h w) x w.live) in
+pub ahead_there : (s : Store) (r : Ray) (c : Reached) (j e : ℕ) → IsStore s → IsWalking s r c → IsEndCell s r.scanner e → ¬ (c.at ≡ e)
+    → ((i : ℕ) → GoesOut s r c i → i ≡ j) → GoesOut s r c j
+ahead_there s r c j e h w end n only =
+    let q : RationalPoint = displaced r.scanner in let t = tetrahedron_from c.vertices in
     ⊎_elim
-    (λ (z : (i : ℕ) × (i < 4) × (is_crossed (vertices_of s) p q (turned (facet_of t i)) ≡ true)).
-    let y : IsExit (vertices_of s) p q t z.0 = record { side_in = z.1; left = z.2 } in
-    subst (λ (i : ℕ). IsExit (vertices_of s) p q t i) (only z.0 y) y)
+    (λ (z : (i : ℕ) × (i < 4) × (is_crossed (vertices_of s) r.vertex q (turned (facet_of t i)) ≡ true)).
+    let y : GoesOut s r c z.0 = record { side_in = z.1; left = z.2 } in subst (λ (i : ℕ). GoesOut s r c i) (only z.0 y) y)
     (λ (z : is_cell_of (vertices_of s) q t ≡ true).
-    absurd (n (one_scanner_cell s h w.delaunay o w.data_point x e w.live end.live
-    (subst (λ (r : Tetrahedron). is_cell_of (vertices_of s) q r ≡ true) (sym w.loaded) z) end.is)))
-    (pass.exit_or_end (on_sight (vertices_of s) p q t k w.came))
+    absurd (n (one_scanner_cell s h w.delaunay r.scanner w.data_point c.at e w.live end.live
+    (subst (λ (u : Tetrahedron). is_cell_of (vertices_of s) q u ≡ true) (sym w.loaded) z) end.is)))
+    ((passed_at s r c h w).exit_or_end (on_sight (vertices_of s) r.vertex q t c.entered w.came))

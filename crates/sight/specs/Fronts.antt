@@ -1,51 +1,64 @@
 -- The facet through which a sight came into a cell, kept from cell to cell.
 --
---   IsVertexImage points w p n i   i is the image of vertex n
---   AreSeen points w p f      the images of a front are those of its vertices
---   IsFrontOf points w p t k f  it is facet k of t, where there is a facet k
---   IsNextFront t k j i numbers  the facet of side j in the other direction is the front with vertex k of t in the place of its
---                             vertex i; or there is no facet k
---   IsWayOut o w p n s v k numbers way  the way out of the cell with vertices v of the sight from vertex n to s, which came in
---                             through facet k, the front
-use Rattle.std.specs.Prelude.{ℕ, ◌≡◌, ◌<◌, ◌⊎◌, List, length, set, slice_index, slice_index_or, get_or}
+--   IsVertexImage s r n i     i is the image of vertex n
+--   AreSeen s r f             the images of a front are those of its vertices
+--   KeepsFront s r c          the front is the facet of the side through which the sight came in, where there is such a side
+--   IsNextFront c j i         the facet of side j in the other direction is the front with the vertex that it has not in the
+--                             place of its vertex i; or the sight came in through no side
+--   GoesOut s r c j           the sight goes out of the cell reached through side j
+--   HasArrived s r c          the scanner is in the cell reached
+--   IsWayOut s r c way        the way by which the sight goes out of the cell reached
+use Rattle.std.specs.Prelude.{ℕ, ◌≡◌, ◌<◌, ◌⊎◌, true, length, set, slice_index, slice_index_or, get_or}
 use Rattle.geo_sign.specs.declared.point.TheConstants.{BOX_LIMIT}
-use Rattle.geo_sign.specs.Point.{Point, origin, IsWithin}
-use Rattle.geo_sign.specs.Rational.{RationalPoint}
-use Rattle.geo_sign.specs.Tetrahedron.{Tetrahedron, facet_at, facet_of, vertex_of, IsRotated, IsTurned}
+use Rattle.geo_sign.specs.Point.{origin, IsWithin}
+use Rattle.geo_sign.specs.Rational.{displaced}
+use Rattle.geo_sign.specs.Sights.{is_cell_of}
+use Rattle.geo_sign.specs.Tetrahedron.{facet_at, facet_of, vertex_of, IsRotated, IsTurned}
 use Rattle.tetra_store.specs.Links.{tetrahedron_from}
 use Rattle.tetra_store.specs.Store.{Store, vertices_of}
 use Rattle.sight.specs.declared.exit.Front.{Front}
+use Rattle.sight.specs.declared.exit.Reached.{Reached}
 use Rattle.sight.specs.declared.exit.WayOut.{WayOut}
-use Rattle.sight.specs.declared.image.Screen.{Screen}
+use Rattle.sight.specs.declared.image.Ray.{Ray}
 use Rattle.sight.specs.declared.image.Image.{Image}
 use Rattle.sight.specs.Exits.{IsExit}
 use Rattle.sight.specs.Images.{IsImage, no_image}
 
 -- the image of a vertex that there is
-pub record IsVertexImage (points : List Point) (w : Screen) (p : Point) (n : ℕ) (i : Image) : Type 0 where
-  pub known : n < length points
-  pub within : IsWithin BOX_LIMIT (get_or points n origin)
-  pub image : IsImage w p (get_or points n origin) i
+pub record IsVertexImage (s : Store) (r : Ray) (n : ℕ) (i : Image) : Type 0 where
+  pub known : n < length s.points
+  pub within : IsWithin BOX_LIMIT (get_or s.points n origin)
+  pub image : IsImage r.screen r.point (get_or s.points n origin) i
 
 -- each of the three
-abbrev pub AreSeen : List Point → Screen → Point → Front → Type 0
-AreSeen points w p f = (j : ℕ) → j < 3 → IsVertexImage points w p (slice_index f.vertices j) (slice_index_or f.images j no_image)
+abbrev pub AreSeen : Store → Ray → Front → Type 0
+AreSeen s r f = (j : ℕ) → j < 3 → IsVertexImage s r (slice_index f.vertices j) (slice_index_or f.images j no_image)
 
 -- from any of its vertices on
-pub record IsFrontOf (points : List Point) (w : Screen) (p : Point) (t : Tetrahedron) (k : ℕ) (f : Front) : Type 0 where
-  pub three : length f.vertices ≡ 3
-  pub three_images : length f.images ≡ 3
-  pub facet : k < 4 → IsRotated (facet_of t k) (facet_at f.vertices)
-  pub seen : AreSeen points w p f
+pub record KeepsFront (s : Store) (r : Ray) (c : Reached) : Type 0 where
+  pub three : length c.front.vertices ≡ 3
+  pub three_images : length c.front.images ≡ 3
+  pub facet : c.entered < 4 → IsRotated (facet_of (tetrahedron_from c.vertices) c.entered) (facet_at c.front.vertices)
+  pub seen : AreSeen s r c.front
 
 -- how the front of a cell becomes that of the next
-abbrev pub IsNextFront : Tetrahedron → (k j i : ℕ) → List ℕ → Type 0
-IsNextFront t k j i numbers =
-    ((k ≡ 4) × (i ≡ 3)) ⊎ ((k < 4) × (i < 3) × IsTurned (facet_of t j) (facet_at (set numbers i (vertex_of t k))))
+abbrev pub IsNextFront : Reached → (j i : ℕ) → Type 0
+IsNextFront c j i =
+    ((c.entered ≡ 4) × (i ≡ 3))
+    ⊎ ((c.entered < 4) × (i < 3)
+    × IsTurned (facet_of (tetrahedron_from c.vertices) j)
+    (facet_at (set c.front.vertices i (vertex_of (tetrahedron_from c.vertices) c.entered))))
+
+-- that side turned round is crossed
+abbrev pub GoesOut : Store → Ray → Reached → ℕ → Type 0
+GoesOut s r c j = IsExit (vertices_of s) r.vertex (displaced r.scanner) (tetrahedron_from c.vertices) j
+
+-- by its displaced place
+abbrev pub HasArrived : Store → Ray → Reached → Type 0
+HasArrived s r c = is_cell_of (vertices_of s) (displaced r.scanner) (tetrahedron_from c.vertices) ≡ true
 
 -- the sight goes out through its side, its next front is told rightly, and it has the image of the vertex that the front has not
-abbrev pub IsWayOut : Store → Screen → Point → (n : ℕ) → RationalPoint → (v : List ℕ) → (k : ℕ) → List ℕ → WayOut → Type 0
-IsWayOut o w p n s v k numbers way =
-    IsExit (vertices_of o) n s (tetrahedron_from v) way.side
-    × IsNextFront (tetrahedron_from v) k way.side way.behind numbers
-    × (way.behind < 3 → IsVertexImage o.points w p (slice_index v k) way.image)
+abbrev pub IsWayOut : Store → Ray → Reached → WayOut → Type 0
+IsWayOut s r c way =
+    GoesOut s r c way.side × IsNextFront c way.side way.behind
+    × (way.behind < 3 → IsVertexImage s r (slice_index c.vertices c.entered) way.image)

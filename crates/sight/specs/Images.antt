@@ -3,12 +3,16 @@
 --   along d            a vector's coordinates
 --   scaled u c         a vector times a number
 --   IsScreen w u       the two vectors of a screen are across u: their vector product is u times a number that is not below zero
+--   IsLookedAlong s r  a ray has the point of its vertex, and a screen across the way from there to its scanner
 --   IsImage w p x i    i is the image of the point x on the screen of a sight from p
 --   no_image           what stands for an image that is not there
-use Rattle.std.specs.Prelude.{ℤ, pos, ◌≡◌, ◌≤◌, ◌≤ℤ◌, ◌*◌, ◌^◌, ◌*ℤ◌, unsigned_abs}
-use Rattle.geo_sign.specs.Point.{Point, point, IsWithin, step, cross, dot}
+use Rattle.std.specs.Prelude.{ℤ, pos, ◌≡◌, ◌<◌, ◌≤◌, ◌≤ℤ◌, ◌*◌, ◌^◌, ◌*ℤ◌, unsigned_abs, length, get_or}
+use Rattle.geo_sign.specs.declared.point.TheConstants.{BOX_LIMIT}
+use Rattle.geo_sign.specs.Point.{Point, origin, point, IsWithin, step, cross, dot}
+use Rattle.tetra_store.specs.Store.{Store}
 use Rattle.sight.specs.declared.image.Direction.{Direction}
 use Rattle.sight.specs.declared.image.Screen.{Screen}
+use Rattle.sight.specs.declared.image.Ray.{Ray}
 use Rattle.sight.specs.declared.image.Image.{Image}
 
 -- its coordinates
@@ -26,6 +30,13 @@ pub record IsScreen (w : Screen) (u : Point) : Type 0 where
   pub stretch : ℤ
   pub not_negative : pos 0 ≤ℤ stretch
   pub product : cross (along w.right) (along w.up) ≡ scaled u stretch
+
+-- its vertex is there, and point and screen are as it asks
+pub record IsLookedAlong (s : Store) (r : Ray) : Type 0 where
+  pub known : r.vertex < length s.points
+  pub start : r.point ≡ get_or s.points r.vertex origin
+  pub within : IsWithin BOX_LIMIT r.point
+  pub screen : IsScreen r.screen (step r.point r.scanner)
 
 -- the scalar products with the two, from p
 pub record IsImage (w : Screen) (p x : Point) (i : Image) : Type 0 where

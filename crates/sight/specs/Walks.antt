@@ -13,15 +13,15 @@
 --   IsGoneOn w v                v is w one facet on: the first of those to come in w, and v has the others
 --   IsTaken w v c               and the crossing c is that facet
 --   IsEndCell s o e             the cell e is the scanner's
---   IsWalking s p o x v k       what is kept of each walk
---   IsAhead s p o point w v k f and of its screen and front
+--   walk_of s r c               a walk, by its ray and the cell that it has reached
+--   IsWalking s r c             what is kept of each walk, beside its screen and front
 --
 -- The list to come follows from the store, the sight and the cell reached, so it is no field of a walk: `sides_from` is
 -- that list. What a reader has to believe of it is `IsSight` alone, which leaves one list: the crossed facets, each once,
 -- in their order.
-use Rattle.std.specs.Prelude.{ℕ, zero, suc, ◌≡◌, ◌<◌, ◌==◌, Bool, true, false, List, [], ◌∷◌, Option, Some, None, length, get_or}
-use Rattle.geo_sign.specs.declared.point.TheConstants.{BOX_LIMIT, DATA_LIMIT}
-use Rattle.geo_sign.specs.Point.{Point, origin, step, IsWithin}
+use Rattle.std.specs.Prelude.{ℕ, zero, suc, ◌≡◌, ◌<◌, ◌==◌, Bool, true, false, List, [], ◌∷◌, Option, Some, None, length}
+use Rattle.geo_sign.specs.declared.point.TheConstants.{DATA_LIMIT}
+use Rattle.geo_sign.specs.Point.{Point, IsWithin}
 use Rattle.geo_sign.specs.Rational.{RationalPoint, displaced}
 use Rattle.geo_sign.specs.Sights.{is_crossed, is_towards, is_cell_of}
 use Rattle.geo_sign.specs.Tetrahedron.{Tetrahedron, facet_at, facet_of, turned}
@@ -29,17 +29,14 @@ use Rattle.geo_sign.specs.Vertices.{Vertices, Has}
 use Rattle.cell_laws.specs.Links.{Side}
 use Rattle.cell_laws.specs.Lists.{IsIn, count, one_if}
 use Rattle.cell_laws.specs.Paths.{is_that, entered_facet, IsSightPath, AreNearing}
-use Rattle.geo_sign.specs.Tetrahedron.{facet_at}
 use Rattle.tetra_store.specs.Links.{Links, links_of, tetrahedron_from, IsLive}
 use Rattle.tetra_store.specs.Store.{Store, vertices_of}
 use Rattle.tetra_store.specs.Delaunay.{IsDelaunay}
 use Rattle.tetra_store.specs.Stored.{live_of}
 use Rattle.sight.specs.declared.along.Crossing.{Crossing}
-use Rattle.sight.specs.declared.exit.Front.{Front}
+use Rattle.sight.specs.declared.exit.Reached.{Reached}
+use Rattle.sight.specs.declared.image.Ray.{Ray}
 use Rattle.sight.specs.Exits.{IsEntered}
-use Rattle.sight.specs.declared.image.Screen.{Screen}
-use Rattle.sight.specs.Fronts.{IsFrontOf}
-use Rattle.sight.specs.Images.{IsScreen}
 
 -- the sight from a vertex to the scanner at a point, through the cells of a store
 pub record Walk : Type 0 where
@@ -150,21 +147,26 @@ pub record IsTaken (w v : Walk) (c : Crossing) : Type 0 where
   pub facet : facet_at c.facet ≡ facet_of ((links_of w.store.slots).at v.at) v.entered
 
 -- ---- what is kept
--- the cell reached has these four vertices, and the sight came into it through side k
-pub record IsWalking (s : Store) (p : ℕ) (o : Point) (x : ℕ) (v : List ℕ) (k : ℕ) : Type 0 where
-  pub delaunay : IsDelaunay (vertices_of s) (links_of s.slots)
-  pub inserted : Has (vertices_of s) p
-  pub data_point : IsWithin DATA_LIMIT o
-  pub live : IsLive (links_of s.slots) x
-  pub loaded : (links_of s.slots).at x ≡ tetrahedron_from v
-  pub came : IsEntered (vertices_of s) p (displaced o) (tetrahedron_from v) k
+-- the sight of the ray, at the cell reached
+abbrev pub walk_of : Store → Ray → Reached → Walk
+walk_of s r c =
+    record {
+      store = s;
+      vertex = r.vertex;
+      scanner = r.scanner;
+      at = c.at;
+      entered = c.entered;
+      to_come = sides_from s r.vertex r.scanner c.at;
+    }
 
--- the point of the sight's vertex, the screen across the sight, and the front
-pub record IsAhead (s : Store) (p : ℕ) (o point : Point) (w : Screen) (v : List ℕ) (k : ℕ) (front : Front) : Type 0 where
-  pub start : point ≡ get_or s.points p origin
-  pub within : IsWithin BOX_LIMIT point
-  pub screen : IsScreen w (step point o)
-  pub came : IsFrontOf s.points w point (tetrahedron_from v) k front
+-- the cell reached has its four vertices, and the sight came into it through its side
+pub record IsWalking (s : Store) (r : Ray) (c : Reached) : Type 0 where
+  pub delaunay : IsDelaunay (vertices_of s) (links_of s.slots)
+  pub inserted : Has (vertices_of s) r.vertex
+  pub data_point : IsWithin DATA_LIMIT r.scanner
+  pub live : IsLive (links_of s.slots) c.at
+  pub loaded : (links_of s.slots).at c.at ≡ tetrahedron_from c.vertices
+  pub came : IsEntered (vertices_of s) r.vertex (displaced r.scanner) (tetrahedron_from c.vertices) c.entered
 
 -- the scanner lies in the live cell e
 pub record IsEndCell (s : Store) (o : Point) (e : ℕ) : Type 0 where

@@ -12,8 +12,8 @@ ghost use Rattle.tetra_store.specs.Links.{links_of};
 ghost use Rattle.tetra_store.specs.Store.{vertices_of};
 ghost use Rattle.sight.specs.Walks.{IsSight, IsGoneOn, IsTaken, IsEndCell};
 
-use crate::exit::{Front, exit, front_of, go_through};
-use crate::image::{Screen, screen_of};
+use crate::exit::{Reached, exit, front_of, go_through};
+use crate::image::{Ray, screen_of};
 use geo_sign::Point;
 use std::marker::Model;
 use tetra_store::{CellId, Tetra};
@@ -37,26 +37,22 @@ pub struct Crossing {
 #[derive(Drop)]
 pub struct SightWalk<'a> {
     tetra: &'a Tetra,
-    vertex: u32,
-    point: Point,
-    scanner: Point,
-    screen: Screen,
+    ray: Ray,
+    reached: Reached,
     end: Option<CellId>,
-    at: CellId,
-    vertices: [u32; 4],
-    entered: usize,
-    front: Front,
 }
 
 impl<'a> Model for SightWalk<'a> {
-    ghost use Rattle.sight.specs.Walks.{Walk, IsWalking, IsAhead, IsEndCell, sides_from};
+    ghost use Rattle.sight.specs.Walks.{Walk, IsWalking, IsEndCell, walk_of};
+    ghost use Rattle.sight.specs.Fronts.{KeepsFront};
+    ghost use Rattle.sight.specs.Images.{IsLookedAlong};
     ghost use Rattle.std.specs.Option.{ForSome};
 
     ghost Value = { Walk };
 
-    ghost view = { λ w. record { store = w.tetra.now; vertex = w.vertex; scanner = w.scanner; at = w.at; entered = w.entered; to_come = sides_from w.tetra.now w.vertex w.scanner w.at } };
+    ghost view = { λ w. walk_of w.tetra.now w.ray w.reached };
 
-    ghost invariant = { λ w. IsWalking w.tetra.now w.vertex w.scanner w.at w.vertices w.entered × IsAhead w.tetra.now w.vertex w.scanner w.point w.screen w.vertices w.entered w.front × ForSome w.end (λ e. IsEndCell w.tetra.now w.scanner e) };
+    ghost invariant = { λ w. IsWalking w.tetra.now w.ray w.reached × IsLookedAlong w.tetra.now w.ray × KeepsFront w.tetra.now w.ray w.reached × ForSome w.end (λ e. IsEndCell w.tetra.now w.ray.scanner e) };
 }
 
 /// A walk that begins in the cell towards the scanner, whose end may be known.
@@ -72,18 +68,23 @@ fn begin<'a>(t: &'a Tetra, v: u32, s: Point, end: Option<CellId>) -> SightWalk<'
     t.facts();
     let at = toward(t, v, s);
     let point = t.point(v);
-    let screen = screen_of(point, s);
-    SightWalk {
-        tetra: t,
+    let ray = Ray {
         vertex: v,
         point,
         scanner: s,
-        screen,
-        end,
+        screen: screen_of(point, s),
+    };
+    let reached = Reached {
         at,
         vertices: t.vertices(at),
         entered: NO_SIDE,
-        front: front_of(t, &screen, point, [v, v, v]),
+        front: front_of(t, &ray, [v, v, v]),
+    };
+    SightWalk {
+        tetra: t,
+        ray,
+        reached,
+        end,
     }
 }
 
@@ -125,35 +126,16 @@ impl<'a> SightWalk<'a> {
         ensures end { IsFalse result → is_cell_of (vertices_of self.old.store) (displaced self.old.scanner) ((links_of self.old.store.slots).at self.old.at) ≡ true }
     {
         self.tetra.facts();
-        match exit(
-            self.tetra,
-            self.at,
-            self.end,
-            self.vertices,
-            self.entered,
-            &self.front,
-            self.vertex,
-            &self.screen,
-            self.point,
-            self.scanner,
-        ) {
+        match exit(self.tetra, &self.ray, &self.reached, self.end) {
             None => false,
-            Some(exit) => match self.tetra.neighbor(self.at, exit.side) {
+            Some(exit) => match self.tetra.neighbor(self.reached.at, exit.side) {
                 None => unreachable!(),
                 Some(next) => {
-                    go_through(
-                        self.tetra,
-                        self.vertices,
-                        self.entered,
-                        exit,
-                        &self.screen,
-                        self.point,
-                        &mut self.front,
-                    );
+                    go_through(self.tetra, &self.ray, &mut self.reached, exit);
                     let vertices = next.vertices;
-                    self.at = next.id;
-                    self.vertices = vertices;
-                    self.entered = next.side;
+                    self.reached.at = next.id;
+                    self.reached.vertices = vertices;
+                    self.reached.entered = next.side;
                     true
                 }
             },
@@ -169,11 +151,11 @@ impl<'a> SightWalk<'a> {
         ensures none { IfNone result ((self.old.to_come ≡ []) × (self.new ≡ self.old)) }
         ensures end { IfNone result (is_cell_of (vertices_of self.old.store) (displaced self.old.scanner) ((links_of self.old.store.slots).at self.old.at) ≡ true) }
     {
-        let before = self.at;
+        let before = self.reached.at;
         if self.go_on() {
             Some(Crossing {
-                facet: facet(self.vertices, self.entered),
-                scanner_side: self.at,
+                facet: facet(self.reached.vertices, self.reached.entered),
+                scanner_side: self.reached.at,
                 point_side: before,
             })
         } else {
@@ -185,7 +167,7 @@ impl<'a> SightWalk<'a> {
     pub fn end_cell(&self) -> CellId
         ensures { result ≡ self.now.at }
     {
-        self.at
+        self.reached.at
     }
 
     /// The side, 0 to 3, of the cell now reached through which it was entered, which is the last crossing's facet. Before the first
@@ -193,6 +175,6 @@ impl<'a> SightWalk<'a> {
     pub fn entered(&self) -> usize
         ensures { result ≡ self.now.entered }
     {
-        self.entered
+        self.reached.entered
     }
 }

@@ -11,24 +11,20 @@
 //! of the three planes decide depends on the first, and no sign could be foretold: so all three are computed, and a table of their
 //! signs has the vertex that stays behind.
 
-ghost use Rattle.std.specs.Prelude.{◌≡◌, ◌<◌, ◌<ℤ◌, ◌^◌, ◌↔◌, ℕ, pos, true, IsTrue, IfSome, IfNone, length, get_or, slice_index, slice_index_or, if◌then◌else◌};
-ghost use Rattle.geo_sign.specs.declared.point.TheConstants.{BOX_LIMIT, DATA_LIMIT};
-ghost use Rattle.geo_sign.specs.Point.{origin, IsWithin, step};
+ghost use Rattle.std.specs.Prelude.{◌≡◌, ◌<◌, ◌<ℤ◌, ◌↔◌, ℕ, pos, IsTrue, IfSome, IfNone, length, slice_index, slice_index_or, if◌then◌else◌};
 ghost use Rattle.geo_sign.specs.Rational.{side, displaced};
-ghost use Rattle.geo_sign.specs.Cells.{IsCell};
-ghost use Rattle.geo_sign.specs.Sights.{side_of, is_cell_of};
+ghost use Rattle.geo_sign.specs.Sights.{side_of};
 ghost use Rattle.geo_sign.specs.Tetrahedron.{facet_at, facet_of, IsTurned};
-ghost use Rattle.geo_sign.specs.Vertices.{Has};
 ghost use Rattle.geo_sign.specs.Writings.{IsVertexOf};
 ghost use Rattle.tetra_store.specs.Links.{tetrahedron_from};
 ghost use Rattle.tetra_store.specs.Store.{vertices_of};
 ghost use Rattle.std.specs.Option.{ForSome};
-ghost use Rattle.sight.specs.Exits.{left_behind, left_among, IsEntered, IsExit};
-ghost use Rattle.sight.specs.Fronts.{IsVertexImage, AreSeen, IsFrontOf, IsNextFront, IsWayOut};
-ghost use Rattle.sight.specs.Images.{along, no_image, IsScreen, IsImage};
+ghost use Rattle.sight.specs.Exits.{left_behind, left_among};
+ghost use Rattle.sight.specs.Fronts.{IsVertexImage, AreSeen, KeepsFront, IsNextFront, GoesOut, HasArrived, IsWayOut};
+ghost use Rattle.sight.specs.Images.{no_image, IsLookedAlong};
 ghost use Rattle.sight.specs.Walks.{IsWalking, IsEndCell};
 
-use crate::image::{Image, Screen, determinant, seen_at};
+use crate::image::{Image, Ray, determinant, seen_at};
 use geo_sign::{Point, Sign, side_of_scanner};
 use tetra_store::{CellId, Tetra};
 use tetra_walk::{NO_SIDE, facet};
@@ -42,6 +38,16 @@ const NO_VERTEX: usize = 3;
 pub(crate) struct Front {
     pub(crate) vertices: [u32; 3],
     pub(crate) images: [Image; 3],
+}
+
+/// A cell that a walk has reached, its vertices, the side through which the walk came in, 0 to 3, or 4 where it came in through none,
+/// and the facet of that side.
+#[derive(Clone, Copy)]
+pub(crate) struct Reached {
+    pub(crate) at: CellId,
+    pub(crate) vertices: [u32; 4],
+    pub(crate) entered: usize,
+    pub(crate) front: Front,
 }
 
 /// How a sight goes out of a cell: through which side, and which vertex of the facet through which it came in it leaves behind, 0 to 2,
@@ -149,37 +155,24 @@ fn behind_by_displacement(
 /// one of the front where the latter is before the plane of the two others and the scanner's point, as the determinant of its image and
 /// the fourth vertex's tells. Only where one of these is zero the displacement decides: no other branch is taken by a sign.
 #[inline(always)]
-fn behind_by_images(
-    t: &Tetra,
-    screen: &Screen,
-    front: &Front,
-    vertex: u32,
-    p: Point,
-    fourth: u32,
-    image: Image,
-    s: Point,
-) -> usize
-    requires start { p ≡ get_or t.now.points vertex origin }
-    requires vertex { vertex < length t.now.points }
-    requires p_within { IsWithin BOX_LIMIT p }
-    requires screen { IsScreen screen.now (step p s) }
-    requires seen { AreSeen t.now.points screen.now p front.now }
-    requires image { IsVertexImage t.now.points screen.now p fourth image }
+fn behind_by_images(t: &Tetra, ray: &Ray, front: &Front, fourth: u32, image: Image) -> usize
+    requires looked { IsLookedAlong t.now ray.now }
+    requires seen { AreSeen t.now ray.now front.now }
+    requires image { IsVertexImage t.now ray.now fourth image }
     ensures side { result < 3 }
-    ensures left { result ≡ left_among (vertices_of t.now) vertex (displaced s) fourth front.now.vertices }
+    ensures left { result ≡ left_among (vertices_of t.now) ray.now.vertex (displaced ray.now.scanner) fourth front.now.vertices }
 {
-    let (_screen, _p) = (screen, p);
     let first = determinant(image, image_of(front, 0));
     let second = determinant(image, image_of(front, 1));
     let third = determinant(image, image_of(front, 2));
     if is_zero(first) {
-        return behind_by_displacement(t, front.vertices, vertex, fourth, s);
+        return behind_by_displacement(t, front.vertices, ray.vertex, fourth, ray.scanner);
     }
     if is_zero(second) {
-        return behind_by_displacement(t, front.vertices, vertex, fourth, s);
+        return behind_by_displacement(t, front.vertices, ray.vertex, fourth, ray.scanner);
     }
     if is_zero(third) {
-        return behind_by_displacement(t, front.vertices, vertex, fourth, s);
+        return behind_by_displacement(t, front.vertices, ray.vertex, fourth, ray.scanner);
     }
     left(is_positive(first), is_positive(second), is_positive(third))
 }
@@ -207,71 +200,44 @@ fn is_beyond(t: &Tetra, v: [u32; 4], s: Point, side: usize) -> bool
 
 /// How a sight can go out of a cell: by three signs, of which two decide, or by none in the cell at its vertex.
 #[inline(always)]
-fn ahead(
-    t: &Tetra,
-    v: [u32; 4],
-    entered: usize,
-    front: &Front,
-    vertex: u32,
-    screen: &Screen,
-    p: Point,
-    s: Point,
-) -> WayOut
-    requires cell { IsCell (vertices_of t.now) (slice_index v 0) (slice_index v 1) (slice_index v 2) (slice_index v 3) }
-    requires distinct { (j k : ℕ) → j < 4 → k < 4 → slice_index v j ≡ slice_index v k → j ≡ k }
-    requires known { (k : ℕ) → k < 4 → slice_index v k < length t.now.points }
-    requires start { p ≡ get_or t.now.points vertex origin }
-    requires vertex { vertex < length t.now.points }
-    requires p_within { IsWithin BOX_LIMIT p }
-    requires screen { IsScreen screen.now (step p s) }
-    requires entered { IsEntered (vertices_of t.now) vertex (displaced s) (tetrahedron_from v) entered }
-    requires front { IsFrontOf t.now.points screen.now p (tetrahedron_from v) entered front.now }
+fn ahead(t: &Tetra, ray: &Ray, reached: &Reached) -> WayOut
+    requires walking { IsWalking t.now ray.now reached.now }
+    requires looked { IsLookedAlong t.now ray.now }
+    requires front { KeepsFront t.now ray.now reached.now }
     ensures side { result.side < 4 }
-    ensures image { result.behind < 3 → IsVertexImage t.now.points screen.now p (slice_index v entered) result.image }
-    ensures only { (k : ℕ) → IsExit (vertices_of t.now) vertex (displaced s) (tetrahedron_from v) k → (k ≡ result.side) × IsNextFront (tetrahedron_from v) entered k result.behind front.now.vertices }
+    ensures image { result.behind < 3 → IsVertexImage t.now ray.now (slice_index reached.now.vertices reached.now.entered) result.image }
+    ensures only { (k : ℕ) → GoesOut t.now ray.now reached.now k → (k ≡ result.side) × IsNextFront reached.now k result.behind }
 {
-    if entered == NO_SIDE {
+    t.facts();
+    if reached.entered == NO_SIDE {
         return WayOut {
-            side: side_opposite(v, vertex),
+            side: side_opposite(reached.vertices, ray.vertex),
             behind: NO_VERTEX,
             image: Image { right: 0, up: 0 },
         };
     }
-    let image = vertex_seen(t, screen, p, v[entered]);
-    let behind = behind_by_images(t, screen, front, vertex, p, v[entered], image, s);
+    let fourth = reached.vertices[reached.entered];
+    let image = vertex_seen(t, ray, fourth);
+    let behind = behind_by_images(t, ray, &reached.front, fourth, image);
     WayOut {
-        side: side_opposite(v, front.vertices[behind]),
+        side: side_opposite(reached.vertices, reached.front.vertices[behind]),
         behind,
         image,
     }
 }
 
 /// How a sight goes out of a cell. None exactly where the scanner is in the cell.
-fn exit_side(
-    t: &Tetra,
-    v: [u32; 4],
-    entered: usize,
-    front: &Front,
-    vertex: u32,
-    screen: &Screen,
-    p: Point,
-    s: Point,
-) -> Option<WayOut>
-    requires cell { IsCell (vertices_of t.now) (slice_index v 0) (slice_index v 1) (slice_index v 2) (slice_index v 3) }
-    requires distinct { (j k : ℕ) → j < 4 → k < 4 → slice_index v j ≡ slice_index v k → j ≡ k }
-    requires vertex { Has (vertices_of t.now) vertex }
-    requires data_point { IsWithin DATA_LIMIT s }
-    requires start { p ≡ get_or t.now.points vertex origin }
-    requires p_within { IsWithin BOX_LIMIT p }
-    requires screen { IsScreen screen.now (step p s) }
-    requires entered { IsEntered (vertices_of t.now) vertex (displaced s) (tetrahedron_from v) entered }
-    requires front { IsFrontOf t.now.points screen.now p (tetrahedron_from v) entered front.now }
-    ensures some { IfSome result (IsWayOut t.now screen.now p vertex (displaced s) v entered front.now.vertices) }
-    ensures none { IfNone result (is_cell_of (vertices_of t.now) (displaced s) (tetrahedron_from v) ≡ true) }
+#[tactic(auto, using(crate::proofs::Steps::known_at))]
+fn exit_side(t: &Tetra, ray: &Ray, reached: &Reached) -> Option<WayOut>
+    requires walking { IsWalking t.now ray.now reached.now }
+    requires looked { IsLookedAlong t.now ray.now }
+    requires front { KeepsFront t.now ray.now reached.now }
+    ensures some { IfSome result (IsWayOut t.now ray.now reached.now) }
+    ensures none { IfNone result (HasArrived t.now ray.now reached.now) }
 {
     t.facts();
-    let exit = ahead(t, v, entered, front, vertex, screen, p, s);
-    if is_beyond(t, v, s, exit.side) {
+    let exit = ahead(t, ray, reached);
+    if is_beyond(t, reached.vertices, ray.scanner, exit.side) {
         Some(exit)
     } else {
         None
@@ -281,67 +247,50 @@ fn exit_side(
 /// How a walk goes out of the cell that it has reached. None exactly where that is the scanner's. Where the scanner's cell is known, it
 /// takes one sign less.
 #[inline(always)]
-pub(crate) fn exit(
-    t: &Tetra,
-    at: CellId,
-    end: Option<CellId>,
-    v: [u32; 4],
-    entered: usize,
-    front: &Front,
-    vertex: u32,
-    screen: &Screen,
-    p: Point,
-    s: Point,
-) -> Option<WayOut>
-    requires walking { IsWalking t.now vertex s at v entered }
-    requires start { p ≡ get_or t.now.points vertex origin }
-    requires p_within { IsWithin BOX_LIMIT p }
-    requires screen { IsScreen screen.now (step p s) }
-    requires front { IsFrontOf t.now.points screen.now p (tetrahedron_from v) entered front.now }
-    requires end { ForSome end (λ e. IsEndCell t.now s e) }
-    ensures some { IfSome result (IsWayOut t.now screen.now p vertex (displaced s) v entered front.now.vertices) }
-    ensures none { IfNone result (is_cell_of (vertices_of t.now) (displaced s) (tetrahedron_from v) ≡ true) }
+pub(crate) fn exit(t: &Tetra, ray: &Ray, reached: &Reached, end: Option<CellId>) -> Option<WayOut>
+    requires walking { IsWalking t.now ray.now reached.now }
+    requires looked { IsLookedAlong t.now ray.now }
+    requires front { KeepsFront t.now ray.now reached.now }
+    requires end { ForSome end (λ e. IsEndCell t.now ray.now.scanner e) }
+    ensures some { IfSome result (IsWayOut t.now ray.now reached.now) }
+    ensures none { IfNone result (HasArrived t.now ray.now reached.now) }
 {
     t.facts();
     match end {
-        None => exit_side(t, v, entered, front, vertex, screen, p, s),
+        None => exit_side(t, ray, reached),
         Some(end) => {
-            if at == end {
+            if reached.at == end {
                 return None;
             }
-            Some(ahead(t, v, entered, front, vertex, screen, p, s))
+            Some(ahead(t, ray, reached))
         }
     }
 }
 
 /// The image of a vertex.
 #[inline(always)]
-fn vertex_seen(t: &Tetra, screen: &Screen, p: Point, vertex: u32) -> Image
+fn vertex_seen(t: &Tetra, ray: &Ray, vertex: u32) -> Image
     requires known { vertex < length t.now.points }
-    requires p_within { IsWithin BOX_LIMIT p }
-    requires right { IsWithin (2 ^ 24) (along screen.now.right) }
-    requires up { IsWithin (2 ^ 24) (along screen.now.up) }
-    ensures { IsVertexImage t.now.points screen.now p vertex result }
+    requires looked { IsLookedAlong t.now ray.now }
+    ensures { IsVertexImage t.now ray.now vertex result }
 {
-    seen_at(screen, p, t.point(vertex))
+    seen_at(&ray.screen, ray.point, t.point(vertex))
 }
 
 /// The front of three vertices.
-pub(crate) fn front_of(t: &Tetra, screen: &Screen, p: Point, vertices: [u32; 3]) -> Front
+pub(crate) fn front_of(t: &Tetra, ray: &Ray, vertices: [u32; 3]) -> Front
     requires known { (j : ℕ) → j < 3 → slice_index vertices j < length t.now.points }
-    requires p_within { IsWithin BOX_LIMIT p }
-    requires right { IsWithin (2 ^ 24) (along screen.now.right) }
-    requires up { IsWithin (2 ^ 24) (along screen.now.up) }
+    requires looked { IsLookedAlong t.now ray.now }
     ensures vertices { result.vertices ≡ vertices }
     ensures images { length result.images ≡ 3 }
-    ensures seen { AreSeen t.now.points screen.now p result }
+    ensures seen { AreSeen t.now ray.now result }
 {
     Front {
         vertices,
         images: [
-            vertex_seen(t, screen, p, vertices[0]),
-            vertex_seen(t, screen, p, vertices[1]),
-            vertex_seen(t, screen, p, vertices[2]),
+            vertex_seen(t, ray, vertices[0]),
+            vertex_seen(t, ray, vertices[1]),
+            vertex_seen(t, ray, vertices[2]),
         ],
     }
 }
@@ -360,34 +309,22 @@ fn turned_facet(v: [u32; 4], side: usize) -> [u32; 3]
 /// Takes a front to the facet through which a sight goes out, as the cell across has it: the vertex left behind gives its place to the
 /// one that the facet before did not have.
 #[inline(always)]
-pub(crate) fn go_through(
-    t: &Tetra,
-    v: [u32; 4],
-    entered: usize,
-    exit: WayOut,
-    screen: &Screen,
-    p: Point,
-    front: &mut Front,
-)
-    requires known { (k : ℕ) → k < 4 → slice_index v k < length t.now.points }
-    requires side { exit.side < 4 }
-    requires p_within { IsWithin BOX_LIMIT p }
-    requires right { IsWithin (2 ^ 24) (along screen.now.right) }
-    requires up { IsWithin (2 ^ 24) (along screen.now.up) }
-    requires three { length front.old.vertices ≡ 3 }
-    requires images { length front.old.images ≡ 3 }
-    requires seen { AreSeen t.now.points screen.now p front.old }
-    requires passed { IsNextFront (tetrahedron_from v) entered exit.side exit.behind front.old.vertices }
-    requires image { exit.behind < 3 → IsVertexImage t.now.points screen.now p (slice_index v entered) exit.image }
-    ensures three { length front.new.vertices ≡ 3 }
-    ensures images { length front.new.images ≡ 3 }
-    ensures turned { IsTurned (facet_of (tetrahedron_from v) exit.side) (facet_at front.new.vertices) }
-    ensures seen { AreSeen t.now.points screen.now p front.new }
+pub(crate) fn go_through(t: &Tetra, ray: &Ray, reached: &mut Reached, exit: WayOut)
+    requires walking { IsWalking t.now ray.now reached.old }
+    requires looked { IsLookedAlong t.now ray.now }
+    requires front { KeepsFront t.now ray.now reached.old }
+    requires exit { IsWayOut t.now ray.now reached.old exit }
+    ensures same { (reached.new.at ≡ reached.old.at) × (reached.new.vertices ≡ reached.old.vertices) × (reached.new.entered ≡ reached.old.entered) }
+    ensures three { length reached.new.front.vertices ≡ 3 }
+    ensures images { length reached.new.front.images ≡ 3 }
+    ensures turned { IsTurned (facet_of (tetrahedron_from reached.old.vertices) exit.side) (facet_at reached.new.front.vertices) }
+    ensures seen { AreSeen t.now ray.now reached.new.front }
 {
+    t.facts();
     if exit.behind == NO_VERTEX {
-        *front = front_of(t, screen, p, turned_facet(v, exit.side));
+        reached.front = front_of(t, ray, turned_facet(reached.vertices, exit.side));
         return;
     }
-    front.vertices[exit.behind] = v[entered];
-    front.images[exit.behind] = exit.image;
+    reached.front.vertices[exit.behind] = reached.vertices[reached.entered];
+    reached.front.images[exit.behind] = exit.image;
 }

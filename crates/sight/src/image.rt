@@ -27,6 +27,15 @@ pub(crate) struct Screen {
     pub(crate) up: Direction,
 }
 
+/// A sight as it is looked along: from the point of its vertex to the scanner's, with a screen across the way.
+#[derive(Clone, Copy)]
+pub(crate) struct Ray {
+    pub(crate) vertex: u32,
+    pub(crate) point: Point,
+    pub(crate) scanner: Point,
+    pub(crate) screen: Screen,
+}
+
 /// Where a point is seen on a screen.
 #[derive(Clone, Copy)]
 pub(crate) struct Image {

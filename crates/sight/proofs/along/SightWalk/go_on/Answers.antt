@@ -8,36 +8,29 @@ use Rattle.geo_sign.specs.Rational.{displaced}
 use Rattle.geo_sign.specs.Sights.{is_cell_of}
 use Rattle.tetra_store.specs.Links.{links_of}
 use Rattle.tetra_store.specs.Store.{vertices_of}
-use Rattle.sight.specs.Walks.{Walk, IsGoneOn, sides_from}
-use Rattle.sight.proofs.Steps.{goes_on, known_at, walks_on, front_on, gone_on, none_left, not_end}
+use Rattle.sight.specs.declared.exit.Reached.{Reached}
+use Rattle.sight.specs.Walks.{Walk, IsGoneOn, walk_of}
+use Rattle.sight.proofs.Steps.{IsNext, goes_on, walks_on, front_on, gone_on, none_left, not_end}
 use Rattle.sight.proofs.along.SightWalk.go_on.Goals as goal
 
 pub unreachable-requires : goal.unreachable-requires
 unreachable-requires c =
     let i = c.self.inside in
-    goes_on i.tetra.now i.vertex i.scanner i.at i.vertices i.entered c.in-Some.exit.side c.facts.ensures c.self.invariant.0
-    c.in-Some.ensures.some.0 c.in-None-neighbor.ensures.wall
-
-pub go_through-requires-clause-known : goal.go_through-requires-clause-known
-go_through-requires-clause-known c =
-    let i = c.self.inside in
-    known_at i.tetra.now i.vertex i.scanner i.at i.vertices i.entered c.facts.ensures c.self.invariant.0
+    goes_on i.tetra.now i.ray i.reached c.in-Some.exit.side c.facts.ensures c.self.invariant.0 c.in-Some.ensures.some.0
+    c.in-None-neighbor.ensures.wall
 
 pub invariant_of-self : goal.invariant_of-self
 invariant_of-self c =
-    let i = c.self.inside in
-    let out = c.in-Some.ensures.some.0 in
-    let there = c.in-Some-neighbor.ensures.across in
-    let next = c.in-Some-neighbor.ensures in
-    let n = c.in-Some-neighbor.next in
-    let passed = c.go_through.ensures in (
-      walks_on i.tetra.now i.vertex i.scanner i.at i.vertices i.entered c.in-Some.exit.side n.id n.side n.vertices
-          c.facts.ensures c.self.invariant.0 out there next.vertices next.side next.back,
-      front_on i.tetra.now i.vertex i.scanner i.at i.vertices i.entered c.in-Some.exit.side n.id n.side n.vertices
-          i.point i.screen i.front c.go_through.new.front
-          c.facts.ensures c.self.invariant.0 out there next.vertices next.side next.back c.self.invariant.1
-          passed.three passed.images passed.turned passed.seen,
-      c.self.invariant.2,
+    let i = c.self.inside in let s = i.tetra.now in let j = c.in-Some.exit.side in let w = c.self.invariant.0 in
+    let n = c.in-Some-neighbor.next in let is = c.in-Some-neighbor.ensures in let f = c.go_through.ensures in
+    let after : Reached =
+    record { at = n.id; vertices = n.vertices; entered = n.side; front = c.go_through.new.reached.front } in
+    let next : IsNext s i.reached j after =
+    record { across = is.across; loaded = is.vertices; side_in = is.side; back = is.back } in (
+      walks_on s i.ray i.reached j after c.facts.ensures w c.in-Some.ensures.some.0 next,
+      c.self.invariant.1,
+      front_on s i.ray i.reached j after c.facts.ensures w c.in-Some.ensures.some.0 next f.three f.images f.turned f.seen,
+      c.self.invariant.3,
     )
 
 pub returns-in-None-clause-out : goal.returns-in-None-clause-out
@@ -45,27 +38,19 @@ returns-in-None-clause-out c =
     λ no.
     (let i = c.self.inside in (
       ap (λ (w : Walk). w.to_come) (sym c.self.view_is)
-          ∙ none_left i.tetra.now i.vertex i.scanner i.at i.vertices i.entered c.facts.ensures c.self.invariant.0
-          c.in-None.ensures.none,
+          ∙ none_left i.tetra.now i.ray i.reached c.facts.ensures c.self.invariant.0 c.in-None.ensures.none,
       refl,
     ))
 
 pub returns-in-Some-neighbor-clause-on : goal.returns-in-Some-neighbor-clause-on
 returns-in-Some-neighbor-clause-on c =
     λ yes.
-    (let i = c.self.inside in
-    let y = c.in-Some-neighbor.next.id in let m = c.in-Some-neighbor.next.side in
-    let after : Walk = record {
-      store = i.tetra.now;
-      vertex = i.vertex;
-      scanner = i.scanner;
-      at = y;
-      entered = m;
-      to_come = sides_from i.tetra.now i.vertex i.scanner y;
-    } in
-    subst (λ (w : Walk). IsGoneOn w after) c.self.view_is
-    (gone_on i.tetra.now i.vertex i.scanner i.at i.vertices i.entered c.in-Some.exit.side y m c.facts.ensures c.self.invariant.0
-    c.in-Some.ensures.some.0 c.in-Some-neighbor.ensures.across c.in-Some-neighbor.ensures.side c.in-Some-neighbor.ensures.back))
+    (let i = c.self.inside in let s = i.tetra.now in let n = c.in-Some-neighbor.next in let is = c.in-Some-neighbor.ensures in
+    let after : Reached =
+    record { at = n.id; vertices = n.vertices; entered = n.side; front = c.go_through.new.reached.front } in
+    subst (λ (w : Walk). IsGoneOn w (walk_of s i.ray after)) c.self.view_is
+    (gone_on s i.ray i.reached c.in-Some.exit.side after c.facts.ensures c.self.invariant.0 c.in-Some.ensures.some.0
+    (record { across = is.across; loaded = is.vertices; side_in = is.side; back = is.back })))
 
 pub returns-in-Some-neighbor-clause-more : goal.returns-in-Some-neighbor-clause-more
 returns-in-Some-neighbor-clause-more c =
@@ -73,5 +58,4 @@ returns-in-Some-neighbor-clause-more c =
     (let i = c.self.inside in
     subst (λ (w : Walk). is_cell_of (vertices_of w.store) (displaced w.scanner) ((links_of w.store.slots).at w.at) ≡ false)
     c.self.view_is
-    (not_end i.tetra.now i.vertex i.scanner i.at i.vertices i.entered c.in-Some.exit.side c.facts.ensures c.self.invariant.0
-    c.in-Some.ensures.some.0))
+    (not_end i.tetra.now i.ray i.reached c.in-Some.exit.side c.facts.ensures c.self.invariant.0 c.in-Some.ensures.some.0))
