@@ -14,15 +14,22 @@ use std::slice;
 /// Want of memory.
 pub type NoMemory = AllocError;
 
+/// The order in which the bytes of a number stand.
+#[derive(Clone, Copy, Debug, PartialEq, Eq)]
+pub enum Endian {
+    /// The least significant first.
+    Little,
+    /// The most significant first.
+    Big,
+}
+
 /// How a body spells its values.
 #[derive(Clone, Copy, Debug, PartialEq, Eq)]
 pub enum Kind {
     /// As text: tokens between white space.
-    Ascii,
-    /// In bytes, the least significant first.
-    BinaryLittle,
-    /// In bytes, the most significant first.
-    BinaryBig,
+    Text,
+    /// In bytes, in this order.
+    Binary(Endian),
 }
 
 /// The type of a value. In a binary body a value takes its type's size.

@@ -27,7 +27,7 @@ mod steps;
 mod words;
 
 pub use header::{
-    Element, Elements, Header, Kind, Name, NoMemory, Properties, Property, Scalar, Shape,
+    Element, Elements, Endian, Header, Kind, Name, NoMemory, Properties, Property, Scalar, Shape,
 };
 pub use laws::{printed_headers_are_read, texts_with_headers_are_read};
 pub use print::push_head;

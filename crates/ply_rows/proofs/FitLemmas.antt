@@ -7,6 +7,7 @@ use Rattle.std.specs.Prelude.{nat_lt, if◌then◌else◌}
 use Rattle.num_text.specs.WholeNumbers.{whole_of}
 use Rattle.num_text.specs.declared.refusal.NumRefusal.{NumRefusal}
 use Rattle.ply_head.specs.declared.header.Kind.{Kind}
+use Rattle.ply_head.specs.declared.header.Endian.{Endian}
 use Rattle.ply_head.specs.declared.header.Shape.{Shape}
 use Rattle.ply_head.specs.declared.header.Shape.TheVariants.{One, Many}
 use Rattle.ply_head.specs.declared.header.Property.{Property}
@@ -90,20 +91,20 @@ text_field-row at (Many count item) (t ∷ tokens) =
 bytes_of-row : (at : Place) (n : ℕ) (bytes : List ℕ) → IsOfRow (bytes_of at n bytes)
 bytes_of-row at n bytes = cut_if (nat_lt (length bytes) n) at _
 
-binary_field-row : (kind : Kind) (at : Place) (shape : Shape) (from : ℕ × List ℕ) → IsOfRow (binary_field kind at shape from)
+binary_field-row : (order : Endian) (at : Place) (shape : Shape) (from : ℕ × List ℕ) → IsOfRow (binary_field order at shape from)
 unfolding binary_field
-binary_field-row kind at (One scalar) from =
+binary_field-row order at (One scalar) from =
     and_then (bytes_of at (size_of scalar) from.1) _ (bytes_of-row at (size_of scalar) from.1) (λ value. tt)
-binary_field-row kind at (Many count item) from =
+binary_field-row order at (Many count item) from =
     and_then (bytes_of at (size_of count) from.1) _ (bytes_of-row at (size_of count) from.1) (λ first.
-    and_then (count_in at (number_of kind count first.0)) _ (count_in-row at (number_of kind count first.0)) (λ n.
+    and_then (count_in at (number_of order count first.0)) _ (count_in-row at (number_of order count first.0)) (λ n.
     and_then (bytes_of at (n * size_of item) first.1) _ (bytes_of-row at (n * size_of item) first.1) (λ items. tt)))
 
 field_of-row : (at : Place) (shape : Shape) (rest : Rest) → IsOfRow (field_of at shape rest)
 unfolding field_of
 field_of-row at shape (text tokens) = and_then (text_field at shape tokens) _ (text_field-row at shape tokens) (λ read. tt)
-field_of-row at shape (raw kind place bytes) =
-    and_then (binary_field kind at shape (place, bytes)) _ (binary_field-row kind at shape (place, bytes)) (λ read. tt)
+field_of-row at shape (raw order place bytes) =
+    and_then (binary_field order at shape (place, bytes)) _ (binary_field-row order at shape (place, bytes)) (λ read. tt)
 
 fields_of-row : (e r k : ℕ) (properties : List Property) (rest : Rest) → IsOfRow (fields_of e r k properties rest)
 unfolding fields_of

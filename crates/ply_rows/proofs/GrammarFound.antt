@@ -12,7 +12,7 @@ use Rattle.std.proofs.lemmas.List.{take-append-drop, length-take-le, length-appe
 use Rattle.std.proofs.Math.Seq.{take-append_seam}
 use Rattle.num_text.specs.WholeNumbers.{whole_of}
 use Rattle.num_text.specs.declared.refusal.NumRefusal.{NumRefusal}
-use Rattle.ply_head.specs.declared.header.Kind.{Kind}
+use Rattle.ply_head.specs.declared.header.Endian.{Endian}
 use Rattle.ply_head.specs.declared.header.Shape.{Shape}
 use Rattle.ply_head.specs.declared.header.Shape.TheVariants.{One, Many}
 use Rattle.ply_head.specs.Answers.{◌>>=◌}
@@ -91,11 +91,11 @@ bytes_found at n bytes read e =
 abbrev ByteRead : Type 0
 ByteRead = Field × (ℕ × List ℕ)
 
-binary_found : (kind : Kind) (at : Place) (shape : Shape) (place : ℕ) (bytes : List ℕ) (field : Field) (next : ℕ)
-    (behind : List ℕ) → binary_field kind at shape (place, bytes) ≡ done (field, (next, behind))
-    → BeginsBytes kind shape field place bytes (raw kind next behind)
+binary_found : (order : Endian) (at : Place) (shape : Shape) (place : ℕ) (bytes : List ℕ) (field : Field) (next : ℕ)
+    (behind : List ℕ) → binary_field order at shape (place, bytes) ≡ done (field, (next, behind))
+    → BeginsBytes order shape field place bytes (raw order next behind)
 unfolding binary_field
-binary_found kind at (One scalar) place bytes field next behind e =
+binary_found order at (One scalar) place bytes field next behind e =
     let read =
     bind_ok (bytes_of at (size_of scalar) bytes)
     (λ value. done (record { place = place; size = size_of scalar; items = 1 }, (place + size_of scalar, value.1)))
@@ -117,25 +117,25 @@ binary_found kind at (One scalar) place bytes field next behind e =
       cut = sym (take-append-drop (size_of scalar) bytes);
       field_is = ap (λ (x : ByteRead). x.0) (sym same);
       left_is =
-          ap (λ (n : ℕ). raw kind n behind) (sym place_is)
-          ∙ ap (λ (xs : List ℕ). raw kind (place + length (take (size_of scalar) bytes)) xs) (sym rest);
+          ap (λ (n : ℕ). raw order n behind) (sym place_is)
+          ∙ ap (λ (xs : List ℕ). raw order (place + length (take (size_of scalar) bytes)) xs) (sym rest);
     }
-binary_found kind at (Many count item) place bytes field next behind e =
+binary_found order at (Many count item) place bytes field next behind e =
     let a = size_of count in
     let read =
     bind_ok (bytes_of at (size_of count) bytes)
-    (λ first. count_in at (number_of kind count first.0) >>= λ n. bytes_of at (n * size_of item) first.1
+    (λ first. count_in at (number_of order count first.0) >>= λ n. bytes_of at (n * size_of item) first.1
     >>= λ items. done
     (list_field (place + size_of count) (n * size_of item) n, (place + size_of count + n * size_of item, items.1)))
     (field, (next, behind)) e in
     let first = bytes_found at (size_of count) bytes read.0 read.1 in
     let counts =
-    bind_ok (count_in at (number_of kind count read.0.0))
+    bind_ok (count_in at (number_of order count read.0.0))
     (λ n. bytes_of at (n * size_of item) read.0.1
     >>= λ items. done
     (list_field (place + size_of count) (n * size_of item) n, (place + size_of count + n * size_of item, items.1)))
     (field, (next, behind)) read.2 in
-    let count_is = counted at (number_of kind count read.0.0) counts.0 counts.1 in
+    let count_is = counted at (number_of order count read.0.0) counts.0 counts.1 in
     let third =
     bind_ok (bytes_of at (counts.0 * size_of item) read.0.1)
     (λ items. done (
@@ -162,7 +162,7 @@ binary_found kind at (Many count item) place bytes field next behind e =
       behind = behind;
       is_piece = (
         size,
-        ap (number_of kind count)
+        ap (number_of order count)
             (ap (λ (n : ℕ). take n (read.0.0 ++ take (counts.0 * size_of item) read.0.1)) (sym front_size)
             ∙ take-append_seam read.0.0 (take (counts.0 * size_of item) read.0.1)) ∙ count_is.0,
         count_is.1,
@@ -174,7 +174,7 @@ binary_found kind at (Many count item) place bytes field next behind e =
           ∙ ap (λ (xs : List ℕ). xs ++ read.0.1) front ∙ ap (λ (xs : List ℕ). take (size_of count) bytes ++ xs) rest
           ∙ take-append-drop (size_of count) bytes);
       field_is = ap (λ (x : ByteRead). x.0) (sym same);
-      left_is = ap (λ (n : ℕ). raw kind n behind) (ap (λ (x : ByteRead). x.1.0) (sym same) ∙ omega (arith, size));
+      left_is = ap (λ (n : ℕ). raw order n behind) (ap (λ (x : ByteRead). x.1.0) (sym same) ∙ omega (arith, size));
     }
 
 -- ---- in either
@@ -186,12 +186,12 @@ property_found at shape (text tokens) field left e =
     let read = bind_ok (text_field at shape tokens) (λ read. done (read.0, text read.1)) (field, left) e in
     let same = same_done (read.0.0, text read.0.1) (field, left) read.2 in
     subst (λ (x : Field × Rest). BeginsText shape x.0 tokens x.1) same (text_found at shape tokens read.0.0 read.0.1 read.1)
-property_found at shape (raw kind place bytes) field left e =
+property_found at shape (raw order place bytes) field left e =
     let read =
-    bind_ok (binary_field kind at shape (place, bytes)) (λ read. done (read.0, raw kind read.1.0 read.1.1)) (field, left) e in
-    let same = same_done (read.0.0, raw kind read.0.1.0 read.0.1.1) (field, left) read.2 in
-    subst (λ (x : Field × Rest). BeginsBytes kind shape x.0 place bytes x.1) same
-    (binary_found kind at shape place bytes read.0.0 read.0.1.0 read.0.1.1 read.1)
+    bind_ok (binary_field order at shape (place, bytes)) (λ read. done (read.0, raw order read.1.0 read.1.1)) (field, left) e in
+    let same = same_done (read.0.0, raw order read.0.1.0 read.0.1.1) (field, left) read.2 in
+    subst (λ (x : Field × Rest). BeginsBytes order shape x.0 place bytes x.1) same
+    (binary_found order at shape place bytes read.0.0 read.0.1.0 read.0.1.1 read.1)
 
 pub fields_found : (e r k : ℕ) (properties : List Property) (rest : Rest) (fields : List Field) (left : Rest)
     → fields_of e r k properties rest ≡ done (fields, left) → BeginsRow properties fields rest left

@@ -60,9 +60,9 @@ ending_follows : (rest : Rest) (rows : List Given) → ending rest ≡ well_ende
 ending_follows (text []) [] is = refl
 ending_follows (text []) (r ∷ rows) is = absurd (omega (arith, ap (λ (b : BodyRows). length b.rows) is))
 ending_follows (text (t ∷ tokens)) rows is = absurd (some_none _ (ap (λ (b : BodyRows). b.end) is))
-ending_follows (raw kind place []) [] is = refl
-ending_follows (raw kind place []) (r ∷ rows) is = absurd (omega (arith, ap (λ (b : BodyRows). length b.rows) is))
-ending_follows (raw kind place (b ∷ bytes)) rows is = absurd (some_none _ (ap (λ (b : BodyRows). b.end) is))
+ending_follows (raw order place []) [] is = refl
+ending_follows (raw order place []) (r ∷ rows) is = absurd (omega (arith, ap (λ (b : BodyRows). length b.rows) is))
+ending_follows (raw order place (b ∷ bytes)) rows is = absurd (some_none _ (ap (λ (b : BodyRows). b.end) is))
 
 head_of : Given → List Given → Given
 head_of d [] = d
@@ -103,7 +103,7 @@ found (due ∷ others) rest rows is =
 
 ending_nothing : (rest : Rest) → IsNothing rest → ending rest ≡ well_ended []
 ending_nothing (text tokens) is = ap (λ ts. ending (text ts)) is
-ending_nothing (raw kind place bytes) is = ap (λ (xs : List ℕ). ending (raw kind place xs)) is
+ending_nothing (raw order place bytes) is = ap (λ (xs : List ℕ). ending (raw order place xs)) is
 
 -- where rows follow the walk gives them and ends well
 read : (due : List Due) (rest : Rest) (rows : List Given) → Follows due rows rest → walk due rest ≡ well_ended rows

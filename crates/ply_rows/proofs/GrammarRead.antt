@@ -5,7 +5,7 @@ use Rattle.std.proofs.lemmas.Bool.{le-ltb}
 use Rattle.std.proofs.lemmas.List.{length-append, append_assoc, length-take-le, length-drop, take-append-drop}
 use Rattle.std.proofs.Math.Seq.{take-append_seam, drop-append_seam}
 use Rattle.num_text.specs.declared.refusal.NumRefusal.{NumRefusal}
-use Rattle.ply_head.specs.declared.header.Kind.{Kind}
+use Rattle.ply_head.specs.declared.header.Endian.{Endian}
 use Rattle.ply_head.specs.declared.header.Scalar.{Scalar}
 use Rattle.ply_head.specs.declared.header.Property.{Property}
 use Rattle.ply_head.specs.declared.header.Shape.{Shape}
@@ -67,15 +67,15 @@ bytes_read at n front behind is =
     (ap (λ (xs : List ℕ). bytes_and xs (drop (length front) (front ++ behind))) (take-append_seam front behind)
     ∙ ap (bytes_and front) (drop-append_seam front behind))
 
-list_read : (kind : Kind) (at : Place) (count item : Scalar) (items place : ℕ) (front back behind : List ℕ)
-    → length front ≡ size_of count → length back ≡ items * size_of item → number_of kind count front ≡ pos items
+list_read : (order : Endian) (at : Place) (count item : Scalar) (items place : ℕ) (front back behind : List ℕ)
+    → length front ≡ size_of count → length back ≡ items * size_of item → number_of order count front ≡ pos items
     → items ≤ 4294967295
-    → binary_field kind at (Many count item) (place, front ++ (back ++ behind))
+    → binary_field order at (Many count item) (place, front ++ (back ++ behind))
     ≡ field_then (list_field (place + size_of count) (items * size_of item) items)
     (place + size_of count + items * size_of item) behind
 unfolding binary_field
-list_read kind at count item items place front back behind front_size back_size is few =
-    ap (λ (r : Result (List ℕ × List ℕ) RowRefusal). r >>= λ first. count_in at (number_of kind count first.0)
+list_read order at count item items place front back behind front_size back_size is few =
+    ap (λ (r : Result (List ℕ × List ℕ) RowRefusal). r >>= λ first. count_in at (number_of order count first.0)
     >>= λ n. bytes_of at (n * size_of item) first.1
     >>= λ read. field_then (list_field (place + size_of count) (n * size_of item) n) (place + size_of count + n * size_of item)
     read.1) (bytes_read at (size_of count) front (back ++ behind) front_size)
@@ -86,25 +86,25 @@ list_read kind at count item items place front back behind front_size back_size 
     >>= λ read. field_then (list_field (place + size_of count) (items * size_of item) items)
     (place + size_of count + items * size_of item) read.1) (bytes_read at (items * size_of item) back behind back_size)
 
-piece_read : (kind : Kind) (at : Place) (shape : Shape) (items place : ℕ) (piece behind : List ℕ)
-    → IsPiece kind shape items piece
-    → binary_field kind at shape (place, piece ++ behind)
+piece_read : (order : Endian) (at : Place) (shape : Shape) (items place : ℕ) (piece behind : List ℕ)
+    → IsPiece order shape items piece
+    → binary_field order at shape (place, piece ++ behind)
     ≡ field_then (piece_field shape items place) (place + length piece) behind
 unfolding binary_field
-piece_read kind at (One scalar) items place piece behind is =
+piece_read order at (One scalar) items place piece behind is =
     ap (λ (r : Result (List ℕ × List ℕ) RowRefusal). r
     >>= λ value. field_then (record { place = place; size = size_of scalar; items = 1 }) (place + size_of scalar) value.1)
     (bytes_read at (size_of scalar) piece behind is)
     ∙ ap (λ (n : ℕ). field_then (record { place = place; size = size_of scalar; items = 1 }) (place + n) behind) (sym is)
-piece_read kind at (Many count item) items place piece behind is =
+piece_read order at (Many count item) items place piece behind is =
     let front_size : length (take (size_of count) piece) ≡ size_of count =
     length-take-le (size_of count) piece (omega (arith, is.0)) in
     let back_size : length (drop (size_of count) piece) ≡ items * size_of item =
     length-drop (size_of count) piece ∙ omega (arith, is.0) in
-    ap (λ (xs : List ℕ). binary_field kind at (Many count item) (place, xs))
+    ap (λ (xs : List ℕ). binary_field order at (Many count item) (place, xs))
     (ap (λ (xs : List ℕ). xs ++ behind) (sym (take-append-drop (size_of count) piece))
     ∙ append_assoc (take (size_of count) piece) (drop (size_of count) piece) behind)
-    ∙ list_read kind at count item items place (take (size_of count) piece) (drop (size_of count) piece) behind front_size
+    ∙ list_read order at count item items place (take (size_of count) piece) (drop (size_of count) piece) behind front_size
     back_size is.1 is.2
     ∙ ap (λ (n : ℕ). field_then (list_field (place + size_of count) (items * size_of item) items) n behind)
     (omega (arith, is.0))
@@ -119,11 +119,11 @@ property_read at shape (text tokens) field left b =
     ∙ ap (λ (r : Result (Field × List Token) RowRefusal). r >>= λ read. done (read.0, text read.1))
     (group_read at shape b.group b.behind b.is_group)
     ∙ ap (λ (f : Field). done (f, text b.behind)) (sym b.field_is) ∙ ap (λ (l : Rest). done (field, l)) (sym b.left_is)
-property_read at shape (raw kind place bytes) field left b =
-    ap (λ (xs : List ℕ). binary_field kind at shape (place, xs) >>= λ read. done (read.0, raw kind read.1.0 read.1.1)) b.cut
-    ∙ ap (λ (r : Result (Field × (ℕ × List ℕ)) RowRefusal). r >>= λ read. done (read.0, raw kind read.1.0 read.1.1))
-    (piece_read kind at shape b.items place b.piece b.behind b.is_piece)
-    ∙ ap (λ (f : Field). done (f, raw kind (place + length b.piece) b.behind)) (sym b.field_is)
+property_read at shape (raw order place bytes) field left b =
+    ap (λ (xs : List ℕ). binary_field order at shape (place, xs) >>= λ read. done (read.0, raw order read.1.0 read.1.1)) b.cut
+    ∙ ap (λ (r : Result (Field × (ℕ × List ℕ)) RowRefusal). r >>= λ read. done (read.0, raw order read.1.0 read.1.1))
+    (piece_read order at shape b.items place b.piece b.behind b.is_piece)
+    ∙ ap (λ (f : Field). done (f, raw order (place + length b.piece) b.behind)) (sym b.field_is)
     ∙ ap (λ (l : Rest). done (field, l)) (sym b.left_is)
 
 abbrev row_and : List Field → Rest → Result (List Field × Rest) RowRefusal

@@ -2,14 +2,19 @@
 use Rattle.std.proofs.Common.{◌≡◌, ℕ, zero, suc, ◌+◌, ◌-◌, ◌<◌, ◌≤◌, List, [], ◌∷◌, ◌++◌, length, get_or, take, drop, Result}
 use Rattle.std.proofs.Common.{Ok, Err, refl, sym, ap, ◌∙◌, arith, inl, inr, subst}
 use Rattle.std.proofs.lemmas.Bool.{le-ltb, lt-ltb, cases_lt}
-use Rattle.std.proofs.lemmas.List.{take_more, drop-drop, length-drop, length-take, length-take-le, get_or-drop}
+use Rattle.std.proofs.lemmas.List.{take_more, drop-drop, length-drop, length-map, length-take, length-take-le, get_or-drop}
 use Rattle.ply_head.specs.Answers.{◌>>=◌}
+use Rattle.ply_head.specs.declared.header.Kind.{Kind}
+use Rattle.ply_head.specs.declared.header.Kind.TheVariants.{Text, Binary}
+use Rattle.ply_head.specs.declared.header.Scalar.{Scalar}
 use Rattle.ply_rows.specs.declared.place.Field.{Field}
 use Rattle.ply_rows.specs.declared.place.Place.{Place}
 use Rattle.ply_rows.specs.declared.refusal.RowRefusal.{RowRefusal}
 use Rattle.ply_rows.specs.declared.refusal.RowRefusal.TheVariants.{Cut, NoMemory}
-use Rattle.ply_rows.specs.Tokens.{Token}
+use Rattle.ply_rows.specs.Tokens.{Token, tokens_at}
 use Rattle.ply_rows.specs.Texts.{Fails, end_of_tokens, items_end, items_of}
+use Rattle.ply_rows.specs.Binaries.{size_of}
+use Rattle.ply_rows.specs.Items.{pieces, items_from, HasItems}
 
 end_of_tokens-push : (place : ℕ) (ts : List Token) (t : Token) → end_of_tokens place (ts ++ t ∷ []) ≡ t.place + length t.bytes
 end_of_tokens-push place [] t = refl
@@ -91,3 +96,14 @@ items_done at n t ts all left behind end lt ends is done =
 pub token_ends : (body : List ℕ) (start end : ℕ) → start < end → end ≤ length body
     → start + length (take (end - start) (drop start body)) ≡ end
 token_ends body start end lt le = omega (arith, length-take (end - start) (drop start body), length-drop start body)
+
+-- there are as many as are asked for
+pieces_count : (n size place : ℕ) (body : List ℕ) → length (pieces n size place body) ≡ n
+pieces_count zero size place body = refl
+pieces_count (suc n) size place body = ap suc (pieces_count n size (place + size) body)
+
+pub items_count : (kind : Kind) (item : Scalar) (body : List ℕ) (place n : ℕ) → HasItems kind item body place n
+    → length (items_from kind item body place n) ≡ n
+items_count Text item body place n there =
+    length-map (take n (tokens_at body place)) (λ (token : Token). token.bytes) ∙ length-take-le n (tokens_at body place) there
+items_count (Binary order) item body place n there = pieces_count n (size_of item) place body

@@ -1,6 +1,5 @@
 pub mod TokenLemmas
 pub mod ItemLemmas
-pub mod Walks
 pub mod RowLemmas
 pub mod ElementLemmas
 pub mod FitLemmas

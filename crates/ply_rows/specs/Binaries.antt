@@ -2,8 +2,7 @@
 --
 -- size_of        how many bytes a value of a type has
 -- IsWhole        a type of whole numbers
--- IsBinary       a kind whose bodies are binary
--- bits_of        the number that bytes are in a file's byte order
+-- bits_of        the number that bytes are in a byte order
 -- is_signed      a type of signed numbers
 -- signed_if      a number of so many bytes, in two's complement if it is signed
 -- number_of      the whole number that a value's bytes are
@@ -13,8 +12,8 @@
 use Rattle.std.specs.Prelude.{ℕ, ◌+◌, ◌*◌, ℤ, pos, List, Bool, true, false, nat_lt, length, take, drop, Result, Ok, Err}
 use Rattle.std.specs.Prelude.{if◌then◌else◌}
 use Rattle.byteorder.specs.Endian.{big_number, little_number, twos_complement}
-use Rattle.ply_head.specs.declared.header.Kind.{Kind}
-use Rattle.ply_head.specs.declared.header.Kind.TheVariants.{Ascii, BinaryBig}
+use Rattle.ply_head.specs.declared.header.Endian.{Endian}
+use Rattle.ply_head.specs.declared.header.Endian.TheVariants.{Little, Big}
 use Rattle.ply_head.specs.declared.header.Scalar.{Scalar}
 use Rattle.ply_head.specs.declared.header.Scalar.TheVariants.{Char, Uchar, Short, Ushort, Int, Uint, Float, Double}
 use Rattle.ply_head.specs.declared.header.Shape.{Shape}
@@ -43,15 +42,10 @@ IsWhole Float = ⊥
 IsWhole Double = ⊥
 IsWhole scalar = Unit {0}
 
--- a kind whose bodies are binary
-abbrev pub IsBinary : Kind → Type 0
-IsBinary Ascii = ⊥
-IsBinary kind = Unit {0}
-
--- the number that the first n bytes are, in the file's byte order
-abbrev pub bits_of : Kind → ℕ → List ℕ → ℕ
-bits_of BinaryBig n bytes = big_number n bytes
-bits_of kind n bytes = little_number n bytes
+-- the number that the first n bytes are, in this order
+abbrev pub bits_of : Endian → ℕ → List ℕ → ℕ
+bits_of Little n bytes = little_number n bytes
+bits_of Big n bytes = big_number n bytes
 
 -- a type of signed numbers
 abbrev pub is_signed : Scalar → Bool
@@ -66,8 +60,8 @@ signed_if true n bits = twos_complement n bits
 signed_if false n bits = pos bits
 
 -- the whole number that a value's bytes are
-abbrev pub number_of : Kind → Scalar → List ℕ → ℤ
-number_of kind scalar bytes = signed_if (is_signed scalar) (size_of scalar) (bits_of kind (size_of scalar) bytes)
+abbrev pub number_of : Endian → Scalar → List ℕ → ℤ
+number_of order scalar bytes = signed_if (is_signed scalar) (size_of scalar) (bits_of order (size_of scalar) bytes)
 
 -- so many bytes, and those behind them
 abbrev pub bytes_of : Place → ℕ → List ℕ → Result (List ℕ × List ℕ) RowRefusal
@@ -79,12 +73,12 @@ list_field place size items = record { place = if nat_lt 0 items then place else
 
 -- the field of a property in the bytes from a place on, and the bytes behind it with their
 -- place: as many bytes as the type has, or those of the count and then those of the items
-unfoldable pub binary_field : Kind → Place → Shape → ℕ × List ℕ → Result (Field × (ℕ × List ℕ)) RowRefusal
-binary_field kind at (One scalar) from = do
+unfoldable pub binary_field : Endian → Place → Shape → ℕ × List ℕ → Result (Field × (ℕ × List ℕ)) RowRefusal
+binary_field order at (One scalar) from = do
   value ← bytes_of at (size_of scalar) from.1
   Ok (record { place = from.0; size = size_of scalar; items = 1 }, (from.0 + size_of scalar, value.1))
-binary_field kind at (Many count item) from = do
+binary_field order at (Many count item) from = do
   first ← bytes_of at (size_of count) from.1
-  n ← count_in at (number_of kind count first.0)
+  n ← count_in at (number_of order count first.0)
   items ← bytes_of at (n * size_of item) first.1
   Ok (list_field (from.0 + size_of count) (n * size_of item) n, (from.0 + size_of count + n * size_of item, items.1))

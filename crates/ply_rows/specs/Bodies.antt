@@ -54,8 +54,8 @@ rows_of_element (property ∷ properties) element number (suc count) rest next =
 abbrev pub ending : Rest → BodyRows
 ending (text []) = ends
 ending (text (token ∷ tokens)) = refused (Trailing token.place)
-ending (raw kind place []) = ends
-ending (raw kind place (b ∷ bytes)) = refused (Trailing place)
+ending (raw order place []) = ends
+ending (raw order place (b ∷ bytes)) = refused (Trailing place)
 
 -- the rows of the elements, of which the first has this number and so many of its rows were
 -- given already

@@ -15,7 +15,7 @@ use Rattle.num_text.specs.WholeNumbers.{whole_of}
 use Rattle.ply_head.specs.declared.header.Header.{Header}
 use Rattle.ply_head.specs.declared.header.Element.{Element}
 use Rattle.ply_head.specs.declared.header.Property.{Property}
-use Rattle.ply_head.specs.declared.header.Kind.{Kind}
+use Rattle.ply_head.specs.declared.header.Endian.{Endian}
 use Rattle.ply_head.specs.declared.header.Shape.{Shape}
 use Rattle.ply_head.specs.declared.header.Shape.TheVariants.{One, Many}
 use Rattle.ply_rows.specs.declared.place.Field.{Field}
@@ -39,10 +39,10 @@ group_field (Many count item) (token ∷ items) = field_of_items items
 
 -- bytes that are a property with so many items: a value, or the number of the items and
 -- then the items
-abbrev pub IsPiece : Kind → Shape → ℕ → List ℕ → Type 0
-IsPiece kind (One scalar) items piece = length piece ≡ size_of scalar
-IsPiece kind (Many count item) items piece =
-    (length piece ≡ size_of count + items * size_of item) × (number_of kind count (take (size_of count) piece) ≡ pos items)
+abbrev pub IsPiece : Endian → Shape → ℕ → List ℕ → Type 0
+IsPiece order (One scalar) items piece = length piece ≡ size_of scalar
+IsPiece order (Many count item) items piece =
+    (length piece ≡ size_of count + items * size_of item) × (number_of order count (take (size_of count) piece) ≡ pos items)
     × (items ≤ 4294967295)
 
 -- the field of such bytes, which begin at a place
@@ -61,19 +61,19 @@ pub record BeginsText (shape : Shape) (field : Field) (tokens : List Token) (lef
 
 -- bytes from a place on begin with those of a property, whose field this is, and this is
 -- left behind them
-pub record BeginsBytes (kind : Kind) (shape : Shape) (field : Field) (place : ℕ) (bytes : List ℕ) (left : Rest) : Type 0 where
+pub record BeginsBytes (order : Endian) (shape : Shape) (field : Field) (place : ℕ) (bytes : List ℕ) (left : Rest) : Type 0 where
   pub items : ℕ
   pub piece : List ℕ
   pub behind : List ℕ
-  pub is_piece : IsPiece kind shape items piece
+  pub is_piece : IsPiece order shape items piece
   pub cut : bytes ≡ piece ++ behind
   pub field_is : field ≡ piece_field shape items place
-  pub left_is : left ≡ raw kind (place + length piece) behind
+  pub left_is : left ≡ raw order (place + length piece) behind
 
 -- what is left of a body begins with a property, whose field this is
 abbrev pub Begins : Shape → Field → Rest → Rest → Type 0
 Begins shape field (text tokens) left = BeginsText shape field tokens left
-Begins shape field (raw kind place bytes) left = BeginsBytes kind shape field place bytes left
+Begins shape field (raw order place bytes) left = BeginsBytes order shape field place bytes left
 
 -- what is left of a body begins with properties, one behind another, whose fields these are
 abbrev pub BeginsRow : List Property → List Field → Rest → Rest → Type 0
@@ -101,7 +101,7 @@ announced (element ∷ elements) number given =
 -- nothing is left
 abbrev pub IsNothing : Rest → Type 0
 IsNothing (text tokens) = tokens ≡ []
-IsNothing (raw kind place bytes) = bytes ≡ []
+IsNothing (raw order place bytes) = bytes ≡ []
 
 -- what is left of a body is these rows, one for each that is announced, and nothing follows
 abbrev pub Follows : List (RowAt × List Property) → List (RowAt × List Field) → Rest → Type 0

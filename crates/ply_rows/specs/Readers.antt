@@ -14,7 +14,7 @@ use Rattle.ply_head.specs.declared.header.Header.{Header}
 use Rattle.ply_head.specs.declared.header.Element.{Element}
 use Rattle.ply_head.specs.declared.header.Property.{Property}
 use Rattle.ply_head.specs.declared.header.Kind.{Kind}
-use Rattle.ply_head.specs.declared.header.Kind.TheVariants.{Ascii}
+use Rattle.ply_head.specs.declared.header.Kind.TheVariants.{Text, Binary}
 use Rattle.ply_head.specs.declared.header.Shape.{Shape}
 use Rattle.ply_head.specs.declared.header.Shape.TheVariants.{One, Many}
 use Rattle.ply_rows.specs.declared.place.Field.{Field}
@@ -45,13 +45,13 @@ IsInside body field = field.place + field.size ≤ length body
 
 -- in a binary body the field has as many bytes as its value or its items take
 abbrev pub HasSize : Kind → Shape → Field → Type 0
-HasSize Ascii shape field = Unit {0}
-HasSize kind (One scalar) field = field.size ≡ size_of scalar
-HasSize kind (Many count item) field = field.size ≡ field.items * size_of item
+HasSize Text shape field = Unit {0}
+HasSize (Binary order) (One scalar) field = field.size ≡ size_of scalar
+HasSize (Binary order) (Many count item) field = field.size ≡ field.items * size_of item
 
 -- in a text the items of a list are tokens that stand from the field's place on
 abbrev pub HasTokens : Kind → List ℕ → Shape → Field → Type 0
-HasTokens Ascii body (Many count item) field = field.items ≤ length (tokens_at body field.place)
+HasTokens Text body (Many count item) field = field.items ≤ length (tokens_at body field.place)
 HasTokens kind body shape field = Unit {0}
 
 -- the field is one of a property of this shape

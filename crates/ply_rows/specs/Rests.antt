@@ -6,7 +6,8 @@
 -- fields_of   the fields of a row's properties, and what is left behind them
 use Rattle.std.specs.Prelude.{ℕ, ◌+◌, List, [], ◌∷◌, drop, Result, Ok}
 use Rattle.ply_head.specs.declared.header.Kind.{Kind}
-use Rattle.ply_head.specs.declared.header.Kind.TheVariants.{Ascii, BinaryLittle, BinaryBig}
+use Rattle.ply_head.specs.declared.header.Kind.TheVariants.{Text, Binary}
+use Rattle.ply_head.specs.declared.header.Endian.{Endian}
 use Rattle.ply_head.specs.declared.header.Shape.{Shape}
 use Rattle.ply_head.specs.declared.header.Property.{Property}
 use Rattle.ply_head.specs.Answers.{◌>>=◌}
@@ -17,22 +18,21 @@ use Rattle.ply_rows.specs.Tokens.{Token, tokens_at}
 use Rattle.ply_rows.specs.Texts.{text_field}
 use Rattle.ply_rows.specs.Binaries.{binary_field}
 
--- what is left of a body: tokens, or, in a binary body, bytes from a place on
+-- what is left of a body: tokens, or, in a binary body, the bytes from a place on, with their order
 pub data Rest : Type 0 where
   text : List Token → Rest
-  raw : Kind → ℕ → List ℕ → Rest
+  raw : Endian → ℕ → List ℕ → Rest
 
 -- what is left of a body from a place on
 abbrev pub rest_at : Kind → List ℕ → ℕ → Rest
-rest_at Ascii body place = text (tokens_at body place)
-rest_at BinaryLittle body place = raw BinaryLittle place (drop place body)
-rest_at BinaryBig body place = raw BinaryBig place (drop place body)
+rest_at Text body place = text (tokens_at body place)
+rest_at (Binary order) body place = raw order place (drop place body)
 
 -- the field of a property, and what is left behind it
 unfoldable pub field_of : Place → Shape → Rest → Result (Field × Rest) RowRefusal
 field_of at shape (text tokens) = text_field at shape tokens >>= λ read. Ok (read.0, text read.1)
-field_of at shape (raw kind place bytes) =
-    binary_field kind at shape (place, bytes) >>= λ read. Ok (read.0, raw kind read.1.0 read.1.1)
+field_of at shape (raw order place bytes) =
+    binary_field order at shape (place, bytes) >>= λ read. Ok (read.0, raw order read.1.0 read.1.1)
 
 -- the fields of some properties of a row, the first of which has this number, and what is
 -- left behind them

@@ -2,15 +2,16 @@
 
 ghost use Rattle.std.specs.Prelude.{◌≡◌, ◌+◌, ◌≤◌, length, take, drop, IfOk};
 ghost use Rattle.ply_head.specs.Readable.{HasWholeCount};
-ghost use Rattle.ply_rows.specs.Texts.{Gives, count_in};
-ghost use Rattle.ply_rows.specs.Binaries.{size_of, IsWhole, IsBinary, is_signed, signed_if, number_of, bytes_of, binary_field};
+ghost use Rattle.ply_head.specs.declared.header.Kind.TheVariants.{Binary};
+ghost use Rattle.ply_rows.specs.Texts.{Gives};
+ghost use Rattle.ply_rows.specs.Binaries.{size_of, IsWhole, is_signed, signed_if, number_of, bytes_of, binary_field};
 ghost use Rattle.ply_rows.specs.Readers.{IsFieldOf};
 
 use crate::place::{Field, Place};
 use crate::refusal::RowRefusal;
 use crate::text::count_of_number;
 use byteorder::{BigEndian, ByteOrder, LittleEndian};
-use ply_head::{Kind, Scalar, Shape};
+use ply_head::{Endian, Scalar, Shape};
 
 /// How many bytes a value of this type has in a binary body.
 pub fn size(scalar: Scalar) -> usize
@@ -44,27 +45,15 @@ fn number_in<Order: ByteOrder>(scalar: Scalar, bytes: &[u8]) -> i64
 
 /// The whole number that a value's bytes are, in the file's byte order, in two's complement
 /// where its type is signed.
-pub fn binary_whole(kind: Kind, scalar: Scalar, bytes: &[u8]) -> i64
-    requires kind { IsBinary kind }
+pub fn binary_whole(order: Endian, scalar: Scalar, bytes: &[u8]) -> i64
     requires whole { IsWhole scalar }
     requires size { length bytes.now ≡ size_of scalar }
-    ensures { result ≡ number_of kind scalar bytes.now }
+    ensures { result ≡ number_of order scalar bytes.now }
 {
-    match kind {
-        Kind::Ascii => unreachable!(),
-        Kind::BinaryLittle => number_in::<LittleEndian>(scalar, bytes),
-        Kind::BinaryBig => number_in::<BigEndian>(scalar, bytes),
+    match order {
+        Endian::Little => number_in::<LittleEndian>(scalar, bytes),
+        Endian::Big => number_in::<BigEndian>(scalar, bytes),
     }
-}
-
-/// The number of items that some bytes say.
-fn count_in_bytes(kind: Kind, scalar: Scalar, bytes: &[u8], at: Place) -> Result<u32, RowRefusal>
-    requires kind { IsBinary kind }
-    requires whole { IsWhole scalar }
-    requires size { length bytes.now ≡ size_of scalar }
-    ensures { Gives (λ count. count) result (count_in at (number_of kind scalar bytes.now)) }
-{
-    count_of_number(binary_whole(kind, scalar, bytes), at)
 }
 
 /// So many bytes from a place on, and the place behind them.
@@ -90,18 +79,17 @@ fn bytes_from(
 /// The field of a property in a binary body, and the place behind it.
 #[tactic(auto, unfolding(crate::specs::Binaries::binary_field))]
 pub(crate) fn read_binary_field(
-    kind: Kind,
+    order: Endian,
     body: &[u8],
     at: Place,
     shape: Shape,
     place: usize,
 ) -> Result<(Field, usize), RowRefusal>
-    requires kind { IsBinary kind }
     requires place { place ≤ length body.now }
     requires count { HasWholeCount shape }
     ensures most { IfOk result (λ read. read.1 ≤ length body.now) }
-    ensures fits { IfOk result (λ read. IsFieldOf kind body.now shape read.0) }
-    ensures field { Gives (λ read. (read.0, (read.1, drop read.1 body.now))) result (binary_field kind at shape (place, drop place body.now)) }
+    ensures fits { IfOk result (λ read. IsFieldOf (Binary order) body.now shape read.0) }
+    ensures field { Gives (λ read. (read.0, (read.1, drop read.1 body.now))) result (binary_field order at shape (place, drop place body.now)) }
 {
     match shape {
         Shape::One(scalar) => {
@@ -115,7 +103,7 @@ pub(crate) fn read_binary_field(
         }
         Shape::Many { count, item } => {
             let (bytes, start) = bytes_from(body, at, size(count), place)?;
-            let items = count_in_bytes(kind, count, bytes, at)?;
+            let items = count_of_number(binary_whole(order, count, bytes), at)?;
             let all = items as usize * size(item);
             let (_, end) = bytes_from(body, at, all, start)?;
             let field = Field {

@@ -28,9 +28,8 @@ fn read_field(
     ensures field { Gives (λ read. (read.0, rest_at kind body.now read.1)) result (field_of at shape (rest_at kind body.now place)) }
 {
     match kind {
-        Kind::Ascii => read_text_field(body, at, shape, place),
-        Kind::BinaryLittle => read_binary_field(kind, body, at, shape, place),
-        Kind::BinaryBig => read_binary_field(kind, body, at, shape, place),
+        Kind::Text => read_text_field(body, at, shape, place),
+        Kind::Binary(order) => read_binary_field(order, body, at, shape, place),
     }
 }
 

@@ -3,7 +3,7 @@
 ghost use Rattle.std.specs.Prelude.{◌≡◌, ◌≤◌, ◌<◌, ◌+◌, ◌^◌, length, drop, take, slice_index_or, IfOk, IfSome};
 ghost use Rattle.ply_head.specs.declared.header.Element.{Element};
 ghost use Rattle.ply_head.specs.Readable.{IsReadable};
-ghost use Rattle.ply_rows.specs.Rests.{Rest, raw, rest_at};
+ghost use Rattle.ply_rows.specs.Rests.{Rest, rest_at};
 ghost use Rattle.ply_rows.specs.Bodies.{rows_from, rows_of, ending, Ends};
 ghost use Rattle.ply_rows.specs.Readers.{IsInside, EndsInside};
 
@@ -67,18 +67,6 @@ fn next_element(head: &Header, element: usize, row: u32) -> (usize, u32)
     (elements.len(), row)
 }
 
-/// What follows the last row of a binary body.
-fn end_of_bytes(kind: Kind, body: &[u8], place: usize) -> Result<(), RowRefusal>
-    requires { place ≤ length body.now }
-    ensures ends { Ends result (ending (raw kind place (drop place body.now))) }
-    ensures inside { EndsInside body.now result }
-{
-    match &body[place..] {
-        [] => Ok(()),
-        [_, ..] => Err(RowRefusal::Trailing { place }),
-    }
-}
-
 /// What follows the last row.
 fn end_of_rows(kind: Kind, body: &[u8], place: usize) -> Result<(), RowRefusal>
     requires { place ≤ length body.now }
@@ -86,11 +74,14 @@ fn end_of_rows(kind: Kind, body: &[u8], place: usize) -> Result<(), RowRefusal>
     ensures inside { EndsInside body.now result }
 {
     match kind {
-        Kind::Ascii => match next_token(body, place) {
+        Kind::Text => match next_token(body, place) {
             None => Ok(()),
             Some((start, _)) => Err(RowRefusal::Trailing { place: start }),
         },
-        _ => end_of_bytes(kind, body, place),
+        Kind::Binary(_) => match &body[place..] {
+            [] => Ok(()),
+            [_, ..] => Err(RowRefusal::Trailing { place }),
+        },
     }
 }
 
