@@ -1,4 +1,9 @@
 -- The labels that a certificate shows best, by the numbers of cells.
+--
+-- The network borrows the store and the lists of counts that it is made from, so what it has is equal to these (IsMadeOf), and what is
+-- stated about the one by number is stated about the other. Counts of a scene are those of all its cells, so the scene has a complex, and
+-- over it the certificate states what it states by number, each row about something there (checked). The cost of the best labels is that
+-- of labels that cost least, which the number of sights bounds (cost_fits).
 use Rattle.std.proofs.Common.{ℕ, ◌≡◌, ◌<◌, ◌^◌, sym, subst, ◌∙◌, arith, Bool, List}
 use Rattle.cell_net.specs.declared.network.CellNetwork.{CellNetwork}
 use Rattle.cert_text.specs.Certificates.{Claim, IsWellFormed}
@@ -12,11 +17,12 @@ use Rattle.surface.specs.Labelled.{AreLabelsOver}
 use Rattle.tetra_store.specs.Store.{Store}
 use Rattle.visibility.specs.Complexes.{Complex}
 use Rattle.visibility.specs.Cuts.{cost}
+use Rattle.visibility.specs.Listings.{IsListingOf}
 use Rattle.visibility.specs.Scenes.{Scene}
 use Rattle.visibility.specs.Votes.{IsComplexOf}
 use Rattle.vote_net.specs.ByNumber.{SaysOfCells}
 use Rattle.vote_net.specs.Counts.{AreCellsOf, AreCountsOf}
-use Rattle.vote_net.proofs.SceneNetwork.{stored_listing}
+use Rattle.vote_net.specs.StoredComplexes.{stored_complex}
 use Rattle.scan_cut.proofs.Counted.{counts_are}
 use Rattle.recon_check.specs.Claims.{is_inside, AreThere}
 use Rattle.recon_check.specs.Faults.{IsBest}
@@ -24,6 +30,7 @@ use Rattle.recon_check.specs.Over.{IsStatedOver}
 use Rattle.recon_check.specs.Stated.{IsFlaggedFor, IsStatedBy}
 use Rattle.recon_check.specs.Surfaces.{AreShownLabels}
 use Rattle.recon_check.specs.declared.stated.Stated.{Stated}
+use Rattle.recon_check.proofs.StatedRows.{listing}
 
 -- what the network has is what it was made from
 pub record IsMadeOf (net : CellNetwork) (store : Store) (crossed behind : List ℕ) (fixed : List Bool) (settings : Settings) : Type 0 where
@@ -33,43 +40,10 @@ pub record IsMadeOf (net : CellNetwork) (store : Store) (crossed behind : List �
   pub fixed_is : net.counts.fixed.now ≡ fixed
   pub settings_is : net.settings ≡ settings
 
-pub counts_over : (s : Scene) (net : CellNetwork) (store : Store) (crossed behind : List ℕ) (fixed : List Bool) (settings : Settings)
-    → AreCountsOf s store.slots crossed behind fixed → IsMadeOf net store crossed behind fixed settings
-    → AreCountsOf s net.tetra.now.slots net.counts.crossed.now net.counts.behind.now net.counts.fixed.now
-counts_over s net store crossed behind fixed settings counts made =
-    counts_are s store net.tetra.now crossed behind net.counts.crossed.now net.counts.behind.now fixed net.counts.fixed.now counts
-    made.tetra made.crossed_is made.behind_is made.fixed_is
-
--- the scene has a complex
-pub some_complex : (s : Scene) (net : CellNetwork) (store : Store) (crossed behind : List ℕ) (fixed : List Bool) (settings : Settings)
-    → AreCountsOf s store.slots crossed behind fixed → IsMadeOf net store crossed behind fixed settings → s.settings ≡ settings
-    → (complex : Complex) × IsComplexOf s complex
-some_complex s net store crossed behind fixed settings counts made same =
-    let listing =
-    stored_listing s net.tetra.now.slots net.counts.crossed.now net.counts.behind.now net.counts.fixed.now net.settings
-    (counts_over s net store crossed behind fixed settings counts made) net.shape (same ∙ sym made.settings_is) in
-    (listing.complex, listing.complex_is)
-
--- and what is stated about that is stated about it
-pub stated_over : (s : Scene) (complex : Complex) (net : CellNetwork) (claim : Claim) (stated : Stated) (store : Store)
-    (crossed behind : List ℕ) (fixed flags : List Bool) (settings : Settings)
-    → AreCountsOf s store.slots crossed behind fixed → IsMadeOf net store crossed behind fixed settings → s.settings ≡ settings
-    → IsComplexOf s complex → IsWellFormed claim → flags ≡ fixed → IsStatedBy store.slots flags claim stated
-    → IsStatedOver s complex net claim stated
-stated_over s complex net claim stated store crossed behind fixed flags settings counts made same is formed flags_are stating = record {
-  counts = counts_over s net store crossed behind fixed settings counts made;
-  settings = same ∙ sym made.settings_is;
-  complex_is = is;
-  formed = formed;
-  stated_is =
-      subst (λ (t : Store). IsStatedBy t.slots net.counts.fixed.now claim stated) (sym made.tetra)
-      (subst (λ (given : List Bool). IsStatedBy store.slots given claim stated) (flags_are ∙ sym made.fixed_is) stating);
-}
-
 -- the flags are of counts of the scene, whatever their list is called
-pub flagged : (s : Scene) (store : Store) (crossed behind : List ℕ) (fixed flags : List Bool)
+pub flagged : (s : Scene) (store : Store) (crossed behind : List ℕ) {fixed flags : List Bool}
     → AreCountsOf s store.slots crossed behind fixed → flags ≡ fixed → IsFlaggedFor s store.slots flags
-flagged s store crossed behind fixed flags counts same = record {
+flagged s store crossed behind counts same = record {
   crossed = crossed;
   behind = behind;
   counts = subst (λ (given : List Bool). AreCountsOf s store.slots crossed behind given) (sym same) counts;
@@ -82,22 +56,36 @@ pub record IsChecked (s : Scene) (net : CellNetwork) (claim : Claim) (stated : S
   pub over : IsStatedOver s complex net claim stated
   pub there : AreThere complex claim
 
-pub checked : (s : Scene) (net : CellNetwork) (claim : Claim) (stated : Stated) (store : Store) (crossed behind : List ℕ)
-    (fixed flags : List Bool) (settings : Settings) → AreCountsOf s store.slots crossed behind fixed
-    → IsMadeOf net store crossed behind fixed settings → s.settings ≡ settings → IsWellFormed claim → flags ≡ fixed
-    → IsStatedBy store.slots flags claim stated
-    → ((complex : Complex) → IsFlaggedFor s store.slots flags → IsComplexOf s complex → AreThere complex claim)
-    → IsChecked s net claim stated
-checked s net claim stated store crossed behind fixed flags settings counts made same formed flags_are stating there =
-    let z = some_complex s net store crossed behind fixed settings counts made same in
-    record {
-      complex = z.0;
-      complex_is = z.1;
-      over =
-          stated_over s z.0 net claim stated store crossed behind fixed flags settings counts made same z.1 formed flags_are
-          stating;
-      there = there z.0 (flagged s store crossed behind fixed flags counts flags_are) z.1;
-    }
+module _ (s : Scene) (net : CellNetwork) (store : Store) (crossed behind : List ℕ) (fixed : List Bool) (settings : Settings)
+    (counts : AreCountsOf s store.slots crossed behind fixed) (made : IsMadeOf net store crossed behind fixed settings)
+    (same : s.settings ≡ settings) where
+  -- what is stated is stated over it
+  pub checked : (claim : Claim) (stated : Stated) (flags : List Bool) → IsWellFormed claim → flags ≡ fixed
+      → IsStatedBy store.slots flags claim stated
+      → ((complex : Complex) → IsFlaggedFor s store.slots flags → IsComplexOf s complex → AreThere complex claim)
+      → IsChecked s net claim stated
+  checked claim stated flags formed flags_are stating there = record {
+    complex = all.complex;
+    complex_is = all.complex_is;
+    over = record {
+      counts =
+          counts_are s store net.tetra.now crossed behind net.counts.crossed.now net.counts.behind.now fixed net.counts.fixed.now
+          counts made.tetra made.crossed_is made.behind_is made.fixed_is;
+      settings = same ∙ sym made.settings_is;
+      complex_is = all.complex_is;
+      formed = formed;
+      stated_is =
+          subst (λ (t : Store). IsStatedBy t.slots net.counts.fixed.now claim stated) (sym made.tetra)
+          (subst (λ (given : List Bool). IsStatedBy store.slots given claim stated) (flags_are ∙ sym made.fixed_is) stating);
+    };
+    there = there all.complex given all.complex_is;
+  }
+    where
+      given : IsFlaggedFor s store.slots flags
+      given = flagged s store crossed behind counts flags_are
+
+      all : IsListingOf s (stored_complex flags store.slots)
+      all = listing s store.slots flags given
 
 -- the labels are those of the scene's cells, whatever their list is called
 pub labels_over : (scan : Shown) (settings : Settings) (store : Store) (claim : Claim) (labels : Labels) (given : List Bool)

@@ -1,4 +1,8 @@
 -- The first of the numbers that differs.
+--
+-- Each number is compared alone: it is told where it differs, which is a fault if all numbers before it are the scan's (told_so). The
+-- first of two that may be told is the first one where there is one, else the second, which is then told where the first is the same
+-- (or_next). So the first of all five is a fault, and where none is told all five are the scan's (first_told).
 use Rattle.std.proofs.Common.{ℕ, ◌≡◌, refl, sym, subst, Bool, true, false, cond, eqb, Option, Some, None, IfSome, IfNone}
 use Rattle.std.proofs.Common.{MatchOption, List, [], ◌∷◌, All}
 use Rattle.std.specs.Option.{option_or}

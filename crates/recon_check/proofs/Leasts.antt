@@ -1,4 +1,8 @@
 -- The search for the least cell that is not balanced, number by number.
+--
+-- So far none is unbalanced, or the one that is kept has the least row of those that are (IsLeastSoFar). A balanced cell changes nothing
+-- (balanced_more). Of an unbalanced one and the one that is kept, the one with the lesser row goes on: its row is no greater than either,
+-- and so than that of any cell before (unbalanced_more).
 use Rattle.std.proofs.Common.{ℕ, ◌≡◌, ◌<◌, ◌≤◌, ◌+◌, ◌⊎◌, inl, inr, ⊎_elim, refl, sym, subst, arith, Option, Some, None, IfSome}
 use Rattle.std.proofs.lemmas.Bool.{cases_lt}
 use Rattle.cell_net.specs.declared.network.CellNetwork.{CellNetwork}

@@ -1,4 +1,3 @@
-pub mod NoneStated
 pub mod Firsts
 pub mod Lists
 pub mod KeyedRows

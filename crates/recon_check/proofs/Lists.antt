@@ -2,11 +2,11 @@
 --
 -- Two rising lists with the same members are one list. So rising rows that are among rising keys are the keys that are among
 -- them (among_kept). And rising rows of amounts that are not 0 are the rows of what they state: of the key of a row they
--- state its amount (stated_row), of any other key 0 (about_one), so the keys with an amount are those of the rows
+-- state its amount (stated_at), of any other key 0 (not_about), so the keys with an amount are those of the rows
 -- (rows_listed).
 use Rattle.std.proofs.Common.{ℕ, zero, suc, ◌≡◌, ◌≢◌, ◌<◌, ◌≤◌, not, refl, ap, sym, subst, ◌∙◌, arith, Bool, true, false, cond}
 use Rattle.std.proofs.Common.{eqb, List, [], ◌∷◌, length, map, filter, get_or, All, AllPairs, Contains}
-use Rattle.std.proofs.lemmas.Bool.{eq-eqb, ne_eqb, false_from_ne_true}
+use Rattle.std.proofs.lemmas.Bool.{eq-eqb, ne_eqb, false_from_ne_true, true_from_ne_false, or_parts}
 use Rattle.std.proofs.lemmas.List.{get_or-map, get_or_default, length-map, same_lists}
 use Rattle.std.proofs.lemmas.List.Elements.{All-contains, All-contains_itself, All-filter, All-map, filter_passes}
 use Rattle.std.proofs.lemmas.List.Folds.{list_any-from_Any, Any-from_list_any}
@@ -18,7 +18,6 @@ use Rattle.std.specs.Str.{bytes_eq}
 use Rattle.std.proofs.lemmas.Slice.Eq.{bytes_eq-Decides}
 use Rattle.visibility.proofs.Indices.{not_before_itself}
 use Rattle.recon_check.specs.Claims.{is_among_rows}
-use Rattle.recon_check.proofs.NoneStated.{none_stated}
 
 -- ---- what is among rows
 pub among_from : (rows : List (List ℕ)) (row : List ℕ) → Contains rows row → is_among_rows rows row ≡ true
@@ -66,39 +65,45 @@ among_kept rows keys rise keys_rise there =
 
 -- ---- rows that state amounts
 -- what rising rows state of the key of one of them is its amount
-pub stated_row : {Row : Type 0} (about : Row → List ℕ) (amount : Row → ℕ) (rows : List Row) → AllPairs IsBefore (map about rows)
-    → (i : ℕ) (d : Row) → i < length rows
-    → stated about amount rows (about (get_or rows i d)) ≡ amount (get_or rows i d)
-stated_row about amount [] rising i d l = absurd (omega arith)
-stated_row about amount (row ∷ rows) rising zero d l =
+pub stated_at : {Row : Type 0} (about : Row → List ℕ) (amount : Row → ℕ) (rows : List Row) → AllPairs IsBefore (map about rows)
+    → (k : ℕ) → k < length (map about rows) → stated about amount rows (get_or (map about rows) k []) ≡ get_or (map amount rows) k 0
+stated_at about amount [] rising k l = absurd (omega arith)
+stated_at about amount (row ∷ rows) rising zero l =
     ap (λ (b : Bool). cond b (amount row) (stated about amount rows (about row)))
     ((bytes_eq-Decides (about row) (about row)).1 refl)
-stated_row about amount (row ∷ rows) rising (suc i) d l =
-    let m : i < length rows = omega arith in
-    let before : IsBefore (about row) (about (get_or rows i d)) =
-    subst (λ (key : List ℕ). IsBefore (about row) key) (get_or-map about rows i d [] m)
-    (rising 0 (suc i) [] (omega arith) (omega (arith, m, length-map rows about))) in
-    let differs : bytes_eq (about row) (about (get_or rows i d)) ≡ false =
+stated_at about amount (row ∷ rows) rising (suc k) l =
+    let key : List ℕ = get_or (map about rows) k [] in
+    let before : IsBefore (about row) key = rising 0 (suc k) [] (omega arith) l in
+    let differs : bytes_eq (about row) key ≡ false =
     false_from_ne_true _
-    (λ e. not_before_itself (about (get_or rows i d))
-    (subst (λ (key : List ℕ). IsBefore key (about (get_or rows i d))) ((bytes_eq-Decides _ _).0 e) before)) in
-    ap (λ (b : Bool). cond b (amount row) (stated about amount rows (about (get_or rows i d)))) differs
-    ∙ stated_row about amount rows (λ j k e n o. rising (suc j) (suc k) e (omega arith) (omega arith)) i d m
+    (λ e. not_before_itself key (subst (λ (z : List ℕ). IsBefore z key) ((bytes_eq-Decides _ _).0 e) before)) in
+    ap (λ (b : Bool). cond b (amount row) (stated about amount rows key)) differs
+    ∙ stated_at about amount rows (λ i j e m n. rising (suc i) (suc j) e (omega arith) (omega arith)) k (omega arith)
 
--- a key with an amount has a row
+-- what a row that was read is about stands at its place, and its amount is what they state of that
+pub row_told : {Row : Type 0} (about : Row → List ℕ) (amount : Row → ℕ) (rows : List Row) → AllPairs IsBefore (map about rows)
+    → (k : ℕ) (row : Row) → k < length rows → row ≡ get_or rows k row
+    → (about row ≡ get_or (map about rows) k []) × (amount row ≡ stated about amount rows (about row))
+row_told about amount rows rising k row l read =
+    let key : about row ≡ get_or (map about rows) k [] = ap about read ∙ sym (get_or-map about rows k row [] l) in (
+      key,
+      ap amount read ∙ sym (get_or-map amount rows k row 0 l)
+          ∙ sym (ap (stated about amount rows) key ∙ stated_at about amount rows rising k (omega (arith, l, length-map rows about))),
+    )
+
+-- a key that no row is about has none
+pub not_about : {Row : Type 0} (about : Row → List ℕ) (amount : Row → ℕ) (rows : List Row) (key : List ℕ)
+    → is_among_rows (map about rows) key ≡ false → stated about amount rows key ≡ 0
+not_about about amount [] key none = refl
+not_about about amount (row ∷ rows) key none =
+    let apart = or_parts (bytes_eq (about row) key) (is_among_rows (map about rows) key) none in
+    ap (λ (b : Bool). cond b (amount row) (stated about amount rows key)) apart.0 ∙ not_about about amount rows key apart.1
+
+-- so one with an amount has a row
 pub about_one : {Row : Type 0} (about : Row → List ℕ) (amount : Row → ℕ) (rows : List Row) (key : List ℕ)
     → stated about amount rows key ≢ 0 → Contains (map about rows) key
-about_one {Row} about amount rows key some = by (is_among_rows (map about rows) key) refl
-  where
-    by : (b : Bool) → is_among_rows (map about rows) key ≡ b → Contains (map about rows) key
-    by true e = among_means (map about rows) key e
-    by false e = absurd (some (none_stated about amount rows key (λ i l same.
-        let there : Contains (map about rows) key = (
-          i,
-          omega (arith, l, length-map rows about),
-          get_or_default (map about rows) i key [] (omega (arith, l, length-map rows about)) ∙ same,
-        ) in
-        cc (e, among_from (map about rows) key there))))
+about_one about amount rows key some =
+    among_means (map about rows) key (true_from_ne_false _ (λ none. some (not_about about amount rows key none)))
 
 some_from : (n : ℕ) → not (eqb n 0) ≡ true → n ≢ 0
 some_from n passes none = let h : eqb n 0 ≡ true = eq-eqb n 0 none in cc
@@ -115,7 +120,8 @@ rows_listed {Row} make about amount makes rows keys rise keys_rise there some =
     elements ∙ ap (map (λ (key : List ℕ). make key (stated about amount rows key))) same_keys
   where
     row_is : (k : ℕ) (d : Row) → k < length rows → stated about amount rows (about (get_or rows k d)) ≡ amount (get_or rows k d)
-    row_is k d l = stated_row about amount rows rise k d l
+    row_is k d l =
+        sym (row_told about amount rows rise k (get_or rows k d) l (get_or_default rows k d (get_or rows k d) l)).1
 
     tests : All (λ (key : List ℕ). not (eqb (stated about amount rows key) 0) ≡ true) (map about rows)
     tests =

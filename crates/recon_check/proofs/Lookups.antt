@@ -4,10 +4,10 @@
 -- (IsNarrowed). Behind the end of it only the key at the place that is left can be the one, since later ones come after that.
 -- The order is that of the comparison of lists, in which keys rise that rise by IsBefore.
 use Rattle.std.proofs.Common.{ℕ, ◌≡◌, ◌≢◌, ◌+◌, ◌-◌, ◌<◌, ◌≤◌, ⊎_elim, refl, ap, sym, subst, ◌∙◌, arith, Bool, true, false}
-use Rattle.std.proofs.Common.{List, [], ◌∷◌, ◌++◌, length, map, replicate, get_or}
+use Rattle.std.proofs.Common.{List, [], ◌∷◌, ◌++◌, length, map, get_or}
 use Rattle.std.proofs.Common.{set, slice_index, AllPairs, Ordering, Less, Equal, Greater, Some}
-use Rattle.std.proofs.lemmas.Bool.{cases_lt, false≢true}
-use Rattle.std.proofs.lemmas.List.{get_or-map, get_or-replicate, length-replicate, get_or-set_same, get_or-set_other}
+use Rattle.std.proofs.lemmas.Bool.{cases_Bool, cases_lt, false≢true}
+use Rattle.std.proofs.lemmas.List.{get_or-map, get_or-set_same, get_or-set_other}
 use Rattle.std.proofs.lemmas.List.{get_or_append_left, get_or-append_right, length-append, length-set}
 use Rattle.std.proofs.lemmas.Slice.Eq.{bytes_eq-Decides}
 use Rattle.std.specs.Str.{bytes_eq}
@@ -173,13 +173,6 @@ module _ (keys : List (List ℕ)) (rising : AllPairs IsBefore keys) (from to : �
       (cases_lt low k))
       (cases_lt k low)
 
-pub narrowed_first : (keys : List (List ℕ)) (from to : ℕ) (key : List ℕ) → IsNarrowed keys from to key from to
-narrowed_first keys from to key = record {
-  end = omega arith;
-  below = λ k f l. absurd (omega arith);
-  above = λ k f l. absurd (omega arith);
-}
-
 -- ---- amounts at numbers
 -- those of the first n, and 0 elsewhere
 pub record ArePlaced (amounts numbers placed : List ℕ) (n : ℕ) : Type 0 where
@@ -187,19 +180,6 @@ pub record ArePlaced (amounts numbers placed : List ℕ) (n : ℕ) : Type 0 wher
   pub unset : (v : ℕ) → ((k : ℕ) → k < n → slice_index numbers k ≢ v) → slice_index placed v ≡ 0
 
 -- ---- what is noted
--- nothing yet
-pub found_none : (limit n : ℕ) (is_there : ℕ → Bool) (key_at : ℕ → List ℕ) (keys : List (List ℕ)) → n ≡ length keys
-    → AreFound limit 0 is_there key_at keys (replicate n limit)
-found_none limit n is_there key_at keys e = record {
-  count = length-replicate n limit ∙ e;
-  there = λ k l m. absurd (none k l m);
-  key = λ k l m. absurd (none k l m);
-  all = λ j k l there m at. absurd (omega arith);
-}
-  where
-    none : (k : ℕ) → k < length keys → slice_index (replicate n limit) k < limit → ⊥
-    none k l m = let at = get_or-replicate n k limit 0 (omega (arith, l, e)) in omega (arith, m, at)
-
 module _ (limit n : ℕ) (is_there : ℕ → Bool) (key_at : ℕ → List ℕ) (keys : List (List ℕ)) (old : List ℕ)
     (h : AreFound limit n is_there key_at keys old) where
   -- nothing is at the number
@@ -232,11 +212,11 @@ module _ (limit n : ℕ) (is_there : ℕ → Bool) (key_at : ℕ → List ℕ) (
   }
     where
       by : {P : Type 0} (k : ℕ) → (get_or keys k [] ≡ key → P) → (get_or keys k [] ≢ key → P) → P
-      by {P} k same other = pick (bytes_eq (get_or keys k []) key) refl
-        where
-          pick : (b : Bool) → bytes_eq (get_or keys k []) key ≡ b → P
-          pick true e = same ((bytes_eq-Decides (get_or keys k []) key).0 e)
-          pick false e = other (λ (g : get_or keys k [] ≡ key). false≢true (sym e ∙ (bytes_eq-Decides (get_or keys k []) key).1 g))
+      by k same other =
+          let test : Bool = bytes_eq (get_or keys k []) key in
+          ⊎_elim (λ (e : test ≡ true). same ((bytes_eq-Decides (get_or keys k []) key).0 e))
+          (λ (e : test ≡ false). other (λ (g : get_or keys k [] ≡ key).
+          false≢true (sym e ∙ (bytes_eq-Decides (get_or keys k []) key).1 g))) (cases_Bool test)
 
 -- the number was written at the place of the key
 pub noted_at : (keys : List (List ℕ)) (key : List ℕ) (number place : ℕ) (old : List ℕ) → AllPairs IsBefore keys

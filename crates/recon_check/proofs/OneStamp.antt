@@ -1,5 +1,9 @@
 -- A stamp has one first part that differs, and none where it is that of this run.
-use Rattle.std.proofs.Common.{◌≡◌, ap, sym, subst, ◌∙◌}
+--
+-- Of two parts that are said to differ first the later one says that the earlier is the same, so they are one part (one_part), and what
+-- is told of it are the two values that it has. A certificate has one stamp (one_stamp), and one that has that of this run differs in no
+-- part (not_other).
+use Rattle.std.proofs.Common.{◌≡◌, ap, sym, subst, ◌∙◌, arith}
 use Rattle.std.proofs.lemmas.Option.{same_Some}
 use Rattle.cert_text.specs.Stamps.{StampView}
 use Rattle.cert_text.specs.Certificates.{Claim}
@@ -24,24 +28,15 @@ one_part here stated (OtherScan a b) (OtherScan c d) h k =
     let first : a ≡ c = h.0 ∙ sym k.0 in
     let second : b ≡ d = h.1 ∙ sym k.1 in
     cc
-one_part here stated (OtherScan a b) (OtherUnit c d) h k = absurd (h.2 (h.0 ∙ k.0 ∙ sym h.1))
-one_part here stated (OtherScan a b) (OtherFixed p q) h k = absurd (h.2 (h.0 ∙ k.0 ∙ sym h.1))
-one_part here stated (OtherScan a b) _ h k = absurd k
-one_part here stated (OtherUnit a b) (OtherScan c d) h k = absurd (k.2 (k.0 ∙ h.0 ∙ sym k.1))
 one_part here stated (OtherUnit a b) (OtherUnit c d) h k =
     let first : a ≡ c = h.1 ∙ sym k.1 in
     let second : b ≡ d = h.2 ∙ sym k.2 in
     cc
-one_part here stated (OtherUnit a b) (OtherFixed p q) h k = absurd (h.3 (h.1 ∙ k.1 ∙ sym h.2))
-one_part here stated (OtherUnit a b) _ h k = absurd k
-one_part here stated (OtherFixed p q) (OtherScan c d) h k = absurd (k.2 (k.0 ∙ h.0 ∙ sym k.1))
-one_part here stated (OtherFixed p q) (OtherUnit c d) h k = absurd (k.3 (k.1 ∙ h.1 ∙ sym k.2))
 one_part here stated (OtherFixed p q) (OtherFixed a b) h k =
     let first : p ≡ a = h.2 ∙ sym k.2 in
     let second : q ≡ b = h.3 ∙ sym k.3 in
     cc
-one_part here stated (OtherFixed p q) _ h k = absurd k
-one_part here stated _ other h k = absurd h
+one_part here stated _ _ h k = absurd (first_of (assumption, grind arith))
 
 pub one_stamp : (here : StampView) (claim : Claim) (reason other : Reason) → IsOtherStamp here claim reason
     → IsOtherStamp here claim other → reason ≡ other

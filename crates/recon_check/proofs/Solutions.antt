@@ -1,4 +1,9 @@
 -- A solution is a certificate without a fault, and the text of its mesh.
+--
+-- The inside cells that a certificate lists are those of its labels, so the test of being listed agrees with the labels on all cells, and
+-- costs the same, is the least inside and cuts the same facets (best_from). The other way round, rows that are all there, rise and state
+-- no 0 are exactly the rows of what they state (rows_listed), and inside rows those of the cells that are among them (among_kept): this
+-- is what a solution's certificate is to have (solution_from).
 use Rattle.std.proofs.Common.{ℕ, ◌≡◌, ◌≤◌, ◌++◌, refl, ap, sym, subst, ◌∙◌, Bool, List, map, All}
 use Rattle.std.proofs.Common.{Contains}
 use Rattle.std.proofs.lemmas.List.Elements.{All-weaker}

@@ -1,5 +1,5 @@
 -- What is said of a stop.
-use Rattle.std.proofs.Common.{◌≡◌, Result, Ok, Err, IfErr, Option, Some, None, IfSome, IfNone, OnOk, sym, subst, ◌∙◌, ap}
+use Rattle.std.proofs.Common.{◌≡◌, Result, Ok, Err, IfErr, Option, Some, None, IfNone, sym, subst, ◌∙◌, ap}
 use Rattle.std.specs.Result.{IsErrAnd}
 use Rattle.std.proofs.lemmas.Result.{err_from_is_err_and}
 use Rattle.recon_check.specs.Stops.{StopsFor}
@@ -26,15 +26,7 @@ pub result_weaker : {T : Type 0} (r : Result T Stop) (P Q : Reason → Type 0) �
 result_weaker (Ok x) P Q f h = tt
 result_weaker (Err stop) P Q f h = stop_weaker stop P Q f h
 
-pub ok_weaker : {T : Type 0} (r : Result T Stop) (P Q : Type 0) → (P → Q) → OnOk r P → OnOk r Q
-ok_weaker (Ok x) P Q f h = f h
-ok_weaker (Err stop) P Q f h = tt
-
 -- ---- and of a reason that there may be
 pub none_from : {T : Type 0} (found : Option T) (P : Type 0) → P → IfNone found P
 none_from None P h = h
 none_from (Some x) P h = tt
-
-pub some_weaker : {T : Type 0} (found : Option T) (P Q : T → Type 0) → ((x : T) → P x → Q x) → IfSome found P → IfSome found Q
-some_weaker None P Q f h = tt
-some_weaker (Some x) P Q f h = f x h

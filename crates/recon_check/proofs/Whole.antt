@@ -1,58 +1,53 @@
 -- Answers from what is known of the two texts.
-use Rattle.std.proofs.Common.{ℕ, ◌≡◌, inl, inr, refl, List, length}
+--
+-- Texts of a solution have the answer Yes, and no second one (one_answer): so whatever is answered of them is that Yes (built_yes), and
+-- what is answered by a reason has no solution's texts (not_accepted). A fault over the complex of the scan is a fault (reason_fault), and
+-- a fault of what the text states is the answer, since no fault is one of the three by which a text is refused (fault_answer).
+use Rattle.std.proofs.Common.{ℕ, ◌≡◌, inl, inr, refl, List}
 use Rattle.cert_text.specs.Stamps.{StampView}
 use Rattle.cert_text.specs.Certificates.{Claim, IsWellFormed}
 use Rattle.cert_text.specs.Texts.{cert_text}
 use Rattle.flow_net.specs.declared.votes.Settings.{Settings}
-use Rattle.mesh_ply.specs.Meshes.{Surface}
 use Rattle.solution.specs.Scans.{scene_of_scan}
-use Rattle.solution.specs.Solutions.{HasCounts, IsSolution}
+use Rattle.solution.specs.Solutions.{HasCounts}
 use Rattle.scan.specs.Shown.{Shown}
 use Rattle.visibility.specs.Complexes.{Complex}
 use Rattle.visibility.specs.Votes.{IsComplexOf}
-use Rattle.recon_check.specs.Answers.{surface_text, IsReason, IsFault, IsFaultHere, IsAccepted, IsAnswer}
-use Rattle.recon_check.specs.Stamps.{IsStampedFor}
-use Rattle.recon_check.specs.declared.answer.Answer.TheVariants.{Yes, No}
+use Rattle.recon_check.specs.Answers.{IsReason, IsFault, IsFaultHere, IsAccepted, IsAnswer, IsYesWhereSolved}
+use Rattle.recon_check.specs.declared.answer.Answer.{Answer}
+use Rattle.recon_check.specs.declared.answer.Answer.TheVariants.{No}
 use Rattle.recon_check.specs.declared.answer.Reason.{Reason}
 use Rattle.recon_check.specs.declared.answer.Reason.TheVariants.{CertLine, CertOrder, CertCut, OtherCounts}
 use Rattle.recon_check.proofs.Uniqueness.{one_answer}
 
--- texts of a solution are answered by Yes
-pub built_yes : (scan : Shown) (settings : Settings) (stamp : StampView) (mesh cert : List ℕ) (surface : Surface)
-    (claim : Claim) → IsSolution scan settings surface claim → IsWellFormed claim → IsStampedFor stamp claim
-    → mesh ≡ surface_text surface → cert ≡ cert_text claim
-    → IsAnswer scan settings stamp mesh cert (Yes (length claim.inside) (length surface.faces) claim.counts.cost)
-built_yes scan settings stamp mesh cert surface claim solution formed stamped mesh_is cert_is = record {
-  claim = claim;
-  well_formed = formed;
-  text_is = cert_is;
-  holds = (
-    stamped,
-    record {
-      shown = record { surface = surface; mesh_is = mesh_is; solution = solution };
-      inside_is = refl;
-      faces_is = refl;
-      cost_is = refl;
-    },
-  );
-}
+-- texts of a solution are answered by Yes, and by nothing else
+pub built_yes : (scan : Shown) (settings : Settings) (stamp : StampView) (mesh cert : List ℕ) (answer : Answer)
+    → IsAnswer scan settings stamp mesh cert answer → IsYesWhereSolved scan settings stamp mesh cert answer
+built_yes scan settings stamp mesh cert answer h surface claim solution formed stamped mesh_is cert_is =
+    one_answer scan settings stamp mesh cert answer _ h (record {
+      claim = claim;
+      well_formed = formed;
+      text_is = cert_is;
+      holds = (
+        stamped,
+        record {
+          shown = record { surface = surface; mesh_is = mesh_is; solution = solution };
+          inside_is = refl;
+          faces_is = refl;
+          cost_is = refl;
+        },
+      );
+    })
 
-pub accepted_yes : (scan : Shown) (settings : Settings) (stamp : StampView) (mesh cert : List ℕ)
-    (h : IsAccepted scan settings stamp mesh cert)
-    → IsAnswer scan settings stamp mesh cert
-    (Yes (length h.claim.inside) (length (h.holds.1).surface.faces) h.claim.counts.cost)
-accepted_yes scan settings stamp mesh cert h =
-    built_yes scan settings stamp mesh cert (h.holds.1).surface h.claim (h.holds.1).solution h.well_formed h.holds.0
-    (h.holds.1).mesh_is h.text_is
-
--- what is answered by a reason is not accepted
+-- so what is answered by a reason is not accepted
 pub not_accepted : (scan : Shown) (settings : Settings) (stamp : StampView) (mesh cert : List ℕ) (reason : Reason)
     → IsAnswer scan settings stamp mesh cert (No reason) → IsAccepted scan settings stamp mesh cert → ⊥
 not_accepted scan settings stamp mesh cert reason h accepted =
-    let same : No reason
-    ≡ Yes (length accepted.claim.inside) (length (accepted.holds.1).surface.faces) accepted.claim.counts.cost =
-    one_answer scan settings stamp mesh cert (No reason) _ h (accepted_yes scan settings stamp mesh cert accepted) in
-    cc
+    let solved = accepted.holds.1 in
+    let same =
+    built_yes scan settings stamp mesh cert (No reason) h solved.surface accepted.claim solved.solution accepted.well_formed
+    accepted.holds.0 solved.mesh_is accepted.text_is in
+    cc same
 
 -- the first fault of a certificate is the answer
 pub fault_answer : (scan : Shown) (settings : Settings) (stamp : StampView) (mesh cert : List ℕ) (claim : Claim)

@@ -15,6 +15,7 @@
 --   IsSolvedWith scan settings mesh a b c claim   and these are its inside cells, faces and cost
 --   IsAnswer scan settings stamp mesh cert ..     the answer
 --   IsYes answer                                  the answer is Yes
+--   IsYesWhereSolved scan settings stamp mesh ..  it is Yes with the numbers of whatever solution has these two texts
 use Rattle.std.specs.Prelude.{ℕ, ◌≡◌, ◌≢◌, ◌⊎◌, ◌++◌, Bool, List, [], ◌∷◌, All, Contains, length, ⊤}
 use Rattle.cert_text.specs.Stamps.{StampView}
 use Rattle.cert_text.specs.Certificates.{Claim, IsWellFormed}
@@ -184,3 +185,10 @@ IsAnswer scan settings stamp mesh cert (No reason) =
 abbrev pub IsYes : Answer → Type 0
 IsYes (Yes inside faces least) = ⊤
 IsYes (No reason) = ⊥
+
+-- where a surface and a claim with no stamp or this one are a solution whose texts these are, the answer is Yes with their numbers
+abbrev pub IsYesWhereSolved : Shown → Settings → StampView → (mesh cert : List ℕ) → Answer → Type 0
+IsYesWhereSolved scan settings stamp mesh cert answer =
+    (surface : Surface) (claim : Claim) → IsSolution scan settings surface claim → IsWellFormed claim → IsStampedFor stamp claim
+    → mesh ≡ surface_text surface → cert ≡ cert_text claim
+    → answer ≡ Yes (length claim.inside) (length surface.faces) claim.counts.cost

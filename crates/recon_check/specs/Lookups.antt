@@ -3,9 +3,12 @@
 --   least_number key              the first number of a key, which is its least
 --   AreStarts keys starts         for each number the place of the first key that begins with it or a greater one
 --   IsNoted keys key n old new    the number stands at the places of the key, and at others what stood there
+--   AreNumbersOf is_there key_at keys numbers
+--                                 one number a key, of what has it
 --   AreFound limit upto is_there key_at keys numbers
 --                                 one number a key: of what has it, below the limit, where anything up to a number has it
 --   side_facet slots j            the facet of the side with number j
+--   is_open_side slots fixed j         it has a free cell across
 --   AreCellsFound, AreSidesFound  so the live cells, and the sides with a free cell across
 --   AreNumbersApart numbers       no two are equal
 use Rattle.std.specs.Prelude.{ℕ, ◌≡◌, ◌≢◌, ◌<◌, ◌≤◌, ◌/◌, ◌%◌, Bool, true, Option, List, [], length, slice_index, slice_index_or}
@@ -31,6 +34,12 @@ pub record IsNoted (keys : List (List ℕ)) (key : List ℕ) (number : ℕ) (old
   pub here : (k : ℕ) → k < length keys → slice_index_or keys k [] ≡ key → slice_index new k ≡ number
   pub kept : (k : ℕ) → slice_index_or keys k [] ≢ key → slice_index new k ≡ slice_index old k
 
+-- of what is there and has the key
+pub record AreNumbersOf (is_there : ℕ → Bool) (key_at : ℕ → List ℕ) (keys : List (List ℕ)) (numbers : List ℕ) : Type 0 where
+  pub count : length numbers ≡ length keys
+  pub there : (k : ℕ) → k < length numbers → is_there (slice_index numbers k) ≡ true
+  pub key : (k : ℕ) → k < length numbers → slice_index_or keys k [] ≡ key_at (slice_index numbers k)
+
 -- what is there below upto was looked up
 pub record AreFound (limit upto : ℕ) (is_there : ℕ → Bool) (key_at : ℕ → List ℕ) (keys : List (List ℕ)) (numbers : List ℕ)
     : Type 0 where
@@ -44,13 +53,17 @@ pub record AreFound (limit upto : ℕ) (is_there : ℕ → Bool) (key_at : ℕ �
 abbrev pub side_facet : List (Option Cell) → ℕ → List ℕ
 side_facet slots j = facet_row ((links_of slots).at (j / 4)) (j % 4)
 
+-- there is a free cell across
+abbrev pub is_open_side : List (Option Cell) → List Bool → ℕ → Bool
+is_open_side slots fixed j = is_free fixed (across slots j)
+
 -- the live cells as what is there
 abbrev pub AreCellsFound : List (Option Cell) → (limit upto : ℕ) → (keys : List (List ℕ)) → List ℕ → Type 0
 AreCellsFound slots limit upto = AreFound limit upto (links_of slots).is_live (row_of slots)
 
 -- the sides with a free cell across
 abbrev pub AreSidesFound : List (Option Cell) → List Bool → (limit upto : ℕ) → (keys : List (List ℕ)) → List ℕ → Type 0
-AreSidesFound slots fixed limit upto = AreFound limit upto (λ j. is_free fixed (across slots j)) (side_facet slots)
+AreSidesFound slots fixed limit upto = AreFound limit upto (is_open_side slots fixed) (side_facet slots)
 
 -- no two numbers are equal
 abbrev pub AreNumbersApart : List ℕ → Type 0

@@ -2,13 +2,15 @@
 --
 --   IsStatedOver s complex net claim stated    linked cells and counts of the scene, and what the certificate states about them
 --   IsAdmissibleOver, IsValidOver              all rows are there, and no fixed cell is inside; and the flow is valid
+--   TellsOf slots fixed claim reason           the reason is the first fault, of whatever scene the cells and flags are
 --   TellsOver net claim stated Before reason   the reason is the first fault, where what is before it holds
 --   ShowsOver net claim stated Before After    one of two holds where the other does
-use Rattle.std.specs.Prelude.{ℕ, ◌≡◌, List}
+use Rattle.std.specs.Prelude.{ℕ, ◌≡◌, Bool, List, Option}
 use Rattle.cell_net.specs.declared.network.CellNetwork.{CellNetwork}
 use Rattle.cert_text.specs.Certificates.{Claim, IsWellFormed}
 use Rattle.scan.specs.Shown.{Shown}
 use Rattle.solution.specs.Solutions.{flow_on, sink_at}
+use Rattle.tetra_store.specs.declared.link.Cell.{Cell}
 use Rattle.visibility.specs.Scenes.{Scene}
 use Rattle.visibility.specs.Complexes.{Complex}
 use Rattle.visibility.specs.Cuts.{IsAdmissible}
@@ -17,7 +19,7 @@ use Rattle.visibility.specs.Votes.{IsComplexOf}
 use Rattle.vote_net.specs.Counts.{AreCountsOf}
 use Rattle.recon_check.specs.Answers.{IsReason}
 use Rattle.recon_check.specs.Claims.{is_inside, AreThere}
-use Rattle.recon_check.specs.Stated.{IsStatedBy}
+use Rattle.recon_check.specs.Stated.{IsFlaggedFor, IsStatedBy}
 use Rattle.recon_check.specs.declared.answer.Reason.{Reason}
 use Rattle.recon_check.specs.declared.stated.Stated.{Stated}
 
@@ -44,6 +46,12 @@ pub record IsValidOver (s : Scene) (complex : Complex) (claim : Claim) : Type 0 
   pub there : AreThere complex claim
   pub admissible : IsAdmissible s complex (is_inside claim)
   pub valid : IsValidFlow s complex (flow_on claim) (sink_at claim)
+
+-- over each complex of a scene that these are the cells and flags of, whatever the mesh is
+abbrev pub TellsOf : List (Option Cell) → List Bool → Claim → Reason → Type 0
+TellsOf slots fixed claim reason =
+    (scan : Shown) (s : Scene) (complex : Complex) (mesh : List ℕ) → IsFlaggedFor s slots fixed → IsComplexOf s complex
+    → IsReason scan s complex claim mesh reason
 
 -- over each complex of a scene that these are of, whatever the mesh is
 abbrev pub TellsOver : CellNetwork → Claim → Stated → (Scene → Complex → Claim → Type 0) → Reason → Type 0

@@ -2,20 +2,19 @@
 -- of side k of it 4 * id + k.
 --
 --   IsFlaggedFor s slots fixed             the store has all cells of the scene, and the flags are those of its fixed cells
---   AreSidesOf slots fixed facets sides    one number a facet, of a side that has it and a free cell across
+--   IsSaid is_there key_at at says nothing
+--                                          by number what is said by key, and nothing elsewhere
 --   IsStatedBy slots fixed claim stated    labels and amounts are what the rows state, and each row is about a cell or a side
-use Rattle.std.specs.Prelude.{ℕ, ◌≡◌, ◌<◌, ◌*◌, Bool, true, false, Option, List, [], length, slice_index, slice_index_or}
-use Rattle.cell_net.specs.Arcs.{across, is_free}
+use Rattle.std.specs.Prelude.{ℕ, ◌≡◌, ◌*◌, Bool, true, false, Option, List, length, slice_index}
 use Rattle.cert_text.specs.Certificates.{Claim}
 use Rattle.flow_net.specs.Nets.{flag_at}
 use Rattle.solution.specs.Solutions.{flow_on, sink_at}
 use Rattle.tetra_store.specs.Links.{links_of}
 use Rattle.tetra_store.specs.declared.link.Cell.{Cell}
 use Rattle.visibility.specs.Scenes.{Scene}
-use Rattle.vote_net.specs.ByNumber.{SaysOfCells, SaysOfSides, IsZeroElsewhere}
-use Rattle.vote_net.specs.Counts.{AreCountsOf, AreIdsOf}
+use Rattle.vote_net.specs.Counts.{AreCountsOf, row_of}
 use Rattle.recon_check.specs.Claims.{is_inside, flow_facets, sink_cells}
-use Rattle.recon_check.specs.Lookups.{side_facet}
+use Rattle.recon_check.specs.Lookups.{is_open_side, side_facet, AreNumbersOf}
 use Rattle.recon_check.specs.declared.stated.Stated.{Stated}
 
 -- the store and the flags are of counts of the scene, whatever these are
@@ -24,11 +23,11 @@ pub record IsFlaggedFor (s : Scene) (slots : List (Option Cell)) (fixed : List B
   pub behind : List ℕ
   pub counts : AreCountsOf s slots crossed behind fixed
 
--- as AreIdsOf of cells
-pub record AreSidesOf (slots : List (Option Cell)) (fixed : List Bool) (facets : List (List ℕ)) (sides : List ℕ) : Type 0 where
-  pub count : length sides ≡ length facets
-  pub free : (k : ℕ) → k < length sides → is_free fixed (across slots (slice_index sides k)) ≡ true
-  pub facet : (k : ℕ) → k < length sides → slice_index_or facets k [] ≡ side_facet slots (slice_index sides k)
+-- at the numbers of what is there what is said of its key, and at all others nothing
+pub record IsSaid {X : Type 0} (is_there : ℕ → Bool) (key_at : ℕ → List ℕ) (at : ℕ → X) (says : List ℕ → X) (nothing : X)
+    : Type 0 where
+  pub there : (j : ℕ) → is_there j ≡ true → at j ≡ says (key_at j)
+  pub elsewhere : (j : ℕ) → is_there j ≡ false → at j ≡ nothing
 
 -- As many labels and sinks as flags, four amounts of sides for each. A number without a cell is outside and has amount 0, and so
 -- has a side without a free cell across.
@@ -36,13 +35,9 @@ pub record IsStatedBy (slots : List (Option Cell)) (fixed : List Bool) (claim : 
   pub labels : length stated.labels.inside ≡ length fixed
   pub arcs : length stated.flow.on_arc ≡ 4 * length fixed
   pub sinks : length stated.flow.on_sink ≡ length fixed
-  pub labels_say : SaysOfCells slots (flag_at stated.labels.inside) (is_inside claim)
-  pub arcs_say : SaysOfSides slots fixed (slice_index stated.flow.on_arc) (flow_on claim)
-  pub sinks_say : SaysOfCells slots (slice_index stated.flow.on_sink) (sink_at claim)
-  pub zero_elsewhere : IsZeroElsewhere slots fixed (slice_index stated.flow.on_arc)
-  pub no_label : (v : ℕ) → (links_of slots).is_live v ≡ false → flag_at stated.labels.inside v ≡ false
-  pub no_amount : (j : ℕ) → is_free fixed (across slots j) ≡ false → slice_index stated.flow.on_arc j ≡ 0
-  pub no_sink : (v : ℕ) → (links_of slots).is_live v ≡ false → slice_index stated.flow.on_sink v ≡ 0
-  pub cells_are : AreIdsOf slots claim.inside stated.cells.items
-  pub sides_are : AreSidesOf slots fixed (flow_facets claim) stated.sides.items
-  pub sinks_are : AreIdsOf slots (sink_cells claim) stated.at_sinks.items
+  pub labels_say : IsSaid (links_of slots).is_live (row_of slots) (flag_at stated.labels.inside) (is_inside claim) false
+  pub arcs_say : IsSaid (is_open_side slots fixed) (side_facet slots) (slice_index stated.flow.on_arc) (flow_on claim) 0
+  pub sinks_say : IsSaid (links_of slots).is_live (row_of slots) (slice_index stated.flow.on_sink) (sink_at claim) 0
+  pub cells_are : AreNumbersOf (links_of slots).is_live (row_of slots) claim.inside stated.cells.items
+  pub sides_are : AreNumbersOf (is_open_side slots fixed) (side_facet slots) (flow_facets claim) stated.sides.items
+  pub sinks_are : AreNumbersOf (links_of slots).is_live (row_of slots) (sink_cells claim) stated.at_sinks.items

@@ -11,7 +11,7 @@ ghost use Rattle.scan.specs.Shown.{Shown};
 ghost use Rattle.scan.specs.Views.{shown_of};
 ghost use Rattle.scan_cut.specs.Stored.{IsStoreOf};
 ghost use Rattle.vote_net.specs.Counts.{AreCountsOf};
-ghost use Rattle.recon_check.specs.Answers.{surface_text, IsFault, IsSolvedWith, IsAccepted, IsYes, IsAnswer};
+ghost use Rattle.recon_check.specs.Answers.{IsFault, IsSolvedWith, IsAccepted, IsYes, IsYesWhereSolved, IsAnswer};
 ghost use Rattle.recon_check.specs.Surfaces.{AreShownLabels, IsBestSurface};
 ghost use Rattle.recon_check.specs.Stamps.{IsStampedFor};
 ghost use Rattle.recon_check.specs.Stops.{StopsFor};
@@ -218,7 +218,7 @@ pub fn check_all(
     ensures answer { IfOk result (IsAnswer (shown_of scan.now) settings (stamp_view stamp.now) mesh.now cert.now) }
     ensures only { (answer : Answer) → IsAnswer (shown_of scan.now) settings (stamp_view stamp.now) mesh.now cert.now answer → IfOk result (λ given. given ≡ answer) }
     ensures yes { IfOk result (λ answer. IsYes answer ↔ IsAccepted (shown_of scan.now) settings (stamp_view stamp.now) mesh.now cert.now) }
-    ensures built { (surface : Surface) (claim : Claim) → IsSolution (shown_of scan.now) settings surface claim → IsWellFormed claim → IsStampedFor (stamp_view stamp.now) claim → mesh.now ≡ surface_text surface → cert.now ≡ cert_text claim → IfOk result (λ answer. answer ≡ Answer.Yes (length claim.inside) (length surface.faces) claim.counts.cost) }
+    ensures built { IfOk result (IsYesWhereSolved (shown_of scan.now) settings (stamp_view stamp.now) mesh.now cert.now) }
 {
     let texts = CheckedTexts { mesh, cert };
     check_all_watched(alloc, scan, settings, stamp, &texts, &mut Silent)
@@ -236,7 +236,7 @@ pub fn check_all_watched<W: Watch>(
     ensures answer { IfOk result (IsAnswer (shown_of scan.now) settings (stamp_view stamp.now) texts.now.mesh.now texts.now.cert.now) }
     ensures only { (answer : Answer) → IsAnswer (shown_of scan.now) settings (stamp_view stamp.now) texts.now.mesh.now texts.now.cert.now answer → IfOk result (λ given. given ≡ answer) }
     ensures yes { IfOk result (λ answer. IsYes answer ↔ IsAccepted (shown_of scan.now) settings (stamp_view stamp.now) texts.now.mesh.now texts.now.cert.now) }
-    ensures built { (surface : Surface) (claim : Claim) → IsSolution (shown_of scan.now) settings surface claim → IsWellFormed claim → IsStampedFor (stamp_view stamp.now) claim → texts.now.mesh.now ≡ surface_text surface → texts.now.cert.now ≡ cert_text claim → IfOk result (λ answer. answer ≡ Answer.Yes (length claim.inside) (length surface.faces) claim.counts.cost) }
+    ensures built { IfOk result (IsYesWhereSolved (shown_of scan.now) settings (stamp_view stamp.now) texts.now.mesh.now texts.now.cert.now) }
 {
     match shown_by_texts(alloc, scan, settings, stamp, texts, watch) {
         Ok(shown) => Ok(Answer::Yes {

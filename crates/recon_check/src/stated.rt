@@ -10,14 +10,13 @@ ghost use Rattle.cert_text.specs.Certificates.{claim_of, IsWellFormed};
 ghost use Rattle.flow_check.specs.Firsts.{IsFirst};
 ghost use Rattle.flow_net.specs.Nets.{flag_at};
 ghost use Rattle.geo_sign.specs.Rising.{IsBefore};
-ghost use Rattle.scan.specs.Shown.{Shown};
 ghost use Rattle.tetra_store.specs.Links.{links_of};
 ghost use Rattle.visibility.specs.Complexes.{Complex};
 ghost use Rattle.visibility.specs.Scenes.{Scene};
 ghost use Rattle.visibility.specs.Votes.{IsComplexOf};
-ghost use Rattle.recon_check.specs.Answers.{IsReason};
 ghost use Rattle.recon_check.specs.Claims.{AreThere};
 ghost use Rattle.recon_check.specs.Lookups.{side_facet, AreNumbersApart, AreStarts, IsNoted, AreCellsFound, AreSidesFound};
+ghost use Rattle.recon_check.specs.Over.{TellsOf};
 ghost use Rattle.recon_check.specs.Stated.{IsFlaggedFor, IsStatedBy};
 ghost use Rattle.recon_check.specs.Stops.{StopsFor};
 
@@ -197,7 +196,7 @@ pub fn stated_by(
     requires few { length fixed.now < 2 ^ 32 }
     ensures stated { IfOk result (IsStatedBy t.now.slots fixed.now (claim_of cert.now)) }
     ensures there { (s : Scene) (complex : Complex) → IsFlaggedFor s t.now.slots fixed.now → IsComplexOf s complex → OnOk result (AreThere complex (claim_of cert.now)) }
-    ensures stray { (scan : Shown) (s : Scene) (complex : Complex) (mesh : List ℕ) → IsFlaggedFor s t.now.slots fixed.now → IsComplexOf s complex → IfErr result (StopsFor (IsReason scan s complex (claim_of cert.now) mesh)) }
+    ensures stray { IfErr result (StopsFor (TellsOf t.now.slots fixed.now (claim_of cert.now))) }
 {
     let limit = fixed.len();
     let cells = cells_of_rows(alloc, t, limit, &cert.inside)?;

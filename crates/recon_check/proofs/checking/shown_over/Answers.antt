@@ -1,3 +1,6 @@
+-- The mesh is compared with the text that its surface is printed as. Where they differ, the place is the last fault: all else of the
+-- certificate is as it is to be, since its labels were shown best. Where they are the same, the certificate has no fault, so the surface
+-- and it are a solution (solution_from), with the numbers that are given.
 use Rattle.std.proofs.Common.{ℕ, ◌≡◌, ◌++◌, [], ap, sym, subst, ◌∙◌, arith, refl, List}
 use Rattle.cert_text.specs.Certificates.{Claim, claim_of}
 use Rattle.mesh_ply.specs.Meshes.{Surface}

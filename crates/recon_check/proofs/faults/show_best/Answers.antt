@@ -1,6 +1,10 @@
+-- The tests come one after another, and each begins from what those before it have shown: rows within limits, a valid flow, labels that
+-- cost what it is worth. So a reason that is told where that holds is told where all rows are there, and the last test shows the labels
+-- best.
+use Rattle.std.proofs.lemmas.Result.{on_ok_weaker}
 use Rattle.cert_text.specs.Certificates.{claim_of}
 use Rattle.recon_check.specs.Over.{IsThereOver, TellsOver}
-use Rattle.recon_check.proofs.Stopped.{ok_weaker, passed_on, result_weaker, stop_weaker}
+use Rattle.recon_check.proofs.Stopped.{passed_on, result_weaker, stop_weaker}
 use Rattle.recon_check.proofs.faults.show_best.Goals as goal
 
 pub returns-in_err-show_balanced-clause-fault : goal.returns-in_err-show_balanced-clause-fault
@@ -38,7 +42,7 @@ returns-clause-fault c =
 
 pub returns-clause-best : goal.returns-clause-best
 returns-clause-best c =
-    ok_weaker c.show_least.result _ _
+    on_ok_weaker c.show_least.result
     (λ shows s complex over there.
     shows s complex over
     (c.in_default-not_equal.ensures.none s complex over

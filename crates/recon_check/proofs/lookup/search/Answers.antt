@@ -1,3 +1,6 @@
+-- The places between which the key can stand are halved (IsNarrowed): the row in the middle comes before the key, and so do all before
+-- it, or it does not, and no later one does. What the code compares is the order of keys (less_from). At the end one place is left: its
+-- row has the key, or none has (not_found).
 use Rattle.std.proofs.Common.{ℕ, ◌≡◌, ◌<◌, ◌∙◌, [], List, length, map, get_or, ap, sym, subst, arith}
 use Rattle.std.proofs.lemmas.List.{get_or-map, length-map}
 use Rattle.std.specs.Cmp.Lexicographic.{same_text, other_text}

@@ -2,162 +2,128 @@
 --
 -- Each walk tells of all that is there whether a row is about it. So the first row without a number is a stray one, and where each has
 -- one the rows are about cells and sides of the scene, and labels and amounts stand at their numbers (StatedRows).
-use Rattle.std.proofs.Common.{ℕ, ◌≡◌, ◌*◌, Bool, Option, List, length, map, sym, subst}
-use Rattle.cell_net.specs.Arcs.{across, is_free}
+use Rattle.std.proofs.Common.{ℕ, ◌≡◌, ◌≤◌, ◌*◌, ◌∙◌, Bool, false, List, length, map, slice_index, ap, refl, subst, sym}
+use Rattle.std.proofs.lemmas.List.{map-id}
 use Rattle.cert_text.specs.Certificates.{claim_of}
 use Rattle.cert_text.specs.declared.certificate.FlowRow.{FlowRow}
 use Rattle.cert_text.specs.declared.certificate.SinkRow.{SinkRow}
+use Rattle.flow_check.specs.Firsts.{IsFirst}
+use Rattle.flow_net.specs.Nets.{flag_at}
 use Rattle.tetra_store.specs.Links.{links_of}
-use Rattle.tetra_store.specs.declared.link.Cell.{Cell}
 use Rattle.vote_net.specs.Counts.{row_of}
-use Rattle.recon_check.specs.Lookups.{side_facet, AreNumbersApart, AreCellsFound, AreSidesFound}
-use Rattle.recon_check.proofs.StatedRows.{AreAllFound, AreAmountsAt, AreBelow, IsSetAt}
-use Rattle.recon_check.proofs.StatedRows.{cells_given, first_given, below_given, is_stated, numbers_apart, rows_there}
-use Rattle.recon_check.proofs.StatedRows.{stray_cell, stray_side, stray_sink}
+use Rattle.recon_check.specs.Claims.{flow_facets, sink_cells}
+use Rattle.recon_check.specs.Lookups.{is_open_side, side_facet, AreNumbersApart, AreFound}
+use Rattle.recon_check.proofs.StatedRows.{AreAllFound, AreBelow, ArePlacedAt, all_there, cells_covered, is_stated}
+use Rattle.recon_check.proofs.StatedRows.{numbers_apart, sides_covered, stray_first}
 use Rattle.recon_check.proofs.stated.stated_by.Goals as goal
+use Rattle.recon_check.proofs.stated.stated_by.Goals.{In_default, In_default-first_past, In_default-first_past-2}
 
--- what was found, of what the certificate has
-all_cells : (slots : List (Option Cell)) (limit : ℕ) (rows given : List (List ℕ)) (numbers shown : List ℕ) → given ≡ rows → shown
-    ≡ numbers
-    → AreCellsFound slots limit limit (map (λ (row : List ℕ). row) given) numbers → AreBelow limit shown
-    → AreAllFound limit (links_of slots).is_live (row_of slots) rows numbers
-all_cells slots limit rows given numbers shown e f found below =
-    record { found = cells_given slots limit rows given numbers e found; below = below_given limit numbers shown f below }
+-- ---- what was found, of what the certificate has
+found_of : {limit : ℕ} {is_there : ℕ → Bool} {key_at : ℕ → List ℕ} {keys given : List (List ℕ)} {numbers : List ℕ} → given ≡ keys
+    → AreFound limit limit is_there key_at given numbers → AreFound limit limit is_there key_at keys numbers
+found_of {limit = limit} {is_there = is_there} {key_at = key_at} {numbers = numbers} e found =
+    subst (λ (list : List (List ℕ)). AreFound limit limit is_there key_at list numbers) e found
 
-sides_given : (slots : List (Option Cell)) (fixed : List Bool) (limit : ℕ) (rows given : List FlowRow) (numbers : List ℕ) → given
-    ≡ rows
-    → AreSidesFound slots fixed limit limit (map (λ (row : FlowRow). row.facet) given) numbers
-    → AreSidesFound slots fixed limit limit (map (λ (row : FlowRow). row.facet) rows) numbers
-sides_given slots fixed limit rows given numbers e h =
-    subst (λ (list : List FlowRow). AreSidesFound slots fixed limit limit (map (λ (row : FlowRow). row.facet) list) numbers) e h
+first_of : (limit : ℕ) {numbers given : List ℕ} (k : ℕ) → given ≡ numbers
+    → IsFirst (length given) (λ i. limit ≤ slice_index given i) k → IsFirst (length numbers) (λ i. limit ≤ slice_index numbers i) k
+first_of limit k e first = subst (λ (list : List ℕ). IsFirst (length list) (λ i. limit ≤ slice_index list i) k) e first
 
-all_sides : (slots : List (Option Cell)) (fixed : List Bool) (limit : ℕ) (rows given : List FlowRow) (numbers shown : List ℕ)
-    → given ≡ rows → shown ≡ numbers
-    → AreSidesFound slots fixed limit limit (map (λ (row : FlowRow). row.facet) given) numbers → AreBelow limit shown
-    → AreAllFound limit (λ j. is_free fixed (across slots j)) (side_facet slots) (map (λ (row : FlowRow). row.facet) rows) numbers
-all_sides slots fixed limit rows given numbers shown e f found below =
-    record { found = sides_given slots fixed limit rows given numbers e found; below = below_given limit numbers shown f below }
+placed_of : {X : Type 0} (read : List X → ℕ → X) (nothing : X) {values told : ℕ → X} {numbers given : List ℕ} (count : ℕ)
+    {placed stored : List X} → told ≡ values → given ≡ numbers → stored ≡ placed
+    → ArePlacedAt read nothing told given count placed → ArePlacedAt read nothing values numbers count stored
+placed_of {X} read nothing {values = values} {numbers = numbers} {given = given} count {placed = placed} d e f h =
+    subst (ArePlacedAt read nothing values numbers count) (sym f)
+    (subst (λ (list : List ℕ). ArePlacedAt read nothing values list count placed) e
+    (subst (λ (told : ℕ → X). ArePlacedAt read nothing told given count placed) d h))
 
-sinks_given : (slots : List (Option Cell)) (limit : ℕ) (rows given : List SinkRow) (numbers : List ℕ) → given ≡ rows
-    → AreCellsFound slots limit limit (map (λ (row : SinkRow). row.cell) given) numbers
-    → AreCellsFound slots limit limit (map (λ (row : SinkRow). row.cell) rows) numbers
-sinks_given slots limit rows given numbers e h =
-    subst (λ (list : List SinkRow). AreCellsFound slots limit limit (map (λ (row : SinkRow). row.cell) list) numbers) e h
+cells_found : (c : In_default)
+    → AreAllFound (length c.args.fixed.now) (links_of c.args.t.now.slots).is_live (row_of c.args.t.now.slots)
+    c.args.cert.now.inside.items c.in_ok-cells.cells.items
+cells_found c = record {
+  found = found_of (map-id c.deref.result.now ∙ c.deref.ensures.value) c.in_ok-cells.ensures;
+  below = subst (AreBelow (length c.args.fixed.now)) c.deref-2.ensures.value c.in_default.ensures.none;
+}
 
-all_sinks : (slots : List (Option Cell)) (limit : ℕ) (rows given : List SinkRow) (numbers shown : List ℕ) → given ≡ rows → shown ≡
-    numbers
-    → AreCellsFound slots limit limit (map (λ (row : SinkRow). row.cell) given) numbers → AreBelow limit shown
-    → AreAllFound limit (links_of slots).is_live (row_of slots) (map (λ (row : SinkRow). row.cell) rows) numbers
-all_sinks slots limit rows given numbers shown e f found below =
-    record { found = sinks_given slots limit rows given numbers e found; below = below_given limit numbers shown f below }
+sides_found : (c : In_default-first_past)
+    → AreAllFound (4 * length c.args.fixed.now) (is_open_side c.args.t.now.slots c.args.fixed.now) (side_facet c.args.t.now.slots)
+    (flow_facets (claim_of c.args.cert.now)) c.in_ok-sides.sides.items
+sides_found c = record {
+  found = found_of (ap (map (λ (row : FlowRow). row.facet)) c.deref-3.ensures.value) c.in_ok-sides.ensures;
+  below = subst (AreBelow (4 * length c.args.fixed.now)) c.deref-4.ensures.value c.in_default-first_past.ensures.none;
+}
 
-set_at : (numbers shown : List ℕ) (count : ℕ) (flags stored : List Bool) → shown ≡ numbers → stored ≡ flags → IsSetAt shown count
-    flags
-    → IsSetAt numbers count stored
-set_at numbers shown count flags stored e f h =
-    subst (IsSetAt numbers count) (sym f) (subst (λ (list : List ℕ). IsSetAt list count flags) e h)
+sinks_found : (c : In_default-first_past-2)
+    → AreAllFound (length c.args.fixed.now) (links_of c.args.t.now.slots).is_live (row_of c.args.t.now.slots)
+    (sink_cells (claim_of c.args.cert.now)) c.in_ok-at_sinks.at_sinks.items
+sinks_found c = record {
+  found = found_of (ap (map (λ (row : SinkRow). row.cell)) c.deref-5.ensures.value) c.in_ok-at_sinks.ensures;
+  below = subst (AreBelow (length c.args.fixed.now)) c.deref-6.ensures.value c.in_default-first_past-2.ensures.none;
+}
 
-amounts_at : {Row : Type 0} (amount : Row → ℕ) (rows given : List Row) (numbers shown : List ℕ) (count : ℕ) (placed stored : List ℕ)
-    → given ≡ rows → shown ≡ numbers → stored ≡ placed → AreAmountsAt (map amount given) shown count placed
-    → AreAmountsAt (map amount rows) numbers count stored
-amounts_at {Row} amount rows given numbers shown count placed stored d e f h =
-    subst (AreAmountsAt (map amount rows) numbers count) (sym f)
-    (subst (λ (list : List ℕ). AreAmountsAt (map amount rows) list count placed) e
-    (subst (λ (list : List Row). AreAmountsAt (map amount list) shown count placed) d h))
-
+-- ---- the first row that is stray
 pub returns-in-Some-clause-stray : goal.returns-in-Some-clause-stray
 returns-in-Some-clause-stray c = λ scan s complex mesh flagged is.
-    stray_cell s c.args.t.now.slots c.args.fixed.now flagged (claim_of c.args.cert.now) c.requires.formed scan complex is mesh
-    c.in_ok-cells.cells.items
-    (cells_given c.args.t.now.slots (length c.args.fixed.now) c.args.cert.now.inside.items c.deref.result.now
-    c.in_ok-cells.cells.items c.deref.ensures.value c.in_ok-cells.ensures)
-    c.in-Some.place
-    (first_given (length c.args.fixed.now) c.in_ok-cells.cells.items c.deref-2.result.now c.in-Some.place c.deref-2.ensures.value
-    c.in-Some.ensures.some)
+    stray_first (found_of (map-id c.deref.result.now ∙ c.deref.ensures.value) c.in_ok-cells.ensures)
+    (cells_covered s c.args.t.now.slots c.args.fixed.now flagged complex is) c.in-Some.place
+    (first_of (length c.args.fixed.now) c.in-Some.place c.deref-2.ensures.value c.in-Some.ensures.some)
 
 pub returns-in-Some-first_past-clause-stray : goal.returns-in-Some-first_past-clause-stray
-returns-in-Some-first_past-clause-stray c = λ scan s complex mesh flagged is.
-    stray_side s c.args.t.now.slots c.args.fixed.now flagged (claim_of c.args.cert.now) c.requires.formed scan complex is mesh
-    c.in_ok-cells.cells.items c.in_ok-sides.sides.items
-    (all_cells c.args.t.now.slots (length c.args.fixed.now) c.args.cert.now.inside.items c.deref.result.now
-    c.in_ok-cells.cells.items c.deref-2.result.now c.deref.ensures.value c.deref-2.ensures.value c.in_ok-cells.ensures
-    c.in_default.ensures.none)
-    (sides_given c.args.t.now.slots c.args.fixed.now (4 * length c.args.fixed.now) c.args.cert.now.flow.items c.deref-3.result.now
-    c.in_ok-sides.sides.items c.deref-3.ensures.value c.in_ok-sides.ensures)
-    c.in-Some-first_past.place
-    (first_given (4 * length c.args.fixed.now) c.in_ok-sides.sides.items c.deref-4.result.now c.in-Some-first_past.place
-    c.deref-4.ensures.value c.in-Some-first_past.ensures.some)
+returns-in-Some-first_past-clause-stray c = λ scan s complex mesh flagged is. (
+  all_there (cells_found (goal.at.returns-in-Some-first_past-clause-stray c).In_default)
+      (cells_covered s c.args.t.now.slots c.args.fixed.now flagged complex is),
+  stray_first (found_of (ap (map (λ (row : FlowRow). row.facet)) c.deref-3.ensures.value) c.in_ok-sides.ensures)
+      (sides_covered s c.args.t.now.slots c.args.fixed.now flagged complex is) c.in-Some-first_past.place
+      (first_of (4 * length c.args.fixed.now) c.in-Some-first_past.place c.deref-4.ensures.value c.in-Some-first_past.ensures.some),
+)
 
 pub returns-in-Some-first_past-2-clause-stray : goal.returns-in-Some-first_past-2-clause-stray
-returns-in-Some-first_past-2-clause-stray c = λ scan s complex mesh flagged is.
-    stray_sink s c.args.t.now.slots c.args.fixed.now flagged (claim_of c.args.cert.now) c.requires.formed scan complex is mesh
-    c.in_ok-cells.cells.items c.in_ok-sides.sides.items c.in_ok-at_sinks.at_sinks.items
-    (all_cells c.args.t.now.slots (length c.args.fixed.now) c.args.cert.now.inside.items c.deref.result.now
-    c.in_ok-cells.cells.items c.deref-2.result.now c.deref.ensures.value c.deref-2.ensures.value c.in_ok-cells.ensures
-    c.in_default.ensures.none)
-    (all_sides c.args.t.now.slots c.args.fixed.now (4 * length c.args.fixed.now) c.args.cert.now.flow.items c.deref-3.result.now
-    c.in_ok-sides.sides.items c.deref-4.result.now c.deref-3.ensures.value c.deref-4.ensures.value c.in_ok-sides.ensures
-    c.in_default-first_past.ensures.none)
-    (sinks_given c.args.t.now.slots (length c.args.fixed.now) c.args.cert.now.sink.items c.deref-5.result.now
-    c.in_ok-at_sinks.at_sinks.items c.deref-5.ensures.value c.in_ok-at_sinks.ensures)
-    c.in-Some-first_past-2.place
-    (first_given (length c.args.fixed.now) c.in_ok-at_sinks.at_sinks.items c.deref-6.result.now c.in-Some-first_past-2.place
-    c.deref-6.ensures.value c.in-Some-first_past-2.ensures.some)
+returns-in-Some-first_past-2-clause-stray c = λ scan s complex mesh flagged is. (
+  all_there (cells_found (goal.at.returns-in-Some-first_past-2-clause-stray c).In_default)
+      (cells_covered s c.args.t.now.slots c.args.fixed.now flagged complex is),
+  all_there (sides_found (goal.at.returns-in-Some-first_past-2-clause-stray c).In_default-first_past)
+      (sides_covered s c.args.t.now.slots c.args.fixed.now flagged complex is),
+  stray_first (found_of (ap (map (λ (row : SinkRow). row.cell)) c.deref-5.ensures.value) c.in_ok-at_sinks.ensures)
+      (cells_covered s c.args.t.now.slots c.args.fixed.now flagged complex is) c.in-Some-first_past-2.place
+      (first_of (length c.args.fixed.now) c.in-Some-first_past-2.place c.deref-6.ensures.value c.in-Some-first_past-2.ensures.some),
+)
 
+-- ---- all rows have numbers
 pub flow_at-requires-clause-apart : goal.flow_at-requires-clause-apart
 flow_at-requires-clause-apart c =
-    let all = (all_sides c.args.t.now.slots c.args.fixed.now (4 * length c.args.fixed.now) c.args.cert.now.flow.items
-    c.deref-3.result.now c.in_ok-sides.sides.items c.deref-4.result.now c.deref-3.ensures.value c.deref-4.ensures.value
-    c.in_ok-sides.ensures c.in_default-first_past.ensures.none) in
     subst AreNumbersApart (sym c.deref-9.ensures.value)
-    (numbers_apart (4 * length c.args.fixed.now) (λ (j : ℕ). is_free c.args.fixed.now (across c.args.t.now.slots j)) (side_facet
-    c.args.t.now.slots) (map (λ (row : FlowRow). row.facet) c.args.cert.now.flow.items) c.in_ok-sides.sides.items all.found
-    c.requires.formed.flow.rising all.below)
+    (numbers_apart (sides_found (goal.at.flow_at-requires-clause-apart c).In_default-first_past) c.requires.formed.flow.rising)
 
 pub sinks_at-requires-clause-apart : goal.sinks_at-requires-clause-apart
 sinks_at-requires-clause-apart c =
-    let all = (all_sinks c.args.t.now.slots (length c.args.fixed.now) c.args.cert.now.sink.items c.deref-5.result.now
-    c.in_ok-at_sinks.at_sinks.items c.deref-6.result.now c.deref-5.ensures.value c.deref-6.ensures.value c.in_ok-at_sinks.ensures
-    c.in_default-first_past-2.ensures.none) in
     subst AreNumbersApart (sym c.deref-11.ensures.value)
-    (numbers_apart (length c.args.fixed.now) (links_of c.args.t.now.slots).is_live (row_of c.args.t.now.slots) (map (λ (row :
-    SinkRow). row.cell) c.args.cert.now.sink.items) c.in_ok-at_sinks.at_sinks.items all.found
-    c.requires.formed.sink.rising all.below)
+    (numbers_apart (sinks_found (goal.at.sinks_at-requires-clause-apart c).In_default-first_past-2) c.requires.formed.sink.rising)
 
 pub returns-clause-stated : goal.returns-clause-stated
 returns-clause-stated c =
     is_stated c.requires.cells.0 c.args.t.now.slots c.args.fixed.now c.requires.cells.1 (claim_of c.args.cert.now)
-    c.requires.formed _
-    (all_cells c.args.t.now.slots (length c.args.fixed.now) c.args.cert.now.inside.items c.deref.result.now
-    c.in_ok-cells.cells.items c.deref-2.result.now c.deref.ensures.value c.deref-2.ensures.value c.in_ok-cells.ensures
-    c.in_default.ensures.none)
-    (all_sides c.args.t.now.slots c.args.fixed.now (4 * length c.args.fixed.now) c.args.cert.now.flow.items c.deref-3.result.now
-    c.in_ok-sides.sides.items c.deref-4.result.now c.deref-3.ensures.value c.deref-4.ensures.value c.in_ok-sides.ensures
-    c.in_default-first_past.ensures.none)
-    (all_sinks c.args.t.now.slots (length c.args.fixed.now) c.args.cert.now.sink.items c.deref-5.result.now
-    c.in_ok-at_sinks.at_sinks.items c.deref-6.result.now c.deref-5.ensures.value c.deref-6.ensures.value c.in_ok-at_sinks.ensures
-    c.in_default-first_past-2.ensures.none)
-    (set_at c.in_ok-cells.cells.items c.deref-7.result.now (length c.args.fixed.now) _ _ c.deref-7.ensures.value c.from.ensures
+    c.requires.formed _ (cells_found (goal.at.returns-clause-stated c).In_default)
+    (sides_found (goal.at.returns-clause-stated c).In_default-first_past)
+    (sinks_found (goal.at.returns-clause-stated c).In_default-first_past-2)
+    (placed_of flag_at false (length c.args.fixed.now) refl c.deref-7.ensures.value c.from.ensures
     (record { many = c.in_ok-flags_at.ensures.count; set = c.in_ok-flags_at.ensures.set; unset = c.in_ok-flags_at.ensures.unset }))
-    (amounts_at (λ (row : FlowRow). row.amount) c.args.cert.now.flow.items c.deref-8.result.now c.in_ok-sides.sides.items
-    c.deref-9.result.now (4 * length c.args.fixed.now) _ _
-    c.deref-8.ensures.value c.deref-9.ensures.value c.from-2.ensures
+    (placed_of slice_index 0 (4 * length c.args.fixed.now)
+    (ap (λ (rows : List FlowRow). slice_index (map (λ (row : FlowRow). row.amount) rows)) c.deref-8.ensures.value)
+    c.deref-9.ensures.value c.from-2.ensures
     (record { many = c.in_ok-flow_at.ensures.count; set = c.in_ok-flow_at.ensures.set; unset = c.in_ok-flow_at.ensures.unset }))
-    (amounts_at (λ (row : SinkRow). row.amount) c.args.cert.now.sink.items c.deref-10.result.now c.in_ok-at_sinks.at_sinks.items
-    c.deref-11.result.now (length c.args.fixed.now) _ _
-    c.deref-10.ensures.value c.deref-11.ensures.value c.from-3.ensures
+    (placed_of slice_index 0 (length c.args.fixed.now)
+    (ap (λ (rows : List SinkRow). slice_index (map (λ (row : SinkRow). row.amount) rows)) c.deref-10.ensures.value)
+    c.deref-11.ensures.value c.from-3.ensures
     (record { many = c.in_ok-sinks_at.ensures.count; set = c.in_ok-sinks_at.ensures.set; unset = c.in_ok-sinks_at.ensures.unset }))
 
 pub returns-clause-there : goal.returns-clause-there
-returns-clause-there c = λ s complex flagged is.
-    rows_there s c.args.t.now.slots c.args.fixed.now flagged (claim_of c.args.cert.now) c.requires.formed complex is
-    c.in_ok-cells.cells.items c.in_ok-sides.sides.items c.in_ok-at_sinks.at_sinks.items
-    (all_cells c.args.t.now.slots (length c.args.fixed.now) c.args.cert.now.inside.items c.deref.result.now
-    c.in_ok-cells.cells.items c.deref-2.result.now c.deref.ensures.value c.deref-2.ensures.value c.in_ok-cells.ensures
-    c.in_default.ensures.none)
-    (all_sides c.args.t.now.slots c.args.fixed.now (4 * length c.args.fixed.now) c.args.cert.now.flow.items c.deref-3.result.now
-    c.in_ok-sides.sides.items c.deref-4.result.now c.deref-3.ensures.value c.deref-4.ensures.value c.in_ok-sides.ensures
-    c.in_default-first_past.ensures.none)
-    (all_sinks c.args.t.now.slots (length c.args.fixed.now) c.args.cert.now.sink.items c.deref-5.result.now
-    c.in_ok-at_sinks.at_sinks.items c.deref-6.result.now c.deref-5.ensures.value c.deref-6.ensures.value c.in_ok-at_sinks.ensures
-    c.in_default-first_past-2.ensures.none)
+returns-clause-there c = λ s complex flagged is. record {
+  inside =
+      all_there (cells_found (goal.at.returns-clause-there c).In_default)
+      (cells_covered s c.args.t.now.slots c.args.fixed.now flagged complex is);
+  flow =
+      all_there (sides_found (goal.at.returns-clause-there c).In_default-first_past)
+      (sides_covered s c.args.t.now.slots c.args.fixed.now flagged complex is);
+  sink =
+      all_there (sinks_found (goal.at.returns-clause-there c).In_default-first_past-2)
+      (cells_covered s c.args.t.now.slots c.args.fixed.now flagged complex is);
+}
