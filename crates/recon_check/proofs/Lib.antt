@@ -3,7 +3,6 @@ pub mod Lists
 pub mod KeyedRows
 pub mod Leasts
 pub mod CellFaults
-pub mod RowReasons
 pub mod BestLabels
 pub mod Solutions
 pub mod OneStamp
