@@ -1,13 +1,13 @@
 -- The first of the numbers that differs.
 --
--- Each number is compared alone: it is told where it differs, which is a fault if all numbers before it are the scan's (told_so). The
--- first of two that may be told is the first one where there is one, else the second, which is then told where the first is the same
--- (or_next). So the first of all five is a fault, and where none is told all five are the scan's (first_told).
+-- A number is told where it differs. The first that is told of those before it and of it is a fault: theirs, if one of them is told, and
+-- else its own, since they are the scan's (or_told). So the first of all five is a fault, and where none is told all five are the scan's
+-- (first_told).
 use Rattle.std.proofs.Common.{ℕ, ◌≡◌, refl, sym, subst, Bool, true, false, cond, eqb, Option, Some, None, IfSome, IfNone}
-use Rattle.std.proofs.Common.{MatchOption, List, [], ◌∷◌, All}
+use Rattle.std.proofs.Common.{arith, MatchOption, List, [], ◌∷◌, ◌++◌, All}
 use Rattle.std.specs.Option.{option_or}
 use Rattle.std.proofs.lemmas.Bool.{eqb-true, eqb-false}
-use Rattle.std.proofs.lemmas.List.Elements.{All-cons, All-nil}
+use Rattle.std.proofs.lemmas.List.Elements.{All-nil, All-push}
 use Rattle.cert_text.specs.Certificates.{Claim}
 use Rattle.flow_net.specs.declared.votes.Settings.{Settings}
 use Rattle.solution.specs.Solutions.{HasCounts}
@@ -32,22 +32,19 @@ told scan settings claim which =
     cond (eqb (stated_count which claim) (count_here which scan settings)) None
     (Some (OtherCounts which (stated_count which claim) (count_here which scan settings)))
 
-told_so : (scan : Shown) (settings : Settings) (claim : Claim) (which : Which)
-    → All (IsSame scan settings claim) (earlier which)
-    → MatchOption (told scan settings claim which) (IsSame scan settings claim which) (IsFaultEver scan settings claim)
-told_so scan settings claim which before = by (eqb (stated_count which claim) (count_here which scan settings)) refl
+-- a number behind those of which one may have been told: the first of all these, or all are the scan's
+or_told : (scan : Shown) (settings : Settings) (claim : Claim) (which : Which) (before : Option Reason)
+    → MatchOption before (All (IsSame scan settings claim) (earlier which)) (IsFaultEver scan settings claim)
+    → MatchOption (option_or before (told scan settings claim which)) (All (IsSame scan settings claim) (earlier which ++ which ∷ []))
+    (IsFaultEver scan settings claim)
+or_told scan settings claim which (Some reason) h = h
+or_told scan settings claim which None h = by (eqb (stated_count which claim) (count_here which scan settings)) refl
   where
     by : (b : Bool) → eqb (stated_count which claim) (count_here which scan settings) ≡ b
         → MatchOption (cond b None (Some (OtherCounts which (stated_count which claim) (count_here which scan settings))))
-        (IsSame scan settings claim which) (IsFaultEver scan settings claim)
-    by true e = eqb-true _ _ e
-    by false e = λ mesh. record { same_before = before; stated_is = refl; here_is = refl; differs = eqb-false _ _ e }
-
-or_next : (a b : Option Reason) (P Q : Type 0) (F : Reason → Type 0) → MatchOption a P F → (P → MatchOption b Q F)
-    → MatchOption (option_or a b) (P × Q) F
-or_next (Some reason) b P Q F h k = h
-or_next None (Some reason) P Q F h k = k h
-or_next None None P Q F h k = (h, k h)
+        (All (IsSame scan settings claim) (earlier which ++ which ∷ [])) (IsFaultEver scan settings claim)
+    by true e = All-push (IsSame scan settings claim) (earlier which) which h (eqb-true _ _ e)
+    by false e = λ mesh. record { same_before = h; stated_is = refl; here_is = refl; differs = eqb-false _ _ e }
 
 none_so : (r : Option Reason) (P Q : Type 0) (F : Reason → Type 0) → (P → Q) → MatchOption r P F → MatchOption r Q F
 none_so (Some reason) P Q F f h = h
@@ -61,26 +58,22 @@ pub first_told : (scan : Shown) (settings : Settings) (claim : Claim) (r : Optio
     (told scan settings claim Sights)) (told scan settings claim Vote)) (told scan settings claim Smooth)
     → MatchOption r (HasCounts claim scan settings) (IsFaultEver scan settings claim)
 first_told scan settings claim r is =
-    let same : Which → Type 0 = IsSame scan settings claim in
-    let fault : Reason → Type 0 = IsFaultEver scan settings claim in
-    let nil : All same [] = All-nil same in
-    subst (λ (o : Option Reason). MatchOption o (HasCounts claim scan settings) fault) (sym is)
-    (none_so _ ((((same Points × same Scanners) × same Sights) × same Vote) × same Smooth) (HasCounts claim scan settings) fault
-    (λ h. record { points = h.0.0.0.0; scanners = h.0.0.0.1; sights = h.0.0.1; vote = h.0.1; smooth = h.1 })
-    (or_next _ _ (((same Points × same Scanners) × same Sights) × same Vote) (same Smooth) fault
-    (or_next _ _ ((same Points × same Scanners) × same Sights) (same Vote) fault
-    (or_next _ _ (same Points × same Scanners) (same Sights) fault
-    (or_next _ _ (same Points) (same Scanners) fault
-    (told_so scan settings claim Points nil)
-    (λ p. told_so scan settings claim Scanners (All-cons same Points [] p nil)))
-    (λ p. told_so scan settings claim Sights (All-cons same Points (Scanners ∷ []) p.0 (All-cons same Scanners [] p.1 nil))))
-    (λ p. told_so scan settings claim Vote
-    (All-cons same Points (Scanners ∷ Sights ∷ []) p.0.0
-    (All-cons same Scanners (Sights ∷ []) p.0.1 (All-cons same Sights [] p.1 nil)))))
-    (λ p. told_so scan settings claim Smooth
-    (All-cons same Points (Scanners ∷ Sights ∷ Vote ∷ []) p.0.0.0
-    (All-cons same Scanners (Sights ∷ Vote ∷ []) p.0.0.1
-    (All-cons same Sights (Vote ∷ []) p.0.1 (All-cons same Vote [] p.1 nil)))))))
+    let a = told scan settings claim Points in
+    let b = option_or a (told scan settings claim Scanners) in
+    let d = option_or b (told scan settings claim Sights) in
+    let e = option_or d (told scan settings claim Vote) in
+    let all : Type 0 = All (IsSame scan settings claim) (Points ∷ Scanners ∷ Sights ∷ Vote ∷ Smooth ∷ []) in
+    subst (λ (o : Option Reason). MatchOption o (HasCounts claim scan settings) (IsFaultEver scan settings claim)) (sym is)
+    (none_so _ all (HasCounts claim scan settings) (IsFaultEver scan settings claim)
+    (λ (h : all). record {
+      points = h 0 Points (omega arith);
+      scanners = h 1 Points (omega arith);
+      sights = h 2 Points (omega arith);
+      vote = h 3 Points (omega arith);
+      smooth = h 4 Points (omega arith);
+    })
+    (or_told scan settings claim Smooth e (or_told scan settings claim Vote d (or_told scan settings claim Sights b
+    (or_told scan settings claim Scanners a (or_told scan settings claim Points None (All-nil (IsSame scan settings claim))))))))
 
 pub where_none : (r : Option Reason) (P : Type 0) (F : Reason → Type 0) → MatchOption r P F → IfNone r P
 where_none (Some reason) P F h = tt

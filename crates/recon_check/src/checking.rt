@@ -1,19 +1,18 @@
 //! The check of a mesh and a certificate. It stands on all other files.
 
 ghost use Rattle.std.specs.Prelude.{◌≡◌, ◌<◌, ◌^◌, ◌↔◌, ℕ, List, IfOk, IfErr, length};
-ghost use Rattle.cert_text.specs.Certificates.{claim_of, stamp_view, Claim, IsWellFormed};
+ghost use Rattle.cert_text.specs.Certificates.{claim_of, stamp_view, IsWellFormed};
 ghost use Rattle.cert_text.specs.Stamps.{StampView};
 ghost use Rattle.cert_text.specs.Texts.{cert_text};
-ghost use Rattle.mesh_ply.specs.Meshes.{IsMesh, Surface};
+ghost use Rattle.mesh_ply.specs.Meshes.{IsMesh};
 ghost use Rattle.solution.specs.Scans.{scene_of_scan};
-ghost use Rattle.solution.specs.Solutions.{surface_of, HasCounts, IsSolution};
+ghost use Rattle.solution.specs.Solutions.{surface_of, HasCounts};
 ghost use Rattle.scan.specs.Shown.{Shown};
 ghost use Rattle.scan.specs.Views.{shown_of};
 ghost use Rattle.scan_cut.specs.Stored.{IsStoreOf};
 ghost use Rattle.vote_net.specs.Counts.{AreCountsOf};
 ghost use Rattle.recon_check.specs.Answers.{IsFault, IsSolvedWith, IsAccepted, IsYes, IsYesWhereSolved, IsAnswer};
 ghost use Rattle.recon_check.specs.Surfaces.{AreShownLabels, IsBestSurface};
-ghost use Rattle.recon_check.specs.Stamps.{IsStampedFor};
 ghost use Rattle.recon_check.specs.Stops.{StopsFor};
 
 use crate::counts::other_count;

@@ -3,7 +3,7 @@
 //! The rows of a list rise, so those that begin with one number stand together. A table has for each number the place of the first row
 //! that begins with it or a greater one, and a row is searched between two places of the table alone.
 
-ghost use Rattle.std.specs.Prelude.{◌≡◌, ◌≢◌, ◌<◌, ◌≤◌, [], ℕ, IfOk, IfSome, IfNone, AllPairs, Contains, length, map, slice_index_or};
+ghost use Rattle.std.specs.Prelude.{◌≡◌, ◌≢◌, ◌<◌, ◌≤◌, [], ℕ, IfOk, IfSome, IfNone, AllPairs, length, map, slice_index_or};
 ghost use Rattle.geo_sign.specs.Rising.{IsBefore};
 ghost use Rattle.recon_check.specs.Lookups.{least_number, AreStarts};
 

@@ -4,13 +4,12 @@
 //! The cells are walked by their numbers, each is looked up among the rows, and what is found notes its number at the row. A row at which
 //! none is noted is about nothing that is there; the others tell at which numbers labels and amounts stand.
 
-ghost use Rattle.std.specs.Prelude.{◌≡◌, ◌≢◌, ◌<◌, ◌≤◌, ◌+◌, ◌*◌, ◌/◌, ◌%◌, ◌^◌, [], ℕ, true, false, List, IfOk, IfErr, IfSome, IfNone, AllPairs, OnOk, length, map, slice_index, slice_index_or};
+ghost use Rattle.std.specs.Prelude.{◌≡◌, ◌≢◌, ◌<◌, ◌≤◌, ◌+◌, ◌*◌, ◌/◌, ◌%◌, ◌^◌, ℕ, true, false, IfOk, IfErr, IfSome, IfNone, AllPairs, OnOk, length, map, slice_index};
 ghost use Rattle.cell_net.specs.Arcs.{across, is_free};
 ghost use Rattle.cert_text.specs.Certificates.{claim_of, IsWellFormed};
 ghost use Rattle.flow_check.specs.Firsts.{IsFirst};
 ghost use Rattle.flow_net.specs.Nets.{flag_at};
 ghost use Rattle.geo_sign.specs.Rising.{IsBefore};
-ghost use Rattle.tetra_store.specs.Links.{links_of};
 ghost use Rattle.visibility.specs.Complexes.{Complex};
 ghost use Rattle.visibility.specs.Scenes.{Scene};
 ghost use Rattle.visibility.specs.Votes.{IsComplexOf};
