@@ -6,7 +6,7 @@
 use Rattle.std.proofs.Common.{ℕ, ◌≡◌, ◌<◌, ◌≤◌, ◌+◌, ◌*◌, List, [], ◌∷◌, ◌++◌, length, Option, refl, sym, ap, ◌∙◌, inl, inr}
 use Rattle.std.proofs.Common.{subst, arith, slice_index}
 use Rattle.geo_sign.specs.Tetrahedron as geo
-use Rattle.geo_sign.specs.Tetrahedron.{facet_at, facet_of, IsRotated}
+use Rattle.geo_sign.specs.Tetrahedron.{facet_at, facet_of}
 use Rattle.geo_sign.specs.Vertices.{Vertices}
 use Rattle.tetra_store.specs.declared.fan.Facet.{Facet}
 use Rattle.tetra_store.specs.Links.{Links, tetrahedron_from, IsLive, IsLinked}

@@ -15,14 +15,14 @@ use Rattle.std.proofs.lemmas.Cmp.{nat_eq_equiv}
 use Rattle.std.proofs.lemmas.Map.Views.{Contains-from_any, list_any-from_Contains}
 use Rattle.std.proofs.lemmas.Int.{ints}
 use Rattle.geo_sign.specs.Tetrahedron as geo
-use Rattle.geo_sign.specs.Tetrahedron.{Tetrahedron, facet, facet_of, vertex_of, IsRotated}
+use Rattle.geo_sign.specs.Tetrahedron.{Tetrahedron, facet, facet_of, IsRotated}
 use Rattle.geo_sign.specs.Vertices.{Vertices, Has}
 use Rattle.geo_sign.specs.Cells.{IsCell}
 use Rattle.tetra_store.specs.declared.fan.Facet.{Facet}
 use Rattle.tetra_store.specs.Links.{links_of, IsLive}
 use Rattle.tetra_store.specs.Store.{Store, IsStore, vertices_of}
 use Rattle.tetra_store.specs.Fan.{HasPairedEdges, IsInFan, IsRim}
-use Rattle.tetra_store.specs.Fan.{fan_facet, fan_outer, IsOutside, IsHeld, HasEdge, CanReplace}
+use Rattle.tetra_store.specs.Fan.{fan_facet, fan_outer, IsOutside, IsHeld, CanReplace}
 use Rattle.tetra_store.specs.Delaunay.{IsDelaunay}
 use Rattle.tetra_store.specs.Stored.{live_of}
 use Rattle.geo_sign.specs.Writings as laws

@@ -1,5 +1,5 @@
 -- The rows that words make are those of a scan: points on the faces of a cube, each seen once.
-use Rattle.std.proofs.Common.{◌≡◌, ℕ, zero, suc, ◌+◌, ◌*◌, ◌/◌, ◌%◌, ◌==◌, ◌<◌, ◌≤◌, Bool, true, false, cond, List, [], ◌∷◌}
+use Rattle.std.proofs.Common.{◌≡◌, ℕ, ◌+◌, ◌*◌, ◌/◌, ◌%◌, ◌==◌, ◌<◌, ◌≤◌, Bool, true, false, cond, List, [], ◌∷◌}
 use Rattle.std.proofs.Common.{length, map, sum_by, All, ℤ, pos, neg_ℤ, unsigned_abs, refl, sym, ap, subst, ◌∙◌, arith}
 use Rattle.std.proofs.lemmas.List.{length-map}
 use Rattle.std.proofs.lemmas.List.Elements.{All-nil, All-cons}
@@ -9,10 +9,10 @@ use Rattle.geo_sign.specs.declared.point.TheConstants.{DATA_LIMIT}
 use Rattle.rand_core.specs.Steps.{first_words}
 use Rattle.rand_pcg.specs.Pcg.{pcg32}
 use Rattle.scan.specs.declared.scan.Seen.{Seen}
-use Rattle.scan.specs.ScanRows.{VertexRow, IsVertexRow, IsScan, sights_in, point_limit}
+use Rattle.scan.specs.ScanRows.{VertexRow, IsVertexRow, sights_in, point_limit}
 use Rattle.scan.specs.Shown.{IsShown, shown_by}
 use Rattle.scan.proofs.ShownLemmas.{rows_are_shown}
-use Rattle.gen_scan.specs.Generated.{on_axis, on_face, spread, generator, generated_row, rows_of_words, scanners, generated}
+use Rattle.gen_scan.specs.Generated.{on_axis, spread, generator, generated_row, rows_of_words, scanners, generated}
 use Rattle.gen_scan.proofs.Words.{point_in}
 
 abbrev IsSmall : ℤ → Type 0

@@ -1,6 +1,6 @@
 //! Places on and before the faces of a cube about the middle of the box. It stands on the points of `geo_sign`.
 
-ghost use Rattle.std.specs.Prelude.{◌≡◌, ◌<◌, ◌≤◌, IfOk, All, pos, unsigned_abs};
+ghost use Rattle.std.specs.Prelude.{◌≡◌, ◌<◌, ◌≤◌, IfOk, All, unsigned_abs};
 ghost use Rattle.geo_sign.specs.Point.{IsWithin, point};
 ghost use Rattle.gen_scan.specs.Generated.{on_face, scanners as scanners_of_faces};
 ghost use Rattle.geo_sign.specs.declared.point.TheConstants.{DATA_LIMIT};

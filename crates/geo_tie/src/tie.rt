@@ -4,9 +4,8 @@
 //! is B^n times the plain power, and five more terms: a power of B for each of the five numbers, times an orientation below 2^75. The
 //! plain power decides where it is not zero, and else the greatest number whose orientation is not zero. No large number is computed.
 
-ghost use Rattle.std.specs.Prelude.{◌≡◌, ◌≢◌, ◌<ℤ◌, ◌↔◌, pos, ℕ, IsTrue, IsFalse};
+ghost use Rattle.std.specs.Prelude.{◌≡◌, ◌<ℤ◌, ◌↔◌, pos, ℕ, IsTrue, IsFalse};
 ghost use Rattle.geo_sign.specs.Orientation.{orientation};
-ghost use Rattle.geo_sign.specs.Signs.{sign_of};
 ghost use Rattle.geo_sign.specs.Tie.{tied_power};
 ghost use Rattle.geo_sign.specs.Conflict.{OfFour, AreApart, AreBelow};
 ghost use Rattle.geo_sign.specs.Terms.{leading_term, is_below_zero, term, deciding_term};

@@ -1,7 +1,7 @@
 //! What a header line says by itself: the table of lines, without regard to where the line
 //! stands.
 
-ghost use Rattle.std.specs.Prelude.{◌≡◌, [], ◌∷◌, List, ℕ, IfSome, IfNone, None, Some};
+ghost use Rattle.std.specs.Prelude.{◌≡◌, [], List, None, Some};
 ghost use Rattle.std.specs.Option.{option_map};
 ghost use Rattle.std.specs.List.{list_all};
 ghost use Rattle.ply_head.specs.Lines.{words_of};

@@ -1,6 +1,6 @@
 //! The words of a line: its runs of bytes other than space and tab.
 
-ghost use Rattle.std.specs.Prelude.{◌≡◌, [], ◌∷◌, ◌||◌, IfSome, IfNone, ℕ, List, Bool, true, false, length, slice_index, ◌<◌};
+ghost use Rattle.std.specs.Prelude.{◌≡◌, [], ◌∷◌, ◌||◌, IfSome, IfNone, false, length, slice_index, ◌<◌};
 ghost use Rattle.std.specs.Str.{bytes_eq};
 ghost use Rattle.ply_head.specs.Lines.{words_of, is_blank};
 ghost use Rattle.ply_head.specs.Statements.{either_word};

@@ -1,6 +1,6 @@
 //! The values of binary bodies: their sizes, whole numbers, and fields cut by size.
 
-ghost use Rattle.std.specs.Prelude.{◌≡◌, ◌+◌, ◌≤◌, length, take, drop, IfOk};
+ghost use Rattle.std.specs.Prelude.{◌≡◌, ◌+◌, ◌≤◌, length, drop, IfOk};
 ghost use Rattle.ply_head.specs.Readable.{HasWholeCount};
 ghost use Rattle.ply_head.specs.declared.header.Kind.TheVariants.{Binary};
 ghost use Rattle.ply_rows.specs.Texts.{Gives};

@@ -1,6 +1,6 @@
 //! The fields of a text: tokens counted off, property by property.
 
-ghost use Rattle.std.specs.Prelude.{◌≡◌, ◌≤◌, length, IfOk};
+ghost use Rattle.std.specs.Prelude.{◌≤◌, length, IfOk};
 ghost use Rattle.num_text.specs.WholeNumbers.{whole_of};
 ghost use Rattle.ply_rows.specs.Tokens.{tokens_at};
 ghost use Rattle.ply_rows.specs.Texts.{Gives, count_in, count_or_refusal, items_of, items_end, text_field};

@@ -17,7 +17,7 @@ use Rattle.visibility.specs.Complexes.{Complex}
 use Rattle.visibility.specs.Votes.{has_corner, has_scanner, is_fixed, IsComplexOf}
 use Rattle.visibility.specs.Cuts.{IsAdmissible}
 use Rattle.visibility.specs.Laws.{test_of}
-use Rattle.visibility.proofs.Indices.{once_rising, once_permuted, same_index, row_index_at}
+use Rattle.visibility.proofs.Indices.{once_rising, once_permuted, row_index_at}
 use Rattle.tetra_store.specs.declared.link.Cell.{Cell}
 use Rattle.tetra_store.specs.Links.{links_of, IsLive}
 use Rattle.tetra_store.specs.Stored.{live_of}
@@ -26,7 +26,7 @@ use Rattle.vote_net.specs.Counts.{AreCellsOf, AreIdsOf, row_of}
 use Rattle.vote_net.proofs.CellCounts.{cell_count_law}
 use Rattle.vote_net.proofs.CellRows.{risen_row}
 use Rattle.vote_net.proofs.Stored.{listed, live}
-use Rattle.surface.specs.Labelled.{AreAllLive, NoneHasCorner}
+use Rattle.surface.specs.Labelled.{NoneHasCorner}
 
 module _ (s : Scene) (slots : List (Option Cell)) (cells : AreCellsOf s slots) (complex : Complex)
     (all : IsComplexOf s complex) where
@@ -70,17 +70,6 @@ module _ (s : Scene) (slots : List (Option Cell)) (cells : AreCellsOf s slots) (
         let m : k < length ids = omega (arith, l, n) in
         let at : get_or order k [] ≡ row_of slots x = get_or_default order k [] (row_of slots x) l ∙ c.2 in
         (k, m, l, one_id (get_or ids k 0) x (are.live k m) h (sym (are.row k m) ∙ at), at)
-
-    pub all_live : AreAllLive slots ids
-    all_live =
-        record {
-          live = are.live;
-          all = λ x h. (let i = index_of x h in (i.0, i.1, get_or_default ids i.0 x 0 i.1 ∙ i.3));
-          once = λ i j li lj e.
-              (let n = are.count in
-              same_index order i j (once_permuted complex.cells order listing (once_rising complex.cells all.cells_are.rising))
-              (omega (arith, li, n)) (omega (arith, lj, n)) (are.row i li ∙ ap (row_of slots) e ∙ sym (are.row j lj)));
-        }
 
     -- flags at the numbers of the cells, where each is the label at the cell's index, are those of the test of the labels
     pub says_by_number : (labels inside : List Bool)

@@ -6,9 +6,9 @@ ghost use Rattle.geo_sign.specs.Point.{origin, IsWithin};
 ghost use Rattle.geo_sign.specs.declared.point.TheConstants.{CORNERS, DATA_LIMIT};
 ghost use Rattle.geo_sign.specs.Vertices.{corners};
 ghost use Rattle.tetra_store.specs.declared.boxed.TheConstants.{VERTEX_LIMIT};
-ghost use Rattle.tetra_store.specs.Links.{links_of, IsLive};
+ghost use Rattle.tetra_store.specs.Links.{links_of};
 ghost use Rattle.tetra_store.specs.Steps.{ArePut};
-ghost use Rattle.tetra_store.specs.Box.{box_row, box_number, box_keeper, box_cell, IsBoxStep, IsBoxLinked, AreBoxCells};
+ghost use Rattle.tetra_store.specs.Box.{box_keeper, box_cell, IsBoxStep, IsBoxLinked, AreBoxCells};
 ghost use Rattle.tetra_store.specs.Delaunay.{IsDelaunay};
 
 use crate::growth::put;

@@ -1,7 +1,7 @@
 //! Putting the cells over a fan in.
 
 ghost use Rattle.std.specs.Prelude.{◌≡◌, ◌≢◌, ◌<◌, ◌≤◌, ◌+◌, ◌*◌, ◌^◌, ℕ, true, false, Some, None, [], ◌∷◌, length, slice_index, vec_capacity};
-ghost use Rattle.slab.specs.Slab.{get, ContainsKey, HasRoomFor, Updates, slab_len};
+ghost use Rattle.slab.specs.Slab.{get, HasRoomFor, Updates, slab_len};
 ghost use Rattle.std.specs.Option.{ForSome};
 ghost use Rattle.geo_sign.specs.Tetrahedron.{facet_of, IsRotated, IsTurned, facet_at};
 ghost use Rattle.tetra_store.specs.Links.{links_of, tetrahedron_from, IsLive};

@@ -1,9 +1,7 @@
 //! The kept cell of each vertex, after cells are put in and before others are taken out.
 
 ghost use Rattle.std.specs.Prelude.{◌≡◌, ◌<◌, ◌+◌, ◌^◌, ℕ, true, false, length, slice_index, Contains};
-ghost use Rattle.slab.specs.Slab.{ContainsKey};
 ghost use Rattle.geo_sign.specs.Tetrahedron.{vertex_of};
-ghost use Rattle.geo_sign.specs.Writings.{IsVertexOf};
 ghost use Rattle.tetra_store.specs.Links.{links_of, tetrahedron_from, IsLive};
 ghost use Rattle.geo_sign.specs.Edges.{over};
 ghost use Rattle.tetra_store.specs.Fan.{fan_facet, IsHeld};

@@ -4,7 +4,7 @@
 //! another, with the places of their neighbors. The order is a hint: a number in it that has no cell, or that it had before, is passed
 //! over, and cells that it leaves out come last. So nothing is asked of it.
 
-ghost use Rattle.std.specs.Prelude.{◌≡◌, ◌<◌, ◌≤◌, ◌+◌, ◌^◌, ℕ, Some, None, [], IsTrue, IsFalse, IfOk, OnOk, OnErr, length, slice_index, slice_index_or};
+ghost use Rattle.std.specs.Prelude.{◌≡◌, ◌<◌, ◌≤◌, ◌+◌, ◌^◌, ℕ, Some, None, [], IsTrue, IsFalse, IfOk, OnOk, OnErr, length, slice_index_or};
 ghost use Rattle.std.specs.Option.{ForSome};
 ghost use Rattle.slab.specs.Slab.{HasRoomFor, slab_len};
 ghost use Rattle.tetra_store.specs.Links.{links_of, IsLive};

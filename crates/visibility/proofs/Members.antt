@@ -1,5 +1,5 @@
 -- Functions that are equal on the members of a list: the same maps, sums and first indices.
-use Rattle.std.proofs.Common.{ℕ, suc, ◌+◌, ◌<◌, ◌≤◌, ◌≡◌, refl, ap₂, sym, ◌∙◌, arith, Bool, not, List, [], ◌∷◌, length, get_or}
+use Rattle.std.proofs.Common.{ℕ, ◌+◌, ◌≤◌, ◌≡◌, refl, ap₂, sym, ◌∙◌, arith, Bool, not, List, [], ◌∷◌, length, get_or}
 use Rattle.std.proofs.Common.{map, Contains}
 use Rattle.std.specs.List.{position_or_len, sum_by}
 use Rattle.std.proofs.lemmas.List.Sums.{sum_by-cons, position_or_len_is, fails_before_first, passes_at_first}

@@ -1,10 +1,10 @@
 -- How facets that have a capacity are written, and that there is one list of them.
-use Rattle.std.proofs.Common.{ℕ, ◌<◌, ◌≡◌, ◌≢◌, ap, subst, ◌∙◌, arith, Bool, true, false, cond, inl, inr, ⊎_elim, List, [], ◌∷◌}
+use Rattle.std.proofs.Common.{ℕ, ◌<◌, ◌≡◌, ◌≢◌, ap, subst, ◌∙◌, arith, Bool, true, false, cond, inl, inr, List, [], ◌∷◌}
 use Rattle.std.proofs.Common.{Contains, pos, int_lt}
 use Rattle.geo_sign.proofs.CellRows.{last_below}
 use Rattle.geo_sign.specs.Tetrahedron.{Tetrahedron, tetrahedron, facet_at, numbers_of}
 use Rattle.geo_sign.specs.Vertices.{Vertices, orientation_of}
-use Rattle.geo_sign.specs.Cells.{IsRisingCell, FormCell, IsCell, written}
+use Rattle.geo_sign.specs.Cells.{IsRisingCell, written}
 use Rattle.geo_sign.proofs.Rising.{rising_law, cell_list_law}
 use Rattle.visibility.specs.Scenes.{Scene}
 use Rattle.visibility.specs.Complexes.{Complex}

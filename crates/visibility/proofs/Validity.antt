@@ -8,13 +8,13 @@
 use Rattle.std.proofs.Common.{ℕ, ◌<◌, ◌≤◌, ◌^◌, ◌≡◌, ◌≢◌, refl, ap, sym, subst, ◌∙◌, arith, Bool, true, false, cond, ◌&&◌, ◌||◌}
 use Rattle.std.proofs.Common.{◌⊎◌, inl, inr, ⊎_elim, List, [], ◌∷◌, length, get_or, map, eqb, Some, None, Option, Contains, pos}
 use Rattle.std.proofs.Common.{int_lt}
-use Rattle.std.proofs.lemmas.Bool.{and_parts, and_from, or_cases, eqb-true, eq-eqb, false_from_ne_true}
+use Rattle.std.proofs.lemmas.Bool.{and_parts, or_cases, eqb-true, false_from_ne_true}
 use Rattle.std.proofs.lemmas.List.{get_or-map, length-map}
 use Rattle.std.proofs.lemmas.List.Sums.{position_or_len_is, passes_at_first}
 use Rattle.geo_sign.proofs.Among.{same_itself, same_means}
 use Rattle.flow_net.specs.Nets.{arc_at, flag_at, no_arc, IsReverseArc, IsValidArc, IsValidNet}
 use Rattle.flow_net.specs.declared.Arc.{Arc}
-use Rattle.geo_sign.specs.Tetrahedron.{Tetrahedron, DirectedFacet, tetrahedron, facet, facet_of, facet_at, numbers_of, turned}
+use Rattle.geo_sign.specs.Tetrahedron.{Tetrahedron, DirectedFacet, tetrahedron, facet_of, facet_at, numbers_of, turned}
 use Rattle.geo_sign.specs.Tetrahedron.{is_same_facet, is_among}
 use Rattle.geo_sign.specs.Vertices.{Vertices, orientation_of}
 use Rattle.geo_sign.specs.Cells.{IsRisingCell, written}

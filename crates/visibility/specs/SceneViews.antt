@@ -3,7 +3,7 @@
 --   view_of given                     the scene of what is given
 --   IsSightOf points scanners sight   a sight of one of the points, from one of the scanners
 --   IsSound given                     all sights are such, of weights that they may have, and scanners are data points
-use Rattle.std.specs.Prelude.{ℕ, ◌+◌, ◌<◌, ◌≤◌, List, All, length}
+use Rattle.std.specs.Prelude.{◌+◌, ◌<◌, ◌≤◌, List, All, length}
 use Rattle.flow_net.specs.declared.votes.Sight.{Sight}
 use Rattle.flow_net.specs.Weights.{IsSightList}
 use Rattle.geo_sign.specs.Point.{Point, IsWithin}

@@ -2,14 +2,11 @@
 
 ghost use Rattle.std.specs.Prelude.{◌≡◌, ◌<◌, ◌≤◌, ◌+◌, ◌*◌, ◌^◌, ℕ, [], All, IfOk, IsTrue, IsFalse, length, slice_index};
 ghost use Rattle.geo_sign.specs.declared.point.TheConstants.{DATA_LIMIT};
-ghost use Rattle.geo_sign.specs.Point.{origin, IsWithin};
-ghost use Rattle.geo_sign.specs.Rational.{displaced};
-ghost use Rattle.geo_sign.specs.Vertices.{Has};
+ghost use Rattle.geo_sign.specs.Point.{IsWithin};
 ghost use Rattle.flow_net.specs.Weights.{IsSightList};
 ghost use Rattle.tetra_store.specs.Delaunay.{IsDelaunay};
 ghost use Rattle.tetra_store.specs.Links.{links_of};
 ghost use Rattle.tetra_store.specs.Store.{vertices_of};
-ghost use Rattle.sight.specs.Walks.{IsEndCell};
 ghost use Rattle.votes.specs.Counts.{IsInRange, added_by as added_by_sight, AreScannerCells, AreCounted};
 ghost use Rattle.votes.specs.Lines.{IsLineOf, IsLineIn, added_on, added_behind, HasCounterRoom, IsCountedStep};
 
