@@ -1,16 +1,13 @@
 -- What `sweep` does: its outcome from that of its steps.
 --
--- A run reads one file and then ends in one of four ways, each the last lemma of its own: a call failed (swept_failed),
--- there was no memory for the scan (swept_starved), the scan is refused (swept_refused), or its surfaces were handed to the
--- forms (swept). In the first three the forms are as they were. In the last they hold the meshes of their entries and the
--- texts are carried out (handed), or a call fails on that way, or memory ends before all of them are handed out, and the
--- forms hold fronts. What is true of files, faults and what was said comes from the lemmas for any run (failed_by,
--- starved_by, obeyed_by).
-use Rattle.std.proofs.Common.{◌≡◌, inl, inr, ℕ, ◌+◌, ◌≤◌, ◌-◌, List, [], length, Option, Some, None, IfSome, Ok, false, refl, sym, ap}
+-- A run reads one file, and then hands the surfaces of the scan to the forms (swept). They hold the meshes of their entries and
+-- the texts are carried out (handed), or a call fails on that way, or memory ends before all of them are handed out, and the
+-- forms hold fronts. What is true of files, faults and what was said comes from the lemmas for any run (starved_by, obeyed_by).
+-- Where a call failed, there was no memory for the scan, or it is refused, the forms are as they were, which needs no lemma.
+use Rattle.std.proofs.Common.{◌≡◌, inl, inr, ℕ, ◌+◌, ◌≤◌, ◌-◌, List, length, Option, Some, None, IfSome, Ok, false, refl, sym, ap}
 use Rattle.std.proofs.Common.{subst, ◌∙◌, arith, map, string_bytes}
 use Rattle.std.proofs.lemmas.List.{length-map}
 use Rattle.std.specs.List.{zip}
-use Rattle.host.specs.Counts.{Rose}
 use Rattle.host.specs.State.{State, Told, Files}
 use Rattle.host.specs.Whole.{OnlyReads}
 use Rattle.mesh_form.specs.Received.{Received}
@@ -20,16 +17,14 @@ use Rattle.scan.specs.declared.scan.Scan.{Scan}
 use Rattle.sweep.proofs.Handings.{fronts_of_entries}
 use Rattle.sweep.specs.Entries.{CostsAt, HaveEntries, given_by, smoothing_of}
 use Rattle.recon_cmd.specs.Answers.{Answer, read_as, MayRefuse}
-use Rattle.recon_cmd.specs.Replies.{line_bytes}
 use Rattle.recon_cmd.specs.Steps.{Bytes, CarriesOut, IsReading, ReadsBy}
 use Rattle.recon_cmd.specs.Sweep.{IsFileOfScan, SweepAnswer, SweepAsked, SweepFormsAfter, SweepHandOut, SweepOutcome, WritesSweep}
 use Rattle.recon_cmd.specs.Sweep.{sweep_asked, sweep_line}
 use Rattle.recon_cmd.specs.declared.commands.sweeping.SweepWords.{SweepWords}
-use Rattle.recon_cmd.specs.declared.reply.Line.{Line}
 use Rattle.recon_cmd.specs.declared.whole_run.reading.Reading.TheVariants as readings
 use Rattle.recon_cmd.specs.declared.status.Status.{Status}
-use Rattle.recon_cmd.specs.declared.status.Status.TheVariants.{Done, Refused, Failed, NoMemory}
-use Rattle.recon_cmd.proofs.Outcomes.{failed_by, obeyed_by, starved_by}
+use Rattle.recon_cmd.specs.declared.status.Status.TheVariants.{Done}
+use Rattle.recon_cmd.proofs.Outcomes.{obeyed_by, starved_by}
 
 -- each answer reads one file
 answer_reads : (asked : SweepAsked) (forms : List Received) (texts : List (List ℕ)) (files : Files) (answer : Answer)
@@ -78,15 +73,6 @@ answered_scan asked forms texts scan held answer None answers one read = tt
 answered_scan asked forms texts scan held answer (Some told) answers one (bytes, there, (same, within, is)) =
     (answer.reads, (bytes, there, inr (record { within = within; scan = shown_of scan; read = is; answers = answers })))
 
--- the scan is refused with this line
-refused_scan : (asked : SweepAsked) (forms : List Received) (texts : List (List ℕ)) (line : Line) (o : Option Told)
-    → IfSome o (IsReading asked.input asked.options (readings.Refused line))
-    → IfSome o (λ told. (reads : ℕ)
-    × SweepAnswer asked forms texts told.files
-    (record { status = Refused; reads = reads; writes = []; line = line_bytes line }))
-refused_scan asked forms texts line None read = tt
-refused_scan asked forms texts line (Some told) (bytes, there, unread) = (1, (bytes, there, inl unread))
-
 -- ---- forms
 -- the forms have received the meshes of their entries, and their texts are carried out
 pub handed : (words : SweepWords) (scan : Shown) (forms : ℕ) (result : Status) (before after : State) (new : List Received)
@@ -127,44 +113,6 @@ as_long kind received old new same =
     length-map new received ∙ (sym (length-map new kind) ∙ (ap length same ∙ length-map old kind))
 
 -- ---- outcomes
-
--- a call failed while the scan was read
-pub swept_failed : (asked : SweepAsked) (before after : State) (old : List Received) (texts : List (List ℕ))
-    → before.writing ≡ false → OnlyReads before after → Rose before.faults after.faults
-    → SweepOutcome asked Failed before after old old texts
-swept_failed asked before after old texts closed only rose =
-    record {
-      run = failed_by MayRefuse 1 (SweepAnswer asked old texts) before after tt
-          (sweep_reads asked old texts before after closed only) rose;
-      forms = inl refl;
-    }
-
--- there was no memory for the scan
-pub swept_starved : (asked : SweepAsked) (before after : State) (old : List Received) (texts : List (List ℕ))
-    → before.writing ≡ false → OnlyReads before after → after.faults ≡ before.faults
-    → SweepOutcome asked NoMemory before after old old texts
-swept_starved asked before after old texts closed only same =
-    record {
-      run = starved_by MayRefuse 1 (SweepAnswer asked old texts) before after tt
-          (sweep_reads asked old texts before after closed only) same;
-      forms = inl refl;
-    }
-
--- the scan is refused
-pub swept_refused : (asked : SweepAsked) (line : Line) (result : Status) (before mid after : State) (old : List Received)
-    (texts : List (List ℕ)) → before.writing ≡ false → OnlyReads before mid → mid.faults ≡ before.faults
-    → IfSome before.told (IsReading asked.input asked.options (readings.Refused line))
-    → CarriesOut [] (line_bytes line) Refused result mid after → SweepOutcome asked result before after old old texts
-swept_refused asked line result before mid after old texts closed only same read carried =
-    record {
-      run = obeyed_by MayRefuse 1 (SweepAnswer asked old texts) Refused [] (line_bytes line) result before mid after tt tt tt
-          (refused_scan asked old texts line before.told read) (sweep_reads asked old texts before mid closed only) same carried;
-      forms = by carried;
-    }
-  where
-    by : CarriesOut [] (line_bytes line) Refused result mid after → SweepFormsAfter asked result before old old
-    by (inl (is, whole)) = subst (λ (s : Status). SweepFormsAfter asked s before old old) (sym is) refl
-    by (inr (is, stopped)) = subst (λ (s : Status). SweepFormsAfter asked s before old old) (sym is) (inl refl)
 
 -- the scan was read, and its surfaces handed to the forms
 pub swept : (asked : SweepAsked) (scan : Scan) (held : Bytes) (result : Status) (before mid after : State)

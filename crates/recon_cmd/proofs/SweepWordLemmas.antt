@@ -1,19 +1,17 @@
 -- What words of `sweep` ask for, step by step, and that they are not words of `export`.
 --
 -- Both commands are told by the first word, so words of one are none of the other (no_sweep, no_export). The code looks at
--- the words behind the first in order, and each step is a lemma: too few (too_few), the scan and the three numbers (sweep_at),
--- and behind them the outputs' names with options, beside which the scan's must be another (behind_none, behind_some).
+-- the words behind the first in order: they are too few (too_few), or a scan and three numbers, and what the words behind these ask
+-- for (sweep_at).
 use Rattle.std.proofs.Common.{◌≡◌, ℕ, ◌-◌, ◌<◌, ◌≤◌, ◌==◌, Bool, true, false, cond, List, [], ◌∷◌, Option, Some, None, codes, length, map}
-use Rattle.std.proofs.Common.{take, drop, get_or, refl, sym, ap, subst, ◌∙◌, arith, eq-eqb, ne_eqb, nat_le, le-leb, leb-true, ◌&&◌}
+use Rattle.std.proofs.Common.{take, drop, get_or, refl, sym, ap, subst, ◌∙◌, arith, eq-eqb, ne_eqb, nat_le, leb-true, ◌&&◌}
 use Rattle.std.specs.Str.{bytes_eq}
 use Rattle.std.proofs.lemmas.List.{take_rest}
 use Rattle.flow_net.specs.declared.votes.TheConstants.{WEIGHT_LIMIT}
 use Rattle.ply_head.specs.Optional.{◌>>=◌}
-use Rattle.sweep.specs.Entries.{smoothing_of}
 use Rattle.recon_cmd.specs.Export.{export_behind, export_of}
 use Rattle.recon_cmd.specs.Options.{number_between, number_of_digits, within}
-use Rattle.recon_cmd.specs.Sweep.{SweepAsked, asked_with, entries_behind, entries_of, sweep_behind, sweep_keys, sweep_of, sweep_words_of}
-use Rattle.recon_cmd.specs.Words.{NamesAndOptions, is_name, named}
+use Rattle.recon_cmd.specs.Sweep.{SweepAsked, entries_behind, entries_of, sweep_behind, sweep_of, sweep_words_of}
 use Rattle.recon_cmd.proofs.WordLemmas.{same_name}
 
 -- words of which the first is not `sweep` ask for no sweep
@@ -139,34 +137,3 @@ sweep_at name (v1 ∷ v2 ∷ v3 ∷ v4 ∷ rest) n input from step count least r
         >>= (λ (l : ℕ). second
         >>= (λ (r : ℕ). third
         >>= (λ (k : ℕ). cond (k == n) (sweep_behind (name v1) l r n (map name rest)) None)))
-
--- what names and options behind the numbers come to, beside the name of the scan
-abbrev pub beside : (input : List ℕ) → (from step : ℕ) → Option NamesAndOptions → Option SweepAsked
-beside input from step words =
-    words >>= λ held. cond (is_name input held.names) (Some (asked_with input from step held.names held.options)) None
-
--- behind the numbers, where the weights are within their limit
-pub behind_at : (input : List ℕ) (from step count : ℕ) (words : List (List ℕ))
-    → smoothing_of from step (count - 1) ≤ WEIGHT_LIMIT → (held : Option NamesAndOptions) → held ≡ named count sweep_keys words
-    → sweep_behind input from step count words ≡ beside input from step held
-behind_at input from step count words high held is =
-    ap (λ (t : Bool). cond t (beside input from step (named count sweep_keys words)) None)
-    (le-leb (smoothing_of from step (count - 1)) WEIGHT_LIMIT high)
-    ∙ ap (beside input from step) (sym is)
-
--- where the name of the scan is one of the others, or empty, they ask for nothing
-pub behind_none : (input : List ℕ) (from step count : ℕ) (words : List (List ℕ))
-    → smoothing_of from step (count - 1) ≤ WEIGHT_LIMIT → (held : NamesAndOptions) → Some held ≡ named count sweep_keys words
-    → is_name input held.names ≡ false → None ≡ sweep_behind input from step count words
-behind_none input from step count words high held is bad =
-    sym (behind_at input from step count words high (Some held) is
-    ∙ ap (λ (t : Bool). cond t (Some (asked_with input from step held.names held.options)) None) bad)
-
--- else for these outputs, with the options behind them
-pub behind_some : (input : List ℕ) (from step count : ℕ) (words : List (List ℕ))
-    → smoothing_of from step (count - 1) ≤ WEIGHT_LIMIT → (held : NamesAndOptions) → Some held ≡ named count sweep_keys words
-    → is_name input held.names ≡ true
-    → Some (asked_with input from step held.names held.options) ≡ sweep_behind input from step count words
-behind_some input from step count words high held is good =
-    sym (behind_at input from step count words high (Some held) is
-    ∙ ap (λ (t : Bool). cond t (Some (asked_with input from step held.names held.options)) None) good)

@@ -14,12 +14,13 @@
 --   IsAsked output options ..        one of the two
 --   AskAnswer names options ..       the answer to a scan
 --   ask_task names options           the command
+--   IsAskReply names options ..      the reply may end a run of `ask`, and is one of its answers to a scan
 use Rattle.std.specs.List.{flat_map}
 use Rattle.std.specs.Prelude.{ℕ, List, codes, Option, Some, None, [], ◌∷◌, ◌++◌, Bool, if◌then◌else◌, length, decimal, ◌≡◌, ◌≤◌, Err, ⊤}
 use Rattle.std.specs.Prelude.{count_by, Ok, ◌⊎◌}
 use Rattle.flow_net.specs.declared.votes.Settings.{Settings}
 use Rattle.geo_sign.specs.Point.{Point}
-use Rattle.host.specs.State.{Files}
+use Rattle.host.specs.State.{Files, State}
 use Rattle.scan.specs.Shown.{Shown}
 use Rattle.solid_query.specs.Labels.{AreLabels}
 use Rattle.solid_query.specs.Queries.{points_in}
@@ -29,7 +30,9 @@ use Rattle.recon_cmd.specs.Answers.{Answer, refusal, file_limit, FileTooLong, Ta
 use Rattle.recon_cmd.specs.Lines.{labelled}
 use Rattle.recon_cmd.specs.Options.{Options}
 use Rattle.recon_cmd.specs.Refusals.{number_line}
+use Rattle.recon_cmd.specs.Steps.{IsReplyOf}
 use Rattle.recon_cmd.specs.declared.commands.ask.AskNames.{AskNames}
+use Rattle.recon_cmd.specs.declared.reply.Reply.{Reply}
 use Rattle.recon_cmd.specs.declared.status.Status.TheVariants.{Done}
 use Rattle.solid_query.specs.declared.refusal.QueryRefusal.TheVariants as queries
 
@@ -122,3 +125,7 @@ ask_task names options =
       most = 2;
       Answers = λ files. ToScan names.input options (λ _. AskAnswer names options files) files;
     }
+
+-- the reply may end a run of such a command, and is one of its answers to this scan
+abbrev pub IsAskReply : QueryNames → Options → Shown → Reply → State → Type 0
+IsAskReply names options scan = IsReplyOf (ask_task names options) (λ files. AskAnswer names options files scan)

@@ -23,17 +23,19 @@
 --   CertAnswer, MeshAnswer             the answer to the bytes of a certificate, and to those of a mesh
 --   CheckAnswer names output ..        the answer to a scan
 --   check_task names output options    the command: `upgrade` where there is a file to write, and `check` where there is none
---   IsCheckReply names output ..       the reply may end a run of such a command, and is one of these answers
+--   task_for asked                     the command that the program was asked for
+--   HasVerdictFor asked held ..        the verdict, for what it was asked for and the scan that it holds with its stamp
+--   CertAnswerFor, MeshAnswerFor       the answers to the bytes of a certificate, and to those of a mesh, for the same
 use Rattle.std.specs.Fmt.{signed_decimal}
 use Rattle.std.specs.Option.{option_map}
 use Rattle.std.specs.Prelude.{ℕ, List, Option, codes, [], ◌∷◌, ◌++◌, Some, None, ◌≡◌, ◌⊎◌, ◌≤◌, length, ⊤}
-use Rattle.cert_text.specs.Certificates.{Claim}
+use Rattle.cert_text.specs.Certificates.{Claim, stamp_view}
 use Rattle.cert_text.specs.Stamps.{StampView}
 use Rattle.cert_text.specs.Texts.{cert_text}
 use Rattle.flow_net.specs.declared.votes.Settings.{Settings}
 use Rattle.geo_sign.specs.Point.{Point}
 use Rattle.hex.specs.Hex.{encode_lower}
-use Rattle.host.specs.State.{Files, State}
+use Rattle.host.specs.State.{Files}
 use Rattle.recon_check.specs.Answers.{HasCertificate, IsAnswer}
 use Rattle.recon_check.specs.declared.answer.Answer.{Answer as Verdict}
 use Rattle.recon_check.specs.declared.answer.Reason.{Reason}
@@ -45,18 +47,20 @@ use Rattle.recon_check.specs.declared.answer.Which.{Which}
 use Rattle.recon_check.specs.declared.answer.Which.TheVariants.{Points, Scanners, Sights, Vote, Smooth}
 use Rattle.scan.specs.PlainForm.{spaced}
 use Rattle.scan.specs.Shown.{Shown}
+use Rattle.scan.specs.Views.{shown_of}
 use Rattle.recon_cmd.specs.Answers.{Answer, file_limit, FileTooLong, Task, ToScan}
 use Rattle.recon_cmd.specs.Lines.{labelled, too_long_mesh_line}
+use Rattle.recon_cmd.specs.OptionViews.{options_view}
 use Rattle.recon_cmd.specs.Options.{Options}
 use Rattle.recon_cmd.specs.Refusals.{text_line, number_line}
 use Rattle.recon_cmd.specs.Stamps.{stamp_for}
 use Rattle.recon_cmd.specs.Words.{SurfaceNames}
+use Rattle.recon_cmd.specs.declared.commands.check.CheckAsked.{CheckAsked}
 use Rattle.recon_cmd.specs.declared.commands.check.CheckNames.{CheckNames}
+use Rattle.recon_cmd.specs.declared.commands.check.StampedScan.{StampedScan}
 use Rattle.recon_cmd.specs.declared.status.Status.{Status}
 use Rattle.recon_cmd.specs.declared.status.Status.TheVariants.{Done, No}
 use Rattle.recon_check.specs.declared.answer.Answer.TheVariants as verdicts
-use Rattle.recon_cmd.specs.Steps.{IsReplyOf}
-use Rattle.recon_cmd.specs.declared.reply.Reply.{Reply}
 
 -- the first three names of `check` and `upgrade` that the program holds
 abbrev pub check_names : CheckNames → SurfaceNames
@@ -205,6 +209,20 @@ check_task names output options =
       Answers = λ files. ToScan names.input options (CheckAnswer names output options files) files;
     }
 
--- the reply may end a run of such a command, and is one of these answers
-abbrev pub IsCheckReply : SurfaceNames → (output : Option (List ℕ)) → Options → (Files → Answer → Type 0) → Reply → State → Type 0
-IsCheckReply names output options = IsReplyOf (check_task names output options)
+-- the command that the program was asked for
+abbrev pub task_for : CheckAsked → Task
+task_for asked = check_task (check_names asked.names.now) (output_of asked.names.now) (options_view asked.options.now)
+
+-- the verdict on a mesh and a certificate, and what follows from it, for what the program was asked for and the scan that it holds
+-- with its stamp
+abbrev pub HasVerdictFor : CheckAsked → StampedScan → (mesh cert : List ℕ) → Answer → Type 0
+HasVerdictFor asked held =
+    HasVerdict (output_of asked.names.now) (options_view asked.options.now) (stamp_view held.stamp) (shown_of held.scan)
+
+-- the file of the certificate that was asked for is too long, or it decides on this mesh
+abbrev pub CertAnswerFor : CheckAsked → StampedScan → (mesh : List ℕ) → Files → Answer → Type 0
+CertAnswerFor asked held mesh = CertAnswer (check_names asked.names.now) (HasVerdictFor asked held mesh)
+
+-- the file of the mesh that was asked for is too long, or it and the certificate decide
+abbrev pub MeshAnswerFor : CheckAsked → StampedScan → Files → Answer → Type 0
+MeshAnswerFor asked held = MeshAnswer (check_names asked.names.now) (HasVerdictFor asked held)

@@ -14,6 +14,7 @@ pub mod Options
 pub mod Outcome
 pub mod Refusals
 pub mod Replies
+pub mod Runs
 pub mod Slice
 pub mod Stamps
 pub mod Status

@@ -1,19 +1,18 @@
 -- Forms of three types write PLY, OFF and OBJ: by type, in their order.
-use Rattle.std.proofs.Common.{◌≡◌, ◌⊎◌, inl, inr, ℕ, ◌+◌, ◌≤◌, ◌<◌, List, [], ◌∷◌, ◌++◌, length, map, All, Option, Some, None, IfSome}
+use Rattle.std.proofs.Common.{◌≡◌, ◌⊎◌, inl, inr, ℕ, ◌+◌, ◌≤◌, List, [], ◌∷◌, ◌++◌, length, map, Option, Some, None, IfSome}
 use Rattle.std.proofs.Common.{refl, sym, ap, subst, ◌∙◌, arith, unwrap_or}
 use Rattle.std.specs.List.{zip}
 use Rattle.std.specs.Option.{IsSomeAnd}
 use Rattle.host.specs.State.{State, Told, Files}
-use Rattle.geo_sign.specs.Point.{Point}
-use Rattle.mesh_form.specs.Received.{Received, HasAll}
+use Rattle.mesh_form.specs.Received.{Received}
 use Rattle.mesh_form.specs.Texts.{off_text, obj_text}
 use Rattle.mesh_ply.specs.Meshes.{Surface}
 use Rattle.mesh_ply.specs.Texts.{mesh_text}
-use Rattle.recon_cmd.specs.Answers.{Answer, IsUnreadMesh, MayRefuse}
+use Rattle.recon_cmd.specs.Answers.{Answer, MayRefuse}
 use Rattle.recon_cmd.specs.Export.{ExportAnswer, ExportNames, ExportOutcome, HaveAll, WritesForms, export_of, exported_line}
-use Rattle.recon_cmd.specs.Outcome.{EndsBy, IsUntouched, Run, StopsBy, TellsBy, WhereTold}
+use Rattle.recon_cmd.specs.Outcome.{EndsBy, IsUntouched, Run, StopsBy, TellsBy}
 use Rattle.recon_cmd.specs.Commands.{Outcome, command_of}
-use Rattle.recon_cmd.specs.Status.{code_of}
+use Rattle.recon_cmd.specs.Status.{ExitsWith, code_of}
 use Rattle.recon_cmd.specs.declared.status.Status.{Status}
 use Rattle.recon_cmd.specs.declared.status.Status.TheVariants.{Done, No, BadWords, Refused, Failed, NoMemory}
 use Rattle.recon_cmd.specs.Sweep.{SweepAsked, entries_of, sweep_of}
@@ -137,23 +136,20 @@ pub ran_on : {X : Type 0} (words : List (List ℕ)) (n : ℕ) → n ≡ 3
     → (code : ℕ) (before after : State) (old new : List Received) (texts : List (List ℕ)) → AreFormats new texts
     → entries_of words ≡ None
     → IfSome (export_of n words)
-    (λ names. (status : Status) × (code ≡ code_of status) × ExportOutcome names status before after old new texts)
+    (λ names. ExitsWith code (λ status. ExportOutcome names status before after old new texts))
     → (export_of n words ≡ None → sweep_of n words ≡ None
     → (status : Status) × (code ≡ code_of status) × Outcome (command_of words) status before after × X)
     → RunsOn words code before after
 ran_on {X} words n three code before after old new texts are others exported ran =
-    subst (λ (k : ℕ).
-    (status : Status) × (code ≡ code_of status) × RunsFor (export_of k words) (sweep_in words) words status before after) three
-    (subst (λ (o : Option SweepAsked).
-    (status : Status) × (code ≡ code_of status) × RunsFor (export_of n words) o words status before after)
+    subst (λ (k : ℕ). ExitsWith code (λ status. RunsFor (export_of k words) (sweep_in words) words status before after)) three
+    (subst (λ (o : Option SweepAsked). ExitsWith code (λ status. RunsFor (export_of n words) o words status before after))
     (sym (no_sweep words (unwrap_or (entries_of words) 0) others))
     (by (export_of n words) exported (λ e. ran e (no_sweep words n others))))
   where
     by : (o : Option ExportNames)
-        → IfSome o
-        (λ names. (status : Status) × (code ≡ code_of status) × ExportOutcome names status before after old new texts)
+        → IfSome o (λ names. ExitsWith code (λ status. ExportOutcome names status before after old new texts))
         → (o ≡ None → (status : Status) × (code ≡ code_of status) × Outcome (command_of words) status before after × X)
-        → (status : Status) × (code ≡ code_of status) × RunsFor o None words status before after
+        → ExitsWith code (λ status. RunsFor o None words status before after)
     by None exported ran = let found = ran refl in (found.0, found.1, found.2)
     by (Some names) (status, is, outcome) ran = (
       status,

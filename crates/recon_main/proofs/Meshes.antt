@@ -7,16 +7,15 @@ use Rattle.std.proofs.lemmas.List.Elements.{All-append, All-cons, All-nil}
 use Rattle.std.proofs.lemmas.Simd.{map-map}
 use Rattle.host.specs.State.{State, Files}
 use Rattle.geo_sign.specs.Point.{Point}
-use Rattle.mesh_form.specs.Received.{Received, IsFresh, HasAll, fresh}
+use Rattle.mesh_form.specs.Received.{Received, IsFresh, fresh}
 use Rattle.mesh_ply.specs.Meshes.{Surface}
 use Rattle.mesh_ply.specs.Texts.{mesh_text}
 use Rattle.scan.specs.Shown.{Shown}
 use Rattle.sweep.specs.Entries.{HasEntry, IsSurfaceAt, given_by, smoothing_of}
-use Rattle.recon_cmd.specs.Answers.{Answer, MayRefuse}
+use Rattle.recon_cmd.specs.Answers.{Answer}
 use Rattle.recon_cmd.specs.Export.{export_of}
 use Rattle.recon_cmd.specs.Commands.{Outcome, command_of}
-use Rattle.recon_cmd.specs.Outcome.{Run}
-use Rattle.recon_cmd.specs.Status.{code_of}
+use Rattle.recon_cmd.specs.Status.{ExitsWith, code_of}
 use Rattle.recon_cmd.specs.Sweep.{SweepAnswer, SweepAsked, SweepOutcome, WritesSweep, entries_of, sweep_line, sweep_of}
 use Rattle.recon_cmd.specs.declared.status.Status.{Status}
 use Rattle.recon_cmd.specs.declared.status.Status.TheVariants.{Done}
@@ -152,16 +151,14 @@ meshes_reads asked files answer (bytes, has, inr answered) = ap (λ (a : Answer)
 pub swept_on : {X : Type 0} (words : List (List ℕ)) (n m : ℕ) → entries_of words ≡ Some m → n ≡ m
     → (code : ℕ) (before after : State) (old new : List Received) (texts : List (List ℕ)) → texts ≡ map ply_of new
     → IfSome (sweep_of n words)
-    (λ asked. (status : Status) × (code ≡ code_of status) × SweepOutcome asked status before after old new texts)
+    (λ asked. ExitsWith code (λ status. SweepOutcome asked status before after old new texts))
     → (export_of n words ≡ None → sweep_of n words ≡ None
     → (status : Status) × (code ≡ code_of status) × Outcome (command_of words) status before after × X)
     → RunsOn words code before after
 swept_on {X} words n m has same code before after old new texts are swept ran =
-    subst (λ (o : Option _).
-    (status : Status) × (code ≡ code_of status) × RunsFor o (sweep_in words) words status before after)
+    subst (λ (o : Option _). ExitsWith code (λ status. RunsFor o (sweep_in words) words status before after))
     (sym (no_export words 3 m has))
-    (subst (λ (o : Option SweepAsked).
-    (status : Status) × (code ≡ code_of status) × RunsFor None o words status before after) (sym asked_is)
+    (subst (λ (o : Option SweepAsked). ExitsWith code (λ status. RunsFor None o words status before after)) (sym asked_is)
     (by (sweep_of n words) swept (ran (no_export words n m has))))
   where
     asked_is : sweep_in words ≡ sweep_of n words
@@ -169,10 +166,9 @@ swept_on {X} words n m has same code before after old new texts are swept ran =
         ap (λ (o : Option ℕ). sweep_of (unwrap_or o 0) words) has ∙ ap (λ (k : ℕ). sweep_of k words) (sym same)
 
     by : (o : Option SweepAsked)
-        → IfSome o
-        (λ asked. (status : Status) × (code ≡ code_of status) × SweepOutcome asked status before after old new texts)
+        → IfSome o (λ asked. ExitsWith code (λ status. SweepOutcome asked status before after old new texts))
         → (o ≡ None → (status : Status) × (code ≡ code_of status) × Outcome (command_of words) status before after × X)
-        → (status : Status) × (code ≡ code_of status) × RunsFor None o words status before after
+        → ExitsWith code (λ status. RunsFor None o words status before after)
     by None swept ran = let found = ran refl in (found.0, found.1, found.2)
     by (Some asked) (status, is, outcome) ran = (
       status,

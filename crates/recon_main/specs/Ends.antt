@@ -28,7 +28,7 @@ use Rattle.recon_cmd.specs.Answers.{Answer, MeshFileAnswer, ScanAnswer, MayRefus
 use Rattle.recon_cmd.specs.Export.{ExportNames, export_of, exported_line}
 use Rattle.recon_cmd.specs.Commands.{Outcome, command_of}
 use Rattle.recon_cmd.specs.Outcome.{Run}
-use Rattle.recon_cmd.specs.Status.{code_of}
+use Rattle.recon_cmd.specs.Status.{ExitsWith, code_of}
 use Rattle.recon_cmd.specs.Sweep.{SweepAsked, entries_of, sweep_line, sweep_of}
 use Rattle.recon_cmd.specs.declared.status.Status.{Status}
 use Rattle.recon_cmd.specs.declared.status.Status.TheVariants.{Done, NoMemory}
@@ -92,7 +92,7 @@ RunsFor None None words status before after = Outcome (command_of words) status 
 -- a run on these words ended with this status
 abbrev pub RunsOn : List (List ℕ) → ℕ → State → State → Type 0
 RunsOn words code before after =
-    (status : Status) × (code ≡ code_of status) × RunsFor (export_of 3 words) (sweep_in words) words status before after
+    ExitsWith code (λ status. RunsFor (export_of 3 words) (sweep_in words) words status before after)
 
 -- there was no memory for the words or for the forms, and nothing is done
 abbrev pub DoesNothing : ℕ → State → State → Type 0

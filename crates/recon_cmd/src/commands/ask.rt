@@ -7,11 +7,11 @@ ghost use Rattle.geo_sign.specs.declared.point.TheConstants.{DATA_LIMIT};
 ghost use Rattle.scan.specs.Views.{shown_of};
 ghost use Rattle.solution.specs.Scans.{points_of};
 ghost use Rattle.recon_cmd.specs.Answers.{file_limit};
-ghost use Rattle.recon_cmd.specs.Ask.{ask_names, AskAnswer, IsAsked, WritesLabels, too_long_points_line, query_refusal_line, ask_line, labels_text, label_line, ask_task};
+ghost use Rattle.recon_cmd.specs.Ask.{ask_names, AskAnswer, IsAskReply, IsAsked, WritesLabels, too_long_points_line, query_refusal_line, ask_line, labels_text, label_line, ask_task};
 ghost use Rattle.recon_cmd.specs.Commands.{IsCommand, ask_of, asked_by};
 ghost use Rattle.recon_cmd.specs.OptionViews.{options_view};
 ghost use Rattle.recon_cmd.specs.Replies.{answer_of};
-ghost use Rattle.recon_cmd.specs.Steps.{IsReplied, ReadsFor, CountsFaults, IsReplyOf, ReadsOn};
+ghost use Rattle.recon_cmd.specs.Steps.{IsReplied, ReadsFor, CountsFaults, ReadsOn};
 ghost use Rattle.recon_cmd.specs.Words.{all_keys, named};
 
 use crate::NoMemory;
@@ -95,8 +95,7 @@ fn reply_to_scan<'a, H: Host, W: Watch>(
     watch: &mut W,
 ) -> Result<Reply<'a>, Stop>
     requires { (H.state host.old).writing ≡ false }
-    ensures replied { limit ≡ file_limit → IfOk result (λ reply. IsReplyOf (ask_task (ask_names names.now) (options_view options.now))
-        (λ files. AskAnswer (ask_names names.now) (options_view options.now) files (shown_of scan.now)) reply (H.state host.old)) }
+    ensures replied { limit ≡ file_limit → IfOk result (λ reply. IsAskReply (ask_names names.now) (options_view options.now) (shown_of scan.now) reply (H.state host.old)) }
     ensures reads { limit ≡ file_limit → ReadsOn 1 1 (λ files. AskAnswer (ask_names names.now) (options_view options.now) files (shown_of scan.now))
         (H.state host.old) (H.state host.new) }
     ensures closed { (H.state host.new).writing ≡ false }

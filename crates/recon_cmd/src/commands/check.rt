@@ -6,13 +6,12 @@ ghost use Rattle.std.specs.Prelude.{map, string_bytes, ◌≡◌, false, IfOk, �
 ghost use Rattle.cert_text.specs.Certificates.{stamp_view};
 ghost use Rattle.cert_text.specs.Texts.{cert_text};
 ghost use Rattle.recon_check.specs.Answers.{HasCertificate};
-ghost use Rattle.scan.specs.Views.{shown_of};
 ghost use Rattle.recon_cmd.specs.Answers.{file_limit};
-ghost use Rattle.recon_cmd.specs.Check.{check_names, output_of, HasVerdict, MeshAnswer, IsCheckReply, CertAnswer, IsConcluded, restamped, too_long_cert_line, upgraded_line, check_task};
+ghost use Rattle.recon_cmd.specs.Check.{check_names, output_of, HasVerdictFor, MeshAnswerFor, CertAnswerFor, IsConcluded, restamped, too_long_cert_line, upgraded_line, check_task, task_for};
 ghost use Rattle.recon_cmd.specs.Commands.{IsCommand, asked_by, check_of, upgrade_of};
 ghost use Rattle.recon_cmd.specs.OptionViews.{options_view};
 ghost use Rattle.recon_cmd.specs.Replies.{answer_of};
-ghost use Rattle.recon_cmd.specs.Steps.{IsReplied, ReadsFor, CountsFaults, ReadsOn};
+ghost use Rattle.recon_cmd.specs.Steps.{IsReplied, ReadsFor, CountsFaults, IsReplyOf, ReadsOn};
 ghost use Rattle.recon_cmd.specs.Words.{all_keys, named};
 ghost use Rattle.recon_check.specs.declared.answer.Answer.TheVariants as verdicts;
 
@@ -141,10 +140,8 @@ fn reply_to_scan<'a, H: Host, W: Watch>(
     watch: &mut W,
 ) -> Result<Reply<'a>, Stop>
     requires { (H.state host.old).writing ≡ false }
-    ensures replied { asked.now.limit ≡ file_limit → IfOk result (λ reply. IsCheckReply (check_names asked.now.names.now) (output_of asked.now.names.now) (options_view asked.now.options.now)
-        (MeshAnswer (check_names asked.now.names.now) (HasVerdict (output_of asked.now.names.now) (options_view asked.now.options.now) (stamp_view scan.now.stamp) (shown_of scan.now.scan))) reply (H.state host.old)) }
-    ensures reads { asked.now.limit ≡ file_limit → ReadsOn 1 2 (MeshAnswer (check_names asked.now.names.now) (HasVerdict (output_of asked.now.names.now) (options_view asked.now.options.now) (stamp_view scan.now.stamp) (shown_of scan.now.scan)))
-        (H.state host.old) (H.state host.new) }
+    ensures replied { asked.now.limit ≡ file_limit → IfOk result (λ reply. IsReplyOf (task_for asked.now) (MeshAnswerFor asked.now scan.now) reply (H.state host.old)) }
+    ensures reads { asked.now.limit ≡ file_limit → ReadsOn 1 2 (MeshAnswerFor asked.now scan.now) (H.state host.old) (H.state host.new) }
     ensures closed { (H.state host.new).writing ≡ false }
     ensures cause { CountsFaults result (H.state host.old).faults (H.state host.new).faults }
 {
@@ -170,10 +167,8 @@ fn reply_to_mesh<'a, H: Host, W: Watch>(
     watch: &mut W,
 ) -> Result<Reply<'a>, Stop>
     requires { (H.state host.old).writing ≡ false }
-    ensures replied { asked.now.limit ≡ file_limit → IfOk result (λ reply. IsCheckReply (check_names asked.now.names.now) (output_of asked.now.names.now) (options_view asked.now.options.now)
-        (CertAnswer (check_names asked.now.names.now) (HasVerdict (output_of asked.now.names.now) (options_view asked.now.options.now) (stamp_view scan.now.stamp) (shown_of scan.now.scan) mesh.now)) reply (H.state host.old)) }
-    ensures reads { asked.now.limit ≡ file_limit → ReadsOn 2 1 (CertAnswer (check_names asked.now.names.now) (HasVerdict (output_of asked.now.names.now) (options_view asked.now.options.now) (stamp_view scan.now.stamp) (shown_of scan.now.scan) mesh.now))
-        (H.state host.old) (H.state host.new) }
+    ensures replied { asked.now.limit ≡ file_limit → IfOk result (λ reply. IsReplyOf (task_for asked.now) (CertAnswerFor asked.now scan.now mesh.now) reply (H.state host.old)) }
+    ensures reads { asked.now.limit ≡ file_limit → ReadsOn 2 1 (CertAnswerFor asked.now scan.now mesh.now) (H.state host.old) (H.state host.new) }
     ensures closed { (H.state host.new).writing ≡ false }
     ensures cause { CountsFaults result (H.state host.old).faults (H.state host.new).faults }
 {
@@ -187,31 +182,24 @@ fn reply_to_mesh<'a, H: Host, W: Watch>(
         Err(ReadRefusal::NoMemory) => return Err(Stop::NoMemory),
     };
     let texts = CheckedTexts { mesh, cert: &cert };
-    Ok(reply_to_texts(
-        alloc,
-        scan,
-        asked.names.output,
-        asked.options,
-        &texts,
-        watch,
-    )?)
+    Ok(reply_to_texts(alloc, scan, asked, &texts, watch)?)
 }
 
 /// The verdict on a mesh and a certificate, and what follows from it.
 fn reply_to_texts<'a, W: Watch>(
     alloc: Global,
     scan: &StampedScan,
-    output: Option<&'a str>,
-    options: &Options,
+    asked: &CheckAsked<'_, 'a>,
     texts: &CheckedTexts,
     watch: &mut W,
 ) -> Result<Reply<'a>, NoMemory>
-    ensures { IfOk result (λ reply. HasVerdict (option_map (λ name. name.now) output.entry) (options_view options.now) (stamp_view scan.now.stamp) (shown_of scan.now.scan) texts.now.mesh.now texts.now.cert.now (answer_of 3 reply)) }
+    ensures { IfOk result (λ reply. HasVerdictFor asked.now scan.now texts.now.mesh.now texts.now.cert.now (answer_of 3 reply)) }
 {
+    let output = asked.names.output;
     match check_all_watched(
         alloc,
         &scan.scan,
-        options.settings,
+        asked.options.settings,
         &scan.stamp,
         texts,
         watch,

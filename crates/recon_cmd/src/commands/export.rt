@@ -57,10 +57,10 @@ pub fn export_mesh<H: Host>(
     limit: u64,
 ) -> Status
     requires closed { (H.state host.old).writing ≡ false }
-    requires fresh { All IsFresh (map (λ form. received form) forms.old) }
+    requires fresh { All IsFresh (map received forms.old) }
     requires as_many { length words.now.outputs.now ≡ length forms.old }
     ensures outcome { limit ≡ file_limit → ExportOutcome (export_names words.now) result (H.state host.old) (H.state host.new)
-        (map (λ form. received form) forms.old) (map (λ form. received form) forms.new) (map (λ form. text_of form) forms.new) }
+        (map received forms.old) (map received forms.new) (map text_of forms.new) }
     ensures refused { result ≡ Refused → forms.new ≡ forms.old }
     ensures kinds { map (λ form. form.vtable) forms.new ≡ map (λ form. form.vtable) forms.old }
 {
@@ -84,11 +84,11 @@ fn hand_out<H: Host>(
     forms: &mut [Box<dyn Form>],
 ) -> Status
     requires closed { (H.state host.old).writing ≡ false }
-    requires fresh { All IsFresh (map (λ form. received form) forms.old) }
+    requires fresh { All IsFresh (map received forms.old) }
     requires as_many { length outputs.now ≡ length forms.old }
     requires printed { IsPrinted mesh.now.points.items mesh.now.faces.items }
     ensures handed { FormsHandOut (map string_bytes outputs.now) (surface_of mesh.now) result (H.state host.old) (H.state host.new)
-        (map (λ form. received form) forms.new) (map (λ form. text_of form) forms.new) }
+        (map received forms.new) (map text_of forms.new) }
     ensures kinds { map (λ form. form.vtable) forms.new ≡ map (λ form. form.vtable) forms.old }
 {
     match drive_all(forms, mesh) {

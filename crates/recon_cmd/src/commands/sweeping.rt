@@ -130,10 +130,10 @@ pub fn sweep_scan<H: Host, W: Watch>(
     watch: &mut W,
 ) -> Status
     requires closed { (H.state host.old).writing ≡ false }
-    requires fresh { All IsFresh (map (λ form. received form) forms.old) }
+    requires fresh { All IsFresh (map received forms.old) }
     requires fits { FitsForms words.now (length forms.old) }
     ensures outcome { limit ≡ file_limit → SweepOutcome (sweep_asked words.now) result (H.state host.old) (H.state host.new)
-        (map (λ form. received form) forms.old) (map (λ form. received form) forms.new) (map (λ form. text_of form) forms.new) }
+        (map received forms.old) (map received forms.new) (map text_of forms.new) }
     ensures refused { result ≡ Refused → forms.new ≡ forms.old }
     ensures kinds { map (λ form. form.vtable) forms.new ≡ map (λ form. form.vtable) forms.old }
 {
@@ -161,10 +161,10 @@ fn hand_out<H: Host, W: Watch>(
     watch: &mut W,
 ) -> Status
     requires closed { (H.state host.old).writing ≡ false }
-    requires fresh { All IsFresh (map (λ form. received form) forms.old) }
+    requires fresh { All IsFresh (map received forms.old) }
     requires fits { FitsForms words.now (length forms.old) }
     ensures handed { SweepHandOut (sweep_asked words.now) (shown_of scan.now) result (H.state host.old) (H.state host.new)
-        (map (λ form. received form) forms.new) (map (λ form. text_of form) forms.new) }
+        (map received forms.new) (map text_of forms.new) }
     ensures kinds { map (λ form. form.vtable) forms.new ≡ map (λ form. form.vtable) forms.old }
 {
     let settings = words.options.settings;

@@ -18,8 +18,8 @@ pub fn write_forms<H: Host>(
 ) -> Status
     requires closed { (H.state host.old).writing ≡ false }
     requires as_many { length outputs.now ≡ length forms.now }
-    requires ended { All (λ r. r.stage ≡ Ended) (map (λ form. received form) forms.now) }
-    ensures { CarriesOut (zip (map string_bytes outputs.now) (map (λ form. text_of form) forms.now)) line.now Done result (H.state host.old) (H.state host.new) }
+    requires ended { All (λ r. r.stage ≡ Ended) (map received forms.now) }
+    ensures { CarriesOut (zip (map string_bytes outputs.now) (map text_of forms.now)) line.now Done result (H.state host.old) (H.state host.new) }
 {
     for k in 0..forms.len() {
         match write_file(host, outputs[k].as_str(), text_of(&forms[k])) {

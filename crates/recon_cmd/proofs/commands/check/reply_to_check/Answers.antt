@@ -1,8 +1,8 @@
 use Rattle.std.proofs.Common.{ℕ, List, Option, IfOk, IfSome, subst, arith}
 use Rattle.cert_text.specs.Stamps.{StampView}
 use Rattle.scan.specs.Views.{shown_of}
-use Rattle.recon_cmd.specs.Check.{CheckAnswer, HasVerdict, MeshAnswer, IsCheckReply, check_task, check_names, output_of}
-use Rattle.recon_cmd.specs.Steps.{ReadsOn, IsReading}
+use Rattle.recon_cmd.specs.Check.{CheckAnswer, HasVerdict, MeshAnswer, check_task, check_names, output_of}
+use Rattle.recon_cmd.specs.Steps.{IsReplyOf, ReadsOn, IsReading}
 use Rattle.recon_cmd.specs.OptionViews.{options_view}
 use Rattle.recon_cmd.specs.Options.{Options}
 use Rattle.recon_cmd.specs.Words.{SurfaceNames}
@@ -23,7 +23,7 @@ returns-in-Scan-clause-replied g c = λ at.
     c.in-Scan.is (c.in_ok-scan.ensures.read at))
     (subst (λ (stamp : StampView).
     IfOk c.reply_to_scan.result
-    (λ reply. IsCheckReply names output options (MeshAnswer names (HasVerdict output options stamp (shown_of c.in-Scan.scan)))
+    (λ reply. IsReplyOf (check_task names output options) (MeshAnswer names (HasVerdict output options stamp (shown_of c.in-Scan.scan)))
     reply (g.H.Host.state c.read_input.new.host)))
     c.stamp_of-stamp.ensures (c.reply_to_scan.ensures.replied at))
 
