@@ -6,7 +6,7 @@
 //! A person is told on standard error which call failed and why, how a command is used and how to mend a refusal. Nothing hangs
 //! on that: where such a word is not said, or there is no memory for a name in it, all goes on as before. None is said while a
 //! file is open for writing, since where standard error is closed that file may have taken its number.
-ghost use Rattle.std.specs.Prelude.{false, true, ◌≡◌, ◌≤◌, ◌<◌, IfOk, OnOk, OnErr, IsErr, IfSome, IsTrue, length, take, Ok};
+ghost use Rattle.std.specs.Prelude.{false, ◌≡◌, ◌≤◌, ◌<◌, IfOk, OnOk, OnErr, IsErr, IfSome, IsTrue, length, take, Ok};
 ghost use Rattle.std.specs.Io.KnownBytes.{ReadConsumes, WriteAppends};
 ghost use Rattle.host.specs.State.{IsFrontCount, IsNextPiece, FailedFrom, takes, appends};
 ghost use Rattle.host.specs.Counts.{Rose, next};
