@@ -1,46 +1,21 @@
--- The certificate of labels and a flow by number, said over cells and facets.
-use Rattle.std.proofs.Common.{ℕ, ◌≡◌, refl, ap, sym, ◌∙◌, Bool, false, List, [], get_or, map, filter, AllPairs, Contains}
+-- The certificate of labels and a flow over cells and facets.
+use Rattle.std.proofs.Common.{ℕ, ◌≡◌, refl, ap, sym, ◌∙◌, Bool, List, [], get_or, map, filter, AllPairs, Contains}
 use Rattle.std.proofs.lemmas.List.{get_or-map}
 use Rattle.cert_text.specs.Certificates.{Claim}
 use Rattle.cert_text.specs.declared.certificate.FlowRow.{FlowRow}
 use Rattle.cert_text.specs.declared.certificate.SinkRow.{SinkRow}
-use Rattle.flow_net.specs.declared.Labels.{Labels}
-use Rattle.flow_net.specs.declared.Voted.{Voted}
-use Rattle.flow_net.specs.Flows.{cost_of, IsLeastInside as IsLeastInsideNet}
 use Rattle.flow_net.proofs.Correspondences as judged
 use Rattle.flow_net.proofs.Correspondences.{itself}
 use Rattle.geo_sign.specs.Rising.{IsBefore}
 use Rattle.visibility.specs.Scenes.{Scene}
-use Rattle.visibility.specs.Cuts.{IsLeastInside, cost, network_over}
+use Rattle.visibility.specs.Cuts.{cost, network_over}
 use Rattle.visibility.specs.Flows.{value, IsValidFlow}
-use Rattle.visibility.specs.Laws.{test_of, AgreeAsLabels}
-use Rattle.visibility.specs.Networks.{complex_of, IsNetworkInAnyOrder}
 use Rattle.visibility.specs.Complexes.{Complex}
 use Rattle.visibility.specs.Listings.{IsListingOf, AgreeInAnyOrder}
-use Rattle.visibility.proofs.Indices.{at_index, map_of_indices}
+use Rattle.visibility.proofs.Indices.{at_index}
 use Rattle.visibility.proofs.ListingAgreements.{by_itself, with_rising}
-use Rattle.visibility.proofs.Networks.{node_count, nodes_once}
-use Rattle.visibility.proofs.Numbers.{labels_agree}
 use Rattle.solution.specs.Solutions.{IsCertificate, flow_on, sink_at, flow_row, sink_row, flow_rows, sink_rows, stated}
 use Rattle.solution.proofs.RowLists.{Makes, map_stated, listed_same}
-
--- the flags of labels are those of a test of cells
-pub flags_are : (s : Scene) (voted : Voted) (labels : Labels) → IsNetworkInAnyOrder s voted → IsLeastInsideNet voted.net labels
-    → map (test_of voted.cells labels.inside) voted.cells ≡ labels.inside
-flags_are s voted labels network least =
-    map_of_indices voted.cells labels.inside false (nodes_once s voted network)
-    (least.count ∙ node_count s voted network)
-
--- and cost the same
-pub cost_over : (s : Scene) (voted : Voted) (labels : Labels) → (network : IsNetworkInAnyOrder s voted)
-    → IsLeastInsideNet voted.net labels
-    → cost_of voted.net labels ≡ cost s network.listing.complex (test_of voted.cells labels.inside)
-cost_over s voted labels network least =
-    let agree : AgreeAsLabels s voted (test_of voted.cells labels.inside) =
-    labels_agree s voted (test_of voted.cells labels.inside) network in
-    ap (λ (flags : List Bool). cost_of voted.net (record { inside = flags })) (sym (flags_are s voted labels network least))
-    ∙ agree.cost_is
-    ∙ (with_rising s (complex_of voted) network.listing).cost_is (test_of voted.cells labels.inside)
 
 facet_rows : Makes flow_row (λ (row : FlowRow). row.facet) (λ (row : FlowRow). row.amount)
 facet_rows = record { about_is = λ key n. refl; amount_is = λ key n. refl }

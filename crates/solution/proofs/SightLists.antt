@@ -1,6 +1,7 @@
 -- The sights of a scan.
 use Rattle.std.proofs.Common.{ℕ, ◌≡◌, ◌+◌, ◌<◌, ◌≤◌, ◌++◌, arith, ap, sym, subst, ◌∙◌, List, [], ◌∷◌, length, get_or, map, take}
 use Rattle.std.proofs.lemmas.List.{take_more, length-map, get_or-map, map-append}
+use Rattle.geo_sign.specs.declared.point.TheConstants.{CORNERS}
 use Rattle.flow_net.specs.Weights.{IsWeighed, IsSightList}
 use Rattle.flow_net.specs.declared.votes.Settings.{Settings}
 use Rattle.geo_sign.specs.Point.{origin}
@@ -61,7 +62,7 @@ pub sights_more : (scan : Shown) (of_row : List ℕ) (i weight : ℕ) → of_row
     → map (sight_of scan) (take (i + 1) scan.seen)
     ≡ map (sight_of scan) (take i scan.seen)
     ++ (record {
-      vertex = 8 + get_or of_row (get_or scan.seen i no_sight).row 0;
+      vertex = CORNERS + get_or of_row (get_or scan.seen i no_sight).row 0;
       scanner = (get_or scan.seen i no_sight).scanner;
       weight = weight;
     }) ∷ []
@@ -70,10 +71,10 @@ sights_more scan of_row i weight indices within row same =
     ap (map (sight_of scan)) (take_more scan.seen i no_sight within)
     ∙ map-append (sight_of scan) (take i scan.seen) (seen ∷ [])
     ∙ ap (λ (n : ℕ). map (sight_of scan) (take i scan.seen)
-    ++ (record { vertex = 8 + n; scanner = seen.scanner; weight = seen.weight }) ∷ [])
+    ++ (record { vertex = CORNERS + n; scanner = seen.scanner; weight = seen.weight }) ∷ [])
     (sym (index_at scan of_row seen.row indices row))
     ∙ ap (λ (n : ℕ). map (sight_of scan) (take i scan.seen)
-    ++ (record { vertex = 8 + get_or of_row seen.row 0; scanner = seen.scanner; weight = n }) ∷ []) (sym same)
+    ++ (record { vertex = CORNERS + get_or of_row seen.row 0; scanner = seen.scanner; weight = n }) ∷ []) (sym same)
 
 pub sight_count : (scan : Shown) → length (sights_of scan) ≡ length scan.seen
 sight_count scan = length-map scan.seen (sight_of scan)
@@ -95,5 +96,5 @@ few_sights scan = sight_list (shown_of scan) (scan_is_shown scan)
 
 -- the corners and the points are the vertices
 pub few_vertices : (scan : Scan) (settings : Settings)
-    → (scene_of_scan (shown_of scan) settings).vertices.count ≤ 8 + point_limit
+    → (scene_of_scan (shown_of scan) settings).vertices.count ≤ CORNERS + point_limit
 few_vertices scan settings = omega (arith, few_points scan)

@@ -5,6 +5,7 @@
 --   sights_of scan               the sights, in the order of their rows
 --   scene_of_scan scan settings  corners and points as vertices, scanners, sights, and the weights
 use Rattle.std.specs.Prelude.{◌+◌, List, map}
+use Rattle.geo_sign.specs.declared.point.TheConstants.{CORNERS}
 use Rattle.flow_net.specs.declared.votes.Settings.{Settings}
 use Rattle.flow_net.specs.declared.votes.Sight.{Sight}
 use Rattle.geo_sign.specs.Point.{Point}
@@ -18,10 +19,10 @@ use Rattle.visibility.specs.Scenes.{Scene, scene_of}
 abbrev pub points_of : Shown → List Point
 points_of scan = distinct_points scan.points
 
--- a sight of the row's point from its scanner, of its weight: the first point is vertex 8, after the box's eight corners
+-- a sight of the row's point from its scanner, of its weight: the first point is vertex CORNERS, after the box's corners
 abbrev pub sight_of : Shown → Seen → Sight
 sight_of scan seen =
-    record { vertex = 8 + index_among (points_of scan) (point_at scan.points seen.row); scanner = seen.scanner; weight = seen.weight }
+    record { vertex = CORNERS + index_among (points_of scan) (point_at scan.points seen.row); scanner = seen.scanner; weight = seen.weight }
 
 -- the sights, row by row, and within a row in the order of its scanners: equal ones stand as often as they were seen
 abbrev pub sights_of : Shown → List Sight
