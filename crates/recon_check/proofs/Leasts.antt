@@ -3,8 +3,7 @@
 -- So far none is unbalanced, or the one that is kept has the least row of those that are (IsLeastSoFar). A balanced cell changes nothing
 -- (balanced_more). Of an unbalanced one and the one that is kept, the one with the lesser row goes on: its row is no greater than either,
 -- and so than that of any cell before (unbalanced_more).
-use Rattle.std.proofs.Common.{ℕ, ◌≡◌, ◌<◌, ◌≤◌, ◌+◌, ◌⊎◌, inl, inr, ⊎_elim, refl, sym, subst, arith, Option, Some, None, IfSome}
-use Rattle.std.proofs.lemmas.Bool.{cases_lt}
+use Rattle.std.proofs.Common.{below_more, ℕ, ◌≡◌, ◌<◌, ◌≤◌, ◌+◌, ◌⊎◌, inl, inr, refl, sym, subst, arith, Option, Some, None, IfSome}
 use Rattle.cell_net.specs.declared.network.CellNetwork.{CellNetwork}
 use Rattle.flow_check.specs.Firsts.{NoneBelow}
 use Rattle.flow_net.specs.declared.Flow.{Flow}
@@ -27,16 +26,13 @@ IsLeastSoFar net flow n (Some found) = IsLeastBelow net flow n found
 -- the next cell is balanced
 pub balanced_more : (net : CellNetwork) (flow : Flow) (n : ℕ) (found : Option Unbalance) → ¬ IsUnbalanced net flow n
     → IsLeastSoFar net flow n found → IsLeastSoFar net flow (n + 1) found
-balanced_more net flow n None not none = λ v l h.
-    ⊎_elim (λ (less : v < n). none v less h)
-    (λ (more : n ≤ v). let e : v ≡ n = omega (arith, l, more) in not (subst (IsUnbalanced net flow) e h)) (cases_lt v n)
+balanced_more net flow n None not none = below_more (λ v. ¬ IsUnbalanced net flow v) n none not
 balanced_more net flow n (Some found) not so_far = record {
   node = so_far.node;
   at = so_far.at;
-  least = λ v l h.
-      ⊎_elim (λ (less : v < n). so_far.least v less h)
-      (λ (more : n ≤ v). let e : v ≡ n = omega (arith, l, more) in absurd (not (subst (IsUnbalanced net flow) e h)))
-      (cases_lt v n);
+  least =
+      below_more (λ v. IsUnbalanced net flow v → row_key found.cell ≤ row_key (row_of net.tetra.now.slots v)) n so_far.least
+      (λ h. absurd (not h));
 }
 
 -- it is not, and the one whose row comes first goes on
@@ -47,12 +43,9 @@ pub unbalanced_more : (net : CellNetwork) (flow : Flow) (n : ℕ) (found : Optio
 unbalanced_more net flow n found other first here either before before_found so_far = record {
   node = (taken either).0;
   at = (taken either).1;
-  least = λ v l h.
-      ⊎_elim (λ (less : v < n). earlier v less h found refl so_far)
-      (λ (more : n ≤ v).
-      let e : n ≡ v = omega (arith, l, more) in
-      subst (λ (i : ℕ). row_key first.cell ≤ row_key (row_of net.tetra.now.slots i)) e
-      (subst (λ r. row_key first.cell ≤ row_key r) here.cell_is before)) (cases_lt v n);
+  least =
+      below_more (λ v. IsUnbalanced net flow v → row_key first.cell ≤ row_key (row_of net.tetra.now.slots v)) n
+      (λ v l h. earlier v l h found refl so_far) (λ h. subst (λ r. row_key first.cell ≤ row_key r) here.cell_is before);
 }
   where
     taken : (first ≡ other) ⊎ (found ≡ Some first) → (v : ℕ) × IsUnbalanceAt net flow v first

@@ -33,18 +33,15 @@ among_means rows row h =
 pub kept_has : (test : List ℕ → Bool) (rows : List (List ℕ)) (row : List ℕ) → Contains rows row → test row ≡ true
     → Contains (filter test rows) row
 kept_has test [] row h passes = absurd (omega (arith, h.1))
-kept_has test (first ∷ rows) row h passes = pick (λ k. kept_has test rows row k passes) h.0 h.1 h.2
+kept_has test (first ∷ rows) row (zero, l, same) passes =
+    subst (λ (b : Bool). Contains (cond b (first ∷ filter test rows) (filter test rows)) row) (sym (ap test same ∙ passes))
+    (0, omega arith, same)
+kept_has test (first ∷ rows) row (suc k, l, same) passes =
+    later (test first) (kept_has test rows row (k, omega (arith, l), same) passes)
   where
     later : (b : Bool) → Contains (filter test rows) row → Contains (cond b (first ∷ filter test rows) (filter test rows)) row
     later true k = (suc k.0, omega (arith, k.1), k.2)
     later false k = k
-
-    pick : (Contains rows row → Contains (filter test rows) row) → (k : ℕ) → k < length (first ∷ rows)
-        → get_or (first ∷ rows) k row ≡ row → Contains (cond (test first) (first ∷ filter test rows) (filter test rows)) row
-    pick rest zero l same =
-        subst (λ (b : Bool). Contains (cond b (first ∷ filter test rows) (filter test rows)) row) (sym (ap test same ∙ passes))
-        (0, omega arith, same)
-    pick rest (suc k) l same = later (test first) (rest (k, omega arith, same))
 
 pub kept_there : (test : List ℕ → Bool) (rows : List (List ℕ)) → All (Contains rows) (filter test rows)
 kept_there test rows = All-filter test (Contains rows) rows (All-contains_itself rows)

@@ -4,7 +4,7 @@
 -- (IsNarrowed). Behind the end of it only the key at the place that is left can be the one, since later ones come after that.
 -- The order is that of the comparison of lists, in which keys rise that rise by IsBefore.
 use Rattle.std.proofs.Common.{ℕ, ◌≡◌, ◌≢◌, ◌+◌, ◌-◌, ◌<◌, ◌≤◌, ⊎_elim, refl, ap, sym, subst, ◌∙◌, arith, Bool, true, false}
-use Rattle.std.proofs.Common.{List, [], ◌∷◌, ◌++◌, length, map, get_or}
+use Rattle.std.proofs.Common.{below_more, List, [], ◌∷◌, ◌++◌, length, map, get_or}
 use Rattle.std.proofs.Common.{set, slice_index, AllPairs, Ordering, Less, Equal, Greater, Some}
 use Rattle.std.proofs.lemmas.Bool.{cases_Bool, cases_lt, false≢true}
 use Rattle.std.proofs.lemmas.List.{get_or-map, get_or-set_same, get_or-set_other}
@@ -75,13 +75,8 @@ pub skipped_more : {Row : Type 0} (key : Row → List ℕ) (rows : List Row) (fr
     → ((k : ℕ) → from ≤ k → k < place → least_number (get_or (map key rows) k []) < number)
     → (k : ℕ) → from ≤ k → k < place + 1 → least_number (get_or (map key rows) k []) < number
 skipped_more key rows from place number row l is less before k f m =
-    ⊎_elim (λ (lower : k < place). before k f lower)
-    (λ (same : place ≤ k). let e : k ≡ place = omega arith in
-    let at : least_number (get_or (map key rows) k []) ≡ least_number (key row) =
-    ap (λ (i : ℕ). least_number (get_or (map key rows) i [])) e ∙ ap least_number (get_or-map key rows place row [] l ∙ ap key
-    (sym is)) in
-    omega (arith, at, less))
-    (cases_lt k place)
+    below_more (λ i. from ≤ i → least_number (get_or (map key rows) i []) < number) place (λ i n g. before i g n)
+    (λ g. let at = ap least_number (get_or-map key rows place row [] l ∙ ap key (sym is)) in omega (arith, at, less)) k m f
 
 pub starts_more : (keys : List (List ℕ)) (starts : List ℕ) (place : ℕ) → AllPairs IsBefore keys → place ≤ length keys
     → ((k : ℕ) → k < place → least_number (get_or keys k []) < length starts)
@@ -188,9 +183,9 @@ module _ (limit n : ℕ) (is_there : ℕ → Bool) (key_at : ℕ → List ℕ) (
     count = h.count;
     there = h.there;
     key = h.key;
-    all = λ j k l there m at. ⊎_elim (λ (less : j < n). h.all j k less there m at)
-        (λ (more : n ≤ j). let e : n ≡ j = omega arith in absurd (false≢true (sym missing ∙ ap is_there e ∙ there)))
-        (cases_lt j n);
+    all = λ j k l.
+        below_more (λ i. is_there i ≡ true → k < length keys → get_or keys k [] ≡ key_at i → slice_index old k < limit) n
+        (λ i m. h.all i k m) (λ there. absurd (false≢true (sym missing ∙ there))) j l;
   }
 
   -- what is at the number was looked up
