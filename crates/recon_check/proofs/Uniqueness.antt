@@ -33,6 +33,7 @@ use Rattle.solution.proofs.Uniqueness.{solution_law}
 use Rattle.scan.specs.Shown.{Shown}
 use Rattle.visibility.specs.Scenes.{Scene}
 use Rattle.geo_sign.specs.Tetrahedron.{facet_at}
+use Rattle.geo_sign.proofs.Members.{here, there}
 use Rattle.visibility.specs.Complexes.{Complex}
 use Rattle.visibility.specs.Votes.{is_fixed, capacity, sink}
 use Rattle.visibility.specs.Cuts.{network_over, cost, IsAdmissible, IsLeastInside}
@@ -264,30 +265,11 @@ module _ (scan : Shown) (s : Scene) (complex : Complex) (claim : Claim) (mesh : 
 -- of two of the numbers one is compared before the other, or they are one
 compared : (which other : Which) → (which ≡ other) ⊎ (Contains (earlier other) which ⊎ Contains (earlier which) other)
 compared Points Points = inl refl
-compared Points Scanners = inr (inl (0, omega arith, refl))
-compared Points Sights = inr (inl (0, omega arith, refl))
-compared Points Vote = inr (inl (0, omega arith, refl))
-compared Points Smooth = inr (inl (0, omega arith, refl))
-compared Scanners Points = inr (inr (0, omega arith, refl))
 compared Scanners Scanners = inl refl
-compared Scanners Sights = inr (inl (1, omega arith, refl))
-compared Scanners Vote = inr (inl (1, omega arith, refl))
-compared Scanners Smooth = inr (inl (1, omega arith, refl))
-compared Sights Points = inr (inr (0, omega arith, refl))
-compared Sights Scanners = inr (inr (1, omega arith, refl))
 compared Sights Sights = inl refl
-compared Sights Vote = inr (inl (2, omega arith, refl))
-compared Sights Smooth = inr (inl (2, omega arith, refl))
-compared Vote Points = inr (inr (0, omega arith, refl))
-compared Vote Scanners = inr (inr (1, omega arith, refl))
-compared Vote Sights = inr (inr (2, omega arith, refl))
 compared Vote Vote = inl refl
-compared Vote Smooth = inr (inl (3, omega arith, refl))
-compared Smooth Points = inr (inr (0, omega arith, refl))
-compared Smooth Scanners = inr (inr (1, omega arith, refl))
-compared Smooth Sights = inr (inr (2, omega arith, refl))
-compared Smooth Vote = inr (inr (3, omega arith, refl))
 compared Smooth Smooth = inl refl
+compared _ _ = search (inl, inr, here, there) depth 8
 
 module _ (scan : Shown) (settings : Settings) (claim : Claim) where
   -- the number that differs is not the scan's
