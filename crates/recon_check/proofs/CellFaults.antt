@@ -147,12 +147,15 @@ module _ (s : Scene) (complex : Complex) (net : CellNetwork) (claim : Claim) (st
 
   arc : (j : ℕ) → there j ≡ true → (j < 4 * length fixed) × (there j ≡ true)
   arc j is =
-      let low = slot_in slots (j / 4) (scene.live_before s slots net.counts.crossed.now net.counts.behind.now fixed net.settings over.counts net.shape over.settings j is) in
-      (omega (arith, low, net.shape.flags), is)
+      let live =
+      scene.live_before s slots net.counts.crossed.now net.counts.behind.now fixed net.settings over.counts net.shape over.settings
+      j is in
+      let low = slot_in slots (j / 4) live in (omega (arith, low, net.shape.flags), is)
 
   -- the rising lists are those of the store in another order
   listing : IsListingOf s stored
-  listing = scene.stored_listing s slots net.counts.crossed.now net.counts.behind.now fixed net.settings over.counts net.shape over.settings
+  listing =
+      scene.stored_listing s slots net.counts.crossed.now net.counts.behind.now fixed net.settings over.counts net.shape over.settings
 
   same_complex : listing.complex ≡ complex
   same_complex = one_complex s listing.complex complex listing.complex_is over.complex_is

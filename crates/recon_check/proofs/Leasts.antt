@@ -58,4 +58,5 @@ unbalanced_more net flow n found other first here either before before_found so_
     earlier v l h None e none = absurd (none v l h)
     earlier v l h (Some least) e is =
         let low : row_key first.cell ≤ row_key least.cell =
-        subst (λ (o : Option Unbalance). IfSome o (λ least. row_key first.cell ≤ row_key least.cell)) e before_found in let high = is.least v l h in omega (arith, low, high)
+        subst (λ (o : Option Unbalance). IfSome o (λ least. row_key first.cell ≤ row_key least.cell)) e before_found in
+        let high = is.least v l h in omega (arith, low, high)

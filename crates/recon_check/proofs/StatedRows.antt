@@ -167,7 +167,8 @@ module _ (s : Scene) (slots : List (Option Cell)) (fixed : List Bool) (flagged :
   open_live : (j : ℕ) → is_open_side slots fixed j ≡ true → IsLive (links_of slots) (j / 4)
   open_live j e = let o = opened fixed (across slots j) e in next_live (slot_at slots (j / 4)) (j % 4) o.0 o.1
 
-  one_side : (i j : ℕ) → is_open_side slots fixed i ≡ true → is_open_side slots fixed j ≡ true → side_facet slots i ≡ side_facet slots j → i ≡ j
+  one_side : (i j : ℕ) → is_open_side slots fixed i ≡ true → is_open_side slots fixed j ≡ true
+      → side_facet slots i ≡ side_facet slots j → i ≡ j
   one_side i j hi hj e =
       let x = i / 4 in
       let y = j / 4 in

@@ -21,7 +21,8 @@ use Rattle.recon_check.proofs.checking.best_labels.Goals as goal
 use Rattle.recon_check.proofs.checking.best_labels.Goals.{After-cost-cost, After-deref, In_ok-stated}
 
 -- ---- what is shared
-flagged_at : (c : After-deref) → IsFlaggedFor (scene_of_scan (shown_of c.args.scan.now) c.args.settings) c.args.tetra.now.slots c.deref.result.now
+flagged_at : (c : After-deref)
+    → IsFlaggedFor (scene_of_scan (shown_of c.args.scan.now) c.args.settings) c.args.tetra.now.slots c.deref.result.now
 flagged_at c =
     flagged _ c.args.tetra.now c.args.votes.crossed.items c.args.votes.behind.items c.requires.counts c.deref.ensures.value
 

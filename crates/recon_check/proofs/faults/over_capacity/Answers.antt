@@ -27,7 +27,8 @@ returns-in_err-row-clause-none c =
 pub returns-clause-some : goal.returns-clause-some
 returns-clause-some c = λ scan s complex mesh over before.
     let k = c.in_ok-row.row in
-    let l : k < length c.args.stated.now.sides.items = subst (λ (xs : List ℕ). k < length xs) c.deref.ensures.value c.in_ok-row.ensures.first.in_range in
+    let l : k < length c.args.stated.now.sides.items =
+    subst (λ (xs : List ℕ). k < length xs) c.deref.ensures.value c.in_ok-row.ensures.first.in_range in
     let count = over.stated_is.sides_are.count in
     let many = length-map c.args.cert.now.flow.items (λ (r : FlowRow). r.facet) in
     let told =

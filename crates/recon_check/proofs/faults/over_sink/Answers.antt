@@ -29,7 +29,8 @@ returns-in_err-row-clause-none c =
 pub returns-clause-some : goal.returns-clause-some
 returns-clause-some c = λ scan s complex mesh over before.
     let k = c.in_ok-row.row in
-    let l : k < length c.args.stated.now.at_sinks.items = subst (λ (xs : List ℕ). k < length xs) c.deref.ensures.value c.in_ok-row.ensures.first.in_range in
+    let l : k < length c.args.stated.now.at_sinks.items =
+    subst (λ (xs : List ℕ). k < length xs) c.deref.ensures.value c.in_ok-row.ensures.first.in_range in
     let count = over.stated_is.sinks_are.count in
     let many = length-map c.args.cert.now.sink.items (λ (r : SinkRow). r.cell) in
     let told =
@@ -40,7 +41,8 @@ returns-clause-some c = λ scan s complex mesh over before.
           c.deref.result.now c.deref.ensures.value k c.index.result.now.cell c.in_ok-row.ensures.first (λ _. told.0),
       told.1,
       c.limit_at.ensures
-          ∙ ap (sink_limit (network_by (numbers c.args.net.now))) (get_or_read c.args.stated.now.at_sinks.items k c.index-2.result.now l c.index-2.ensures 0)
+          ∙ ap (sink_limit (network_by (numbers c.args.net.now)))
+          (get_or_read c.args.stated.now.at_sinks.items k c.index-2.result.now l c.index-2.ensures 0)
           ∙ sink_limit_at s complex c.args.net.now (claim_of c.args.cert.now) c.args.stated.now over k (omega (arith, l, count))
           ∙ sym (ap (sink_limit (network_over s complex)) told.0),
     )

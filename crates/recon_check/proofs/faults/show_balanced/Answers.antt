@@ -13,13 +13,16 @@ use Rattle.recon_check.proofs.faults.show_balanced.Goals as goal
 pub returns-in-Some-clause-fault : goal.returns-in-Some-clause-fault
 returns-in-Some-clause-fault c = λ scan s complex mesh over before.
     let h : IsLeastUnbalance c.args.net.now c.args.stated.now.flow c.in-Some.found =
-    subst (λ (o : Option Unbalance). IfSome o (IsLeastUnbalance c.args.net.now c.args.stated.now.flow)) c.in-Some.is c.in_ok-found.ensures.first in (
+    subst (λ (o : Option Unbalance). IfSome o (IsLeastUnbalance c.args.net.now c.args.stated.now.flow)) c.in-Some.is
+    c.in_ok-found.ensures.first in (
       before,
       first_unbalanced s complex c.args.net.now (claim_of c.args.cert.now) c.args.stated.now over c.in-Some.found h,
       h.at.in_is ∙ in_is s complex c.args.net.now (claim_of c.args.cert.now) c.args.stated.now over h.node h.at.live
           ∙ sym (ap (amount_in (network_over s complex) (flow_on (claim_of c.args.cert.now))) h.at.cell_is),
       h.at.out_is ∙ out_is s complex c.args.net.now (claim_of c.args.cert.now) c.args.stated.now over h.node h.at.live
-          ∙ sym (ap (total_out (network_over s complex) (flow_on (claim_of c.args.cert.now)) (sink_at (claim_of c.args.cert.now))) h.at.cell_is),
+          ∙ sym
+          (ap (total_out (network_over s complex) (flow_on (claim_of c.args.cert.now)) (sink_at (claim_of c.args.cert.now)))
+          h.at.cell_is),
     )
 
 pub returns-in-None-clause-valid : goal.returns-in-None-clause-valid
