@@ -58,3 +58,4 @@ pub use polynomial::identity_law;
 pub use scanner::side_of_scanner;
 pub use sign::Sign;
 pub use sphere::in_sphere;
+pub use vector::Vector;

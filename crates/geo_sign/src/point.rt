@@ -111,7 +111,7 @@ impl Point {
     }
 
     /// The vector from this point to another. Two coordinates are at most 2^24 apart.
-    pub(crate) fn to(self, end: Point) -> Vector
+    pub fn to(self, end: Point) -> Vector
         ensures value { result ≡ step self end }
         ensures bound { IsWithin (2 ^ 24) result }
         ensures kept { IsWithin BOX_LIMIT self × IsWithin BOX_LIMIT end }

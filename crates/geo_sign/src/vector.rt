@@ -8,7 +8,7 @@ use std::marker::Model;
 
 /// A vector between two points, or the vector product of two such vectors. Contracts see it as three whole numbers.
 #[derive(Clone, Copy)]
-pub(crate) struct Vector {
+pub struct Vector {
     x: i64,
     y: i64,
     z: i64,
@@ -82,7 +82,7 @@ impl Vector {
     }
 
     /// The vector product of two vectors between points.
-    pub(crate) fn cross(self, other: Vector) -> Vector
+    pub fn cross(self, other: Vector) -> Vector
         requires first { IsWithin (2 ^ 24) self }
         requires second { IsWithin (2 ^ 24) other }
         ensures value { result ≡ cross self other }
@@ -96,7 +96,7 @@ impl Vector {
     }
 
     /// The scalar product of a vector product with a vector between points.
-    pub(crate) fn dot(self, other: Vector) -> i128
+    pub fn dot(self, other: Vector) -> i128
         requires first { IsWithin (2 ^ 49) self }
         requires second { IsWithin (2 ^ 24) other }
         ensures value { result ≡ dot self other }
