@@ -1,0 +1,75 @@
+//! A box along the axes.
+
+ghost use Rattle.std.specs.Bool.{OnFalse};
+ghost use Rattle.hull_tree.specs.Hulls.{HoldsPoint, HoldsHull, AreOff};
+
+use crate::span::Span;
+use geo_sign::Point;
+
+/// A box along the axes, by what it has of each.
+#[derive(Clone, Copy, Debug)]
+pub struct Hull {
+    /// The first coordinates.
+    pub x: Span,
+    /// The second.
+    pub y: Span,
+    /// The third.
+    pub z: Span,
+}
+
+impl Hull {
+    /// The empty box.
+    pub fn empty() -> Hull {
+        Hull {
+            x: Span::empty(),
+            y: Span::empty(),
+            z: Span::empty(),
+        }
+    }
+
+    /// The box of one point.
+    pub fn of_point(p: Point) -> Hull
+        ensures { HoldsPoint result p }
+    {
+        Hull {
+            x: Span::of(p.x()),
+            y: Span::of(p.y()),
+            z: Span::of(p.z()),
+        }
+    }
+
+    /// A box that holds two.
+    pub fn joined(self, other: Hull) -> Hull
+        ensures first { HoldsHull result self }
+        ensures second { HoldsHull result other }
+    {
+        Hull {
+            x: self.x.joined(other.x),
+            y: self.y.joined(other.y),
+            z: self.z.joined(other.z),
+        }
+    }
+
+    /// A box of three points.
+    pub fn of_points(p: Point, q: Point, r: Point) -> Hull
+        ensures p { HoldsPoint result p }
+        ensures q { HoldsPoint result q }
+        ensures r { HoldsPoint result r }
+    {
+        let two = Hull::of_point(p).joined(Hull::of_point(q));
+        two.joined(Hull::of_point(r))
+    }
+
+    /// Whether two boxes are not known to be off each other.
+    pub fn meets(self, other: Hull) -> bool
+        ensures { OnFalse result (AreOff self other) }
+    {
+        if !self.x.meets(other.x) {
+            return false;
+        }
+        if !self.y.meets(other.y) {
+            return false;
+        }
+        self.z.meets(other.z)
+    }
+}

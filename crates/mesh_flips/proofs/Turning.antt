@@ -1,0 +1,52 @@
+-- One flip, with all that it keeps.
+use Rattle.std.proofs.Common.{ℕ, ◌≡◌, ◌+◌, ◌<◌, refl, sym, subst, arith, inl, inr, List, [], ◌∷◌, length}
+use Rattle.std.specs.List.{All}
+use Rattle.geo_sign.specs.Point.{Point}
+use Rattle.hull_tree.specs.Trees.{IsPut}
+use Rattle.hull_tree.specs.declared.hull.Hull.{Hull}
+use Rattle.hull_tree.specs.declared.tree.HullTree.{HullTree}
+use Rattle.mesh_flips.specs.Turns.{IsTriangle}
+use Rattle.mesh_flips.specs.Quads.{IsQuad, flipped}
+use Rattle.mesh_flips.specs.Flips.{IsFlipped}
+use Rattle.mesh_flips.specs.Clear.{IsFree}
+use Rattle.mesh_flips.specs.Fields.{HoldsFace, IsPutFace, IsReady}
+use Rattle.mesh_flips.specs.declared.quad.Quad.{Quad}
+use Rattle.mesh_flips.proofs.Kept.{flip_triangles}
+use Rattle.mesh_flips.proofs.Chains.{flipped_once}
+use Rattle.mesh_flips.proofs.Crossings.{same_or_not, flip_apart, flip_boxes}
+use Rattle.solid_slice.specs.Cuts.{face_at}
+use Rattle.mesh_flips.proofs.Singles.{flip_single}
+
+module _ (points : List Point) (old new : List (List ℕ)) (one other : ℕ) (q : Quad) (each : All (IsTriangle (length points)) old)
+    (lie : IsQuad old one other q) (then : new ≡ flipped old one other q) where
+  pub turned_flipped : IsFree points old one other q → IsFlipped points old new
+  turned_flipped free =
+      subst (λ (faces : List (List ℕ)). IsFlipped points old faces) (sym then)
+      (record {
+        flips = flipped_once old (flipped old one other q) one other q lie refl;
+        apart = flip_apart points old one other q lie free;
+        single = flip_single points (length points) old one other q each lie free;
+      })
+
+  pub turned_ready : (was mid is : HullTree) (h k : Hull) → IsReady points old was → HoldsFace points h (q.a ∷ q.d ∷ q.c ∷ [])
+      → HoldsFace points k (q.d ∷ q.b ∷ q.c ∷ []) → IsPut mid one h → IsPut is other k
+      → ((i : ℕ) (g : Hull) → IsPut was i g → IsPut mid i g) → ((i : ℕ) (g : Hull) → IsPut mid i g → IsPut is i g)
+      → mid.leaves ≡ was.leaves → is.leaves ≡ mid.leaves → IsReady points new is
+  turned_ready was mid is h k ready first second put_one put_other kept kept_on same same_on =
+      subst (λ (faces : List (List ℕ)). IsReady points faces is) (sym then)
+      (record {
+        each = flip_triangles (length points) old one other q each lie;
+        boxes =
+            flip_boxes points old one other q was mid is h k lie ready.boxes first second put_one put_other kept kept_on same same_on;
+      })
+
+-- the box of one face more is put in
+pub put_face : (points : List Point) (faces : List (List ℕ)) (old new : HullTree) (i : ℕ) (h : Hull)
+    → HoldsFace points h (face_at faces i) → IsPut new i h → ((k : ℕ) (g : Hull) → IsPut old k g → IsPut new k g)
+    → ((k : ℕ) → k < i → IsPutFace points faces old k) → (k : ℕ) → k < i + 1 → IsPutFace points faces new k
+put_face points faces old new i h holds put kept below k l =
+    elim (same_or_not k i) [
+      | inl e ↦
+          (h, subst (λ (n : ℕ). HoldsFace points h (face_at faces n)) (sym e) holds, subst (λ (n : ℕ). IsPut new n h) (sym e) put)
+      | inr ne ↦ let was = below k (omega arith) in (was.0, was.1, kept k was.0 was.2)
+    ]

@@ -1,0 +1,19 @@
+use Rattle.std.proofs.Common.{arith, inl, inr, subst, sym, ℕ, List}
+use Rattle.std.specs.List.{Contains}
+use Rattle.triangle_gap.proofs.Apart.{on_yes}
+use Rattle.mesh_flips.proofs.Off.{off_clear}
+use Rattle.mesh_flips.proofs.clear.is_free.Goals as goal
+
+pub returns : goal.returns
+returns c =
+    on_yes c.are_apart.result
+    (λ both. record {
+      clear = λ i l one other.
+          let put = c.requires.tree.put i l in
+          elim (c.in_ok-near.ensures.found i put.0 (omega (arith, c.requires.tree.room)) put.2) [
+            | inl has ↦ c.if-not-are_clear.ensures i (subst (λ (xs : List ℕ). Contains xs i) (sym c.deref.ensures.value) has) l one other
+            | inr off ↦ off_clear c.args.points.now c.args.quad put.0 c.hull_of_quad.result _ c.hull_of_quad.ensures put.1 off
+          ];
+      both = both;
+    })
+    c.are_apart.ensures

@@ -1,0 +1,12 @@
+use Rattle.mesh_flips.proofs.Turning.{turned_flipped, turned_ready}
+use Rattle.mesh_flips.proofs.driving.turn.Goals as goal
+
+pub returns-clause-flipped : goal.returns-clause-flipped
+returns-clause-flipped c =
+    turned_flipped _ _ _ c.args.one c.args.other c.args.quad c.requires.ready.each c.requires.lie c.flip.ensures c.requires.free
+
+pub returns-clause-ready : goal.returns-clause-ready
+returns-clause-ready c =
+    turned_ready _ _ _ c.args.one c.args.other c.args.quad c.requires.ready.each c.requires.lie c.flip.ensures _ c.put.new.self
+    c.put-2.new.self _ _ c.requires.ready c.hull_of.ensures c.hull_of-2.ensures c.put.ensures.put c.put-2.ensures.put
+    c.put.ensures.kept c.put-2.ensures.kept c.put.ensures.same c.put-2.ensures.same

@@ -1,0 +1,29 @@
+-- Two faces against each other, and the flip of their edge.
+--
+--   IsQuad faces one other q    two faces of a list have the corners of q
+--   flipped faces one other q   the list after the flip
+--   HasCorners n q              its corners are below n
+use Rattle.std.specs.Prelude.{ℕ, ◌≢◌, ◌<◌, List, [], ◌∷◌, length, slice_set}
+use Rattle.solid_slice.specs.Cuts.{face_at}
+use Rattle.mesh_flips.specs.Turns.{IsTurned}
+use Rattle.mesh_flips.specs.declared.quad.Quad.{Quad}
+
+-- One face is a b c and the other b a d, with another third corner. So they lie against each other in the edge between a and b.
+pub record IsQuad (faces : List (List ℕ)) (one other : ℕ) (q : Quad) : Type 0 where
+  pub one_within : one < length faces
+  pub other_within : other < length faces
+  pub two : one ≢ other
+  pub first : IsTurned (face_at faces one) (q.a ∷ q.b ∷ q.c ∷ [])
+  pub second : IsTurned (face_at faces other) (q.b ∷ q.a ∷ q.d ∷ [])
+  pub far : q.c ≢ q.d
+
+-- a b c and b a d become a d c and d b c
+abbrev pub flipped : List (List ℕ) → (one other : ℕ) → Quad → List (List ℕ)
+flipped faces one other q = slice_set (slice_set faces one (q.a ∷ q.d ∷ q.c ∷ [])) other (q.d ∷ q.b ∷ q.c ∷ [])
+
+-- the corners are points
+pub record HasCorners (n : ℕ) (q : Quad) : Type 0 where
+  pub a : q.a < n
+  pub b : q.b < n
+  pub c : q.c < n
+  pub d : q.d < n

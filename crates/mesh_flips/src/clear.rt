@@ -1,0 +1,114 @@
+//! Whether an edge may be flipped: its new faces are apart from all others, and the new edge is none of theirs.
+
+ghost use Rattle.std.specs.Prelude.{◌≡◌, ◌≢◌, ◌<◌, ℕ, All, Contains, IfOk, length};
+ghost use Rattle.std.specs.Bool.{OnTrue};
+ghost use Rattle.mesh_flips.specs.Turns.{IsTriangle};
+ghost use Rattle.mesh_flips.specs.Quads.{HasCorners};
+ghost use Rattle.solid_slice.specs.Cuts.{face_at};
+ghost use Rattle.mesh_flips.specs.Clear.{IsClear, IsFree};
+ghost use Rattle.mesh_flips.specs.Fields.{HoldsFace, HoldsQuad, IsTreeOf};
+ghost use Rattle.mesh_ply.specs.Meshes.{is_vertex_of, point_at};
+
+use crate::NoMemory;
+use crate::quad::Quad;
+use geo_sign::Point;
+use hull_tree::{Hull, HullTree};
+use triangle_gap::are_apart;
+
+/// The point of a vertex.
+fn place(points: &[Point], v: u32) -> Point
+    requires { v < length points.now }
+    ensures { result ≡ point_at points.now v }
+{
+    points[v as usize]
+}
+
+/// The box of a face.
+pub(crate) fn hull_of(points: &[Point], face: [u32; 3]) -> Hull
+    requires { IsTriangle (length points.now) face }
+    ensures { HoldsFace points.now result face }
+{
+    let [a, b, c] = face;
+    Hull::of_points(place(points, a), place(points, b), place(points, c))
+}
+
+/// Whether a face has a vertex.
+fn has(face: [u32; 3], v: u32) -> bool
+    ensures { result ≡ is_vertex_of v face }
+{
+    let [a, b, c] = face;
+    a == v || b == v || c == v
+}
+
+/// Whether the new faces of a quad are apart from another face, which has not both ends of the new edge.
+fn is_clear(points: &[Point], face: [u32; 3], quad: Quad) -> bool
+    requires face { IsTriangle (length points.now) face }
+    requires corners { HasCorners (length points.now) quad }
+    ensures { OnTrue result (IsClear points.now quad face) }
+{
+    let Quad { a, b, c, d } = quad;
+    if has(face, c) && has(face, d) {
+        return false;
+    }
+    if !are_apart(points, [a, d, c], face) {
+        return false;
+    }
+    are_apart(points, [d, b, c], face)
+}
+
+/// The box of a quad.
+fn hull_of_quad(points: &[Point], quad: Quad) -> Hull
+    requires { HasCorners (length points.now) quad }
+    ensures { HoldsQuad points.now result quad }
+{
+    let Quad { a, b, c, d } = quad;
+    let p = place(points, d);
+    let one = Hull::of_points(place(points, a), place(points, b), place(points, c));
+    one.joined(Hull::of_point(p))
+}
+
+/// Whether each of some faces, but for two, is clear of a quad.
+fn are_clear(
+    points: &[Point],
+    faces: &[[u32; 3]],
+    found: &[usize],
+    one: usize,
+    other: usize,
+    quad: Quad,
+) -> bool
+    requires each { All (IsTriangle (length points.now)) faces.now }
+    requires corners { HasCorners (length points.now) quad }
+    ensures { OnTrue result ((i : ℕ) → Contains found.now i → i < length faces.now → i ≢ one → i ≢ other → IsClear points.now quad (face_at faces.now i)) }
+{
+    for i in found {
+        let i = *i;
+        if i < faces.len() && i != one && i != other && !is_clear(points, faces[i], quad) {
+            return false;
+        }
+    }
+    true
+}
+
+/// Whether an edge may be flipped.
+pub(crate) fn is_free(
+    points: &[Point],
+    faces: &[[u32; 3]],
+    tree: &HullTree,
+    found: &mut Vec<usize>,
+    one: usize,
+    other: usize,
+    quad: Quad,
+) -> Result<bool, NoMemory>
+    requires each { All (IsTriangle (length points.now)) faces.now }
+    requires corners { HasCorners (length points.now) quad }
+    requires tree { IsTreeOf points.now faces.now tree.now }
+    ensures { IfOk result (λ yes. OnTrue yes (IsFree points.now faces.now one other quad)) }
+{
+    found.clear();
+    tree.near(hull_of_quad(points, quad), found)?;
+    if !are_clear(points, faces, found, one, other, quad) {
+        return Ok(false);
+    }
+    let Quad { a, b, c, d } = quad;
+    Ok(are_apart(points, [a, d, c], [d, b, c]))
+}

@@ -1,0 +1,137 @@
+//! Flips of all edges that gain.
+
+ghost use Rattle.std.specs.Prelude.{◌≡◌, ◌<◌, ◌^◌, All, IfOk, length};
+ghost use Rattle.mesh_flips.specs.Turns.{IsTriangle};
+ghost use Rattle.mesh_flips.specs.Quads.{IsQuad, flipped};
+ghost use Rattle.mesh_flips.specs.Flips.{IsFlipped};
+ghost use Rattle.mesh_flips.specs.Clear.{IsFree};
+ghost use Rattle.mesh_flips.specs.Fields.{IsReady};
+
+use crate::NoMemory;
+use crate::clear::{hull_of, is_free};
+use crate::flips::flip;
+use crate::hints::{Hints, gain, hints_of};
+use crate::quad::{Quad, quad_at};
+use geo_sign::Point;
+use hull_tree::HullTree;
+use std::alloc::Global;
+
+/// Which part of the sum of angle times length a flip has to gain, pass by pass.
+const LEAST_GAINS: [f64; 3] = [0.3, 0.1, 0.000000001];
+
+/// How often an edge may be looked at in a pass, on the mean.
+const LOOKS: usize = 64;
+
+/// Flips an edge that is free, and puts the boxes of the new faces into the tree.
+fn turn(
+    points: &[Point],
+    faces: &mut [[u32; 3]],
+    tree: &mut HullTree,
+    one: usize,
+    other: usize,
+    quad: Quad,
+)
+    requires ready { IsReady points.now faces.old tree.old }
+    requires lie { IsQuad faces.old one other quad }
+    requires free { IsFree points.now faces.old one other quad }
+    ensures flipped { IsFlipped points.now faces.old faces.new }
+    ensures ready { IsReady points.now faces.new tree.new }
+{
+    let Quad { a, b, c, d } = quad;
+    tree.put(one, hull_of(points, [a, d, c]));
+    tree.put(other, hull_of(points, [d, b, c]));
+    flip(faces, one, other, quad);
+}
+
+/// Flips an edge, if it is free and that gains enough.
+fn try_flip(
+    points: &[Point],
+    faces: &mut [[u32; 3]],
+    tree: &mut HullTree,
+    found: &mut Vec<usize>,
+    hints: &mut Hints,
+    edge: u32,
+    least: f64,
+) -> Result<(), NoMemory>
+    requires { IsReady points.now faces.old tree.old }
+    ensures flipped { IsFlipped points.now faces.old faces.new }
+    ensures ready { IsReady points.now faces.new tree.new }
+{
+    let twin = hints.twin(edge);
+    let Some(quad) = quad_at(faces, edge, twin) else {
+        return Ok(());
+    };
+    if gain(hints, points, edge, twin, quad) <= least {
+        return Ok(());
+    }
+    let one = (edge / 3) as usize;
+    let other = (twin / 3) as usize;
+    if !is_free(points, faces, tree, found, one, other, quad)? {
+        return Ok(());
+    }
+    turn(points, faces, tree, one, other, quad);
+    hints.turn(points, edge, twin, quad)
+}
+
+/// Looks at all edges, and at those around each that was flipped, until none waits.
+fn flip_pass(
+    points: &[Point],
+    faces: &mut [[u32; 3]],
+    tree: &mut HullTree,
+    found: &mut Vec<usize>,
+    hints: &mut Hints,
+    least: f64,
+) -> Result<(), NoMemory>
+    requires { IsReady points.now faces.old tree.old }
+    ensures flipped { IsFlipped points.now faces.old faces.new }
+    ensures ready { IsReady points.now faces.new tree.new }
+{
+    for face in 0..faces.len() {
+        hints.wait_around(face.min(u32::MAX as usize) as u32)?;
+    }
+    for _ in 0..faces.len().saturating_mul(LOOKS) {
+        match hints.next() {
+            Some(edge) => try_flip(points, faces, tree, found, hints, edge, least)?,
+            None => return Ok(()),
+        }
+    }
+    Ok(())
+}
+
+/// A tree with the boxes of all faces.
+fn tree_of(alloc: Global, points: &[Point], faces: &[[u32; 3]]) -> Result<HullTree, NoMemory>
+    requires each { All (IsTriangle (length points.now)) faces.now }
+    requires few { length faces.now < 2 ^ 60 }
+    ensures { IfOk result (λ tree. IsReady points.now faces.now tree) }
+{
+    let mut tree = HullTree::new(alloc, faces.len())?;
+    for i in 0..faces.len() {
+        tree.put(i, hull_of(points, faces[i]));
+    }
+    Ok(tree)
+}
+
+/// Flips edges of a mesh where the angles between its faces fall. `twins` says which half edge is across each one, where half edge
+/// `h` is side `h % 3` of face `h / 3`; where it is wrong, or there is no such half edge, nothing is flipped.
+///
+/// No face crosses another after it that did not before, and no edge has more than two faces that had not. After `NoMemory` some edges
+/// are flipped.
+pub fn flip_edges(
+    alloc: Global,
+    points: &[Point],
+    faces: &mut [[u32; 3]],
+    twins: Vec<u32>,
+) -> Result<(), NoMemory>
+    requires each { All (IsTriangle (length points.now)) faces.old }
+    requires few { length faces.old < 2 ^ 60 }
+    ensures flipped { IsFlipped points.now faces.old faces.new }
+    ensures each { All (IsTriangle (length points.now)) faces.new }
+{
+    let mut tree = tree_of(alloc, points, faces)?;
+    let mut hints = hints_of(alloc, points, faces, twins)?;
+    let mut found = Vec::new(alloc);
+    for least in LEAST_GAINS {
+        flip_pass(points, faces, &mut tree, &mut found, &mut hints, least)?;
+    }
+    Ok(())
+}

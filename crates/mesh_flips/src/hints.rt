@@ -1,0 +1,194 @@
+//! What flips go by: which half edge is across each one, where faces look, and which edges wait. None of it is promised; a flip looks
+//! again at the faces themselves.
+
+use crate::NoMemory;
+use crate::quad::Quad;
+use crate::way::Way;
+use geo_sign::Point;
+use std::alloc::Global;
+use std::collections::VecDeque;
+
+/// Half edges across, directions of faces, and the edges that wait.
+#[derive(Drop)]
+pub(crate) struct Hints {
+    pub(crate) twins: Vec<u32>,
+    pub(crate) normals: Vec<Way>,
+    pub(crate) waits: Vec<bool>,
+    pub(crate) queue: VecDeque<u32>,
+}
+
+/// The half edge behind this one in its face.
+pub(crate) fn after(h: u32) -> u32 {
+    if h % 3 == 2 {
+        h - 2
+    } else {
+        h.saturating_add(1)
+    }
+}
+
+/// The half edge before this one in its face.
+pub(crate) fn before(h: u32) -> u32 {
+    if h % 3 == 0 {
+        h.saturating_add(2)
+    } else {
+        h - 1
+    }
+}
+
+/// A point, or the origin where there is none.
+fn place(points: &[Point], v: u32) -> Option<Point> {
+    points.get(v as usize).copied()
+}
+
+/// From one point to another.
+pub(crate) fn way(points: &[Point], from: u32, to: u32) -> Way {
+    match (place(points, from), place(points, to)) {
+        (Some(a), Some(b)) => Way::between(a, b),
+        _ => Way::NONE,
+    }
+}
+
+/// The direction in which a face looks.
+pub(crate) fn normal(points: &[Point], a: u32, b: u32, c: u32) -> Way {
+    way(points, a, b).across(way(points, a, c)).unit()
+}
+
+impl Hints {
+    /// The half edge across.
+    pub(crate) fn twin(&self, h: u32) -> u32 {
+        self.twins.get(h as usize).copied().unwrap_or(h)
+    }
+
+    /// Where the face of a half edge looks.
+    pub(crate) fn normal_at(&self, h: u32) -> Way {
+        self.normals
+            .get((h / 3) as usize)
+            .copied()
+            .unwrap_or(Way::NONE)
+    }
+
+    fn join(&mut self, h: u32, far: u32) {
+        if (h as usize) < self.twins.len() {
+            self.twins[h as usize] = far;
+        }
+    }
+
+    /// Two half edges are across from each other.
+    pub(crate) fn pair(&mut self, h: u32, far: u32) {
+        self.join(h, far);
+        self.join(far, h);
+    }
+
+    pub(crate) fn look(&mut self, face: u32, normal: Way) {
+        if (face as usize) < self.normals.len() {
+            self.normals[face as usize] = normal;
+        }
+    }
+
+    /// The edge is to be looked at, if it does not wait yet.
+    pub(crate) fn wait(&mut self, h: u32) -> Result<(), NoMemory> {
+        let h = h.min(self.twin(h));
+        if (h as usize) < self.waits.len() && !self.waits[h as usize] {
+            self.queue.push_back(h)?;
+            self.waits[h as usize] = true;
+        }
+        Ok(())
+    }
+
+    /// The edge that waits longest.
+    pub(crate) fn next(&mut self) -> Option<u32> {
+        let h = self.queue.pop_front()?;
+        if (h as usize) < self.waits.len() {
+            self.waits[h as usize] = false;
+        }
+        Some(h)
+    }
+
+    /// All three edges of a face are to be looked at.
+    pub(crate) fn wait_around(&mut self, face: u32) -> Result<(), NoMemory> {
+        let first = face.saturating_mul(3);
+        self.wait(first)?;
+        self.wait(first.saturating_add(1))?;
+        self.wait(first.saturating_add(2))
+    }
+
+    /// After a flip of the edge between two faces: who is across, where they look, and which edges wait.
+    pub(crate) fn turn(
+        &mut self,
+        points: &[Point],
+        edge: u32,
+        twin: u32,
+        quad: Quad,
+    ) -> Result<(), NoMemory> {
+        let Quad { a, b, c, d } = quad;
+        let (one, other) = (edge / 3, twin / 3);
+        let (ca, ad) = (self.twin(before(edge)), self.twin(after(twin)));
+        let (db, bc) = (self.twin(before(twin)), self.twin(after(edge)));
+        let (one_side, other_side) = (one.saturating_mul(3), other.saturating_mul(3));
+        self.pair(one_side, ad);
+        self.pair(one_side.saturating_add(2), ca);
+        self.pair(other_side, db);
+        self.pair(other_side.saturating_add(1), bc);
+        self.pair(one_side.saturating_add(1), other_side.saturating_add(2));
+        self.look(one, normal(points, a, d, c));
+        self.look(other, normal(points, d, b, c));
+        self.wait_around(one)?;
+        self.wait_around(other)?;
+        self.wait_around(ca / 3)?;
+        self.wait_around(ad / 3)?;
+        self.wait_around(db / 3)?;
+        self.wait_around(bc / 3)
+    }
+}
+
+/// By how much the sum of angle times length over the five edges of a quad falls where its edge is flipped, as a part of what it is;
+/// 0 where a new face turns away.
+pub(crate) fn gain(hints: &Hints, points: &[Point], edge: u32, twin: u32, quad: Quad) -> f64 {
+    let Quad { a, b, c, d } = quad;
+    let left = way(points, a, d).across(way(points, a, c));
+    let right = way(points, d, b).across(way(points, d, c));
+    let both = left.plus(right);
+    if left.dot(both) <= 0.0 || right.dot(both) <= 0.0 {
+        return 0.0;
+    }
+    let (left, right) = (left.unit(), right.unit());
+    let (one, other) = (hints.normal_at(edge), hints.normal_at(twin));
+    let on_bc = hints.normal_at(hints.twin(after(edge)));
+    let on_ca = hints.normal_at(hints.twin(before(edge)));
+    let on_ad = hints.normal_at(hints.twin(after(twin)));
+    let on_db = hints.normal_at(hints.twin(before(twin)));
+    let (bc, ca) = (way(points, b, c).length(), way(points, c, a).length());
+    let (ad, db) = (way(points, a, d).length(), way(points, d, b).length());
+    let now = one.angle(other) * way(points, a, b).length()
+        + one.angle(on_bc) * bc
+        + one.angle(on_ca) * ca
+        + other.angle(on_ad) * ad
+        + other.angle(on_db) * db;
+    let then = left.angle(right) * way(points, c, d).length()
+        + right.angle(on_bc) * bc
+        + left.angle(on_ca) * ca
+        + left.angle(on_ad) * ad
+        + right.angle(on_db) * db;
+    if now > 0.0 { (now - then) / now } else { 0.0 }
+}
+
+/// Hints on a mesh with these half edges across, where all edges wait.
+pub(crate) fn hints_of(
+    alloc: Global,
+    points: &[Point],
+    faces: &[[u32; 3]],
+    twins: Vec<u32>,
+) -> Result<Hints, NoMemory> {
+    let mut normals = Vec::with_capacity(alloc, faces.len())?;
+    for face in faces {
+        let [a, b, c] = *face;
+        normals.push(normal(points, a, b, c))?;
+    }
+    let waits = vec![in alloc; false; twins.len()]?;
+    Ok(Hints {
+        twins,
+        normals,
+        waits,
+        queue: VecDeque::new(alloc),
+    })
+}

@@ -1,0 +1,97 @@
+//! Vectors in floating point. They serve to choose, and nothing that is promised hangs on them.
+
+use geo_sign::Point;
+
+/// A vector, rounded.
+#[derive(Clone, Copy, Debug)]
+pub(crate) struct Way {
+    x: f64,
+    y: f64,
+    z: f64,
+}
+
+/// The factors by which the angle of a cosine is found within 2e-8 (Abramowitz and Stegun, 4.4.46), the highest first.
+const ARC_COSINE: [f64; 8] = [
+    -0.0012624911,
+    0.0066700901,
+    -0.0170881256,
+    0.0308918810,
+    -0.0501743046,
+    0.0889789874,
+    -0.2145988016,
+    1.5707963050,
+];
+
+const HALF_TURN: f64 = 3.141592653589793;
+
+impl Way {
+    pub(crate) const NONE: Way = Way {
+        x: 0.0,
+        y: 0.0,
+        z: 0.0,
+    };
+
+    /// From one point to another.
+    pub(crate) fn between(a: Point, b: Point) -> Way {
+        Way {
+            x: f64::from(b.x()) - f64::from(a.x()),
+            y: f64::from(b.y()) - f64::from(a.y()),
+            z: f64::from(b.z()) - f64::from(a.z()),
+        }
+    }
+
+    /// Upright on both.
+    pub(crate) fn across(self, other: Way) -> Way {
+        Way {
+            x: self.y * other.z - self.z * other.y,
+            y: self.z * other.x - self.x * other.z,
+            z: self.x * other.y - self.y * other.x,
+        }
+    }
+
+    pub(crate) fn dot(self, other: Way) -> f64 {
+        self.x * other.x + self.y * other.y + self.z * other.z
+    }
+
+    pub(crate) fn plus(self, other: Way) -> Way {
+        Way {
+            x: self.x + other.x,
+            y: self.y + other.y,
+            z: self.z + other.z,
+        }
+    }
+
+    pub(crate) fn length(self) -> f64 {
+        self.dot(self).sqrt()
+    }
+
+    /// The vector at length 1; none stays none.
+    pub(crate) fn unit(self) -> Way {
+        let long = self.length();
+        if long > 0.0 {
+            Way {
+                x: self.x / long,
+                y: self.y / long,
+                z: self.z / long,
+            }
+        } else {
+            Way::NONE
+        }
+    }
+
+    /// The angle between two vectors of length 1.
+    pub(crate) fn angle(self, other: Way) -> f64 {
+        let cosine = self.dot(other);
+        let near = cosine.abs().min(1.0);
+        let mut sum = 0.0;
+        for factor in ARC_COSINE {
+            sum = sum * near + factor;
+        }
+        let acute = (1.0 - near).sqrt() * sum;
+        if cosine < 0.0 {
+            HALF_TURN - acute
+        } else {
+            acute
+        }
+    }
+}

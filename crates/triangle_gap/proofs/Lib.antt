@@ -1,0 +1,3 @@
+pub mod Separations
+pub mod Freeing
+pub mod Apart

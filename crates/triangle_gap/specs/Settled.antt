@@ -1,0 +1,40 @@
+-- What settles that two triangles are apart.
+--
+--   AreCovered freed common       each corner that is not common is freed
+--   AreCommon m u v w             corners that are not marked have the weight 0
+--   AreSettled s t common         at each place that both have, the one or the other's weights are those of common corners alone
+--   AreMarks f g m                the marks say which corners of f are corners of g
+--   IsTriangleOf points f t       t has the points of f
+use Rattle.std.specs.Prelude.{ℕ, ◌≡◌, ◌⊎◌, true, false, List, [], ◌∷◌}
+use Rattle.geo_sign.specs.Point.{Point}
+use Rattle.mesh_ply.specs.Meshes.{is_vertex_of, point_at}
+use Rattle.triangle_gap.specs.Shared.{Weights, IsShared}
+use Rattle.triangle_gap.specs.declared.corners.Triangle.{Triangle}
+use Rattle.triangle_gap.specs.declared.corners.Freed.{Freed}
+use Rattle.triangle_gap.specs.declared.corners.Marks.{Marks}
+
+-- each corner that is not common is freed
+pub record AreCovered (freed common : Marks) : Type 0 where
+  pub p : common.p ≡ false → freed.p ≡ true
+  pub q : common.q ≡ false → freed.q ≡ true
+  pub r : common.r ≡ false → freed.r ≡ true
+
+-- corners that are not marked have the weight 0
+pub record AreCommon (m : Marks) (u v w : ℕ) : Type 0 where
+  pub p : m.p ≡ false → u ≡ 0
+  pub q : m.q ≡ false → v ≡ 0
+  pub r : m.r ≡ false → w ≡ 0
+
+-- at each place that both have
+abbrev pub AreSettled : Triangle → Triangle → Freed → Type 0
+AreSettled s t common = (n : Weights) → IsShared s t n → AreCommon common.one n.p n.q n.r ⊎ AreCommon common.other n.x n.y n.z
+
+-- which corners of f are corners of g
+abbrev pub AreMarks : (f g : List ℕ) → Marks → Type 0
+AreMarks (a ∷ b ∷ c ∷ []) g m = (m.p ≡ is_vertex_of a g) × (m.q ≡ is_vertex_of b g) × (m.r ≡ is_vertex_of c g)
+AreMarks _ g m = ⊥
+
+-- the triangle has the points of the face
+abbrev pub IsTriangleOf : List Point → List ℕ → Triangle → Type 0
+IsTriangleOf points (a ∷ b ∷ c ∷ []) t = (t.p ≡ point_at points a) × (t.q ≡ point_at points b) × (t.r ≡ point_at points c)
+IsTriangleOf points _ t = ⊥

@@ -1,0 +1,49 @@
+-- Places that two triangles have, by weights of their corners.
+--
+--   weighted a b c u v w   the sum of three points, each as often as its weight says
+--   Weights                six whole numbers, three for the corners of each triangle
+--   IsShared s t n         the weights stand for one place of both
+--   IsFreed f n            the weights of freed corners are 0
+--   AreFreed s t f         they are at each place that both triangles have
+--
+-- A place of a triangle with whole corners is the mean of these by weights. The places that two such triangles have are a point, a
+-- segment or a polygon with rational corners, so where there is one but for common corners there is one with whole weights.
+use Rattle.std.specs.Prelude.{ℕ, ◌≡◌, ◌+◌, true, ℤ, pos, ◌+ℤ◌, ◌*ℤ◌}
+use Rattle.geo_sign.specs.Point.{Point, point}
+use Rattle.triangle_gap.specs.declared.corners.Triangle.{Triangle}
+use Rattle.triangle_gap.specs.declared.corners.Freed.{Freed}
+
+-- the sum of three numbers, each as often as its weight says
+abbrev pub weighted_sum : (a b c : ℤ) → (u v w : ℕ) → ℤ
+weighted_sum a b c u v w = pos u *ℤ a +ℤ pos v *ℤ b +ℤ pos w *ℤ c
+
+-- the same of three points
+abbrev pub weighted : (a b c : Point) → (u v w : ℕ) → Point
+weighted a b c u v w =
+    point (weighted_sum a.x b.x c.x u v w) (weighted_sum a.y b.y c.y u v w) (weighted_sum a.z b.z c.z u v w)
+
+-- how often each corner counts
+pub record Weights : Type 0 where
+  pub p : ℕ
+  pub q : ℕ
+  pub r : ℕ
+  pub x : ℕ
+  pub y : ℕ
+  pub z : ℕ
+
+-- as many in all, and the same place
+pub record IsShared (s t : Triangle) (n : Weights) : Type 0 where
+  pub total : n.p + n.q + n.r ≡ n.x + n.y + n.z
+  pub place : weighted s.p s.q s.r n.p n.q n.r ≡ weighted t.p t.q t.r n.x n.y n.z
+
+-- the weights of freed corners are 0
+pub record IsFreed (f : Freed) (n : Weights) : Type 0 where
+  pub p : f.one.p ≡ true → n.p ≡ 0
+  pub q : f.one.q ≡ true → n.q ≡ 0
+  pub r : f.one.r ≡ true → n.r ≡ 0
+  pub x : f.other.p ≡ true → n.x ≡ 0
+  pub y : f.other.q ≡ true → n.y ≡ 0
+  pub z : f.other.r ≡ true → n.z ≡ 0
+
+abbrev pub AreFreed : Triangle → Triangle → Freed → Type 0
+AreFreed s t f = (n : Weights) → IsShared s t n → IsFreed f n
