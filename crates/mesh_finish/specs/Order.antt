@@ -1,0 +1,8 @@
+-- Faces with the numbers by which they are sorted.
+--
+--   the_face k    the face alone
+use Rattle.std.specs.Prelude.{ℕ, List}
+use Rattle.mesh_finish.specs.declared.order.Keyed.{Keyed}
+
+abbrev pub the_face : Keyed → List ℕ
+the_face k = k.face
