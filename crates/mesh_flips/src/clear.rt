@@ -40,12 +40,16 @@ fn has(face: [u32; 3], v: u32) -> bool
     a == v || b == v || c == v
 }
 
-/// Whether the new faces of a quad are apart from another face, which has not both ends of the new edge.
-fn is_clear(points: &[Point], face: [u32; 3], quad: Quad) -> bool
+/// Whether the new faces of a quad in a box are apart from another face, which has not both ends of the new edge.
+fn is_clear(points: &[Point], face: [u32; 3], hull: Hull, quad: Quad) -> bool
     requires face { IsTriangle (length points.now) face }
     requires corners { HasCorners (length points.now) quad }
+    requires hull { HoldsQuad points.now hull quad }
     ensures { OnTrue result (IsClear points.now quad face) }
 {
+    if !hull_of(points, face).meets(hull) {
+        return true;
+    }
     let Quad { a, b, c, d } = quad;
     if has(face, c) && has(face, d) {
         return false;
@@ -67,6 +71,27 @@ fn hull_of_quad(points: &[Point], quad: Quad) -> Hull
     one.joined(Hull::of_point(p))
 }
 
+/// Whether a number is that of a quad's own faces, or of none, or of a face that is clear.
+fn is_own_or_clear(
+    points: &[Point],
+    faces: &[[u32; 3]],
+    i: usize,
+    one: usize,
+    other: usize,
+    hull: Hull,
+    quad: Quad,
+) -> bool
+    requires each { All (IsTriangle (length points.now)) faces.now }
+    requires corners { HasCorners (length points.now) quad }
+    requires hull { HoldsQuad points.now hull quad }
+    ensures { OnTrue result (i < length faces.now → i ≢ one → i ≢ other → IsClear points.now quad (face_at faces.now i)) }
+{
+    if i >= faces.len() || i == one || i == other {
+        return true;
+    }
+    is_clear(points, faces[i], hull, quad)
+}
+
 /// Whether each of some faces, but for two, is clear of a quad.
 fn are_clear(
     points: &[Point],
@@ -74,15 +99,16 @@ fn are_clear(
     found: &[usize],
     one: usize,
     other: usize,
+    hull: Hull,
     quad: Quad,
 ) -> bool
     requires each { All (IsTriangle (length points.now)) faces.now }
     requires corners { HasCorners (length points.now) quad }
+    requires hull { HoldsQuad points.now hull quad }
     ensures { OnTrue result ((i : ℕ) → Contains found.now i → i < length faces.now → i ≢ one → i ≢ other → IsClear points.now quad (face_at faces.now i)) }
 {
     for i in found {
-        let i = *i;
-        if i < faces.len() && i != one && i != other && !is_clear(points, faces[i], quad) {
+        if !is_own_or_clear(points, faces, *i, one, other, hull, quad) {
             return false;
         }
     }
@@ -105,8 +131,9 @@ pub(crate) fn is_free(
     ensures { IfOk result (λ yes. OnTrue yes (IsFree points.now faces.now one other quad)) }
 {
     found.clear();
-    tree.near(hull_of_quad(points, quad), found)?;
-    if !are_clear(points, faces, found, one, other, quad) {
+    let hull = hull_of_quad(points, quad);
+    tree.near(hull, found)?;
+    if !are_clear(points, faces, found, one, other, hull, quad) {
         return Ok(false);
     }
     let Quad { a, b, c, d } = quad;
