@@ -4,10 +4,8 @@
 
 use mesh_finish::finish_mesh;
 use mesh_ply::{MeshRefusal, push_mesh, read_mesh};
-use std::env;
-use std::fs;
-use std::io;
 use std::process::ExitCode;
+use std::{env, fs, io};
 
 /// The text of a finished mesh.
 fn finished(rt: &HostRuntime, text: &[u8]) -> Result<Vec<u8>, MeshRefusal> {

@@ -1,13 +1,12 @@
 -- Faces in another order, and written from another corner on.
-use Rattle.std.proofs.Common.{ℕ, suc, zero, ◌≡◌, ◌≢◌, ◌+◌, ◌<◌, ◌≤◌, ◌++◌, refl, ap, sym, ◌∙◌, subst, arith, inl, inr, List, [], ◌∷◌, length, get_or}
+use Rattle.std.proofs.Common.{ℕ, suc, ◌≡◌, ◌+◌, ◌<◌, ◌++◌, refl, sym, ◌∙◌, subst, arith, inl, inr, List, [], ◌∷◌, length, get_or}
 use Rattle.std.specs.List.{All}
 use Rattle.std.specs.List.Sorted.{IsPermutation}
 use Rattle.std.proofs.lemmas.Bool.{cases_lt}
 use Rattle.std.proofs.lemmas.List.{get_or_push, get_or_append_left}
 use Rattle.std.proofs.lemmas.List.Elements.{All-head, All-tail}
-use Rattle.std.proofs.lemmas.List.Sorted.{sum_by-IsPermutation, All-permutation}
+use Rattle.std.proofs.lemmas.List.Sorted.{sum_by-IsPermutation}
 use Rattle.std.proofs.lemmas.List.Sums.{sum_by-cons}
-use Rattle.geo_sign.specs.Point.{Point}
 use Rattle.mesh_ply.specs.Meshes.{IsFace}
 use Rattle.solid_slice.specs.Edges.{has_edge, faces_with_edge, IsBalanced}
 use Rattle.solid_slice.specs.Cuts.{face_at}
@@ -64,14 +63,14 @@ turned_edges n u v [] (g ∷ new) each count turned = absurd (omega arith)
 turned_edges n u v (f ∷ old) [] each count turned = absurd (omega arith)
 turned_edges n u v (f ∷ old) (g ∷ new) each count turned =
     let here : one_if (has_edge u v f) ≡ one_if (has_edge u v g) =
-        same_sides n u v f g (All-head (IsTriangle n) f old each) (turned 0 (omega arith)) in
+    same_sides n u v f g (All-head (IsTriangle n) f old each) (turned 0 (omega arith)) in
     omega (
       arith,
       sum_by-cons (λ h. one_if (has_edge u v h)) f old,
       sum_by-cons (λ h. one_if (has_edge u v h)) g new,
       here,
       turned_edges n u v old new (All-tail (IsTriangle n) f old each) (omega arith)
-      (λ i l. turned (suc i) (omega arith)),
+          (λ i l. turned (suc i) (omega arith)),
     )
 
 -- a closed mesh stays closed by all three

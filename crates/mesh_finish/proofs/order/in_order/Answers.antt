@@ -24,7 +24,7 @@ returns c =
     IfOk-weaker c.faces_of.result (λ faces. faces.items ≡ map the_face c.deref.result.now)
     (λ sorted. IsPermutation {X = List ℕ} c.args.faces.now sorted.items)
     (λ faces e.
-        subst (λ (z : List (List ℕ)). IsPermutation c.args.faces.now z) (sym (e ∙ ap (map the_face) (read c)))
-        (subst (λ (z : List (List ℕ)). IsPermutation z (map the_face c.sort.new.list)) c.in_ok-list.ensures
-        (IsPermutation-map the_face c.in_ok-list.list.items c.sort.new.list (moved c))))
+    subst (λ (z : List (List ℕ)). IsPermutation c.args.faces.now z) (sym (e ∙ ap (map the_face) (read c)))
+    (subst (λ (z : List (List ℕ)). IsPermutation z (map the_face c.sort.new.list)) c.in_ok-list.ensures
+    (IsPermutation-map the_face c.in_ok-list.list.items c.sort.new.list (moved c))))
     c.faces_of.ensures

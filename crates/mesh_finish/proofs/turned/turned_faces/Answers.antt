@@ -1,4 +1,4 @@
-use Rattle.std.proofs.Common.{ℕ, ◌≡◌, List, [], length, get_or, arith, sym, subst, ◌∷◌, ◌++◌, ◌+◌, ◌<◌, length-append}
+use Rattle.std.proofs.Common.{ℕ, ◌≡◌, List, [], length, arith, sym, subst, ◌∷◌, ◌++◌, ◌+◌, ◌<◌, length-append}
 use Rattle.std.proofs.lemmas.List.{get_or_default}
 use Rattle.mesh_flips.specs.Turns.{IsTriangle, IsTurned}
 use Rattle.mesh_ply.specs.Meshes.{IsFace}

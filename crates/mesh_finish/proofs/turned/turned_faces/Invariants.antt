@@ -1,4 +1,4 @@
-use Rattle.std.proofs.Common.{ℕ, ◌≡◌, ◌<◌, length, get_or, List, []}
+use Rattle.std.proofs.Common.{ℕ, ◌≡◌, ◌<◌, length}
 use Rattle.mesh_ply.specs.Meshes.{IsFace}
 use Rattle.mesh_flips.specs.Turns.{IsTriangle, IsTurned}
 use Rattle.solid_slice.specs.Cuts.{face_at}

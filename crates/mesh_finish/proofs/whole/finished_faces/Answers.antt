@@ -1,5 +1,5 @@
 -- The faces are sorted, flipped through a borrowed slice and read through another, so `read` first says that these are the faces.
-use Rattle.std.proofs.Common.{ℕ, ◌≡◌, ◌<◌, ◌^◌, List, length, drop, sym, ap, ◌∙◌, subst, arith}
+use Rattle.std.proofs.Common.{ℕ, ◌≡◌, List, length, drop, sym, ap, ◌∙◌, subst, arith}
 use Rattle.std.specs.List.{All}
 use Rattle.std.specs.List.Sorted.{IsPermutation}
 use Rattle.std.proofs.lemmas.List.{take_at}
@@ -41,7 +41,7 @@ read c =
 pub returns-clause-valid : goal.returns-clause-valid
 returns-clause-valid c =
     let each : All (IsTriangle (length c.args.points.now)) c.deref-2.result.now =
-        subst (λ (faces : List (List ℕ)). All (IsTriangle (length c.args.points.now)) faces) (sym (read c)) c.flip_edges.ensures.each in
+    subst (λ (faces : List (List ℕ)). All (IsTriangle (length c.args.points.now)) faces) (sym (read c)) c.flip_edges.ensures.each in
     let same = ap length (read c) in
     let k = count c in
     record {
@@ -54,8 +54,8 @@ pub returns-clause-closed : goal.returns-clause-closed
 returns-clause-closed c =
     let n = length c.args.points.now in
     let turned : AreTurned c.flip_edges.new.faces c.in_ok-turned.turned.items =
-        subst (λ (faces : List (List ℕ)). AreTurned faces c.in_ok-turned.turned.items) (read c) c.in_ok-turned.ensures.turned in
+    subst (λ (faces : List (List ℕ)). AreTurned faces c.in_ok-turned.turned.items) (read c) c.in_ok-turned.ensures.turned in
     let moved : IsPermutation c.args.faces.now c.deref_mut.result.now =
-        subst (λ (faces : List (List ℕ)). IsPermutation c.args.faces.now faces) (sym (sorted_before c)) c.in_ok-sorted.ensures in
+    subst (λ (faces : List (List ℕ)). IsPermutation c.args.faces.now faces) (sym (sorted_before c)) c.in_ok-sorted.ensures in
     finished_balanced n c.args.faces.now c.deref_mut.result.now c.flip_edges.new.faces c.in_ok-turned.turned.items
     (sorted_triangles n _ _ c.requires.each moved) c.flip_edges.ensures.each moved c.flip_edges.ensures.flipped.flips turned
