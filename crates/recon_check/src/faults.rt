@@ -63,7 +63,7 @@ fn over_sink(net: &CellNetwork<'_>, cert: &Certificate, stated: &Stated) -> Opti
     })
 }
 
-/// ShowsOver the flow balanced at all cells, or stops at the first at which it is not.
+/// Checks that the flow is conserved at each cell, and stops at the first cell at which it is not.
 fn show_balanced(
     alloc: Global,
     tetra: &Tetra,
@@ -105,7 +105,7 @@ fn not_equal(net: &CellNetwork<'_>, cert: &Certificate, stated: &Stated) -> Opti
     Some(Reason::NotEqual { value, cost })
 }
 
-/// ShowsOver the labels the least-inside ones, or stops at the first inside row whose cell these have outside.
+/// Checks that the labels are the minimum cut with the smallest inside, and stops at the first inside row whose cell that cut has outside.
 fn show_least(
     alloc: Global,
     net: &CellNetwork<'_>,
@@ -141,8 +141,8 @@ fn row_fault(net: &CellNetwork<'_>, cert: &Certificate, stated: &Stated) -> Opti
     over_sink(net, cert, stated)
 }
 
-/// ShowsOver the labels that a certificate states the best ones by the flow that it states, or stops at the first fault, in the order of the
-/// variants of [`Reason`]. Each of its rows is about a cell or a facet.
+/// Checks that the labels which a certificate states are the minimum cut by the flow that it states, and stops at the first fault in the
+/// order of the variants of [`Reason`]. Each row of the certificate names a cell or a facet.
 pub fn show_best(
     alloc: Global,
     tetra: &Tetra,
