@@ -1,7 +1,7 @@
 //! Forms in which a mesh leaves the program, handed in by the caller.
 //!
 //! A `Form` is handed a mesh's points and then its faces, one at a time, and has a text in the end. `drive` hands it a
-//! mesh. Three forms stand here, each a `TextForm` of its `FileFormat`: the mesh text of `mesh_ply` (`PlyForm`), OFF
+//! mesh. Three forms stand here, each over the `TextForm` of its `FileFormat`: the mesh text of `mesh_ply` (`PlyForm`), OFF
 //! (`OffForm`) and Wavefront OBJ (`ObjForm`). A caller's own form needs no change here: one whose text is printed from
 //! the whole mesh implements `FileFormat`; any other implements `Form`, and may keep what it receives in a `Receipt`.
 //!

@@ -3,10 +3,13 @@ ghost use Rattle.std.specs.Prelude.{◌≡◌, ◌++◌, [], ◌∷◌, OnOk, On
 ghost use Rattle.std.specs.List.{flat_map};
 ghost use Rattle.mesh_form.specs.Texts.{v_word, f_word, obj_vertex_line, triangle_line, obj_text};
 
+use crate::form::Form;
 use crate::text_form::{FileFormat, TextForm};
 use geo_sign::Point;
 use line_text::push_number;
 use mesh_ply::{Mesh, NoMemory, push_point};
+use std::alloc::Global;
+use std::marker::Model;
 
 #[tactic(auto, unfolding(crate::specs::Texts::v_word))]
 fn vertex_word() -> &'static [u8]
@@ -82,5 +85,56 @@ impl FileFormat for Obj {
     }
 }
 
-/// The form whose text is Wavefront OBJ.
-pub type ObjForm = TextForm<Obj>;
+/// The form whose text is Wavefront OBJ. Contracts see it as what it has received.
+#[derive(Drop)]
+pub struct ObjForm {
+    form: TextForm<Obj>,
+}
+
+impl Model for ObjForm {
+    ghost use Rattle.mesh_form.specs.Received.{Received};
+
+    ghost Value = { Received };
+
+    ghost view = { λ a. a.form };
+}
+
+impl ObjForm {
+    ghost use Rattle.std.specs.Prelude.{◌≡◌};
+    ghost use Rattle.mesh_form.specs.Received.{fresh};
+
+    /// Returns a fresh form with nothing received. It takes no memory.
+    pub fn new(alloc: Global) -> ObjForm
+        ensures { result ≡ fresh }
+    {
+        ObjForm {
+            form: TextForm::new(alloc),
+        }
+    }
+}
+
+impl Form for ObjForm {
+    ghost received = { λ form. form };
+
+    ghost text_of = { λ form. obj_text form.points form.faces };
+
+    fn begin(&mut self, points: u32, faces: u32) -> Result<(), NoMemory> {
+        self.form.begin(points, faces)
+    }
+
+    fn vertex(&mut self, point: Point) -> Result<(), NoMemory> {
+        self.form.vertex(point)
+    }
+
+    fn face(&mut self, face: [u32; 3]) -> Result<(), NoMemory> {
+        self.form.face(face)
+    }
+
+    fn end(&mut self) -> Result<(), NoMemory> {
+        self.form.end()
+    }
+
+    fn text(&self) -> &[u8] {
+        self.form.text()
+    }
+}

@@ -2,9 +2,13 @@
 ghost use Rattle.std.specs.Prelude.{◌≡◌, ◌++◌, OnOk, OnErr, length, take};
 ghost use Rattle.mesh_form.specs.Texts.{off_head, off_rest, off_counts, off_text};
 
+use crate::form::Form;
 use crate::text_form::{FileFormat, TextForm};
+use geo_sign::Point;
 use line_text::push_number;
 use mesh_ply::{Mesh, NoMemory, push_faces, push_points};
+use std::alloc::Global;
+use std::marker::Model;
 
 #[tactic(auto, unfolding(crate::specs::Texts::off_head))]
 fn name_line() -> &'static [u8]
@@ -46,5 +50,56 @@ impl FileFormat for Off {
     }
 }
 
-/// The form whose text is OFF.
-pub type OffForm = TextForm<Off>;
+/// The form whose text is OFF. Contracts see it as what it has received.
+#[derive(Drop)]
+pub struct OffForm {
+    form: TextForm<Off>,
+}
+
+impl Model for OffForm {
+    ghost use Rattle.mesh_form.specs.Received.{Received};
+
+    ghost Value = { Received };
+
+    ghost view = { λ a. a.form };
+}
+
+impl OffForm {
+    ghost use Rattle.std.specs.Prelude.{◌≡◌};
+    ghost use Rattle.mesh_form.specs.Received.{fresh};
+
+    /// Returns a fresh form with nothing received. It takes no memory.
+    pub fn new(alloc: Global) -> OffForm
+        ensures { result ≡ fresh }
+    {
+        OffForm {
+            form: TextForm::new(alloc),
+        }
+    }
+}
+
+impl Form for OffForm {
+    ghost received = { λ form. form };
+
+    ghost text_of = { λ form. off_text form.points form.faces };
+
+    fn begin(&mut self, points: u32, faces: u32) -> Result<(), NoMemory> {
+        self.form.begin(points, faces)
+    }
+
+    fn vertex(&mut self, point: Point) -> Result<(), NoMemory> {
+        self.form.vertex(point)
+    }
+
+    fn face(&mut self, face: [u32; 3]) -> Result<(), NoMemory> {
+        self.form.face(face)
+    }
+
+    fn end(&mut self) -> Result<(), NoMemory> {
+        self.form.end()
+    }
+
+    fn text(&self) -> &[u8] {
+        self.form.text()
+    }
+}

@@ -15,8 +15,7 @@ use Rattle.std.proofs.lemmas.List.Folds.{list_all-append}
 use Rattle.std.proofs.lemmas.Bool.{and_parts}
 use Rattle.num_text.proofs.PrintedLemmas.{decimal_digits}
 use Rattle.ply_head.specs.declared.header.Kind.{Kind}
-use Rattle.ply_head.specs.declared.header.Kind.TheVariants.{Text, Binary}
-use Rattle.ply_head.specs.declared.header.Endian.TheVariants.{Little, Big}
+use Rattle.ply_head.specs.declared.header.Kind.TheVariants.{Ascii, BinaryLittle, BinaryBig}
 use Rattle.ply_head.specs.declared.header.Scalar.{Scalar}
 use Rattle.ply_head.specs.declared.header.Scalar.TheVariants.{Char, Uchar, Short, Ushort, Int, Uint, Float, Double}
 use Rattle.ply_head.specs.declared.header.Shape.{Shape}
@@ -113,9 +112,9 @@ scalar_word Float = record { some = omega arith; visible = refl }
 scalar_word Double = record { some = omega arith; visible = refl }
 
 kind_word : (kind : Kind) → IsWord (kind_name kind)
-kind_word Text = record { some = omega arith; visible = refl }
-kind_word (Binary Little) = record { some = omega arith; visible = refl }
-kind_word (Binary Big) = record { some = omega arith; visible = refl }
+kind_word Ascii = record { some = omega arith; visible = refl }
+kind_word BinaryLittle = record { some = omega arith; visible = refl }
+kind_word BinaryBig = record { some = omega arith; visible = refl }
 
 next_word : (word rest : List ℕ) (words : List (List ℕ)) → IsWord word → words_of rest ≡ words
     → words_of (word ++ 32 ∷ rest) ≡ word ∷ words
@@ -145,9 +144,9 @@ scalar_read Double = refl
 
 kind_read : (kind : Kind) → kind_of (kind_name kind) ≡ Some kind
 unfolding kind_of
-kind_read Text = refl
-kind_read (Binary Little) = refl
-kind_read (Binary Big) = refl
+kind_read Ascii = refl
+kind_read BinaryLittle = refl
+kind_read BinaryBig = refl
 
 name_read : (name : List ℕ) → IsName name → name_of name ≡ Some name
 unfolding name_of

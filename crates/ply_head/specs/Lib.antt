@@ -6,6 +6,7 @@ pub mod Headers
 pub mod Reading
 pub mod StatementViews
 pub mod StepViews
+pub mod Kinds
 pub mod Spelling
 pub mod Grammar
 pub mod Readable

@@ -10,8 +10,7 @@
 use Rattle.std.specs.Prelude.{ℕ, List, [], ◌∷◌, ◌++◌, map, codes, decimal}
 use Rattle.std.specs.List.{flat_map}
 use Rattle.ply_head.specs.declared.header.Kind.{Kind}
-use Rattle.ply_head.specs.declared.header.Kind.TheVariants.{Text, Binary}
-use Rattle.ply_head.specs.declared.header.Endian.TheVariants.{Little, Big}
+use Rattle.ply_head.specs.declared.header.Kind.TheVariants.{Ascii, BinaryLittle, BinaryBig}
 use Rattle.ply_head.specs.declared.header.Scalar.{Scalar}
 use Rattle.ply_head.specs.declared.header.Scalar.TheVariants.{Char, Uchar, Short, Ushort, Int, Uint, Float, Double}
 use Rattle.ply_head.specs.declared.header.Shape.{Shape}
@@ -27,9 +26,9 @@ joined (line ∷ lines) = line ++ 10 ∷ joined lines
 
 -- how a kind is spelled
 abbrev pub kind_name : Kind → List ℕ
-kind_name Text = codes "ascii"
-kind_name (Binary Little) = codes "binary_little_endian"
-kind_name (Binary Big) = codes "binary_big_endian"
+kind_name Ascii = codes "ascii"
+kind_name BinaryLittle = codes "binary_little_endian"
+kind_name BinaryBig = codes "binary_big_endian"
 
 -- how a type is spelled
 abbrev pub scalar_name : Scalar → List ℕ

@@ -15,8 +15,7 @@ use Rattle.std.specs.Str.{bytes_eq}
 use Rattle.std.specs.Str.Parse.{digits_value}
 use Rattle.ply_head.specs.Optional.{◌>>=◌}
 use Rattle.ply_head.specs.declared.header.Kind.{Kind}
-use Rattle.ply_head.specs.declared.header.Kind.TheVariants.{Text, Binary}
-use Rattle.ply_head.specs.declared.header.Endian.TheVariants.{Little, Big}
+use Rattle.ply_head.specs.declared.header.Kind.TheVariants.{Ascii, BinaryLittle, BinaryBig}
 use Rattle.ply_head.specs.declared.header.Scalar.{Scalar}
 use Rattle.ply_head.specs.declared.header.Scalar.TheVariants.{Char, Uchar, Short, Ushort, Int, Uint, Float, Double}
 use Rattle.ply_head.specs.declared.header.Shape.{Shape}
@@ -41,9 +40,9 @@ pub data Statement : Type 0 where
 -- the kind that a word names
 unfoldable pub kind_of : List ℕ → Option Kind
 kind_of word =
-    if bytes_eq word (codes "ascii") then Some Text
-    else (if bytes_eq word (codes "binary_little_endian") then Some (Binary Little)
-    else (if bytes_eq word (codes "binary_big_endian") then Some (Binary Big) else None))
+    if bytes_eq word (codes "ascii") then Some Ascii
+    else (if bytes_eq word (codes "binary_little_endian") then Some BinaryLittle
+    else (if bytes_eq word (codes "binary_big_endian") then Some BinaryBig else None))
 
 -- the type that a word names, by either of its spellings
 unfoldable pub scalar_of : List ℕ → Option Scalar

@@ -6,6 +6,7 @@ ghost use Rattle.std.specs.Iterator.Adapters.{IterYieldsInOrder};
 ghost use Rattle.std.specs.Slice.Iter.{iter_rest};
 ghost use Rattle.ply_head.specs.declared.header.Element.{Element};
 ghost use Rattle.ply_head.specs.declared.header.Property.{Property};
+ghost use Rattle.ply_head.specs.Kinds.{endian_of};
 
 use std::alloc::{AllocError, Global};
 use std::marker::Model;
@@ -27,9 +28,24 @@ pub enum Endian {
 #[derive(Clone, Copy, Debug, PartialEq, Eq)]
 pub enum Kind {
     /// As text: tokens between white space.
-    Text,
-    /// In bytes, in this order.
-    Binary(Endian),
+    Ascii,
+    /// In bytes, the least significant byte of a number first.
+    BinaryLittle,
+    /// In bytes, the most significant byte of a number first.
+    BinaryBig,
+}
+
+impl Kind {
+    /// Returns the order in which a binary body has the bytes of a number, and None for a body in text.
+    pub fn endian(self) -> Option<Endian>
+        ensures { result ≡ endian_of self }
+    {
+        match self {
+            Kind::Ascii => None,
+            Kind::BinaryLittle => Some(Endian::Little),
+            Kind::BinaryBig => Some(Endian::Big),
+        }
+    }
 }
 
 /// The type of a value. In a binary body a value takes its type's size.

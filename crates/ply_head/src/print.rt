@@ -5,7 +5,7 @@ ghost use Rattle.std.specs.Prelude.{◌≡◌, ◌++◌, ◌∷◌, [], map, OnO
 ghost use Rattle.std.specs.List.{flat_map};
 ghost use Rattle.ply_head.specs.Spelling.{joined, kind_name, scalar_name, format_text, element_text, shape_text, property_text, element_lines, spelling};
 
-use crate::header::{Element, Endian, Header, Kind, NoMemory, Property, Scalar, Shape};
+use crate::header::{Element, Header, Kind, NoMemory, Property, Scalar, Shape};
 use num_text::push_whole;
 use std::alloc::Global;
 
@@ -13,9 +13,9 @@ fn kind_word(kind: Kind) -> &'static [u8]
     ensures { result.now ≡ kind_name kind }
 {
     match kind {
-        Kind::Text => b"ascii",
-        Kind::Binary(Endian::Little) => b"binary_little_endian",
-        Kind::Binary(Endian::Big) => b"binary_big_endian",
+        Kind::Ascii => b"ascii",
+        Kind::BinaryLittle => b"binary_little_endian",
+        Kind::BinaryBig => b"binary_big_endian",
     }
 }
 

@@ -8,7 +8,7 @@ ghost use Rattle.ply_head.specs.Lines.{words_of};
 ghost use Rattle.ply_head.specs.Statements.{kind_of, scalar_of, whole_scalar, count_of, name_of, format_line, element_line, property_line, finish_line, statement_of_words, is_name_byte};
 ghost use Rattle.ply_head.specs.StatementViews.{statement_view};
 
-use crate::header::{Endian, Kind, Scalar, Shape};
+use crate::header::{Kind, Scalar, Shape};
 use crate::words::{is_either, is_word, next_word};
 
 /// What a line says.
@@ -32,11 +32,11 @@ fn kind_in(word: &[u8]) -> Option<Kind>
     ensures { result ≡ kind_of word.now }
 {
     if is_word(word, b"ascii") {
-        Some(Kind::Text)
+        Some(Kind::Ascii)
     } else if is_word(word, b"binary_little_endian") {
-        Some(Kind::Binary(Endian::Little))
+        Some(Kind::BinaryLittle)
     } else if is_word(word, b"binary_big_endian") {
-        Some(Kind::Binary(Endian::Big))
+        Some(Kind::BinaryBig)
     } else {
         None
     }

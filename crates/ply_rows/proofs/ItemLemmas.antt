@@ -5,7 +5,7 @@ use Rattle.std.proofs.lemmas.Bool.{le-ltb, lt-ltb, cases_lt}
 use Rattle.std.proofs.lemmas.List.{take_more, drop-drop, length-drop, length-map, length-take, length-take-le, get_or-drop}
 use Rattle.ply_head.specs.Answers.{◌>>=◌}
 use Rattle.ply_head.specs.declared.header.Kind.{Kind}
-use Rattle.ply_head.specs.declared.header.Kind.TheVariants.{Text, Binary}
+use Rattle.ply_head.specs.declared.header.Kind.TheVariants.{Ascii, BinaryLittle, BinaryBig}
 use Rattle.ply_head.specs.declared.header.Scalar.{Scalar}
 use Rattle.ply_rows.specs.declared.place.Field.{Field}
 use Rattle.ply_rows.specs.declared.place.Place.{Place}
@@ -104,6 +104,7 @@ pieces_count (suc n) size place body = ap suc (pieces_count n size (place + size
 
 pub items_count : (kind : Kind) (item : Scalar) (body : List ℕ) (place n : ℕ) → HasItems kind item body place n
     → length (items_from kind item body place n) ≡ n
-items_count Text item body place n there =
+items_count Ascii item body place n there =
     length-map (take n (tokens_at body place)) (λ (token : Token). token.bytes) ∙ length-take-le n (tokens_at body place) there
-items_count (Binary order) item body place n there = pieces_count n (size_of item) place body
+items_count BinaryLittle item body place n there = pieces_count n (size_of item) place body
+items_count BinaryBig item body place n there = pieces_count n (size_of item) place body

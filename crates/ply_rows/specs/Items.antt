@@ -7,7 +7,7 @@
 -- IsValueOf    bytes of a value's size, in a binary body
 use Rattle.std.specs.Prelude.{ℕ, zero, suc, ◌+◌, ◌*◌, ◌≡◌, ◌≤◌, List, [], ◌∷◌, length, map, take, drop}
 use Rattle.ply_head.specs.declared.header.Kind.{Kind}
-use Rattle.ply_head.specs.declared.header.Kind.TheVariants.{Text, Binary}
+use Rattle.ply_head.specs.declared.header.Kind.TheVariants.{Ascii}
 use Rattle.ply_head.specs.declared.header.Scalar.{Scalar}
 use Rattle.ply_rows.specs.declared.place.Field.{Field}
 use Rattle.ply_rows.specs.Tokens.{Token, tokens_at}
@@ -20,8 +20,8 @@ pieces (suc n) size place body = take size (drop place body) ∷ pieces n size (
 
 -- the bytes of each of so many items from a place on: in a text the next tokens, and in a binary body as many values of the type
 abbrev pub items_from : Kind → Scalar → List ℕ → ℕ → ℕ → List (List ℕ)
-items_from Text item body place n = map (λ (token : Token). token.bytes) (take n (tokens_at body place))
-items_from (Binary order) item body place n = pieces n (size_of item) place body
+items_from Ascii item body place n = map (λ (token : Token). token.bytes) (take n (tokens_at body place))
+items_from kind item body place n = pieces n (size_of item) place body
 
 -- the bytes of each item of a list's field, in order
 abbrev pub items_in : Kind → Scalar → List ℕ → Field → List (List ℕ)
@@ -29,10 +29,10 @@ items_in kind item body field = items_from kind item body field.place field.item
 
 -- so many items are there, from a place on
 abbrev pub HasItems : Kind → Scalar → List ℕ → ℕ → ℕ → Type 0
-HasItems Text item body place n = n ≤ length (tokens_at body place)
-HasItems (Binary order) item body place n = place + n * size_of item ≤ length body
+HasItems Ascii item body place n = n ≤ length (tokens_at body place)
+HasItems kind item body place n = place + n * size_of item ≤ length body
 
 -- bytes of a value's size, in a binary body
 abbrev pub IsValueOf : Kind → Scalar → List ℕ → Type 0
-IsValueOf Text scalar bytes = Unit {0}
-IsValueOf (Binary order) scalar bytes = length bytes ≡ size_of scalar
+IsValueOf Ascii scalar bytes = Unit {0}
+IsValueOf kind scalar bytes = length bytes ≡ size_of scalar

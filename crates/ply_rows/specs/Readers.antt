@@ -3,7 +3,8 @@
 -- Reader         the header, the body, and the rows that are left
 -- NextRow        what a call for the next row answers, and what it leaves
 -- IsInside       a field lies in the body
--- HasSize        a field has as many bytes as its items take, in a binary body
+-- IsSized        a field has as many bytes as its value or its items take
+-- HasSize        in a binary body, a field has as many bytes as its value or its items take
 -- HasTokens      a list's field has as many tokens as items from its place on, in a text
 -- IsFieldOf      a field is one of a property
 -- AreFieldsOf    fields are those of properties, one for each
@@ -14,7 +15,7 @@ use Rattle.ply_head.specs.declared.header.Header.{Header}
 use Rattle.ply_head.specs.declared.header.Element.{Element}
 use Rattle.ply_head.specs.declared.header.Property.{Property}
 use Rattle.ply_head.specs.declared.header.Kind.{Kind}
-use Rattle.ply_head.specs.declared.header.Kind.TheVariants.{Text, Binary}
+use Rattle.ply_head.specs.declared.header.Kind.TheVariants.{Ascii}
 use Rattle.ply_head.specs.declared.header.Shape.{Shape}
 use Rattle.ply_head.specs.declared.header.Shape.TheVariants.{One, Many}
 use Rattle.ply_rows.specs.declared.place.Field.{Field}
@@ -43,15 +44,19 @@ NextRow (Err why) fields old new = (old.left ≡ refused why) × (new ≡ old) �
 abbrev pub IsInside : List ℕ → Field → Type 0
 IsInside body field = field.place + field.size ≤ length body
 
+-- the field has as many bytes as its value or its items take
+abbrev pub IsSized : Shape → Field → Type 0
+IsSized (One scalar) field = field.size ≡ size_of scalar
+IsSized (Many count item) field = field.size ≡ field.items * size_of item
+
 -- in a binary body the field has as many bytes as its value or its items take
 abbrev pub HasSize : Kind → Shape → Field → Type 0
-HasSize Text shape field = Unit {0}
-HasSize (Binary order) (One scalar) field = field.size ≡ size_of scalar
-HasSize (Binary order) (Many count item) field = field.size ≡ field.items * size_of item
+HasSize Ascii shape field = Unit {0}
+HasSize kind shape field = IsSized shape field
 
 -- in a text the items of a list are tokens that stand from the field's place on
 abbrev pub HasTokens : Kind → List ℕ → Shape → Field → Type 0
-HasTokens Text body (Many count item) field = field.items ≤ length (tokens_at body field.place)
+HasTokens Ascii body (Many count item) field = field.items ≤ length (tokens_at body field.place)
 HasTokens kind body shape field = Unit {0}
 
 -- the field is one of a property of this shape

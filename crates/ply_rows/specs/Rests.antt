@@ -6,8 +6,9 @@
 -- fields_of   the fields of a row's properties, and what is left behind them
 use Rattle.std.specs.Prelude.{ℕ, ◌+◌, List, [], ◌∷◌, drop, Result, Ok}
 use Rattle.ply_head.specs.declared.header.Kind.{Kind}
-use Rattle.ply_head.specs.declared.header.Kind.TheVariants.{Text, Binary}
+use Rattle.ply_head.specs.declared.header.Kind.TheVariants.{Ascii, BinaryLittle, BinaryBig}
 use Rattle.ply_head.specs.declared.header.Endian.{Endian}
+use Rattle.ply_head.specs.declared.header.Endian.TheVariants.{Little, Big}
 use Rattle.ply_head.specs.declared.header.Shape.{Shape}
 use Rattle.ply_head.specs.declared.header.Property.{Property}
 use Rattle.ply_head.specs.Answers.{◌>>=◌}
@@ -25,8 +26,9 @@ pub data Rest : Type 0 where
 
 -- what is left of a body from a place on
 abbrev pub rest_at : Kind → List ℕ → ℕ → Rest
-rest_at Text body place = text (tokens_at body place)
-rest_at (Binary order) body place = raw order place (drop place body)
+rest_at Ascii body place = text (tokens_at body place)
+rest_at BinaryLittle body place = raw Little place (drop place body)
+rest_at BinaryBig body place = raw Big place (drop place body)
 
 -- the field of a property, and what is left behind it
 unfoldable pub field_of : Place → Shape → Rest → Result (Field × Rest) RowRefusal

@@ -1,17 +1,17 @@
 //! The values of binary bodies: their sizes, whole numbers, and fields cut by size.
 
-ghost use Rattle.std.specs.Prelude.{◌≡◌, ◌+◌, ◌≤◌, length, drop, IfOk};
+ghost use Rattle.std.specs.Prelude.{◌≡◌, ◌+◌, ◌≤◌, length, drop, IfOk, IfSome};
 ghost use Rattle.ply_head.specs.Readable.{HasWholeCount};
-ghost use Rattle.ply_head.specs.declared.header.Kind.TheVariants.{Binary};
+ghost use Rattle.ply_head.specs.Kinds.{endian_of, IsBinary};
 ghost use Rattle.ply_rows.specs.Texts.{Gives};
 ghost use Rattle.ply_rows.specs.Binaries.{size_of, IsWhole, is_signed, signed_if, number_of, bytes_of, binary_field};
-ghost use Rattle.ply_rows.specs.Readers.{IsFieldOf};
+ghost use Rattle.ply_rows.specs.Readers.{IsInside, IsSized};
 
 use crate::place::{Field, Place};
 use crate::refusal::RowRefusal;
 use crate::text::count_of_number;
 use byteorder::{BigEndian, ByteOrder, LittleEndian};
-use ply_head::{Endian, Scalar, Shape};
+use ply_head::{Endian, Kind, Scalar, Shape};
 
 /// How many bytes a value of this type has in a binary body.
 pub fn size(scalar: Scalar) -> usize
@@ -43,9 +43,8 @@ fn number_in<Order: ByteOrder>(scalar: Scalar, bytes: &[u8]) -> i64
     }
 }
 
-/// The whole number that a value's bytes are, in the file's byte order, in two's complement
-/// where its type is signed.
-pub fn binary_whole(order: Endian, scalar: Scalar, bytes: &[u8]) -> i64
+/// The whole number that a value's bytes are in a byte order.
+fn whole_in_order(order: Endian, scalar: Scalar, bytes: &[u8]) -> i64
     requires whole { IsWhole scalar }
     requires size { length bytes.now ≡ size_of scalar }
     ensures { result ≡ number_of order scalar bytes.now }
@@ -53,6 +52,21 @@ pub fn binary_whole(order: Endian, scalar: Scalar, bytes: &[u8]) -> i64
     match order {
         Endian::Little => number_in::<LittleEndian>(scalar, bytes),
         Endian::Big => number_in::<BigEndian>(scalar, bytes),
+    }
+}
+
+/// Returns the whole number that a value's bytes are in a binary body of this kind, in two's
+/// complement if its type is signed.
+pub fn binary_whole(kind: Kind, scalar: Scalar, bytes: &[u8]) -> i64
+    requires binary { IsBinary kind }
+    requires whole { IsWhole scalar }
+    requires size { length bytes.now ≡ size_of scalar }
+    ensures { IfSome (endian_of kind) (λ order. result ≡ number_of order scalar bytes.now) }
+{
+    match kind {
+        Kind::Ascii => unreachable!(),
+        Kind::BinaryLittle => whole_in_order(Endian::Little, scalar, bytes),
+        Kind::BinaryBig => whole_in_order(Endian::Big, scalar, bytes),
     }
 }
 
@@ -88,7 +102,8 @@ pub(crate) fn read_binary_field(
     requires place { place ≤ length body.now }
     requires count { HasWholeCount shape }
     ensures most { IfOk result (λ read. read.1 ≤ length body.now) }
-    ensures fits { IfOk result (λ read. IsFieldOf (Binary order) body.now shape read.0) }
+    ensures inside { IfOk result (λ read. IsInside body.now read.0) }
+    ensures size { IfOk result (λ read. IsSized shape read.0) }
     ensures field { Gives (λ read. (read.0, (read.1, drop read.1 body.now))) result (binary_field order at shape (place, drop place body.now)) }
 {
     match shape {
@@ -103,7 +118,7 @@ pub(crate) fn read_binary_field(
         }
         Shape::Many { count, item } => {
             let (bytes, start) = bytes_from(body, at, size(count), place)?;
-            let items = count_of_number(binary_whole(order, count, bytes), at)?;
+            let items = count_of_number(whole_in_order(order, count, bytes), at)?;
             let all = items as usize * size(item);
             let (_, end) = bytes_from(body, at, all, start)?;
             let field = Field {

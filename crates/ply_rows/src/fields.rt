@@ -10,7 +10,7 @@ use crate::binary::read_binary_field;
 use crate::place::{Field, Place, RowAt};
 use crate::refusal::RowRefusal;
 use crate::text::read_text_field;
-use ply_head::{Kind, Property, Shape};
+use ply_head::{Endian, Kind, Property, Shape};
 
 /// The field of a property, and the place behind it.
 #[tactic(auto, unfolding(crate::specs::Rests::field_of))]
@@ -28,8 +28,9 @@ fn read_field(
     ensures field { Gives (λ read. (read.0, rest_at kind body.now read.1)) result (field_of at shape (rest_at kind body.now place)) }
 {
     match kind {
-        Kind::Text => read_text_field(body, at, shape, place),
-        Kind::Binary(order) => read_binary_field(order, body, at, shape, place),
+        Kind::Ascii => read_text_field(body, at, shape, place),
+        Kind::BinaryLittle => read_binary_field(Endian::Little, body, at, shape, place),
+        Kind::BinaryBig => read_binary_field(Endian::Big, body, at, shape, place),
     }
 }
 

@@ -21,11 +21,15 @@ pub fn first_item(kind: Kind, item: Scalar, body: &[u8], place: usize, items: u3
     ensures size { IsValueOf kind item result.0.now }
 {
     match kind {
-        Kind::Text => match next_token(body, place) {
+        Kind::Ascii => match next_token(body, place) {
             None => unreachable!(),
             Some((start, end)) => (&body[start..end], end),
         },
-        Kind::Binary(_) => {
+        Kind::BinaryLittle => {
+            let end = place + size(item);
+            (&body[place..end], end)
+        }
+        Kind::BinaryBig => {
             let end = place + size(item);
             (&body[place..end], end)
         }

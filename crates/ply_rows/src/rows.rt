@@ -74,11 +74,11 @@ fn end_of_rows(kind: Kind, body: &[u8], place: usize) -> Result<(), RowRefusal>
     ensures inside { EndsInside body.now result }
 {
     match kind {
-        Kind::Text => match next_token(body, place) {
+        Kind::Ascii => match next_token(body, place) {
             None => Ok(()),
             Some((start, _)) => Err(RowRefusal::Trailing { place: start }),
         },
-        Kind::Binary(_) => match &body[place..] {
+        Kind::BinaryLittle | Kind::BinaryBig => match &body[place..] {
             [] => Ok(()),
             [_, ..] => Err(RowRefusal::Trailing { place }),
         },

@@ -4,7 +4,7 @@ ghost use Rattle.std.specs.Prelude.{◌≤◌, length, IfOk};
 ghost use Rattle.num_text.specs.WholeNumbers.{whole_of};
 ghost use Rattle.ply_rows.specs.Tokens.{tokens_at};
 ghost use Rattle.ply_rows.specs.Texts.{Gives, count_in, count_or_refusal, items_of, items_end, text_field};
-ghost use Rattle.ply_head.specs.declared.header.Kind.TheVariants.{Text};
+ghost use Rattle.ply_head.specs.declared.header.Kind.TheVariants.{Ascii};
 ghost use Rattle.ply_rows.specs.Readers.{IsInside, HasTokens};
 
 use crate::place::{Field, Place};
@@ -99,7 +99,7 @@ pub(crate) fn read_text_field(
     requires { place ≤ length body.now }
     ensures most { IfOk result (λ read. read.1 ≤ length body.now) }
     ensures inside { IfOk result (λ read. IsInside body.now read.0) }
-    ensures tokens { IfOk result (λ read. HasTokens Text body.now shape read.0) }
+    ensures tokens { IfOk result (λ read. HasTokens Ascii body.now shape read.0) }
     ensures field { Gives (λ read. (read.0, tokens_at body.now read.1)) result (text_field at shape (tokens_at body.now place)) }
 {
     match next_token(body, place) {

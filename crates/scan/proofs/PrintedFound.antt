@@ -21,7 +21,7 @@ use Rattle.geo_sign.specs.Point.{Point, IsWithin}
 use Rattle.num_text.specs.WholeNumbers.{whole_of}
 use Rattle.num_text.specs.Decimals.{scaled_of}
 use Rattle.num_text.proofs.PrintedLemmas.{whole_of-signed_decimal, scaled_of-signed_decimal}
-use Rattle.ply_head.specs.declared.header.Kind.TheVariants.{Text}
+use Rattle.ply_head.specs.declared.header.Kind.TheVariants.{Ascii}
 use Rattle.ply_head.specs.declared.header.Scalar.TheVariants.{Int}
 use Rattle.ply_head.proofs.Answers.{done}
 use Rattle.ply_rows.specs.declared.place.Field.{Field}
@@ -47,7 +47,7 @@ use Rattle.scan.proofs.PrintedRows.{given_rows, printed_body}
 use Rattle.geo_sign.specs.declared.point.TheConstants.{DATA_LIMIT}
 
 abbrev pub text_body : List ℕ → Body
-text_body bytes = record { kind = Text; bytes = bytes; unit = 1 }
+text_body bytes = record { kind = Ascii; bytes = bytes; unit = 1 }
 
 abbrev text_row : List ℕ → RowAt → List Field → Row
 text_row bytes at fields = row_in (text_body bytes) at fields
@@ -202,7 +202,7 @@ tokens_there bytes place ns rest fit stand =
     ∙ numbers_cut place ns rest fit
 
 items_read : (bytes : List ℕ) (place : ℕ) (ns rest : List ℕ) → Fit ns → NumbersAt bytes place ns rest
-    → items_in Text Int bytes (field_of_items (number_tokens place ns)) ≡ map (λ (n : ℕ). decimal n) ns
+    → items_in Ascii Int bytes (field_of_items (number_tokens place ns)) ≡ map (λ (n : ℕ). decimal n) ns
 items_read bytes place [] rest fit stand = refl
 items_read bytes place (n ∷ ns) rest fit stand =
     ap (λ (ts : List Token). map (λ (t : Token). t.bytes) (take (length (number_tokens place (n ∷ ns))) ts))
@@ -257,7 +257,7 @@ wide_read bytes scanners before number place row rest stand printed few fit =
     let numbers = numbers_behind bytes place p (row.weight ∷ length ks ∷ ks) rest stand in
     let counted = others_behind bytes (end_place place p) row.weight (length ks ∷ ks) rest numbers in
     let listed = others_behind bytes (next_place (end_place place p) row.weight) (length ks) ks rest counted in
-    let items : items_in Text Int bytes (field_of_items (number_tokens (list_place place row) ks))
+    let items : items_in Ascii Int bytes (field_of_items (number_tokens (list_place place row) ks))
     ≡ map (λ (k : ℕ). decimal k) ks =
     items_read bytes (list_place place row) ks rest (scanners_fit scanners ks few printed.is.scanners_there) listed in
     rw (

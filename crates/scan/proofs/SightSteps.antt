@@ -5,7 +5,7 @@ use Rattle.std.proofs.lemmas.List.{append-nil}
 use Rattle.ply_head.specs.Answers.{◌>>=◌}
 use Rattle.ply_head.proofs.Answers.{done}
 use Rattle.ply_head.specs.declared.header.Kind.{Kind}
-use Rattle.ply_head.specs.declared.header.Kind.TheVariants.{Text, Binary}
+use Rattle.ply_head.specs.declared.header.Kind.TheVariants.{Ascii, BinaryLittle, BinaryBig}
 use Rattle.ply_head.specs.declared.header.Scalar.{Scalar}
 use Rattle.ply_head.specs.declared.header.Shape.TheVariants.{Many}
 use Rattle.ply_rows.specs.declared.place.Field.{Field}
@@ -78,16 +78,18 @@ all_named read seen row weight items total none so_far =
     sym so_far ∙ ap (λ (xs : List (List ℕ)). seen_behind seen row weight (each_of read xs)) none ∙ ap done (append-nil seen)
 
 pub no_items : (kind : Kind) (item : Scalar) (body : List ℕ) (place n : ℕ) → n ≤ 0 → items_from kind item body place n ≡ []
-no_items Text item body place zero none = refl
-no_items (Binary order) item body place zero none = refl
+no_items Ascii item body place zero none = refl
+no_items BinaryLittle item body place zero none = refl
+no_items BinaryBig item body place zero none = refl
 no_items kind item body place (suc n) none = absurd (omega arith)
 
 -- ---- the field of the scanners
 
 pub list_there : (kind : Kind) (count item : Scalar) (body : List ℕ) (field : Field)
     → IsFieldOf kind body (Many count item) field → HasItems kind item body field.place field.items
-list_there Text count item body field is = is.tokens
-list_there (Binary order) count item body field is = subst (λ (n : ℕ). field.place + n ≤ length body) is.size is.inside
+list_there Ascii count item body field is = is.tokens
+list_there BinaryLittle count item body field is = subst (λ (n : ℕ). field.place + n ≤ length body) is.size is.inside
+list_there BinaryBig count item body field is = subst (λ (n : ℕ). field.place + n ≤ length body) is.size is.inside
 
 -- a list has as many items as its field says
 pub list_count : (body : Body) (count item : Scalar) (field : Field) → IsFieldOf body.kind body.bytes (Many count item) field

@@ -14,7 +14,7 @@ use Rattle.ply_head.specs.declared.header.Element.{Element}
 use Rattle.ply_head.specs.declared.header.Property.{Property}
 use Rattle.ply_head.specs.declared.header.Shape.TheVariants.{One, Many}
 use Rattle.ply_head.specs.declared.header.Scalar.TheVariants.{Uchar, Int, Uint}
-use Rattle.ply_head.specs.declared.header.Kind.TheVariants.{Text}
+use Rattle.ply_head.specs.declared.header.Kind.TheVariants.{Ascii}
 
 -- a property that is one whole number of four bytes
 abbrev pub int_property : List ℕ → Property
@@ -52,4 +52,4 @@ scanner_element scanners = record { name = codes "scanner"; count = scanners; pr
 -- the header of a printed scan, with the counts of its rows
 abbrev pub printed_head : Bool → ℕ → ℕ → Header
 printed_head wide vertices scanners =
-    record { kind = Text; elements = vertex_element wide vertices ∷ scanner_element scanners ∷ [] }
+    record { kind = Ascii; elements = vertex_element wide vertices ∷ scanner_element scanners ∷ [] }
