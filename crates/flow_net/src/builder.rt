@@ -6,7 +6,7 @@ ghost use Rattle.flow_net.specs.declared.TheConstants.{AMOUNT_LIMIT};
 ghost use Rattle.flow_net.specs.declared.builder.NetRefusal.TheVariants as refusals;
 ghost use Rattle.flow_net.specs.Builders.{no_parts, with_node, with_feed, with_join, IsNode, RefusesSink, RefusesFeed, RefusesJoin};
 
-use crate::{AMOUNT_LIMIT, Arc, Net, Sequence};
+use crate::{AMOUNT_LIMIT, Arc, Net};
 use std::alloc::{AllocError, AllocFailed, Global};
 use std::marker::Model;
 use thiserror::Error;
@@ -214,10 +214,6 @@ impl NetBuilder {
         ensures arcs { result.arcs ≡ self.arcs }
     {
         let NetBuilder { fixed, sink, arcs } = self;
-        Net::new(
-            Sequence::from(fixed),
-            Sequence::from(sink),
-            Sequence::from(arcs),
-        )
+        Net::new(fixed, sink, arcs)
     }
 }
