@@ -142,6 +142,8 @@ impl NetBuilder {
     }
 
     /// Adds an arc from a fixed node to a free one, and answers its number. It has no reverse.
+    ///
+    /// If several arguments are wrong, the error is that of the first of them: `from`, `to`, `cap`.
     pub fn feed(&mut self, from: usize, to: usize, cap: u64) -> Result<usize, NetRefusal>
         ensures number { IfOk result (λ arc. arc ≡ length self.old.arcs) }
         ensures added { OnOk result (self.new ≡ with_feed self.old from to cap) }
@@ -167,6 +169,8 @@ impl NetBuilder {
 
     /// Joins two free nodes by an arc of capacity `cap` and its reverse of capacity `back_cap`, and answers the number of
     /// the arc. Its reverse has the next number.
+    ///
+    /// If several arguments are wrong, the error is that of the first of them: `from`, `to`, both as one node, `cap`, `back_cap`.
     pub fn join(
         &mut self,
         from: usize,
