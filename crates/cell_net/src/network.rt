@@ -105,9 +105,12 @@ impl<'a> CellNetwork<'a> {
 }
 
 impl<'a> FlowNetwork for CellNetwork<'a> {
+    ghost use Rattle.cell_net.specs.Arcs.{is_paired};
     ghost use Rattle.cell_net.specs.Shape.{numbered_with};
 
     ghost numbered = { λ net. numbered_with net.tetra.now.slots net.counts.crossed.now net.counts.behind.now net.counts.fixed.now net.settings net.shape };
+
+    ghost paired = { λ net arc. is_paired net.tetra.now.slots net.counts.fixed.now arc };
 
     #[inline]
     fn node_count(&self) -> usize {
