@@ -50,8 +50,12 @@ store_network s slots crossed behind fixed settings asked shape same =
           alike.at_most on_arc on_node labels
           ((judged.valid near far c on_arc on_facet on_node on_cell (λ j is. refl) (λ v is. refl)).1 valid)
           ((judged.admissible near far c labels inside (λ v is. refl)).1 admissible) in
-          omega (arith, most, judged.value_is near far c on_node on_cell (λ v is. refl),
-          judged.cost_is near far c labels inside (λ v is. refl));
+          omega (
+            arith,
+            most,
+            judged.value_is near far c on_node on_cell (λ v is. refl),
+            judged.cost_is near far c labels inside (λ v is. refl),
+          );
     }
 
 pub store_network_law : StoreNetworkLaw
