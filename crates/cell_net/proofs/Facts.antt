@@ -1,14 +1,17 @@
--- Linked cells and counts are a network: each neighbor is a cell, and another one, and counts of 32 bits at such weights are small.
+-- Linked cells and counts are a network: each neighbor is a cell, and another one, and counts of 32 bits at such weights are small. A
+-- side from a free cell towards a free one has a way back.
 use Rattle.std.proofs.Common.{ℕ, ◌≡◌, ◌≢◌, ◌<◌, ◌≤◌, ◌+◌, ◌*◌, ◌/◌, ◌%◌, ◌^◌, Bool, true, false, cond, List, length}
-use Rattle.std.proofs.Common.{get_or, Option, Some, None, refl, ap, sym, ◌∙◌, arith}
+use Rattle.std.proofs.Common.{get_or, Option, Some, None, refl, ap, sym, ◌∙◌, arith, not, ◌&&◌}
 use Rattle.std.specs.Prelude.{unwrap_or}
 use Rattle.std.proofs.Math.Nat.{mul-le-mul_right}
 use Rattle.std.proofs.lemmas.Bool.{false≢true}
 use Rattle.flow_net.specs.declared.votes.Settings.{Settings}
+use Rattle.flow_net.specs.Nets.{flag_at}
+use Rattle.tetra_store.specs.declared.link.Cell.{Cell}
 use Rattle.tetra_store.specs.Links.{links_of, slot_at, IsBack}
 use Rattle.tetra_store.specs.Store.{Store, IsStore}
 use Rattle.tetra_store.proofs.Observed.{next_live, slot_in}
-use Rattle.cell_net.specs.Arcs.{IsShape, across, is_free}
+use Rattle.cell_net.specs.Arcs.{IsShape, across, is_free, is_paired}
 use Rattle.cell_net.proofs.Turns.{none_turned}
 
 -- the neighbor across a side has it turned round, and names the cell back
@@ -69,3 +72,10 @@ shape_of s crossed behind fixed settings store flags sides cells crossed_fit beh
       (let fit = votes_fit settings.vote 0 (get_or behind v 0) settings.vote_at_most (omega arith) (behind_fit v) in
       omega (arith, fit));
 }
+
+-- a side of a free cell is paired where the neighbor across it is free
+pub paired_is : (slots : List (Option Cell)) (fixed : List Bool) (j id : ℕ) → id ≡ j / 4 → flag_at fixed (j / 4) ≡ false
+    → is_free fixed ((links_of slots).next id (j % 4)) ≡ is_paired slots fixed j
+paired_is slots fixed j id same free =
+    ap (λ (v : ℕ). is_free fixed ((links_of slots).next v (j % 4))) same
+    ∙ ap (λ (b : Bool). not b && is_free fixed (across slots j)) (sym free)

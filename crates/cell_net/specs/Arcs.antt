@@ -3,12 +3,13 @@
 --   across slots j             the neighbor across the side of an arc
 --   neighbor_or_self slots j   the node that an arc enters: the neighbor, or on a wall the cell itself
 --   is_free fixed other        there is a neighbor, and it is free
+--   is_paired slots fixed j    it leads from a free cell to a free neighbor, so the way back is an arc too
 --   capacity_of ..             a vote for each crossing and the smoothing, where the neighbor is there and free
 --   is_outside slots fixed v   the number has no cell, or a fixed one
 --   sink_of ..                 a vote for each sight that the cell is behind
 --   IsShape slots ..           they are a network: counts for each number that can have a cell, nodes at both ends of each arc, and
 --                              amounts that fit
-use Rattle.std.specs.Prelude.{ℕ, ◌≢◌, ◌<◌, ◌≤◌, ◌^◌, length, ◌+◌, ◌*◌, ◌/◌, ◌%◌, ◌||◌, Bool, false, not, List, Option}
+use Rattle.std.specs.Prelude.{ℕ, ◌≢◌, ◌<◌, ◌≤◌, ◌^◌, length, ◌+◌, ◌*◌, ◌/◌, ◌%◌, ◌&&◌, ◌||◌, Bool, false, not, List, Option}
 use Rattle.std.specs.Prelude.{Some, None, slice_index, unwrap_or, if◌then◌else◌}
 use Rattle.flow_net.specs.Nets.{flag_at}
 use Rattle.flow_net.specs.declared.votes.Settings.{Settings}
@@ -27,6 +28,10 @@ neighbor_or_self slots j = unwrap_or (across slots j) (j / 4)
 abbrev pub is_free : List Bool → Option ℕ → Bool
 is_free fixed None = false
 is_free fixed (Some other) = not (flag_at fixed other)
+
+-- the cell of the side is free, and there is a free neighbor across
+abbrev pub is_paired : List (Option Cell) → List Bool → ℕ → Bool
+is_paired slots fixed j = not (flag_at fixed (j / 4)) && is_free fixed (across slots j)
 
 -- of an arc
 abbrev pub capacity_of : List (Option Cell) → (crossed : List ℕ) → List Bool → Settings → ℕ → ℕ

@@ -1,6 +1,6 @@
 //! The network of linked cells.
 
-ghost use Rattle.std.specs.Prelude.{◌≡◌, ◌<◌, ◌≤◌, ◌+◌, ◌*◌, ◌/◌, ◌%◌, ◌^◌, ◌||◌, Some, IfSome, IsSome, IfNone, true, false, length};
+ghost use Rattle.std.specs.Prelude.{◌≡◌, ◌<◌, ◌≤◌, ◌+◌, ◌*◌, ◌/◌, ◌%◌, ◌^◌, ◌||◌, Some, IfSome, IsSome, IfNone, is_some, true, false, length};
 ghost use Rattle.tetra_store.specs.Links.{links_of, IsLive};
 ghost use Rattle.cell_net.specs.Arcs.{IsShape, across, is_free};
 
@@ -92,6 +92,7 @@ impl<'a> CellNetwork<'a> {
     fn arc_back(&self, id: CellId, side: usize) -> Option<usize>
         requires live { IsLive (links_of self.now.tetra.now.slots) id }
         requires side { side < 4 }
+        ensures there { is_some result ≡ is_free self.now.counts.fixed.now ((links_of self.now.tetra.now.slots).next id side) }
         ensures from { IfSome result (λ arc. (links_of self.now.tetra.now.slots).next id side ≡ Some (arc / 4)) }
         ensures to { IfSome result (λ arc. across self.now.tetra.now.slots arc ≡ Some id) }
         ensures live { IfSome result (λ arc. IsLive (links_of self.now.tetra.now.slots) (arc / 4)) }
@@ -105,9 +106,12 @@ impl<'a> CellNetwork<'a> {
 }
 
 impl<'a> FlowNetwork for CellNetwork<'a> {
+    ghost use Rattle.cell_net.specs.Arcs.{is_paired};
     ghost use Rattle.cell_net.specs.Shape.{numbered_with};
 
     ghost numbered = { λ net. numbered_with net.tetra.now.slots net.counts.crossed.now net.counts.behind.now net.counts.fixed.now net.settings net.shape };
+
+    ghost paired = { λ net arc. is_paired net.tetra.now.slots net.counts.fixed.now arc };
 
     #[inline]
     fn node_count(&self) -> usize {

@@ -2,14 +2,16 @@
 --
 -- A node that is not real adds its sink, which is 0, or nothing, and an arc that is not there its capacity, which is 0, or what
 -- flows on it, which is no more. So all sums are those over the real nodes and the arcs that are there. Labels of these are labels of
--- all numbers with the rest outside, at the same cost, so what costs least among all numbers costs least among these.
-use Rattle.std.proofs.Common.{ℕ, ◌≡◌, ◌<◌, ◌+◌, ◌==◌, Bool, true, false, cond, not, ◌&&◌, refl, ap, ap₂, sym, ◌∙◌, arith}
-use Rattle.std.proofs.lemmas.Bool.{false≢true}
+-- all numbers with the rest outside, at the same cost, so what costs least among all numbers costs least among these. So too a flow of
+-- these is one of all numbers with 0 elsewhere, of the same value, which is at most the cost of labels (`kept_at_most`).
+use Rattle.std.proofs.Common.{ℕ, ◌≡◌, ◌<◌, ◌≤◌, ◌+◌, ◌==◌, Bool, true, false, cond, not, ◌&&◌, refl, ap, ap₂, sym, ◌∙◌, arith}
+use Rattle.std.proofs.lemmas.Bool.{false≢true, true_from_ne_false}
 use Rattle.flow_net.specs.Sums.{sum_below}
 use Rattle.flow_net.specs.Networks.{Network, arc_cost, node_cost, cost, node_value, value, IsValidFlow}
 use Rattle.flow_net.specs.Networks.{IsAdmissible, IsLeastCost, IsLeastInside}
 use Rattle.flow_net.specs.Numbered.{NumberedNetwork, network_by}
 use Rattle.flow_net.specs.Paddings.{IsPadding, kept, IsJudgedAlike}
+use Rattle.flow_net.proofs.Duality.{amounts_le_cost}
 use Rattle.flow_net.proofs.SumLemmas.{sum_below-cong}
 
 -- an amount that is 0 where a test fails is the same under the test
@@ -41,6 +43,20 @@ and_out false b h = refl
 and_keeps : (a b : Bool) → b ≡ true → (a && b) ≡ a
 and_keeps true b e = e
 and_keeps false b e = refl
+
+either_first : (a b : Bool) (n : ℕ) → cond a (cond b n 0) 0 ≡ cond b (cond a n 0) 0
+either_first true true n = refl
+either_first true false n = refl
+either_first false true n = refl
+either_first false false n = refl
+
+at_most_if : (b : Bool) (m n : ℕ) → (b ≡ true → m ≤ n) → cond b m 0 ≤ n
+at_most_if true m n h = h refl
+at_most_if false m n h = omega arith
+
+zero_if : (b : Bool) (n : ℕ) → (b ≡ true → n ≡ 0) → cond b n 0 ≡ 0
+zero_if true n h = h refl
+zero_if false n h = refl
 
 module _ (net : NumberedNetwork) (real there : ℕ → Bool) (padding : IsPadding net real there) where
   abbrev far : Network ℕ ℕ
@@ -139,5 +155,54 @@ module _ (net : NumberedNetwork) (real there : ℕ → Bool) (padding : IsPaddin
         sym entering ∙ valid.balanced v is.0 free ∙ ap (λ n. n + on_node v) leaving;
   }
 
+  -- amounts of real nodes and of arcs that are there, with 0 elsewhere
+  abbrev at_nodes : (ℕ → ℕ) → ℕ → ℕ
+  at_nodes on_node v = cond (real v) (on_node v) 0
+
+  abbrev on_arcs : (ℕ → ℕ) → ℕ → ℕ
+  on_arcs on_arc j = cond (there j) (on_arc j) 0
+
+  -- what they bring to a node, or take from it
+  spread_flows : (on_arc : ℕ → ℕ) (pick : ℕ → Bool)
+      → sum_below net.arc_count (λ j. cond (pick j) (on_arcs on_arc j) 0) ≡ far.arc_sum (λ j. cond (pick j) (on_arc j) 0)
+  spread_flows on_arc pick =
+      sum_below-cong net.arc_count (λ j. cond (pick j) (on_arcs on_arc j) 0) (λ j. cond (there j) (cond (pick j) (on_arc j) 0) 0)
+      (λ j l. either_first (pick j) (there j) (on_arc j))
+
+  spread_valid : (on_arc on_node : ℕ → ℕ) → IsValidFlow far on_arc on_node
+      → IsValidFlow (network_by net) (on_arcs on_arc) (at_nodes on_node)
+  spread_valid on_arc on_node valid = record {
+    within_cap = λ j l. at_most_if (there j) (on_arc j) (net.capacity j) (λ is. valid.within_cap j (l, is));
+    within_sink = λ v l. at_most_if (real v) (on_node v) (net.sink v) (λ is. valid.within_sink v (l, is));
+    none_fixed = λ v l fixed. zero_if (real v) (on_node v) (λ is. valid.none_fixed v (l, is) fixed);
+    balanced = λ v l free.
+        let is : real v ≡ true =
+        true_from_ne_false (real v) (λ not_real. false≢true (sym free ∙ padding.fixed v l not_real)) in
+        spread_flows on_arc (λ j. net.to j == v) ∙ valid.balanced v (l, is) free
+        ∙ ap₂ (λ m n. m + n) (sym (spread_flows on_arc (λ j. net.from j == v))) (sym (ap (λ b. cond b (on_node v) 0) is));
+  }
+
+  spread_value : (on_node : ℕ → ℕ) → value (network_by net) (at_nodes on_node) ≡ value far on_node
+  spread_value on_node =
+      value_is (at_nodes on_node)
+      ∙ sum_below-cong net.node_count (λ v. cond (real v) (node_value far (at_nodes on_node) v) 0)
+      (λ v. cond (real v) (node_value far on_node v) 0)
+      (λ v l. same_if (real v) (node_value far (at_nodes on_node) v) (node_value far on_node v)
+      (λ is. ap (λ b. cond (net.is_fixed v) (net.sink v) (cond b (on_node v) 0)) is))
+
+  -- the value of a valid flow is at most the cost of admissible labels: so it is where both are spread over all numbers
+  kept_at_most : (on_arc on_node : ℕ → ℕ) (inside : ℕ → Bool) → IsValidFlow far on_arc on_node → IsAdmissible far inside
+      → value far on_node ≤ cost far inside
+  kept_at_most on_arc on_node inside valid admissible =
+      let most = amounts_le_cost net (on_arcs on_arc) (at_nodes on_node) (spread inside) (spread_valid on_arc on_node valid)
+      (spread_admissible inside admissible) in
+      omega (arith, most, spread_value on_node, spread_cost inside)
+
   pub padding_law : IsJudgedAlike (network_by net) (kept net real there)
-  padding_law = record { cost_is = cost_is; least_inside = kept_least_inside; value_is = value_is; valid = kept_valid }
+  padding_law = record {
+    cost_is = cost_is;
+    least_inside = kept_least_inside;
+    value_is = value_is;
+    valid = kept_valid;
+    at_most = kept_at_most;
+  }

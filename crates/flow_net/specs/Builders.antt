@@ -5,13 +5,17 @@
 --   with_node       parts with a node more
 --   with_feed       parts with an arc more that has no reverse
 --   with_join       parts with an arc and its reverse more
---   IsEither        a number is one of two
+--   IsFirstWrong    a number is the first of two, or the second where the first is right
 --   IsNode          a node is there, and is fixed or free
 --   CanFeed         nothing is wrong with an arc from a fixed node
+--   AreJoinable     nothing is wrong with the two nodes of an arc and its reverse
 --   CanJoin         nothing is wrong with an arc and its reverse
 --   RefusesSink     what a refusal says of a sink
 --   RefusesFeed     what a refusal says of an arc from a fixed node
 --   RefusesJoin     what a refusal says of an arc and its reverse
+--
+-- A refusal is about the first wrong argument, in the order in which the call takes them; that both ends are one node comes after each
+-- of the ends. So for the same arguments there is one refusal, but for want of memory.
 use Rattle.std.specs.Prelude.{ℕ, ◌≡◌, ◌≢◌, ◌<◌, ◌≤◌, ◌+◌, ◌⊎◌, Bool, true, false, List, [], ◌∷◌, ◌++◌, length, Some, None}
 use Rattle.flow_net.specs.declared.Arc.{Arc}
 use Rattle.flow_net.specs.declared.builder.NetRefusal.{NetRefusal}
@@ -48,9 +52,9 @@ with_join parts from to cap back_cap =
           ∷ record { from = to; to = from; cap = back_cap; pair = Some (length parts.arcs) } ∷ [];
     }
 
--- a number is one of two
-abbrev pub IsEither : ℕ → ℕ → ℕ → Type 0
-IsEither n a b = (n ≡ a) ⊎ (n ≡ b)
+-- a number is the first of two, or the second where the first is right
+abbrev pub IsFirstWrong : ℕ → ℕ → ℕ → (is_right : Type 0) → Type 0
+IsFirstWrong n a b is_right = (n ≡ a) ⊎ ((n ≡ b) × is_right)
 
 -- a node is there, and is fixed or free
 pub record IsNode (parts : Parts) (v : ℕ) (is_fixed : Bool) : Type 0 where
@@ -63,11 +67,15 @@ pub record CanFeed (parts : Parts) (from to cap : ℕ) : Type 0 where
   pub to_free : IsNode parts to false
   pub small : cap ≤ AMOUNT_LIMIT
 
--- they join two free nodes, and their capacities are within the limit
-pub record CanJoin (parts : Parts) (from to cap back_cap : ℕ) : Type 0 where
+-- two free nodes
+pub record AreJoinable (parts : Parts) (from to : ℕ) : Type 0 where
   pub from_free : IsNode parts from false
   pub to_free : IsNode parts to false
   pub apart : from ≢ to
+
+-- they join two free nodes, and their capacities are within the limit
+pub record CanJoin (parts : Parts) (from to cap back_cap : ℕ) : Type 0 where
+  pub nodes : AreJoinable parts from to
   pub small : cap ≤ AMOUNT_LIMIT
   pub back_small : back_cap ≤ AMOUNT_LIMIT
 
@@ -79,18 +87,20 @@ RefusesSink sink why = ⊥
 
 -- what a refusal says of an arc from a fixed node; for want of memory alone, that nothing is wrong with it
 abbrev pub RefusesFeed : Parts → ℕ → ℕ → ℕ → NetRefusal → Type 0
-RefusesFeed parts from to cap (NoNode v) = IsEither v from to × length parts.fixed ≤ v
+RefusesFeed parts from to cap (NoNode v) = IsFirstWrong v from to (IsNode parts from true) × length parts.fixed ≤ v
 RefusesFeed parts from to cap (SameNode v) = ⊥
-RefusesFeed parts from to cap (EntersFixed v) = (v ≡ to) × IsNode parts v true
+RefusesFeed parts from to cap (EntersFixed v) = (v ≡ to) × IsNode parts from true × IsNode parts v true
 RefusesFeed parts from to cap (LeavesFree v) = (v ≡ from) × IsNode parts v false
-RefusesFeed parts from to cap (OverLimit amount) = (amount ≡ cap) × AMOUNT_LIMIT < amount
+RefusesFeed parts from to cap (OverLimit amount) =
+    (amount ≡ cap) × IsNode parts from true × IsNode parts to false × AMOUNT_LIMIT < amount
 RefusesFeed parts from to cap NoMemory = CanFeed parts from to cap
 
 -- what a refusal says of an arc and its reverse; for want of memory alone, that nothing is wrong with them
 abbrev pub RefusesJoin : Parts → ℕ → ℕ → ℕ → ℕ → NetRefusal → Type 0
-RefusesJoin parts from to cap back_cap (NoNode v) = IsEither v from to × length parts.fixed ≤ v
-RefusesJoin parts from to cap back_cap (SameNode v) = (v ≡ from) × (v ≡ to)
-RefusesJoin parts from to cap back_cap (EntersFixed v) = IsEither v from to × IsNode parts v true
+RefusesJoin parts from to cap back_cap (NoNode v) = IsFirstWrong v from to (IsNode parts from false) × length parts.fixed ≤ v
+RefusesJoin parts from to cap back_cap (SameNode v) = (v ≡ from) × (v ≡ to) × IsNode parts v false
+RefusesJoin parts from to cap back_cap (EntersFixed v) = IsFirstWrong v from to (IsNode parts from false) × IsNode parts v true
 RefusesJoin parts from to cap back_cap (LeavesFree v) = ⊥
-RefusesJoin parts from to cap back_cap (OverLimit amount) = IsEither amount cap back_cap × AMOUNT_LIMIT < amount
+RefusesJoin parts from to cap back_cap (OverLimit amount) =
+    AreJoinable parts from to × IsFirstWrong amount cap back_cap (cap ≤ AMOUNT_LIMIT) × AMOUNT_LIMIT < amount
 RefusesJoin parts from to cap back_cap NoMemory = CanJoin parts from to cap back_cap

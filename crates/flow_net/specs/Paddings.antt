@@ -3,10 +3,11 @@
 --   IsPadding net real there    all nodes but the real ones are fixed and take nothing, and all arcs but those that are there have
 --                               no capacity
 --   kept net real there         the network without them
---   IsJudgedAlike net far       least-inside labels and valid flows of the one are such of the other, at the same cost and value
+--   IsJudgedAlike net far       least-inside labels and valid flows of the one are such of the other, at the same cost and value, and
+--                               in the other too no value is larger than a cost
 --   PaddingLaw                  numbers that stand for nothing decide nothing
-use Rattle.std.specs.Prelude.{ℕ, ◌≡◌, ◌<◌, ◌==◌, Bool, true, false, if◌then◌else◌}
-use Rattle.flow_net.specs.Networks.{Network, cost, value, IsValidFlow, IsLeastInside}
+use Rattle.std.specs.Prelude.{ℕ, ◌≡◌, ◌<◌, ◌≤◌, ◌==◌, Bool, true, false, if◌then◌else◌}
+use Rattle.flow_net.specs.Networks.{Network, cost, value, IsAdmissible, IsValidFlow, IsLeastInside}
 use Rattle.flow_net.specs.Numbered.{NumberedNetwork, network_by}
 use Rattle.flow_net.specs.Sums.{sum_below}
 
@@ -34,12 +35,14 @@ kept net real there =
       sink = net.sink;
     }
 
--- what is shown of the one holds of the other
+-- what is shown of the one holds of the other, where the value of a valid flow is at most the cost of admissible labels
 pub record IsJudgedAlike (net far : Network ℕ ℕ) : Type 0 where
   pub cost_is : (inside : ℕ → Bool) → cost net inside ≡ cost far inside
   pub least_inside : (inside : ℕ → Bool) → IsLeastInside net inside → IsLeastInside far inside
   pub value_is : (on_node : ℕ → ℕ) → value net on_node ≡ value far on_node
   pub valid : (on_arc on_node : ℕ → ℕ) → IsValidFlow net on_arc on_node → IsValidFlow far on_arc on_node
+  pub at_most : (on_arc on_node : ℕ → ℕ) (inside : ℕ → Bool) → IsValidFlow far on_arc on_node → IsAdmissible far inside
+      → value far on_node ≤ cost far inside
 
 -- numbers that stand for nothing decide nothing
 abbrev pub PaddingLaw : Type 0

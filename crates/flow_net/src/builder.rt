@@ -6,7 +6,7 @@ ghost use Rattle.flow_net.specs.declared.TheConstants.{AMOUNT_LIMIT};
 ghost use Rattle.flow_net.specs.declared.builder.NetRefusal.TheVariants as refusals;
 ghost use Rattle.flow_net.specs.Builders.{no_parts, with_node, with_feed, with_join, IsNode, RefusesSink, RefusesFeed, RefusesJoin};
 
-use crate::{AMOUNT_LIMIT, Arc, Net, Sequence};
+use crate::{AMOUNT_LIMIT, Arc, Net};
 use std::alloc::{AllocError, AllocFailed, Global};
 use std::marker::Model;
 use thiserror::Error;
@@ -142,6 +142,8 @@ impl NetBuilder {
     }
 
     /// Adds an arc from a fixed node to a free one, and answers its number. It has no reverse.
+    ///
+    /// If several arguments are wrong, the error is that of the first of them: `from`, `to`, `cap`.
     pub fn feed(&mut self, from: usize, to: usize, cap: u64) -> Result<usize, NetRefusal>
         ensures number { IfOk result (λ arc. arc ≡ length self.old.arcs) }
         ensures added { OnOk result (self.new ≡ with_feed self.old from to cap) }
@@ -167,6 +169,8 @@ impl NetBuilder {
 
     /// Joins two free nodes by an arc of capacity `cap` and its reverse of capacity `back_cap`, and answers the number of
     /// the arc. Its reverse has the next number.
+    ///
+    /// If several arguments are wrong, the error is that of the first of them: `from`, `to`, both as one node, `cap`, `back_cap`.
     pub fn join(
         &mut self,
         from: usize,
@@ -214,10 +218,6 @@ impl NetBuilder {
         ensures arcs { result.arcs ≡ self.arcs }
     {
         let NetBuilder { fixed, sink, arcs } = self;
-        Net::new(
-            Sequence::from(fixed),
-            Sequence::from(sink),
-            Sequence::from(arcs),
-        )
+        Net::new(fixed, sink, arcs)
     }
 }

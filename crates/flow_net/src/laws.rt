@@ -26,7 +26,7 @@ pub fn exactly_one_is_least_inside()
 {}
 
 /// Numbers of a network by numbers that stand for no node or no arc decide nothing: without them least-inside labels and valid flows are
-/// the same, at the same cost and value.
+/// the same, at the same cost and value, and the value of a valid flow is at most the cost of any admissible labels.
 /// It is for whoever has a network with gaps in its numbers.
 pub fn numbers_may_stand_for_nothing()
     ensures { PaddingLaw }

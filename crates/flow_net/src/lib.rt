@@ -104,17 +104,21 @@ impl Net {
         validity::are_valid(fixed, sink, arcs)
     }
 
-    /// The network of these parts, which make a valid one by [`Net::is_valid`].
-    pub fn new(fixed: Sequence<bool>, sink: Sequence<u64>, arcs: Sequence<Arc>) -> Net
-        requires { IsValidNet fixed sink arcs }
-        ensures fixed { result.fixed ≡ fixed }
-        ensures sink { result.sink ≡ sink }
-        ensures arcs { result.arcs ≡ arcs }
+    /// The network of these parts, which make a valid one by [`Net::is_valid`]. It takes no memory.
+    pub fn new(fixed: Vec<bool>, sink: Vec<u64>, arcs: Vec<Arc>) -> Net
+        requires { IsValidNet fixed.items sink.items arcs.items }
+        ensures fixed { result.fixed ≡ fixed.items }
+        ensures sink { result.sink ≡ sink.items }
+        ensures arcs { result.arcs ≡ arcs.items }
     {
-        Net::with_arcs(fixed, sink, Arcs::from(arcs.into_vec()))
+        Net::with_arcs(
+            Sequence::from(fixed),
+            Sequence::from(sink),
+            Arcs::from(arcs),
+        )
     }
 
-    /// The same of arcs that may be in few bits.
+    /// The same of the lists that stand in the fields: arcs may be in few bits.
     pub fn with_arcs(fixed: Sequence<bool>, sink: Sequence<u64>, arcs: Arcs) -> Net
         requires { IsValidNet fixed sink arcs }
         ensures fixed { result.fixed ≡ fixed }
@@ -125,13 +129,13 @@ impl Net {
     }
 
     /// The network of these parts, or None where they make no valid one by [`Net::is_valid`].
-    pub fn try_new(fixed: Sequence<bool>, sink: Sequence<u64>, arcs: Sequence<Arc>) -> Option<Net>
-        ensures valid { IsSome result ↔ IsValidNet fixed sink arcs }
-        ensures fixed { IfSome result (λ net. net.fixed ≡ fixed) }
-        ensures sink { IfSome result (λ net. net.sink ≡ sink) }
-        ensures arcs { IfSome result (λ net. net.arcs ≡ arcs) }
+    pub fn try_new(fixed: Vec<bool>, sink: Vec<u64>, arcs: Vec<Arc>) -> Option<Net>
+        ensures valid { IsSome result ↔ IsValidNet fixed.items sink.items arcs.items }
+        ensures fixed { IfSome result (λ net. net.fixed ≡ fixed.items) }
+        ensures sink { IfSome result (λ net. net.sink ≡ sink.items) }
+        ensures arcs { IfSome result (λ net. net.arcs ≡ arcs.items) }
     {
-        if !Net::is_valid(fixed.as_slice(), sink.as_slice(), arcs.as_slice()) {
+        if !Net::is_valid(&fixed, &sink, &arcs) {
             return None;
         }
         Some(Net::new(fixed, sink, arcs))

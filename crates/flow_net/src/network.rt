@@ -1,6 +1,6 @@
 //! Networks by numbers, as the calls that look for flows and labels see them. It stands on `Net` alone.
 
-ghost use Rattle.std.specs.Prelude.{◌≡◌, ◌<◌, ◌≤◌, ◌^◌, IfSome};
+ghost use Rattle.std.specs.Prelude.{ℕ, ◌≡◌, ◌<◌, ◌≤◌, ◌^◌, ◌↔◌, Bool, true, IfSome, IsSome, is_some};
 ghost use Rattle.flow_net.specs.Numbered.{NumberedNetwork};
 
 use crate::Net;
@@ -12,7 +12,11 @@ use crate::Net;
 /// one node, so numbers may stand for no arc. A number stands for no node where it is fixed, takes nothing and has no arc on which
 /// something can flow.
 pub trait FlowNetwork {
+    /// The nodes and arcs, and what each is like.
     ghost numbered: { Self → NumberedNetwork };
+
+    /// Which arcs have a reverse.
+    ghost paired: { Self → ℕ → Bool };
 
     /// How many nodes there are.
     fn node_count(&self) -> usize
@@ -35,17 +39,19 @@ pub trait FlowNetwork {
         ensures value { result ≡ (numbered self.now).to arc }
         ensures within { result < (numbered self.now).node_count };
 
-    /// The arc back from the node that an arc enters to the one that it leaves. None where there is none: the arc leaves a fixed
-    /// node, or nothing can flow on it.
+    /// The arc back from the node that an arc enters to the one that it leaves. None exactly if [`is_paired`](FlowNetwork::is_paired)
+    /// returns false, as for an arc that leaves a fixed node.
     fn reverse(&self, arc: usize) -> Option<usize>
         requires { arc < (numbered self.now).arc_count }
+        ensures there { IsSome result ↔ (paired self.now arc ≡ true) }
         ensures within { IfSome result (λ back. back < (numbered self.now).arc_count) }
         ensures from { IfSome result (λ back. (numbered self.now).from back ≡ (numbered self.now).to arc) }
         ensures to { IfSome result (λ back. (numbered self.now).to back ≡ (numbered self.now).from arc) };
 
     /// Whether an arc has a reverse, which may be known without a search for it.
     fn is_paired(&self, arc: usize) -> bool
-        requires { arc < (numbered self.now).arc_count };
+        requires { arc < (numbered self.now).arc_count }
+        ensures { result ≡ paired self.now arc };
 
     /// The capacity of an arc: the most that can flow along it, and what it costs to cut it.
     fn capacity(&self, arc: usize) -> u64
@@ -67,8 +73,11 @@ pub trait FlowNetwork {
 
 impl FlowNetwork for Net {
     ghost use Rattle.flow_net.specs.Flows.{numbered_of};
+    ghost use Rattle.flow_net.specs.Nets.{arc_at};
 
     ghost numbered = { numbered_of };
+
+    ghost paired = { λ net arc. is_some (arc_at net.arcs arc).pair };
 
     #[inline]
     fn node_count(&self) -> usize {

@@ -19,10 +19,12 @@ use Rattle.solution.specs.Scans.{points_of, scene_of_scan, sights_of}
 use Rattle.tetra_store.specs.Links.{links_of}
 use Rattle.tetra_store.specs.Store.{Store}
 use Rattle.tetra_store.specs.declared.link.Cell.{Cell}
-use Rattle.visibility.specs.Scenes.{Scene}
+use Rattle.visibility.specs.Scenes.{Scene, scene_of}
 use Rattle.vote_net.specs.Counts.{AreCountsOf}
+use Rattle.sweep.specs.Entries.{CostsLeast}
 use Rattle.sweep.specs.Swept.{HasLargest, IsKept}
 use Rattle.sweep.proofs.Scenes.{counts_to, scene_kept}
+use Rattle.sweep.proofs.Surfaces.{costs}
 
 -- ---- a flow at a larger smoothing
 amount_risen : (free : Bool) (n : ℕ) (a b : Settings) → b.vote ≡ a.vote → a.smooth ≤ b.smooth
@@ -113,6 +115,9 @@ module _ (points scanners : List Point) (sights : List Sight) where
           counts = kept.counts;
           shape = kept.shape;
           largest = kept.largest;
+          equal =
+              subst (λ (n : ℕ). CostsLeast (scene_of points scanners sights a) n) kept.equal
+              (costs points scanners sights a store crossed behind fixed flow labels kept);
         }
 
     -- at another smoothing, with a largest flow and the least inside there

@@ -5,7 +5,7 @@
 --   scene_in w                   the scene of these at its weights
 --   sink_amount w id             what leaves at the sink of the cell with this number
 --   IsOf w scan                  it is of this scan
---   HasLargest w                 the flow is a largest one of the scene's network
+--   HasLargest w                 the flow is a largest one of the scene's network, and its value is the least cost
 --   IsRaised old new smooth      the smoothing has risen, all else is as before, and no less leaves at any sink
 --   IsKept                       what the fields of a sweep keep
 use Rattle.std.specs.Prelude.{ℕ, ◌≡◌, ◌<◌, ◌≤◌, ◌++◌, ◌^◌, Bool, List, Option, length, slice_index}
@@ -24,7 +24,7 @@ use Rattle.tetra_store.specs.Store.{Store}
 use Rattle.tetra_store.specs.declared.link.Cell.{Cell}
 use Rattle.visibility.specs.Scenes.{Scene, scene_of}
 use Rattle.vote_net.specs.Counts.{AreCountsOf}
-use Rattle.sweep.specs.Entries.{Given, given_scene}
+use Rattle.sweep.specs.Entries.{CostsLeast, Given, given_scene}
 
 -- the distinct points, the scanners, the sights, the weights, the cell at each number, and an amount for each side and for each cell:
 -- over side k of the cell with number id flows what stands at 4 * id + k
@@ -54,8 +54,10 @@ pub record IsOf (w : Swept) (scan : Shown) : Type 0 where
   pub scanners : w.scanners ≡ scan.scanners
   pub sights : w.sights ≡ sights_of scan
 
--- The cells are those of the scene, and the flow is valid and of the largest value in the network of these with the counts of the scene,
--- which judges flows as the scene's does (StoreNetworkLaw).
+-- The cells are those of the scene, and the flow is valid and of the largest value in the network of these with the counts of the scene.
+-- This value is the least cost of labels over the scene's cells and facets. So the flow is a largest one over these too: what it says
+-- there is valid and has the same value, and no valid flow there has a larger value than labels cost (StoreNetworkLaw: valid, value_is,
+-- at_most), in whatever order cells and facets are listed (ListingsAgree).
 pub record HasLargest (w : Swept) : Type 0 where
   pub crossed : List ℕ
   pub behind : List ℕ
@@ -63,6 +65,7 @@ pub record HasLargest (w : Swept) : Type 0 where
   pub counts : AreCountsOf (scene_in w) w.slots crossed behind fixed
   pub shape : IsShape w.slots crossed behind fixed w.settings
   pub largest : IsLargest (numbered_with w.slots crossed behind fixed w.settings shape) w.flow
+  pub equal : CostsLeast (scene_in w) (value_of (numbered_with w.slots crossed behind fixed w.settings shape) w.flow)
 
 -- it is at this smoothing, of the same points, scanners, sights, vote and cells, and no less leaves at the sink of any cell
 pub record IsRaised (old new : Swept) (smooth : ℕ) : Type 0 where

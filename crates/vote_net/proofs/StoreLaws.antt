@@ -1,6 +1,6 @@
 -- The network by the numbers of cells and sides judges labels and flows as that over cells and facets: numbers that stand for nothing
 -- decide nothing (flow_net), and the others correspond (`SceneNetwork`).
-use Rattle.std.proofs.Common.{ℕ, ◌≡◌, ◌∙◌, List, Bool, Option, slice_index}
+use Rattle.std.proofs.Common.{ℕ, ◌≡◌, ◌∙◌, List, Bool, Option, slice_index, refl, arith}
 use Rattle.flow_net.specs.Nets.{flag_at}
 use Rattle.flow_net.specs.declared.votes.Settings.{Settings}
 use Rattle.flow_net.specs.Paddings.{kept}
@@ -42,6 +42,20 @@ store_network s slots crossed behind fixed settings asked shape same =
           (alike.valid _ _ valid.amounts);
       zero_elsewhere = λ flow valid.
           elsewhere s slots crossed behind fixed settings asked shape same flow valid.amounts.within_cap;
+      at_most = λ on_facet on_cell inside valid admissible.
+          let on_arc : ℕ → ℕ = λ j. on_facet (c.arc j) in
+          let on_node : ℕ → ℕ = λ v. on_cell (c.node v) in
+          let labels : ℕ → Bool = λ v. inside (c.node v) in
+          let most =
+          alike.at_most on_arc on_node labels
+          ((judged.valid near far c on_arc on_facet on_node on_cell (λ j is. refl) (λ v is. refl)).1 valid)
+          ((judged.admissible near far c labels inside (λ v is. refl)).1 admissible) in
+          omega (
+            arith,
+            most,
+            judged.value_is near far c on_node on_cell (λ v is. refl),
+            judged.cost_is near far c labels inside (λ v is. refl),
+          );
     }
 
 pub store_network_law : StoreNetworkLaw

@@ -1,7 +1,7 @@
 //! The networks of the tests.
 ghost use Rattle.std.specs.Prelude.{◌≡◌, length, IfOk};
 
-use flow_net::{Arc, Net, NetBuilder, Sequence};
+use flow_net::{Arc, Net, NetBuilder};
 use std::alloc::{AllocError, Global};
 use std::test::Fail;
 
@@ -32,11 +32,7 @@ pub fn three_nodes(alloc: Global, sink: u64, capacities: (u64, u64, u64)) -> Res
     if !Net::is_valid(&fixed, &sinks, &arcs) {
         return Err(Fail::from("the network"));
     }
-    Ok(Net::new(
-        Sequence::from(fixed),
-        Sequence::from(sinks),
-        Sequence::from(arcs),
-    ))
+    Ok(Net::new(fixed, sinks, arcs))
 }
 
 /// A number below `bound` from a linear congruential generator.
