@@ -8,9 +8,8 @@ use Rattle.std.proofs.lemmas.List.Elements.{All-head, All-tail}
 use Rattle.std.proofs.lemmas.List.Sorted.{sum_by-IsPermutation}
 use Rattle.std.proofs.lemmas.List.Sums.{sum_by-cons}
 use Rattle.mesh_ply.specs.Meshes.{IsFace}
-use Rattle.solid_slice.specs.Edges.{has_edge, faces_with_edge, IsBalanced}
-use Rattle.solid_slice.specs.Cuts.{face_at}
-use Rattle.solid_slice.proofs.Counts.{one_if}
+use Rattle.mesh_edges.specs.Edges.{has_edge, faces_with_edge, IsBalanced, face_at}
+use Rattle.mesh_edges.proofs.Counts.{one_if}
 use Rattle.mesh_flips.specs.Turns.{IsTriangle, IsTurned}
 use Rattle.mesh_flips.specs.Flips.{AreFlips}
 use Rattle.mesh_flips.proofs.Kept.{flips_excess}

@@ -4,7 +4,7 @@
 --   IsFinished points old new   the faces in another order, then flips, then turned
 use Rattle.std.specs.Prelude.{ℕ, ◌≡◌, ◌<◌, List, length, IsPermutation}
 use Rattle.geo_sign.specs.Point.{Point}
-use Rattle.solid_slice.specs.Cuts.{face_at}
+use Rattle.mesh_edges.specs.Edges.{face_at}
 use Rattle.mesh_flips.specs.Turns.{IsTurned}
 use Rattle.mesh_flips.specs.Flips.{IsFlipped}
 

@@ -4,8 +4,8 @@
 -- sides that go there, which is the same however the face is turned.
 use Rattle.std.proofs.Common.{ℕ, ◌≡◌, ◌≢◌, ◌+◌, inl, inr, ap, sym, arith, List, [], ◌∷◌}
 use Rattle.std.proofs.lemmas.Bool.Decides.{nat_tests}
-use Rattle.solid_slice.specs.Edges.{is_edge, has_edge}
-use Rattle.solid_slice.proofs.Counts.{one_if}
+use Rattle.mesh_edges.specs.Edges.{is_edge, has_edge}
+use Rattle.mesh_edges.proofs.Counts.{one_if}
 use Rattle.mesh_flips.specs.Turns.{IsTriangle, IsTurned}
 
 -- 1 where the edge from u to v is that from a to b, else 0

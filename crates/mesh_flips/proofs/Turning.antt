@@ -14,7 +14,7 @@ use Rattle.mesh_flips.specs.declared.quad.Quad.{Quad}
 use Rattle.mesh_flips.proofs.Kept.{flip_triangles}
 use Rattle.mesh_flips.proofs.Chains.{flipped_once}
 use Rattle.mesh_flips.proofs.Crossings.{same_or_not, flip_apart, flip_boxes}
-use Rattle.solid_slice.specs.Cuts.{face_at}
+use Rattle.mesh_edges.specs.Edges.{face_at}
 use Rattle.mesh_flips.proofs.Singles.{flip_single}
 
 module _ (points : List Point) (old new : List (List ℕ)) (one other : ℕ) (q : Quad) (each : All (IsTriangle (length points)) old)

@@ -5,7 +5,7 @@
 use Rattle.std.specs.Prelude.{ℕ, ◌≡◌, ◌≢◌, ◌<◌, true, List, [], ◌∷◌, length}
 use Rattle.geo_sign.specs.Point.{Point}
 use Rattle.mesh_ply.specs.Meshes.{is_vertex_of}
-use Rattle.solid_slice.specs.Cuts.{face_at}
+use Rattle.mesh_edges.specs.Edges.{face_at}
 use Rattle.triangle_gap.specs.Gaps.{AreApart}
 use Rattle.mesh_flips.specs.declared.quad.Quad.{Quad}
 

@@ -7,7 +7,7 @@
 use Rattle.std.specs.Prelude.{ℕ, ◌<◌, ◌≤◌, ◌*◌, List, [], ◌∷◌, length, All}
 use Rattle.geo_sign.specs.Point.{Point}
 use Rattle.mesh_ply.specs.Meshes.{point_at}
-use Rattle.solid_slice.specs.Cuts.{face_at}
+use Rattle.mesh_edges.specs.Edges.{face_at}
 use Rattle.hull_tree.specs.Hulls.{HoldsPoint}
 use Rattle.hull_tree.specs.Trees.{IsPut}
 use Rattle.hull_tree.specs.declared.hull.Hull.{Hull}

@@ -9,8 +9,7 @@
 use Rattle.std.specs.Prelude.{ℕ, ◌≡◌, ◌≢◌, ◌+◌, ◌<◌, ◌≤◌, List, length}
 use Rattle.geo_sign.specs.Point.{Point}
 use Rattle.triangle_gap.specs.Gaps.{AreApart}
-use Rattle.solid_slice.specs.Cuts.{face_at}
-use Rattle.solid_slice.specs.Edges.{faces_with_edge}
+use Rattle.mesh_edges.specs.Edges.{face_at, faces_with_edge}
 use Rattle.mesh_flips.specs.Quads.{IsQuad, flipped}
 use Rattle.mesh_flips.specs.declared.quad.Quad.{Quad}
 

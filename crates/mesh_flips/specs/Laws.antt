@@ -4,7 +4,7 @@
 --   FlipsKeepTriangles    each face still has three distinct corners among the same points
 --   FlipsKeepClosed       where each directed edge stood as often as its reverse, it still does
 use Rattle.std.specs.Prelude.{ℕ, List, All, length, ◌≡◌}
-use Rattle.solid_slice.specs.Edges.{IsBalanced}
+use Rattle.mesh_edges.specs.Edges.{IsBalanced}
 use Rattle.mesh_flips.specs.Turns.{IsTriangle}
 use Rattle.mesh_flips.specs.Flips.{AreFlips, SameExcess}
 

@@ -4,7 +4,7 @@
 --   flipped faces one other q   the list after the flip
 --   HasCorners n q              its corners are below n
 use Rattle.std.specs.Prelude.{ℕ, ◌≢◌, ◌<◌, List, [], ◌∷◌, length, slice_set}
-use Rattle.solid_slice.specs.Cuts.{face_at}
+use Rattle.mesh_edges.specs.Edges.{face_at}
 use Rattle.mesh_flips.specs.Turns.{IsTurned}
 use Rattle.mesh_flips.specs.declared.quad.Quad.{Quad}
 

@@ -4,7 +4,7 @@ ghost use Rattle.std.specs.Prelude.{◌≡◌, ◌≢◌, ◌<◌, ℕ, All, Con
 ghost use Rattle.std.specs.Bool.{OnTrue};
 ghost use Rattle.mesh_flips.specs.Turns.{IsTriangle};
 ghost use Rattle.mesh_flips.specs.Quads.{HasCorners};
-ghost use Rattle.solid_slice.specs.Cuts.{face_at};
+ghost use Rattle.mesh_edges.specs.Edges.{face_at};
 ghost use Rattle.mesh_flips.specs.Clear.{IsClear, IsFree};
 ghost use Rattle.mesh_flips.specs.Fields.{HoldsFace, HoldsQuad, IsTreeOf};
 ghost use Rattle.mesh_ply.specs.Meshes.{is_vertex_of, point_at};

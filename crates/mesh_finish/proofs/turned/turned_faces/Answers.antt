@@ -2,7 +2,7 @@ use Rattle.std.proofs.Common.{ℕ, ◌≡◌, List, [], length, arith, sym, subs
 use Rattle.std.proofs.lemmas.List.{get_or_default}
 use Rattle.mesh_flips.specs.Turns.{IsTriangle, IsTurned}
 use Rattle.mesh_ply.specs.Meshes.{IsFace}
-use Rattle.solid_slice.specs.Cuts.{face_at}
+use Rattle.mesh_edges.specs.Edges.{face_at}
 use Rattle.mesh_finish.proofs.Rewritten.{turned_more}
 use Rattle.mesh_finish.proofs.turned.turned_faces.Goals as goal
 

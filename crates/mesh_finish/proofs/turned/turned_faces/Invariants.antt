@@ -1,7 +1,7 @@
 use Rattle.std.proofs.Common.{ℕ, ◌≡◌, ◌<◌, length}
 use Rattle.mesh_ply.specs.Meshes.{IsFace}
 use Rattle.mesh_flips.specs.Turns.{IsTriangle, IsTurned}
-use Rattle.solid_slice.specs.Cuts.{face_at}
+use Rattle.mesh_edges.specs.Edges.{face_at}
 use Rattle.mesh_finish.proofs.turned.turned_faces.Given as goal
 
 abbrev pub invariant-loop-face : goal.invariant-loop-face

@@ -1,6 +1,6 @@
 use Rattle.std.proofs.Common.{◌≡◌, arith, length}
-use Rattle.solid_slice.proofs.Differences.{first_there, first_back, none_differ}
-use Rattle.solid_slice.proofs.balance.first_difference.Goals as goal
+use Rattle.mesh_edges.proofs.Differences.{first_there, first_back, none_differ}
+use Rattle.mesh_edges.proofs.balance.first_difference.Goals as goal
 
 pub returns-then-at-back-clause-some : goal.returns-then-at-back-clause-some
 returns-then-at-back-clause-some c =

@@ -8,11 +8,11 @@ use Rattle.std.proofs.lemmas.List.Elements.{All-tail}
 use Rattle.std.proofs.lemmas.List.Sorted.{sum_by-IsPermutation}
 use Rattle.std.proofs.lemmas.List.Sums.{sum_by-cons, sum_by_more, count_by-le-length}
 use Rattle.mesh_ply.specs.Meshes.{IsFace}
-use Rattle.solid_slice.specs.Edges.{has_edge, faces_with_edge, ComesFirst, IsBalanced, IsFirstUnbalanced}
-use Rattle.solid_slice.specs.Pairs.{key_of, key_of_pair, key_count, HasGained, IsPairOf, IsFirstUnequalPair}
-use Rattle.solid_slice.specs.declared.pair.Pair.{Pair}
-use Rattle.solid_slice.proofs.Counts.{one_if}
-use Rattle.solid_slice.proofs.FaceEdges.{edge_within, face_among_more}
+use Rattle.mesh_edges.specs.Edges.{has_edge, faces_with_edge, ComesFirst, IsBalanced, IsFirstUnbalanced}
+use Rattle.mesh_edges.specs.Pairs.{key_of, key_of_pair, key_count, HasGained, IsPairOf, IsFirstUnequalPair}
+use Rattle.mesh_edges.specs.declared.pair.Pair.{Pair}
+use Rattle.mesh_edges.proofs.Counts.{one_if}
+use Rattle.mesh_edges.proofs.FaceEdges.{edge_within, face_among_more}
 
 -- one face more
 pub edge_count_more : (u v : ℕ) (faces : List (List ℕ)) (i : ℕ) (d : List ℕ) → i < length faces

@@ -1,6 +1,6 @@
 use Rattle.std.proofs.Common.{take}
-use Rattle.solid_slice.specs.Pairs.{IsPairOf, AreRising}
-use Rattle.solid_slice.proofs.balance.sides_of.Given as goal
+use Rattle.mesh_edges.specs.Pairs.{IsPairOf, AreRising}
+use Rattle.mesh_edges.proofs.balance.sides_of.Given as goal
 
 abbrev pub invariant-loop-face : goal.invariant-loop-face
 invariant-loop-face l =

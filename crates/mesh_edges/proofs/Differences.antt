@@ -2,9 +2,9 @@
 use Rattle.std.proofs.Common.{ℕ, ◌≡◌, ◌<◌, ◌≤◌, ap, sym, ◌∙◌, arith, List, length, get_or, take, map}
 use Rattle.std.specs.List.Sorted.{IsNonDecreasingBy}
 use Rattle.std.proofs.lemmas.List.{get_or_default, take_all}
-use Rattle.solid_slice.specs.Pairs.{key_of_pair, key_count, AreRising, IsFirstUnequalPair}
-use Rattle.solid_slice.specs.declared.pair.Pair.{Pair}
-use Rattle.solid_slice.proofs.Counts.{differ_at, hits_same}
+use Rattle.mesh_edges.specs.Pairs.{key_of_pair, key_count, AreRising, IsFirstUnequalPair}
+use Rattle.mesh_edges.specs.declared.pair.Pair.{Pair}
+use Rattle.mesh_edges.proofs.Counts.{differ_at, hits_same}
 
 abbrev pub no_pair : Pair
 no_pair = record { first = 0; second = 0 }

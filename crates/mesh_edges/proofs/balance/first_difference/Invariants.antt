@@ -1,6 +1,6 @@
 use Rattle.std.proofs.Common.{◌≡◌, ◌≤◌, length, map, take}
-use Rattle.solid_slice.specs.Pairs.{key_of_pair}
-use Rattle.solid_slice.proofs.balance.first_difference.Given as goal
+use Rattle.mesh_edges.specs.Pairs.{key_of_pair}
+use Rattle.mesh_edges.proofs.balance.first_difference.Given as goal
 
 abbrev pub invariant-loop-at : goal.invariant-loop-at
 invariant-loop-at l =

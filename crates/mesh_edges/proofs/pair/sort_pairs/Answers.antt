@@ -1,7 +1,7 @@
 use Rattle.std.proofs.Common.{rules}
 use Rattle.std.proofs.lemmas.List.Sorted.{IsNonDecreasingBy-from_sort, answers_always}
-use Rattle.solid_slice.specs.Pairs.{key_of_pair}
-use Rattle.solid_slice.proofs.pair.sort_pairs.Goals as goal
+use Rattle.mesh_edges.specs.Pairs.{key_of_pair}
+use Rattle.mesh_edges.proofs.pair.sort_pairs.Goals as goal
 
 pub returns-clause-sorted : goal.returns-clause-sorted
 returns-clause-sorted c =

@@ -2,10 +2,10 @@ use Rattle.std.proofs.Common.{◌≡◌, ◌<◌, List, arith, subst, sym}
 use Rattle.std.specs.List.Sorted.{IsPermutation}
 use Rattle.std.proofs.lemmas.Grind.{common_steps}
 use Rattle.std.proofs.lemmas.List.Sorted.{All-permutation}
-use Rattle.solid_slice.specs.Pairs.{AreRising}
-use Rattle.solid_slice.specs.declared.pair.Pair.{Pair}
-use Rattle.solid_slice.proofs.EdgeCounts.{pairs_moved}
-use Rattle.solid_slice.proofs.balance.sorted_sides.Goals as goal
+use Rattle.mesh_edges.specs.Pairs.{AreRising}
+use Rattle.mesh_edges.specs.declared.pair.Pair.{Pair}
+use Rattle.mesh_edges.proofs.EdgeCounts.{pairs_moved}
+use Rattle.mesh_edges.proofs.balance.sorted_sides.Goals as goal
 
 moved_to : (xs from ys zs : List Pair) → from ≡ xs → zs ≡ ys → IsPermutation from ys → IsPermutation xs zs
 moved_to xs from ys zs e f p =

@@ -7,8 +7,8 @@
 --   AreRising pairs                      in each pair the first number is the smaller
 --   IsFirstUnequalPair there back p      the least pair that one list has more often than the other
 use Rattle.std.specs.Prelude.{ℕ, ◌≡◌, ◌≢◌, ◌+◌, ◌*◌, ◌<◌, ◌^◌, ◌==◌, Bool, List, count_by, All, if◌then◌else◌}
-use Rattle.solid_slice.specs.Edges.{faces_with_edge}
-use Rattle.solid_slice.specs.declared.pair.Pair.{Pair}
+use Rattle.mesh_edges.specs.Edges.{faces_with_edge}
+use Rattle.mesh_edges.specs.declared.pair.Pair.{Pair}
 
 -- above the number of each pair before
 abbrev pub key_of : (first second : ℕ) → ℕ

@@ -8,8 +8,8 @@ use Rattle.std.proofs.Common.{List, [], ◌∷◌, inl, inr}
 use Rattle.std.specs.List.{list_any}
 use Rattle.std.proofs.lemmas.Bool.{false≢true, eqb-true, and_parts, or_left, or_right, or_cases, eq-eqb}
 use Rattle.mesh_ply.specs.Meshes.{IsFace}
-use Rattle.solid_slice.specs.Edges.{is_edge, has_edge}
-use Rattle.solid_slice.specs.Pairs.{key_of}
+use Rattle.mesh_edges.specs.Edges.{is_edge, has_edge}
+use Rattle.mesh_edges.specs.Pairs.{key_of}
 
 edge_parts : (u v a b : ℕ) → is_edge u v a b ≡ true → (u ≡ a) × (v ≡ b)
 edge_parts u v a b e = let p = and_parts (u == a) (v == b) e in (eqb-true u a p.0, eqb-true v b p.1)

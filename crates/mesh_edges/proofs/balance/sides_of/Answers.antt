@@ -1,6 +1,6 @@
 use Rattle.std.proofs.Common.{refl, [], get_or}
-use Rattle.solid_slice.proofs.EdgeCounts.{pairs_more}
-use Rattle.solid_slice.proofs.balance.sides_of.Goals as goal
+use Rattle.mesh_edges.proofs.EdgeCounts.{pairs_more}
+use Rattle.mesh_edges.proofs.balance.sides_of.Goals as goal
 
 pub loop-face-preserved : goal.loop-face-preserved
 loop-face-preserved c =

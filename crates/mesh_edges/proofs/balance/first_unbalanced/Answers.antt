@@ -5,10 +5,10 @@
 -- one has more often, or the other, is the smallest edge that is not, with both counts (unbalanced). A face has an edge
 -- once, so counts fit 32 bits (few).
 use Rattle.std.proofs.Common.{ℕ, ◌<◌, ◌^◌, List, length, arith, subst, sym, ap, ◌∙◌}
-use Rattle.solid_slice.specs.Pairs.{key_of_pair, key_count, IsPairOf, IsFirstUnequalPair}
-use Rattle.solid_slice.specs.declared.pair.Pair.{Pair}
-use Rattle.solid_slice.proofs.EdgeCounts.{balanced, unbalanced, each_among, few}
-use Rattle.solid_slice.proofs.balance.check_balance.Goals as goal
+use Rattle.mesh_edges.specs.Pairs.{key_of_pair, key_count, IsPairOf, IsFirstUnequalPair}
+use Rattle.mesh_edges.specs.declared.pair.Pair.{Pair}
+use Rattle.mesh_edges.proofs.EdgeCounts.{balanced, unbalanced, each_among, few}
+use Rattle.mesh_edges.proofs.balance.first_unbalanced.Goals as goal
 
 pub returns-in-None-clause-balanced : goal.returns-in-None-clause-balanced
 returns-in-None-clause-balanced c =
@@ -55,8 +55,8 @@ overflow_cast-result-in-Some c =
       c.requires.few_faces,
     )
 
-pub returns-clause-refused : goal.returns-clause-refused
-returns-clause-refused c =
+pub returns-clause-unbalanced : goal.returns-clause-unbalanced
+returns-clause-unbalanced c =
     let faces = c.args.mesh.now.faces.items in
     let pairs =
     subst (λ (fs : List (List ℕ)). IsPairOf fs c.in_ok-sides.sides.there.items c.in_ok-sides.sides.back.items)

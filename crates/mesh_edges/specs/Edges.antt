@@ -1,12 +1,17 @@
 -- The directed edges of faces, and how often each occurs.
 --
+--   face_at faces f        face number f
 --   is_edge u v a b        whether the edge from u to v is that from a to b
 --   has_edge u v face      whether the edge from u to v is one of the face's three, each from one of its vertices to the next
 --   faces_with_edge u v faces   how many faces have it
 --   IsBalanced faces       each directed edge occurs as often as its reverse
 --   ComesFirst a b u v     the pair of numbers a, b is before u, v
 --   IsFirstUnbalanced faces from to m n   the smallest pair whose two counts differ, with both counts
-use Rattle.std.specs.Prelude.{ℕ, ◌≡◌, ◌≢◌, ◌<◌, ◌==◌, ◌&&◌, ◌||◌, ◌⊎◌, Bool, false, List, [], ◌∷◌, count_by}
+use Rattle.std.specs.Prelude.{ℕ, ◌≡◌, ◌≢◌, ◌<◌, ◌==◌, ◌&&◌, ◌||◌, ◌⊎◌, Bool, false, List, [], ◌∷◌, count_by, slice_index_or}
+
+-- face number f
+abbrev pub face_at : List (List ℕ) → ℕ → List ℕ
+face_at faces f = slice_index_or faces f []
 
 -- whether the edge from u to v is that from a to b
 abbrev pub is_edge : (u v a b : ℕ) → Bool

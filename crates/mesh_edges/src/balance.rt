@@ -4,15 +4,14 @@
 //! back. Sorted, the two are the same exactly where all edges are balanced, and where they first differ stands the smallest
 //! pair that is not.
 
-ghost use Rattle.std.specs.Prelude.{◌≡◌, ◌≢◌, ◌<◌, ◌^◌, ℕ, OnOk, IfOk, IfErr, IfSome, IfNone, All};
+ghost use Rattle.std.specs.Prelude.{◌≡◌, ◌≢◌, ◌<◌, ◌^◌, ℕ, OnOk, IfOk, IfSome, IfNone, All};
 ghost use Rattle.std.specs.List.Sorted.{IsNonDecreasingBy};
 ghost use Rattle.mesh_ply.specs.Meshes.{IsFace, IsMesh};
-ghost use Rattle.solid_slice.specs.Edges.{is_edge, has_edge, IsBalanced};
-ghost use Rattle.solid_slice.specs.Pairs.{key_of_pair, key_count, HasGained, IsPairOf, AreRising, IsFirstUnequalPair};
-ghost use Rattle.solid_slice.specs.Refusals.{IsRefusedSlice};
+ghost use Rattle.mesh_edges.specs.Edges.{is_edge, has_edge, IsBalanced, IsFirstUnbalanced};
+ghost use Rattle.mesh_edges.specs.Pairs.{key_of_pair, key_count, HasGained, IsPairOf, AreRising, IsFirstUnequalPair};
 
 use crate::pair::{Pair, sort_pairs};
-use crate::{Mesh, NoMemory, SliceRefusal};
+use crate::{Mesh, NoMemory};
 use std::alloc::Global;
 
 /// The edges of faces, the smaller vertex first: those that go from it in `there`, those that come back in `back`.
@@ -125,21 +124,36 @@ fn count(pairs: &[Pair], pair: Pair) -> usize
     pairs.iter().filter(|other| other.key() == key).count()
 }
 
-/// Refuses a mesh in which some directed edge occurs another number of times than its reverse, with the smallest pair of
-/// vertices whose two counts differ.
-pub(crate) fn check_balance(alloc: Global, mesh: &Mesh) -> Result<(), SliceRefusal>
+/// An edge that occurs another number of times than its reverse.
+#[derive(Clone, Copy, Debug, PartialEq, Eq)]
+pub struct UnbalancedEdge {
+    /// The vertex with the smaller number.
+    pub from: u32,
+    /// The vertex with the greater number.
+    pub to: u32,
+    /// How many faces have the edge from `from` to `to`.
+    pub there: u32,
+    /// How many faces have the edge from `to` to `from`.
+    pub back: u32,
+}
+
+/// Returns the smallest pair of vertices whose edge occurs another number of times than its reverse, or `None` if each directed
+/// edge of the mesh occurs as often as its reverse.
+///
+/// The edges are sorted, and all else is linear. `NoMemory` says nothing of the mesh.
+pub fn first_unbalanced(alloc: Global, mesh: &Mesh) -> Result<Option<UnbalancedEdge>, NoMemory>
     requires { IsMesh mesh.now.points.items mesh.now.faces.items }
-    ensures balanced { IfOk result (λ _. IsBalanced mesh.now.faces.items) }
-    ensures refused { IfErr result (λ refusal. IsRefusedSlice mesh.now.faces.items refusal) }
+    ensures balanced { IfOk result (λ edge. IfNone edge (IsBalanced mesh.now.faces.items)) }
+    ensures unbalanced { IfOk result (λ edge. IfSome edge (λ e. IsFirstUnbalanced mesh.now.faces.items e.from e.to e.there e.back)) }
 {
     let sides = sorted_sides(alloc, &mesh.faces)?;
     match first_difference(&sides.there, &sides.back) {
-        None => Ok(()),
-        Some(pair) => Err(SliceRefusal::Unbalanced {
+        None => Ok(None),
+        Some(pair) => Ok(Some(UnbalancedEdge {
             from: pair.first,
             to: pair.second,
             there: count(&sides.there, pair) as u32,
             back: count(&sides.back, pair) as u32,
-        }),
+        })),
     }
 }
