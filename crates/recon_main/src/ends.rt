@@ -5,11 +5,10 @@ ghost use Rattle.std.specs.Vec.Iter.{into_iter_items};
 ghost use Rattle.recon_cmd.specs.Sweep.{entries_of};
 ghost use Rattle.recon_main.specs.Ends.{EndsOn, EndsOver, EndsAfterARun, RunsOn, RunsOrIdles};
 
-use crate::advice::command_begun;
-use crate::real::RealHost;
-use crate::unnamed::Unnamed;
+use crate::advice::{Hints, command_begun};
 use host::Host;
 use mesh_form::{Form, ObjForm, OffForm, PlyForm};
+use real_host::{RealHost, Unnamed};
 use recon_cmd::{FILE_LIMIT, Request, Status, run, run_forms_within};
 use std::alloc::{AllocError, Global};
 use std::env::Args;
@@ -45,8 +44,7 @@ pub fn ends_over<R: Env + Files + Print + Eprint + AllocGlobal + Drop, W: Watch>
 {
     let alloc = rt.alloc();
     let command = command_begun(&rt);
-    let mut host = RealHost::new(rt);
-    host.begin(command);
+    let mut host = RealHost::new(rt, Hints { command });
     ends(alloc, args, &mut host, watch)
 }
 

@@ -6,9 +6,6 @@
 mod advice;
 mod ends;
 mod progress;
-mod real;
-mod retried;
-mod unnamed;
 
 use ends::ends_on;
 use progress::{Progress, is_dumb};
