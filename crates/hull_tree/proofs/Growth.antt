@@ -42,11 +42,11 @@ grown_at hulls n g within holds k h held =
         ]
 
 -- the boxes below one level over a place hold h, and so do those up to it
-pub put_more : (hulls more : List Hull) (place node s : ℕ) (h : Hull)
+pub insert_more : (hulls more : List Hull) (place node s : ℕ) (h : Hull)
     → ((t k : ℕ) → t < s → IsOver k t place → HoldsHull (hull_in hulls k) h) → HasGrown hulls more → IsOver node s place
     → HoldsHull (hull_in more node) h
     → (t k : ℕ) → t < s + 1 → IsOver k t place → HoldsHull (hull_in more k) h
-put_more hulls more place node s h below grown over here t k l o =
+insert_more hulls more place node s h below grown over here t k l o =
     elim (cases_lt t s) [
       | inl m ↦ grown k h (below t k m o)
       | inr m ↦

@@ -7,7 +7,7 @@ use Rattle.std.proofs.Math.ListN.{length-set}
 use Rattle.std.proofs.lemmas.Bool.{cases_lt}
 use Rattle.geo_sign.specs.Point.{Point}
 use Rattle.mesh_edges.specs.Edges.{face_at}
-use Rattle.hull_tree.specs.Trees.{IsPut}
+use Rattle.hull_tree.specs.Trees.{IsInserted}
 use Rattle.hull_tree.specs.declared.hull.Hull.{Hull}
 use Rattle.hull_tree.specs.declared.tree.HullTree.{HullTree}
 use Rattle.triangle_gap.specs.Gaps.{AreApart}
@@ -104,30 +104,30 @@ module _ (points : List Point) (faces : List (List ℕ)) (one other : ℕ) (q : 
 -- the boxes of the new faces are put in, and those of the others stay
 pub flip_boxes : (points : List Point) (faces : List (List ℕ)) (one other : ℕ) (q : Quad) (old mid new : HullTree) (h k : Hull)
     → IsQuad faces one other q → IsTreeOf points faces old → HoldsFace points h (q.a ∷ q.d ∷ q.c ∷ [])
-    → HoldsFace points k (q.d ∷ q.b ∷ q.c ∷ []) → IsPut mid one h → IsPut new other k
-    → ((i : ℕ) (g : Hull) → IsPut old i g → IsPut mid i g) → ((i : ℕ) (g : Hull) → IsPut mid i g → IsPut new i g)
+    → HoldsFace points k (q.d ∷ q.b ∷ q.c ∷ []) → IsInserted mid one h → IsInserted new other k
+    → ((i : ℕ) (g : Hull) → IsInserted old i g → IsInserted mid i g) → ((i : ℕ) (g : Hull) → IsInserted mid i g → IsInserted new i g)
     → mid.leaves ≡ old.leaves → new.leaves ≡ mid.leaves
     → IsTreeOf points (flipped faces one other q) new
-flip_boxes points faces one other q old mid new h k lie boxes first second put_one put_other kept kept_on same same_on =
+flip_boxes points faces one other q old mid new h k lie boxes first second insert_one insert_other kept kept_on same same_on =
     let count : length (flipped faces one other q) ≡ length faces =
     length-set {A = List ℕ} (set faces one _) other _ ∙ length-set {A = List ℕ} faces one _ in
     record {
       room = omega (arith, boxes.room, count);
-      put = λ i l.
+      insert = λ i l.
           elim (stands faces one other q lie i) [
             | inl s ↦ (
               h,
               subst (λ (f : List ℕ). HoldsFace points h f) (sym s.1) first,
-              subst (λ (n : ℕ). IsPut new n h) (sym s.0) (kept_on one h put_one),
+              subst (λ (n : ℕ). IsInserted new n h) (sym s.0) (kept_on one h insert_one),
             )
             | inr rest ↦ elim rest [
               | inl s ↦ (
                 k,
                 subst (λ (f : List ℕ). HoldsFace points k f) (sym s.1) second,
-                subst (λ (n : ℕ). IsPut new n k) (sym s.0) put_other,
+                subst (λ (n : ℕ). IsInserted new n k) (sym s.0) insert_other,
               )
               | inr s ↦
-                  let was = boxes.put i (omega (arith, count)) in (
+                  let was = boxes.insert i (omega (arith, count)) in (
                     was.0,
                     subst (λ (f : List ℕ). HoldsFace points was.0 f) (sym s.2) was.1,
                     kept_on i was.0 (kept i was.0 was.2),

@@ -1,4 +1,4 @@
--- What a flip may not meet.
+-- What a flip requires of the other faces.
 --
 --   IsClear points q f               a face is apart from both new faces of a quad, and has not both ends of its new edge
 --   IsFree points faces one other q  all faces but the quad's own are, and the new ones are apart

@@ -1,4 +1,4 @@
--- Two faces against each other, and the flip of their edge.
+-- Two faces with a common edge, and the flip of that edge.
 --
 --   IsQuad faces one other q    two faces of a list have the corners of q
 --   flipped faces one other q   the list after the flip
@@ -8,7 +8,7 @@ use Rattle.mesh_edges.specs.Edges.{face_at}
 use Rattle.mesh_flips.specs.Turns.{IsTurned}
 use Rattle.mesh_flips.specs.declared.quad.Quad.{Quad}
 
--- One face is a b c and the other b a d, with another third corner. So they lie against each other in the edge between a and b.
+-- One face is a b c and the other b a d, with another third corner. So the edge between a and b is common to both.
 pub record IsQuad (faces : List (List ℕ)) (one other : ℕ) (q : Quad) : Type 0 where
   pub one_within : one < length faces
   pub other_within : other < length faces

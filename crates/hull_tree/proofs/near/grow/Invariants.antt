@@ -8,6 +8,6 @@ invariant-loop l =
     record {
       over : IsOver l.node l.counter l.place;
       within : l.node ≤ l.place;
-      put : (s node : ℕ) → s < l.counter → IsOver node s l.place → HoldsHull (hull_in l.hulls node) l.hull;
+      insert : (s node : ℕ) → s < l.counter → IsOver node s l.place → HoldsHull (hull_in l.hulls node) l.hull;
       kept : HasGrown l.initial.hulls l.hulls;
     }

@@ -6,9 +6,9 @@ use mir.Syntax.{w128}
 use mir.Val.{SFits, to_z, of_z}
 use lib.Signed.{le_z}
 use Rattle.geo_sign.specs.Point.{Point, dot, step}
-use Rattle.triangle_gap.specs.Shared.{weighted_sum, Weights, IsShared, AreFreed}
+use Rattle.triangle_gap.specs.Shared.{weighted_sum, Weights, IsShared, AreExcluded}
 use Rattle.triangle_gap.specs.declared.corners.Triangle.{Triangle}
-use Rattle.triangle_gap.specs.declared.corners.Freed.{Freed}
+use Rattle.triangle_gap.specs.declared.corners.Excluded.{Excluded}
 use Rattle.triangle_gap.specs.declared.corners.Marks.{Marks}
 use Rattle.triangle_gap.specs.declared.heights.Heights.{Heights}
 use Rattle.triangle_gap.proofs.Separations.{same_height, sums_with, weights_gone, Gone}
@@ -71,7 +71,7 @@ pub record AreBelow (m : ℤ) (h : Heights) (k : Marks) : Type 0 where
   pub r : k.r ≡ true → h.r <ℤ m
 
 -- the marks are those that were, and more
-pub record AreJoined (f k : Freed) (m n : Marks) : Type 0 where
+pub record AreJoined (f k : Excluded) (m n : Marks) : Type 0 where
   pub p : k.one.p ≡ (f.one.p || m.p)
   pub q : k.one.q ≡ (f.one.q || m.q)
   pub r : k.one.r ≡ (f.one.r || m.r)
@@ -85,12 +85,12 @@ under_lower m n h l u = record { p = omega (arith, ints, u.p); q = omega (arith,
 over_higher : (m n : ℤ) (h : Heights) → m ≤ℤ n → IsOver m h → IsOver n h
 over_higher m n h l u = record { p = omega (arith, ints, u.p); q = omega (arith, ints, u.q); r = omega (arith, ints, u.r) }
 
-module _ (n o : Point) (s t : Triangle) (g h : Heights) (of_s : AreHeights n o s g) (of_t : AreHeights n o t h) (f k : Freed)
-    (before : AreFreed s t f) (low high : Marks) (floor roof : ℤ) (fits : roof ≤ℤ floor) where
+module _ (n o : Point) (s t : Triangle) (g h : Heights) (of_s : AreHeights n o s g) (of_t : AreHeights n o t h) (f k : Excluded)
+    (before : AreExcluded s t f) (low high : Marks) (floor roof : ℤ) (fits : roof ≤ℤ floor) where
   -- the first is the upper one
-  pub freed_above : IsUnder floor g → IsOver roof h → AreAbove roof g high → AreBelow floor h low → AreJoined f k high low
-      → AreFreed s t k
-  freed_above under over above below joined w shared =
+  pub excluded_above : IsUnder floor g → IsOver roof h → AreAbove roof g high → AreBelow floor h low → AreJoined f k high low
+      → AreExcluded s t k
+  excluded_above under over above below joined w shared =
       let was = before w shared in
       let at_roof = gone_at n o s t g h of_s of_t w shared roof (under_lower roof floor g fits under) over in
       let at_floor = gone_at n o s t g h of_s of_t w shared floor under (over_higher roof floor h fits over) in
@@ -104,9 +104,9 @@ module _ (n o : Point) (s t : Triangle) (g h : Heights) (of_s : AreHeights n o s
       }
 
   -- the other one is
-  pub freed_below : IsUnder floor h → IsOver roof g → AreBelow floor g low → AreAbove roof h high → AreJoined f k low high
-      → AreFreed s t k
-  freed_below under over below above joined w shared =
+  pub excluded_below : IsUnder floor h → IsOver roof g → AreBelow floor g low → AreAbove roof h high → AreJoined f k low high
+      → AreExcluded s t k
+  excluded_below under over below above joined w shared =
       let was = before w shared in
       let turned : Weights = record { p = w.x; q = w.y; r = w.z; x = w.p; y = w.q; z = w.r } in
       let back : IsShared t s turned = record { total = sym shared.total; place = sym shared.place } in
