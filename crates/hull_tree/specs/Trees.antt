@@ -1,8 +1,8 @@
 -- A tree of boxes.
 --
 --   nowhere            a box for nodes past the end of a list
---   IsOver node s m    the node, s levels above the leaves, is above node m of the lowest level
---   place_of tree i    the leaf of a number
+--   IsNodeAbove node s m    the node, s levels above the leaves, is above node m of the lowest level
+--   leaf_of tree i    the leaf of a number
 --   hull_in hulls k    the box of node k
 --   HasGrown old new   each box contains what it contained before
 --   IsInsertedAt hulls ..   each box above a leaf contains h
@@ -21,13 +21,13 @@ nowhere =
     record { x = none; y = none; z = none }
 
 -- the node, s levels above the leaves, is above node m of the lowest level
-pub record IsOver (node s m : ℕ) : Type 0 where
+pub record IsNodeAbove (node s m : ℕ) : Type 0 where
   pub from : node * 2 ^ s ≤ m
   pub to : m < (node + 1) * 2 ^ s
 
 -- four numbers share a leaf
-abbrev pub place_of : HullTree → ℕ → ℕ
-place_of tree i = tree.leaves + i / 4
+abbrev pub leaf_of : HullTree → ℕ → ℕ
+leaf_of tree i = tree.leaves + i / 4
 
 -- the box of a node
 abbrev pub hull_in : List Hull → ℕ → Hull
@@ -35,7 +35,7 @@ hull_in hulls k = slice_index_or hulls k nowhere
 
 -- each box above the leaf contains h
 abbrev pub IsInsertedAt : (hulls : List Hull) (height place : ℕ) → Hull → Type 0
-IsInsertedAt hulls height place h = (s node : ℕ) → s ≤ height → IsOver node s place → HoldsHull (hull_in hulls node) h
+IsInsertedAt hulls height place h = (s node : ℕ) → s ≤ height → IsNodeAbove node s place → HoldsHull (hull_in hulls node) h
 
 -- each box contains what it contained before
 abbrev pub HasGrown : (old new : List Hull) → Type 0
@@ -43,7 +43,7 @@ HasGrown old new = (k : ℕ) (h : Hull) → HoldsHull (hull_in old k) h → Hold
 
 -- each box above the number contains h, which was inserted there
 abbrev pub IsInserted : HullTree → ℕ → Hull → Type 0
-IsInserted tree i h = IsInsertedAt tree.hulls.items tree.height (place_of tree i) h
+IsInserted tree i h = IsInsertedAt tree.hulls.items tree.height (leaf_of tree i) h
 
 -- the list still has all that it had
 abbrev pub KeepsAll : (old new : List ℕ) → Type 0

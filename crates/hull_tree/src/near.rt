@@ -2,7 +2,7 @@
 
 ghost use Rattle.std.specs.Prelude.{◌≡◌, ◌≤◌, ◌<◌, ◌+◌, ◌*◌, ◌/◌, ◌^◌, ◌⊎◌, ℕ, vec_len, length, OnOk, Contains};
 ghost use Rattle.hull_tree.specs.Hulls.{HoldsHull, AreOff};
-ghost use Rattle.hull_tree.specs.Trees.{IsInserted, IsInsertedAt, HasGrown, KeepsAll, IsOver, hull_in, place_of};
+ghost use Rattle.hull_tree.specs.Trees.{IsInserted, IsInsertedAt, HasGrown, KeepsAll, IsNodeAbove, hull_in, leaf_of};
 ghost use Rattle.hull_tree.specs.declared.hull.Hull.{Hull};
 
 use crate::NoMemory;
@@ -79,7 +79,7 @@ impl HullTree {
         requires low { height ≤ self.now.height }
         requires from { self.now.leaves ≤ node * 2 ^ height }
         requires to { (node + 1) * 2 ^ height ≤ 2 * self.now.leaves }
-        ensures found { OnOk result ((i : ℕ) (h : Hull) → IsInserted self.now i h → IsOver node height (place_of self.now i) → Contains found.new.items i ⊎ AreOff h hull) }
+        ensures found { OnOk result ((i : ℕ) (h : Hull) → IsInserted self.now i h → IsNodeAbove node height (leaf_of self.now i) → Contains found.new.items i ⊎ AreOff h hull) }
         ensures kept { OnOk result (KeepsAll found.old.items found.new.items) }
     {
         if !self.hulls[node].meets(hull) {

@@ -20,7 +20,7 @@ use Rattle.command_run.specs.Outcome.{Run}
 use Rattle.command_run.specs.Words.{Names, are_names}
 use Rattle.command_run.specs.declared.status.Status.{Status}
 use Rattle.command_run.specs.declared.status.Status.TheVariants.{Done, No, BadArguments, Refused, Failed, NoMemory}
-use Rattle.mesh_cmd.specs.Finish.{finish_names, finish_task, options_of}
+use Rattle.mesh_cmd.specs.Finish.{finish_names, finish_task, finish_options}
 use Rattle.mesh_cmd.specs.declared.commands.Command.{Command}
 use Rattle.mesh_cmd.specs.declared.commands.Command.TheVariants as commands
 use Rattle.mesh_cmd.specs.declared.commands.finish.FinishOptions.{FinishOptions}
@@ -35,7 +35,7 @@ finish_of [] = None
 finish_of (mesh ∷ []) = None
 finish_of (mesh ∷ output ∷ options) =
     if are_names (mesh ∷ output ∷ [])
-    then option_map (finish (record { input = mesh; output = output })) (options_of options)
+    then option_map (finish (record { input = mesh; output = output })) (finish_options options)
     else None
 
 -- the command that the arguments ask for, if they are valid

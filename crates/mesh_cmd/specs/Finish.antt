@@ -1,8 +1,8 @@
 -- `finish MESH OUT [flips=no]`: a mesh with its edges flipped.
 --
---   option_of word, options_of words     the options that arguments are, if they are valid
+--   option_of word, finish_options words     the options that arguments are, if they are valid
 --   finish_names words                   the names that the program holds
---   finish_line points faces             the line
+--   finished_line points faces             the line
 --   finish_done output mesh              the answer that writes this mesh
 --   AreFlippedIf flips points old new    the faces are flipped, or as they were
 --   IsFinishedMesh options old new       a mesh after what the options ask for
@@ -28,18 +28,18 @@ abbrev pub option_of : List ℕ → Option FinishOptions
 option_of word = if bytes_eq word (codes "flips=no") then Some (record { flips = false }) else None
 
 -- the options that the arguments after the names are
-abbrev pub options_of : List (List ℕ) → Option FinishOptions
-options_of [] = Some (record { flips = true })
-options_of (word ∷ []) = option_of word
-options_of (word ∷ other ∷ words) = None
+abbrev pub finish_options : List (List ℕ) → Option FinishOptions
+finish_options [] = Some (record { flips = true })
+finish_options (word ∷ []) = option_of word
+finish_options (word ∷ other ∷ words) = None
 
 -- the names that the program holds
 abbrev pub finish_names : FinishWords → Names
 finish_names words = record { input = words.mesh.now; output = words.output.now }
 
 -- `finished points N faces M`
-unfoldable pub finish_line : (points faces : ℕ) → List ℕ
-finish_line points faces = labelled (codes "finished points ") points ++ (labelled (codes " faces ") faces ++ (10 ∷ []))
+unfoldable pub finished_line : (points faces : ℕ) → List ℕ
+finished_line points faces = labelled (codes "finished points ") points ++ (labelled (codes " faces ") faces ++ (10 ∷ []))
 
 -- the answer that writes the text of this mesh
 abbrev pub finish_done : (output : List ℕ) → Surface → Answer
@@ -48,7 +48,7 @@ finish_done output mesh =
       status = Done;
       reads = 1;
       writes = (output, mesh_text mesh.points mesh.faces) ∷ [];
-      line = finish_line (length mesh.points) (length mesh.faces);
+      line = finished_line (length mesh.points) (length mesh.faces);
     }
 
 -- with flips the faces are reached by flips, and by none two faces meet that were apart; without they are as they were

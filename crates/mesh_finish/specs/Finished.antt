@@ -5,13 +5,13 @@
 use Rattle.std.specs.Prelude.{ℕ, ◌≡◌, ◌<◌, List, length, IsPermutation}
 use Rattle.geo_sign.specs.Point.{Point}
 use Rattle.mesh_edges.specs.Edges.{face_at}
-use Rattle.mesh_flips.specs.Turns.{IsTurned}
+use Rattle.mesh_flips.specs.Turns.{IsCycled}
 use Rattle.mesh_flips.specs.Flips.{IsFlipped}
 
 -- the same faces, each written from another corner on
 pub record AreTurned (old new : List (List ℕ)) : Type 0 where
   pub count : length new ≡ length old
-  pub each : (i : ℕ) → i < length old → IsTurned (face_at old i) (face_at new i)
+  pub each : (i : ℕ) → i < length old → IsCycled (face_at old i) (face_at new i)
 
 -- The faces are in another order, edges are flipped, and the faces are written from another corner on. Only the flips change the
 -- surface; by them faces that were apart stay apart, and no directed edge occurs twice that did not.

@@ -1,7 +1,7 @@
 //! Sorts faces along the curve of Morton (1966), so that consecutive faces are near each other.
 
 ghost use Rattle.std.specs.Prelude.{◌≡◌, IfOk, IsPermutation, map};
-ghost use Rattle.mesh_finish.specs.Order.{the_face};
+ghost use Rattle.mesh_finish.specs.Order.{unkeyed};
 
 use crate::NoMemory;
 use geo_sign::Point;
@@ -43,7 +43,7 @@ fn key_at(points: &[Point], v: u32) -> u64 {
 
 /// Returns the faces with their keys.
 fn with_keys(alloc: Global, points: &[Point], faces: &[[u32; 3]]) -> Result<Vec<Keyed>, NoMemory>
-    ensures { IfOk result (λ list. map the_face list.items ≡ faces.now) }
+    ensures { IfOk result (λ list. map unkeyed list.items ≡ faces.now) }
 {
     let mut list = Vec::with_capacity(alloc, faces.len())?;
     for face in faces {
@@ -65,7 +65,7 @@ fn sort(list: &mut [Keyed])
 
 /// Returns the faces without their keys.
 fn faces_of(alloc: Global, list: &[Keyed]) -> Result<Vec<[u32; 3]>, NoMemory>
-    ensures { IfOk result (λ faces. faces.items ≡ map the_face list.now) }
+    ensures { IfOk result (λ faces. faces.items ≡ map unkeyed list.now) }
 {
     let mut faces = Vec::with_capacity(alloc, list.len())?;
     for keyed in list {

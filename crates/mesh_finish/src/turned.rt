@@ -2,7 +2,7 @@
 
 ghost use Rattle.std.specs.Prelude.{◌≡◌, ◌<◌, ℕ, All, IfOk, length};
 ghost use Rattle.mesh_ply.specs.Meshes.{IsFace};
-ghost use Rattle.mesh_flips.specs.Turns.{IsTriangle, IsTurned};
+ghost use Rattle.mesh_flips.specs.Turns.{IsTriangle, IsCycled};
 ghost use Rattle.mesh_finish.specs.Finished.{AreTurned};
 
 use crate::NoMemory;
@@ -10,7 +10,7 @@ use std::alloc::Global;
 
 /// Returns the face with its smallest number first, in the same order around.
 fn smallest_first(face: [u32; 3]) -> [u32; 3]
-    ensures turned { IsTurned face result }
+    ensures turned { IsCycled face result }
     ensures face { (n : ℕ) → IsTriangle n face → IsFace n result }
 {
     let [a, b, c] = face;

@@ -10,7 +10,7 @@ use Rattle.mesh_edges.specs.Edges.{face_at}
 use Rattle.hull_tree.specs.Trees.{IsInserted}
 use Rattle.hull_tree.specs.declared.hull.Hull.{Hull}
 use Rattle.hull_tree.specs.declared.tree.HullTree.{HullTree}
-use Rattle.triangle_gap.specs.Gaps.{AreApart}
+use Rattle.triangle_gap.specs.Gaps.{AreFacesApart}
 use Rattle.mesh_flips.specs.Quads.{IsQuad, flipped}
 use Rattle.mesh_flips.specs.Flips.{KeepsApart}
 use Rattle.mesh_flips.specs.Clear.{IsFree}
@@ -66,10 +66,10 @@ module _ (points : List Point) (faces : List (List ℕ)) (one other : ℕ) (q : 
     (free : IsFree points faces one other q) where
   -- faces at two places, where each is one that stands there
   joined : (i j : ℕ) (f g : List ℕ) → face_at (flipped faces one other q) i ≡ f → face_at (flipped faces one other q) j ≡ g
-      → AreApart points f g → AreApart points (face_at (flipped faces one other q) i) (face_at (flipped faces one other q) j)
+      → AreFacesApart points f g → AreFacesApart points (face_at (flipped faces one other q) i) (face_at (flipped faces one other q) j)
   joined i j f g e h apart =
-      subst (λ (x : List ℕ). AreApart points x (face_at (flipped faces one other q) j)) (sym e)
-      (subst (λ (x : List ℕ). AreApart points f x) (sym h) apart)
+      subst (λ (x : List ℕ). AreFacesApart points x (face_at (flipped faces one other q) j)) (sym e)
+      (subst (λ (x : List ℕ). AreFacesApart points f x) (sym h) apart)
 
   pub flip_apart : KeepsApart points faces (flipped faces one other q)
   flip_apart i j ne li lj apart =

@@ -8,7 +8,7 @@
 --   IsFlipped points old new    edges were flipped so that the last two hold
 use Rattle.std.specs.Prelude.{ℕ, ◌≡◌, ◌≢◌, ◌+◌, ◌<◌, ◌≤◌, List, length}
 use Rattle.geo_sign.specs.Point.{Point}
-use Rattle.triangle_gap.specs.Gaps.{AreApart}
+use Rattle.triangle_gap.specs.Gaps.{AreFacesApart}
 use Rattle.mesh_edges.specs.Edges.{face_at, faces_with_edge}
 use Rattle.mesh_flips.specs.Quads.{IsQuad, flipped}
 use Rattle.mesh_flips.specs.declared.quad.Quad.{Quad}
@@ -34,8 +34,8 @@ SameExcess old new =
 -- faces that were apart, by their numbers, still are
 abbrev pub KeepsApart : List Point → (old new : List (List ℕ)) → Type 0
 KeepsApart points old new =
-    (i j : ℕ) → i ≢ j → i < length old → j < length old → AreApart points (face_at old i) (face_at old j)
-    → AreApart points (face_at new i) (face_at new j)
+    (i j : ℕ) → i ≢ j → i < length old → j < length old → AreFacesApart points (face_at old i) (face_at old j)
+    → AreFacesApart points (face_at new i) (face_at new j)
 
 -- no directed edge that occurred at most once occurs more often
 abbrev pub KeepsSingle : (old new : List (List ℕ)) → Type 0

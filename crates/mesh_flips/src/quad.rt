@@ -1,7 +1,7 @@
 //! Two faces with a common edge, by their four corners.
 
 ghost use Rattle.std.specs.Prelude.{◌≡◌, ◌<◌, ◌/◌, ◌%◌, ℕ, IfSome};
-ghost use Rattle.mesh_flips.specs.Turns.{IsTurned};
+ghost use Rattle.mesh_flips.specs.Turns.{IsCycled};
 ghost use Rattle.mesh_flips.specs.Quads.{IsQuad};
 
 /// The corners of two faces `a b c` and `b a d` with a common edge.
@@ -19,7 +19,7 @@ pub struct Quad {
 
 /// Returns the face written from this side on.
 pub(crate) fn turned(face: [u32; 3], side: u32) -> [u32; 3]
-    ensures { IsTurned face result }
+    ensures { IsCycled face result }
 {
     let [a, b, c] = face;
     if side == 0 {

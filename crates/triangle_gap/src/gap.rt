@@ -6,7 +6,7 @@ ghost use Rattle.geo_sign.specs.Point.{IsWithin};
 ghost use Rattle.mesh_ply.specs.Meshes.{is_vertex_of};
 ghost use Rattle.triangle_gap.specs.Shared.{AreExcluded};
 ghost use Rattle.triangle_gap.specs.Settled.{AreCovered, AreSettled, AreMarks, IsTriangleOf};
-ghost use Rattle.triangle_gap.specs.Gaps.{AreApart};
+ghost use Rattle.triangle_gap.specs.Gaps.{AreFacesApart};
 
 use crate::corners::{Excluded, Marks, Triangle};
 use crate::planes::excluded_by;
@@ -158,7 +158,7 @@ fn triangle_of(points: &[Point], face: [u32; 3]) -> Triangle
 pub fn are_apart(points: &[Point], one: [u32; 3], other: [u32; 3]) -> bool
     requires one_in { All (λ v. v < length points.now) one }
     requires other_in { All (λ v. v < length points.now) other }
-    ensures { OnTrue result (AreApart points.now one other) }
+    ensures { OnTrue result (AreFacesApart points.now one other) }
 {
     let common = Excluded {
         one: common_corners(one, other),

@@ -5,7 +5,7 @@ ghost use Rattle.mesh_ply.specs.Texts.{IsPrinted};
 ghost use Rattle.command_run.specs.Replies.{answer_of};
 ghost use Rattle.command_run.specs.Steps.{IsReplied, ReadsFor, CountsFaults, surface_of};
 ghost use Rattle.mesh_cmd.specs.Commands.{asked, finish_of};
-ghost use Rattle.mesh_cmd.specs.Finish.{option_of, options_of, finish_names, finish_task, finish_line, finish_done, IsFinishedMesh, WritesFinished};
+ghost use Rattle.mesh_cmd.specs.Finish.{option_of, finish_options, finish_names, finish_task, finished_line, finish_done, IsFinishedMesh, WritesFinished};
 
 use crate::commands::Command;
 use command_run::{
@@ -55,7 +55,7 @@ pub fn finish_command(words: &[String]) -> Option<Command<'_>>
 
 /// Returns the options that these arguments are, if they are valid.
 fn options_in(words: &[String]) -> Option<FinishOptions>
-    ensures { result ≡ options_of (map string_bytes words.now) }
+    ensures { result ≡ finish_options (map string_bytes words.now) }
 {
     match words {
         [] => Some(FinishOptions { flips: true }),
@@ -140,9 +140,9 @@ fn reply_of_mesh<'a>(alloc: Global, mesh: &Mesh, output: &'a str) -> Result<Repl
 }
 
 /// Returns the line of `finish`: the numbers of points and faces that were written.
-#[tactic(auto, unfolding(crate::specs::Finish::finish_line))]
+#[tactic(auto, unfolding(crate::specs::Finish::finished_line))]
 fn line_of_finish(alloc: Global, points: u64, faces: u64) -> Result<Vec<u8>, NoMemory>
-    ensures { IfOk result (λ line. line.items ≡ finish_line points faces) }
+    ensures { IfOk result (λ line. line.items ≡ finished_line points faces) }
 {
     let mut line = Vec::new(alloc);
     push_labelled(&mut line, b"finished points ", points)?;
