@@ -1,3 +1,3 @@
-pub mod Carrying
+pub mod Written
 pub mod Outcomes
 pub mod MeshReplies

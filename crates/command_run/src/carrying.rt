@@ -17,7 +17,7 @@ pub fn carry_out<H: Host>(host: &mut H, reply: &Reply) -> Status
 }
 
 /// Writes the files in order and says the line. Returns the status, or `Failed` after the first call that fails.
-#[tactic(auto, using(crate::proofs::Carrying::written_none))]
+#[tactic(auto, using(crate::proofs::Written::written_none))]
 pub fn conclude<H: Host>(host: &mut H, texts: &[Text], line: &[u8], status: Status) -> Status
     requires { (H.state host.old).writing ≡ false }
     ensures { CarriesOut (texts_of texts.now) line.now status result (H.state host.old) (H.state host.new) }

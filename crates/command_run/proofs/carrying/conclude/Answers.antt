@@ -6,7 +6,7 @@ use Rattle.command_run.specs.Answers.{Write}
 use Rattle.command_run.specs.Replies.{texts_of}
 use Rattle.command_run.specs.declared.reply.Text.{Text}
 use Rattle.command_run.specs.Steps.{IsWritten, StopsOnTheWay}
-use Rattle.command_run.proofs.Carrying.{texts_next, texts_split, written_more, stopped_at, said_front}
+use Rattle.command_run.proofs.Written.{texts_next, texts_split, written_more, stopped_at, said_front}
 use Rattle.command_run.proofs.carrying.conclude.Goals as goal
 
 pub loop-text-preserved : goal.loop-text-preserved
