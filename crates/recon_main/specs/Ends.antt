@@ -12,8 +12,7 @@
 --     words_behind_name args              the words but the first
 --     EndsOn args status before after     the program ended so on what the system handed in as words
 --     fresh_state                         a host that was not used
---     EndsOver args status                the program ended so on these words, over that host
---     EndsAfterARun status                it ended so on some words
+--     EndsAfterARun status                the program ended so on some words, over that host
 use Rattle.std.specs.Prelude.{◌≡◌, ◌≢◌, ◌⊎◌, ℕ, ◌-◌, ◌<◌, List, [], ◌∷◌, length, map, drop, slice_index_or, Result, Ok, Err, Option, Some}
 use Rattle.std.specs.Prelude.{None, false, string_bytes, unwrap_or}
 use Rattle.std.specs.IoError.{error_kind}
@@ -118,10 +117,7 @@ EndsOn (Err error) code before after =
 abbrev pub fresh_state : State
 fresh_state = record { told = None; faults = 0; opens = 0; reading = false; writing = false }
 
--- the system handed in this as words, and over a fresh host the program ended on it so
-abbrev pub EndsOver : Result (IntoIter (String Global) Global) Error → ℕ → Type 0
-EndsOver args code = (after : State) × EndsOn args code fresh_state after
-
--- the system handed in something as words, and the program ended on it so
+-- the system handed in something as words, and the program ended so on it, over a fresh host
 abbrev pub EndsAfterARun : ℕ → Type 0
-EndsAfterARun code = (args : Result (IntoIter (String Global) Global) Error) × EndsOver args code
+EndsAfterARun code =
+    (args : Result (IntoIter (String Global) Global) Error) × (after : State) × EndsOn args code fresh_state after
