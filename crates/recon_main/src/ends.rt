@@ -1,15 +1,15 @@
 //! How the program ends, by what the system hands in as its words. It stands on `recon_cmd`, and on the forms of `mesh_form`.
-ghost use Rattle.std.specs.Prelude.{◌≡◌, false, drop, map, string_bytes, IfOk, OnErr, Some, None};
+ghost use Rattle.std.specs.Prelude.{◌≡◌, false, map, string_bytes, IfOk, OnErr, Some, None};
 ghost use Rattle.std.specs.Process.{exit_status};
-ghost use Rattle.std.specs.Vec.Iter.{into_iter_items};
 ghost use Rattle.recon_cmd.specs.Sweep.{entries_of};
-ghost use Rattle.recon_main.specs.Ends.{EndsOn, EndsAfterARun, RunsOn, RunsOrIdles, fresh_state};
+ghost use Rattle.recon_main.specs.Ends.{EndsOn, EndsAfterARun, RunsOn, RunsOrIdles};
 ghost use Rattle.real_host.specs.Real.{real_state};
+ghost use Rattle.real_host.specs.Start.{fresh_state};
 
 use crate::advice::{Hints, command_begun};
 use host::Host;
 use mesh_form::{Form, ObjForm, OffForm, PlyForm};
-use real_host::{RealHost, Unnamed};
+use real_host::{RealHost, Unnamed, arguments_after_name};
 use recon_cmd::{FILE_LIMIT, Request, Status, run, run_forms_within};
 use std::alloc::{AllocError, Global};
 use std::env::Args;
@@ -66,7 +66,7 @@ pub fn ends<H: Host, W: Watch>(
     ensures { EndsOn args (exit_status result) (H.state host.old) (H.state host.new) }
 {
     let status = match args {
-        Ok(args) => match words_behind_name(alloc, args) {
+        Ok(args) => match arguments_after_name(alloc, args) {
             Ok(words) => run_on(alloc, &words, host, watch),
             Err(AllocError) => Status::NoMemory.code(),
         },
@@ -143,16 +143,4 @@ fn run_in_formats<H: Host, W: Watch>(
     forms.push(Box::new(alloc, OffForm::new(alloc))?)?;
     forms.push(Box::new(alloc, ObjForm::new(alloc))?)?;
     Ok(run_forms_within(alloc, words, host, &mut forms, FILE_LIMIT, watch))
-}
-
-/// All but the first.
-fn words_behind_name(alloc: Global, mut args: Args) -> Result<Vec<String>, AllocError>
-    ensures { IfOk result (λ words. words.items ≡ drop 1 (into_iter_items args)) }
-{
-    let mut words = Vec::new(alloc);
-    let _name = args.next();
-    while let Some(word) = args.next() {
-        words.push(word)?;
-    }
-    Ok(words)
 }
