@@ -1,7 +1,7 @@
 -- No two faces cross after a flip that did not.
 --
 -- Of two faces after a flip both were there before; or one is new, and then it is apart from the other, since all other faces were
--- looked at; or both are new, and they were looked at too.
+-- tested; or both are new, and they were tested too.
 use Rattle.std.proofs.Common.{ℕ, ◌≡◌, ◌≢◌, ◌<◌, ◌⊎◌, inl, inr, ap, sym, ◌∙◌, subst, arith, List, [], ◌∷◌, length, set, get_or-set_other, get_or-set_same}
 use Rattle.std.proofs.Math.ListN.{length-set}
 use Rattle.std.proofs.lemmas.Bool.{cases_lt}
@@ -101,7 +101,7 @@ module _ (points : List Point) (faces : List (List ℕ)) (one other : ℕ) (q : 
         ]
       ]
 
--- the boxes of the new faces are put in, and those of the others stay
+-- the boxes of the new faces are inserted, and those of the others stay
 pub flip_boxes : (points : List Point) (faces : List (List ℕ)) (one other : ℕ) (q : Quad) (old mid new : HullTree) (h k : Hull)
     → IsQuad faces one other q → IsTreeOf points faces old → HoldsFace points h (q.a ∷ q.d ∷ q.c ∷ [])
     → HoldsFace points k (q.d ∷ q.b ∷ q.c ∷ []) → IsInserted mid one h → IsInserted new other k

@@ -112,7 +112,7 @@ flips_excess n {old} each none u v = refl
 flips_excess n each (more {old} {mid} {new} before f) u v =
     omega (arith, flips_excess n each before u v, one_excess n mid new (flips_triangles n each before) f u v)
 
--- the laws
+-- the theorems
 
 pub flips_keep_triangles : FlipsKeepTriangles
 flips_keep_triangles = λ n old new each flips. flips_triangles n each flips

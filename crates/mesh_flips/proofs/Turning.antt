@@ -40,7 +40,7 @@ module _ (points : List Point) (old new : List (List ℕ)) (one other : ℕ) (q 
             flip_boxes points old one other q was mid is h k lie ready.boxes first second insert_one insert_other kept kept_on same same_on;
       })
 
--- the box of one face more is put in
+-- the box of one more face is inserted
 pub insert_face : (points : List Point) (faces : List (List ℕ)) (old new : HullTree) (i : ℕ) (h : Hull)
     → HoldsFace points h (face_at faces i) → IsInserted new i h → ((k : ℕ) (g : Hull) → IsInserted old k g → IsInserted new k g)
     → ((k : ℕ) → k < i → HasBox points faces old k) → (k : ℕ) → k < i + 1 → HasBox points faces new k

@@ -1,7 +1,7 @@
-//! A system whose program has no name. It stands on std's words of a command line.
+//! A system whose program has no name.
 //!
-//! std hands out all words, or none where one of them is no text. The name says nothing of what is asked for, so a program that
-//! stands at a path that is no text runs as any other.
+//! std returns all arguments, or none if one of them is not UTF-8. The name says nothing of what is asked for, so a program whose path
+//! is not UTF-8 runs as any other.
 use std::env::FillError;
 use std::rt::Env;
 
