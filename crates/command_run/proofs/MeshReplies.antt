@@ -8,10 +8,11 @@ use Rattle.mesh_ply.specs.declared.mesh.Mesh.{Mesh}
 use Rattle.command_run.specs.Answers.{Answer, IsUnreadMesh, invalid, ToMesh, MayEnd, mesh_task}
 use Rattle.command_run.specs.Lines.{too_long_mesh_line}
 use Rattle.command_run.specs.Replies.{line_bytes, answer_of}
-use Rattle.command_run.specs.Steps.{IsMeshReading, ReadsBy, surface_of, IsReplied, IsAnswered}
+use Rattle.command_run.specs.Steps.{IsMeshReading, IsUnderstoodMesh, ReadsBy, surface_of, IsReplied, IsAnswered}
 use Rattle.command_run.specs.declared.reply.Line.{Line}
 use Rattle.command_run.specs.declared.reply.Reply.{Reply}
 use Rattle.command_run.specs.declared.status.Status.{Status}
+use Rattle.command_run.specs.declared.meshes.MeshReading.{MeshReading}
 use Rattle.command_run.specs.declared.meshes.MeshReading.TheVariants as readings
 
 -- the file is longer than the limit
@@ -25,6 +26,15 @@ mesh_long limit name line (Some told) is longer = with_bytes (told.files name) r
         → IsMeshReading limit name (readings.Refused line) told
     with_bytes None has more = absurd (omega arith)
     with_bytes (Some bytes) has more = (bytes, has, inl (record { longer = more; is = ap (λ (l : List ℕ). invalid 1 l) is }))
+
+-- the file was read, and its bytes are read so
+pub mesh_read : (limit : ℕ) (name bytes held : List ℕ) (reading : MeshReading) (o : Option Told) → held ≡ bytes
+    → length bytes ≤ limit → IfSome o (λ told. told.files name ≡ Some bytes)
+    → ((most : ℕ) → length held ≤ most → IsUnderstoodMesh most held reading) → IfSome o (IsMeshReading limit name reading)
+mesh_read limit name bytes held reading None same within there understood = tt
+mesh_read limit name bytes held reading (Some told) same within there understood =
+    let short : length held ≤ limit = subst (λ (b : List ℕ). length b ≤ limit) (sym same) within in
+    (bytes, there, subst (λ (b : List ℕ). IsUnderstoodMesh limit b reading) same (understood limit short))
 
 -- the mesh is invalid, with this line
 pub invalid_mesh : (limit : ℕ) (name : List ℕ) (Answers : Surface → Answer → Type 0) (line : Line) (answer : Answer)
