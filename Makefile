@@ -1,25 +1,33 @@
 # recon: builds, runs and tests. Each target says what it does while it does it.
 PREFIX ?= /usr/local
 PROGRAM = crates/recon_main/out/recon_main
+MESH_PROGRAM = crates/mesh_main/out/mesh_main
 
 USER_TOOLS = $(notdir $(basename $(wildcard tools/*.py)))
 MACHINE = $(shell uname -s | tr A-Z a-z)-$(shell uname -m)
 
-.PHONY: run recon test attack bench bench-short install dist clean
+.PHONY: run recon recon-mesh test attack bench bench-short install dist clean
 
 # Proves and builds the program (the first time about twenty minutes on four processors, afterwards seconds), leaves it
-# as ./recon and runs it on an example.
-run: recon
+# as ./recon and ./recon-mesh and runs them on an example.
+run: recon recon-mesh
 	@echo "recon build: the surface of the tetrahedron in examples/"
 	./recon build examples/tetrahedron.ply tetrahedron_mesh.ply tetrahedron.cert
 	@echo "recon check: whether mesh and certificate are those of the scan"
 	./recon check examples/tetrahedron.ply tetrahedron_mesh.ply tetrahedron.cert
+	@echo "recon-mesh finish: the mesh with its edges flipped where the angles between faces fall"
+	./recon-mesh finish tetrahedron_mesh.ply tetrahedron_finished.ply
 	@echo "tetrahedron_mesh.ply opens in viewers of PLY meshes, in MeshLab after tools/finish.py or tools/mesh_to_floats.py"
 
 recon:
 	@echo "proving and building the program, a line for each crate; all that rt prints goes to run.log"
 	cd crates/recon_main && python3 ../../dev/progress.py ../../run.log rt run -- demo 1 7
 	cp $(PROGRAM) recon
+
+recon-mesh:
+	@echo "proving and building recon-mesh, a line for each crate; all that rt prints goes to run_mesh.log"
+	cd crates/mesh_main && python3 ../../dev/progress.py ../../run_mesh.log rt run -- finish data/mesh.ply out/finished.ply
+	cp $(MESH_PROGRAM) recon-mesh
 
 # All tests, as the gate runs them: every proof and every test of every crate, the edits that must be refused, the program; then what
 # the documents name, the tests of tools/ and those of the built program. What passed here before and has not changed is not proved again.
@@ -47,11 +55,13 @@ bench: recon
 bench-short: recon
 	python3 dev/bench.py ./recon bench_scans scans=short check=no runs=1 $(if $(BESIDE),beside=$(BESIDE))
 
-# Installs the program, its manual page and the programs of tools/ under PREFIX (a second, where the program is built; else it is
-# built first). scan.py becomes recon-scan, mesh_to_floats.py recon-mesh-to-floats, and so on; they want Python 3.8 or later.
-install: recon
+# Installs the two programs, their manual pages and the programs of tools/ under PREFIX (a second, where they are built; else they
+# are built first). scan.py becomes recon-scan, mesh_to_floats.py recon-mesh-to-floats, and so on; they want Python 3.8 or later.
+install: recon recon-mesh
 	install -D -m 755 recon $(DESTDIR)$(PREFIX)/bin/recon
+	install -D -m 755 recon-mesh $(DESTDIR)$(PREFIX)/bin/recon-mesh
 	install -D -m 644 docs/recon.1 $(DESTDIR)$(PREFIX)/share/man/man1/recon.1
+	install -D -m 644 docs/recon-mesh.1 $(DESTDIR)$(PREFIX)/share/man/man1/recon-mesh.1
 	install -d $(DESTDIR)$(PREFIX)/share/recon/toolbox
 	install -m 644 tools/*.py $(DESTDIR)$(PREFIX)/share/recon
 	install -m 644 tools/toolbox/*.py $(DESTDIR)$(PREFIX)/share/recon/toolbox
@@ -62,7 +72,7 @@ install: recon
 
 # Packs what is installed into one archive, for machines of this kind that have no toolchain: unpacked anywhere, its folder bin/ has
 # the program and the tools (a second, where the program is built).
-dist: recon
+dist: recon recon-mesh
 	rm -rf recon-$(MACHINE)
 	$(MAKE) install DESTDIR=$(CURDIR)/ PREFIX=recon-$(MACHINE)
 	cp README.md docs/using.md recon-$(MACHINE)
@@ -72,4 +82,5 @@ dist: recon
 
 # Removes what was built and what the proofs kept (a second; the next run proves from nothing). The scans of bench stay.
 clean:
-	rm -rf crates/*/out recon recon-*.tar.gz tetrahedron_mesh.ply tetrahedron.cert run.log test.log attack.log
+	rm -rf crates/*/out recon recon-mesh recon-*.tar.gz tetrahedron_mesh.ply tetrahedron_finished.ply tetrahedron.cert run.log run_mesh.log \
+	  test.log attack.log

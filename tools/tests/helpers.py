@@ -17,6 +17,9 @@ DEV = os.path.join(ROOT, 'dev')
 PLACES = [os.environ.get('RECON', ''), os.path.join(ROOT, 'recon'),
           os.path.join(ROOT, 'crates', 'recon_main', 'out', 'recon_main')]
 RECON = next(filter(os.path.exists, PLACES), '')
+MESH_PLACES = [os.environ.get('RECON_MESH', ''), os.path.join(ROOT, 'recon-mesh'),
+               os.path.join(ROOT, 'crates', 'mesh_main', 'out', 'mesh_main')]
+RECON_MESH = next(filter(os.path.exists, MESH_PLACES), '')
 sys.path[:0] = [TOOLS, DEV]
 
 

@@ -5,7 +5,7 @@ use Rattle.std.proofs.lemmas.Bool.{cases_lt}
 use Rattle.geo_sign.specs.Point.{Point}
 use Rattle.hull_tree.specs.Hulls.{HoldsHull, HoldsPoint, AreOff}
 use Rattle.hull_tree.specs.Spans.{HoldsSpan, AreSpansOff}
-use Rattle.hull_tree.specs.Trees.{IsOver, HasGrown, hull_in}
+use Rattle.hull_tree.specs.Trees.{IsNodeAbove, HasGrown, hull_in}
 use Rattle.hull_tree.specs.declared.hull.Hull.{Hull}
 use Rattle.hull_tree.specs.declared.span.Span.{Span}
 use Rattle.hull_tree.proofs.Overs.{only_over}
@@ -42,16 +42,16 @@ grown_at hulls n g within holds k h held =
         ]
 
 -- the boxes below one level over a place hold h, and so do those up to it
-pub put_more : (hulls more : List Hull) (place node s : ℕ) (h : Hull)
-    → ((t k : ℕ) → t < s → IsOver k t place → HoldsHull (hull_in hulls k) h) → HasGrown hulls more → IsOver node s place
+pub insert_more : (hulls more : List Hull) (place node s : ℕ) (h : Hull)
+    → ((t k : ℕ) → t < s → IsNodeAbove k t place → HoldsHull (hull_in hulls k) h) → HasGrown hulls more → IsNodeAbove node s place
     → HoldsHull (hull_in more node) h
-    → (t k : ℕ) → t < s + 1 → IsOver k t place → HoldsHull (hull_in more k) h
-put_more hulls more place node s h below grown over here t k l o =
+    → (t k : ℕ) → t < s + 1 → IsNodeAbove k t place → HoldsHull (hull_in more k) h
+insert_more hulls more place node s h below grown over here t k l o =
     elim (cases_lt t s) [
       | inl m ↦ grown k h (below t k m o)
       | inr m ↦
           let e : t ≡ s = omega arith in
-          let o' : IsOver k s place = subst (λ (i : ℕ). IsOver k i place) e o in
+          let o' : IsNodeAbove k s place = subst (λ (i : ℕ). IsNodeAbove k i place) e o in
           subst (λ (i : ℕ). HoldsHull (hull_in more i) h) (sym (only_over k node s place o' over)) here
     ]
 

@@ -6,10 +6,10 @@ use Rattle.std.proofs.Common.{ℕ, zero, suc, ◌≡◌, ◌+◌, ◌*◌, ◌/�
 use Rattle.std.proofs.Math.Nat.{mul-le-mul_right, mul-le-mul_left, pow-succ'}
 use Rattle.std.proofs.lemmas.Nat.{pow_pos}
 use Rattle.std.proofs.lemmas.Bool.{cases_lt}
-use Rattle.hull_tree.specs.Trees.{IsOver}
+use Rattle.hull_tree.specs.Trees.{IsNodeAbove}
 
 -- the least of them
-pub over_itself : (m : ℕ) → IsOver m 0 m
+pub over_itself : (m : ℕ) → IsNodeAbove m 0 m
 over_itself m = record { from = omega arith; to = omega arith }
 
 halves : (q r w m : ℕ) → r < 2 → (2 * q + r) * w ≤ m → m < (2 * q + r + 1) * w → (q * (2 * w) ≤ m) × (m < (q + 1) * (2 * w))
@@ -24,13 +24,13 @@ not_after k l w m from to =
       | inr h ↦ omega arith
     ]
 
-pub only_over : (k l s m : ℕ) → IsOver k s m → IsOver l s m → k ≡ l
+pub only_over : (k l s m : ℕ) → IsNodeAbove k s m → IsNodeAbove l s m → k ≡ l
 only_over k l s m a b =
     let there = not_after k l (2 ^ s) m a.from b.to in
     let back = not_after l k (2 ^ s) m b.from a.to in
     omega (arith, there, back)
 
-pub over_half : (k s m : ℕ) → IsOver k s m → IsOver (k / 2) (s + 1) m
+pub over_half : (k s m : ℕ) → IsNodeAbove k s m → IsNodeAbove (k / 2) (s + 1) m
 over_half k s m o =
     let q = k / 2 in
     let r = k % 2 in
@@ -50,7 +50,7 @@ doubled zero h = absurd (h refl)
 doubled (suc s) h = rw sub-one (pow-succ' 2 s)
 
 -- a place below a node is below one of the two nodes under it
-pub over_one_of : (k s m : ℕ) → (s ≡ 0 → ⊥) → IsOver k s m → IsOver (2 * k) (s - 1) m ⊎ IsOver (2 * k + 1) (s - 1) m
+pub over_one_of : (k s m : ℕ) → (s ≡ 0 → ⊥) → IsNodeAbove k s m → IsNodeAbove (2 * k) (s - 1) m ⊎ IsNodeAbove (2 * k + 1) (s - 1) m
 over_one_of k s m h o =
     let w = 2 ^ (s - 1) in
     let d : 2 ^ s ≡ 2 * w = doubled s h in

@@ -1,8 +1,8 @@
--- Boxes along the axes.
+-- Axis-parallel boxes.
 --
 --   HoldsPoint h p    the point is in the box
---   HoldsHull h g     the box holds all of another
---   AreOff h g        along some axis one is all below the other
+--   HoldsHull h g     the box contains another
+--   AreOff h g        along some axis one is below the other
 use Rattle.std.specs.Prelude.{◌⊎◌, ◌≤ℤ◌}
 use Rattle.geo_sign.specs.Point.{Point}
 use Rattle.hull_tree.specs.Spans.{HoldsSpan, AreSpansOff}
@@ -17,12 +17,12 @@ pub record HoldsPoint (h : Hull) (p : Point) : Type 0 where
   pub z_low : h.z.low ≤ℤ p.z
   pub z_high : p.z ≤ℤ h.z.high
 
--- the box holds all of another
+-- the box contains another
 pub record HoldsHull (h g : Hull) : Type 0 where
   pub x : HoldsSpan h.x g.x
   pub y : HoldsSpan h.y g.y
   pub z : HoldsSpan h.z g.z
 
--- along some axis one is all below the other
+-- along some axis one is below the other
 abbrev pub AreOff : (h g : Hull) → Type 0
 AreOff h g = AreSpansOff h.x g.x ⊎ (AreSpansOff h.y g.y ⊎ AreSpansOff h.z g.z)

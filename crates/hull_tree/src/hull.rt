@@ -1,4 +1,4 @@
-//! A box along the axes.
+//! Axis-parallel boxes.
 
 ghost use Rattle.std.specs.Bool.{OnFalse};
 ghost use Rattle.hull_tree.specs.Hulls.{HoldsPoint, HoldsHull, AreOff};
@@ -6,19 +6,19 @@ ghost use Rattle.hull_tree.specs.Hulls.{HoldsPoint, HoldsHull, AreOff};
 use crate::span::Span;
 use geo_sign::Point;
 
-/// A box along the axes, by what it has of each.
+/// An axis-parallel box, as one span for each axis.
 #[derive(Clone, Copy, Debug)]
 pub struct Hull {
-    /// The first coordinates.
+    /// The x coordinates.
     pub x: Span,
-    /// The second.
+    /// The y coordinates.
     pub y: Span,
-    /// The third.
+    /// The z coordinates.
     pub z: Span,
 }
 
 impl Hull {
-    /// The empty box.
+    /// Returns the empty box.
     pub fn empty() -> Hull {
         Hull {
             x: Span::empty(),
@@ -27,7 +27,7 @@ impl Hull {
         }
     }
 
-    /// The box of one point.
+    /// Returns the box of one point.
     pub fn of_point(p: Point) -> Hull
         ensures { HoldsPoint result p }
     {
@@ -38,7 +38,7 @@ impl Hull {
         }
     }
 
-    /// A box that holds two.
+    /// Returns the smallest box that contains two boxes.
     pub fn joined(self, other: Hull) -> Hull
         ensures first { HoldsHull result self }
         ensures second { HoldsHull result other }
@@ -50,7 +50,7 @@ impl Hull {
         }
     }
 
-    /// A box of three points.
+    /// Returns the box of three points.
     pub fn of_points(p: Point, q: Point, r: Point) -> Hull
         ensures p { HoldsPoint result p }
         ensures q { HoldsPoint result q }
@@ -60,7 +60,7 @@ impl Hull {
         two.joined(Hull::of_point(r))
     }
 
-    /// Whether two boxes are not known to be off each other.
+    /// Returns whether two boxes overlap: false if they are disjoint along some axis.
     pub fn meets(self, other: Hull) -> bool
         ensures { OnFalse result (AreOff self other) }
     {

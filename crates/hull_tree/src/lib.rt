@@ -1,10 +1,10 @@
-//! Boxes of numbered things in a tree, by which those near a box are found.
+//! A bounding volume hierarchy of numbered boxes: finds the numbers whose boxes overlap a query box.
 //!
-//! A leaf has the box of four numbers that follow each other, and each node above one that holds those of the two nodes below it. The
-//! nodes are numbered as in a heap: the root is 1, and below node `k` are `2 k` and `2 k + 1`. A box only grows. So whatever was put
-//! in is held by all boxes over its number from then on, and a walk that leaves out the boxes that are off misses nothing.
+//! A leaf has a box around those of four consecutive numbers, and each inner node one around those of its two children. The nodes are
+//! numbered as in a heap: the root is 1, and the children of node `k` are `2 k` and `2 k + 1`. Boxes only grow, so an inserted box
+//! stays inside the boxes of all nodes above its number, and a search that skips disjoint nodes misses nothing.
 //!
-//! Where numbers that follow each other are near each other, a walk is short.
+//! A search is fast if consecutive numbers have boxes near each other. The crate depends on `geo_sign` (points).
 #![tactic(auto)]
 
 mod hull;
@@ -17,5 +17,5 @@ pub use span::Span;
 use std::alloc::AllocError;
 pub use tree::HullTree;
 
-/// Want of memory: the one answer that any input may get.
+/// Out of memory.
 pub type NoMemory = AllocError;

@@ -1,29 +1,29 @@
-//! What is put into a tree, and what is found near a box.
+//! Inserts boxes into a tree and finds those near a box.
 
 ghost use Rattle.std.specs.Prelude.{◌≡◌, ◌≤◌, ◌<◌, ◌+◌, ◌*◌, ◌/◌, ◌^◌, ◌⊎◌, ℕ, vec_len, length, OnOk, Contains};
 ghost use Rattle.hull_tree.specs.Hulls.{HoldsHull, AreOff};
-ghost use Rattle.hull_tree.specs.Trees.{IsPut, IsPutIn, HasGrown, KeepsAll, IsOver, hull_in, place_of};
+ghost use Rattle.hull_tree.specs.Trees.{IsInserted, IsInsertedAt, HasGrown, KeepsAll, IsNodeAbove, hull_in, leaf_of};
 ghost use Rattle.hull_tree.specs.declared.hull.Hull.{Hull};
 
 use crate::NoMemory;
 use crate::hull::Hull;
 use crate::tree::{HullTree, LEAF};
 
-/// Grows one box until it holds another.
+/// Grows one box until it contains another.
 fn widen(hulls: &mut [Hull], node: usize, hull: Hull)
     requires { node < length hulls.old }
-    ensures put { HoldsHull (hull_in hulls.new node) hull }
+    ensures insert { HoldsHull (hull_in hulls.new node) hull }
     ensures kept { HasGrown hulls.old hulls.new }
 {
     let had = hulls[node];
     hulls[node] = had.joined(hull);
 }
 
-/// Grows each box over a place of the lowest level until it holds this one.
+/// Grows each box above a node of the lowest level until it contains this one.
 fn grow(hulls: &mut [Hull], height: usize, place: usize, hull: Hull)
     requires within { place < length hulls.old }
     requires low { height < 64 }
-    ensures put { IsPutIn hulls.new height place hull }
+    ensures insert { IsInsertedAt hulls.new height place hull }
     ensures kept { HasGrown hulls.old hulls.new }
 {
     let mut node = place;
@@ -33,7 +33,7 @@ fn grow(hulls: &mut [Hull], height: usize, place: usize, hull: Hull)
     }
 }
 
-/// One number more.
+/// Appends a number.
 fn push_number(found: &mut Vec<usize>, number: usize) -> Result<(), NoMemory>
     ensures has { OnOk result (Contains found.new.items number) }
     ensures kept { OnOk result (KeepsAll found.old.items found.new.items) }
@@ -42,7 +42,7 @@ fn push_number(found: &mut Vec<usize>, number: usize) -> Result<(), NoMemory>
     Ok(())
 }
 
-/// The numbers of a leaf.
+/// Appends the four numbers of a leaf.
 fn push_leaf(leaf: usize, found: &mut Vec<usize>) -> Result<(), NoMemory>
     requires { leaf < 2 ^ 61 }
     ensures all { OnOk result ((i : ℕ) → i / 4 ≡ leaf → Contains found.new.items i) }
@@ -57,18 +57,18 @@ fn push_leaf(leaf: usize, found: &mut Vec<usize>) -> Result<(), NoMemory>
 }
 
 impl HullTree {
-    /// Puts a box in at a number: each box over it holds it from now on.
-    pub fn put(&mut self, number: usize, hull: Hull)
+    /// Inserts a box at a number. All boxes inserted before, at this number too, stay.
+    pub fn insert(&mut self, number: usize, hull: Hull)
         requires { number < 4 * self.old.leaves }
-        ensures put { IsPut self.new number hull }
-        ensures kept { (i : ℕ) (h : Hull) → IsPut self.old i h → IsPut self.new i h }
+        ensures insert { IsInserted self.new number hull }
+        ensures kept { (i : ℕ) (h : Hull) → IsInserted self.old i h → IsInserted self.new i h }
         ensures same { self.new.leaves ≡ self.old.leaves }
     {
         let place = self.leaves + number / LEAF;
         grow(&mut self.hulls, self.height, place, hull);
     }
 
-    /// Finds what is near a box below a node.
+    /// Appends the numbers below a node whose boxes may overlap a box.
     fn gather(
         &self,
         hull: Hull,
@@ -79,7 +79,7 @@ impl HullTree {
         requires low { height ≤ self.now.height }
         requires from { self.now.leaves ≤ node * 2 ^ height }
         requires to { (node + 1) * 2 ^ height ≤ 2 * self.now.leaves }
-        ensures found { OnOk result ((i : ℕ) (h : Hull) → IsPut self.now i h → IsOver node height (place_of self.now i) → Contains found.new.items i ⊎ AreOff h hull) }
+        ensures found { OnOk result ((i : ℕ) (h : Hull) → IsInserted self.now i h → IsNodeAbove node height (leaf_of self.now i) → Contains found.new.items i ⊎ AreOff h hull) }
         ensures kept { OnOk result (KeepsAll found.old.items found.new.items) }
     {
         if !self.hulls[node].meets(hull) {
@@ -94,10 +94,10 @@ impl HullTree {
         Ok(())
     }
 
-    /// Finds what is near a box, behind what was found before: each number that is not found has a box off this one. Of numbers that
-    /// were not put in, and of those from the tree's count on, some may be found.
+    /// Appends to `found` each number below the tree's count of which some inserted box overlaps `hull`. Others may be appended too,
+    /// and those in `found` stay.
     pub fn near(&self, hull: Hull, found: &mut Vec<usize>) -> Result<(), NoMemory>
-        ensures found { OnOk result ((i : ℕ) (h : Hull) → i < 4 * self.now.leaves → IsPut self.now i h → Contains found.new.items i ⊎ AreOff h hull) }
+        ensures found { OnOk result ((i : ℕ) (h : Hull) → i < 4 * self.now.leaves → IsInserted self.now i h → Contains found.new.items i ⊎ AreOff h hull) }
         ensures kept { OnOk result (KeepsAll found.old.items found.new.items) }
     {
         self.gather(hull, 1, self.height, found)?;

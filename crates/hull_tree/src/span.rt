@@ -1,20 +1,20 @@
-//! What a box has of one axis.
+//! The extent of a box along one axis.
 
 ghost use Rattle.std.specs.Prelude.{◌≤ℤ◌};
 ghost use Rattle.std.specs.Bool.{OnFalse};
 ghost use Rattle.hull_tree.specs.Spans.{HoldsSpan, AreSpansOff};
 
-/// The numbers from a least to a greatest one. Where the least is above the greatest there are none.
+/// The numbers from `low` to `high`, none if `low` is above `high`.
 #[derive(Clone, Copy, Debug)]
 pub struct Span {
-    /// The least.
+    /// The smallest number.
     pub low: i32,
-    /// The greatest.
+    /// The greatest number.
     pub high: i32,
 }
 
 impl Span {
-    /// No numbers.
+    /// Returns the span without numbers.
     pub(crate) fn empty() -> Span {
         Span {
             low: i32::MAX,
@@ -22,7 +22,7 @@ impl Span {
         }
     }
 
-    /// One number.
+    /// Returns the span of one number.
     pub(crate) fn of(x: i32) -> Span
         ensures low { result.low ≤ℤ x }
         ensures high { x ≤ℤ result.high }
@@ -30,7 +30,7 @@ impl Span {
         Span { low: x, high: x }
     }
 
-    /// A span that holds two.
+    /// Returns the smallest span that contains two spans.
     pub(crate) fn joined(self, other: Span) -> Span
         ensures first { HoldsSpan result self }
         ensures second { HoldsSpan result other }
@@ -41,7 +41,7 @@ impl Span {
         }
     }
 
-    /// Whether neither is all below the other.
+    /// Returns whether two spans overlap: false if one is below the other.
     pub(crate) fn meets(self, other: Span) -> bool
         ensures { OnFalse result (AreSpansOff self other) }
     {

@@ -1,4 +1,4 @@
-//! The tree.
+//! The tree itself, as a list of boxes.
 
 ghost use Rattle.std.specs.Prelude.{◌≡◌, ◌≤◌, ◌<◌, ◌*◌, ◌^◌, vec_len, IfOk};
 
@@ -9,7 +9,7 @@ use std::alloc::Global;
 /// How many numbers share a leaf.
 pub(crate) const LEAF: usize = 4;
 
-/// Boxes over numbers.
+/// A tree of boxes for numbers from 0.
 #[derive(Drop)]
 pub struct HullTree {
     pub(crate) hulls: Vec<Hull>,
@@ -22,7 +22,7 @@ pub struct HullTree {
 }
 
 impl HullTree {
-    /// A tree over the numbers below `count`, where nothing is put in yet.
+    /// Returns a tree for the numbers below `count`, with no box inserted. It has at most `count` nodes, rounded up to a power of two.
     pub fn new(alloc: Global, count: usize) -> Result<HullTree, NoMemory>
         requires { count < 2 ^ 60 }
         ensures { IfOk result (λ tree. count ≤ 4 * tree.leaves) }

@@ -8,10 +8,9 @@ use Rattle.std.proofs.lemmas.List.Elements.{All-head, All-tail}
 use Rattle.std.proofs.lemmas.List.Sorted.{sum_by-IsPermutation}
 use Rattle.std.proofs.lemmas.List.Sums.{sum_by-cons}
 use Rattle.mesh_ply.specs.Meshes.{IsFace}
-use Rattle.solid_slice.specs.Edges.{has_edge, faces_with_edge, IsBalanced}
-use Rattle.solid_slice.specs.Cuts.{face_at}
-use Rattle.solid_slice.proofs.Counts.{one_if}
-use Rattle.mesh_flips.specs.Turns.{IsTriangle, IsTurned}
+use Rattle.mesh_edges.specs.Edges.{has_edge, faces_with_edge, IsBalanced, face_at}
+use Rattle.mesh_edges.proofs.Counts.{one_if}
+use Rattle.mesh_flips.specs.Turns.{IsTriangle, IsCycled}
 use Rattle.mesh_flips.specs.Flips.{AreFlips}
 use Rattle.mesh_flips.proofs.Kept.{flips_excess}
 use Rattle.mesh_flips.proofs.Sides.{sides, turned_sides}
@@ -51,13 +50,13 @@ moved_balanced faces sorted moved closed u v =
     ∙ (closed u v ∙ sym (sum_by-IsPermutation (λ f. one_if (has_edge v u f)) faces sorted moved))
 
 -- a face that is turned has the same edges
-same_sides : (n u v : ℕ) (f g : List ℕ) → IsTriangle n f → IsTurned f g → one_if (has_edge u v f) ≡ one_if (has_edge u v g)
+same_sides : (n u v : ℕ) (f g : List ℕ) → IsTriangle n f → IsCycled f g → one_if (has_edge u v f) ≡ one_if (has_edge u v g)
 unfolding sides
 same_sides n u v f g o t = turned_sides n u v f g o t
 
 -- faces that are turned have each edge as often
 turned_edges : (n u v : ℕ) (old new : List (List ℕ)) → All (IsTriangle n) old → length new ≡ length old
-    → ((i : ℕ) → i < length old → IsTurned (face_at old i) (face_at new i)) → faces_with_edge u v new ≡ faces_with_edge u v old
+    → ((i : ℕ) → i < length old → IsCycled (face_at old i) (face_at new i)) → faces_with_edge u v new ≡ faces_with_edge u v old
 turned_edges n u v [] [] each count turned = refl
 turned_edges n u v [] (g ∷ new) each count turned = absurd (omega arith)
 turned_edges n u v (f ∷ old) [] each count turned = absurd (omega arith)

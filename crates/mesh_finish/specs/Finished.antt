@@ -1,20 +1,20 @@
 -- A finished mesh.
 --
---   AreTurned old new           the same faces, turned
---   IsFinished points old new   the faces in another order, then flips, then turned
+--   AreTurned old new           the same faces, each written from another corner on
+--   IsFinished points old new   the faces in another order, then flipped, then written from another corner on
 use Rattle.std.specs.Prelude.{ℕ, ◌≡◌, ◌<◌, List, length, IsPermutation}
 use Rattle.geo_sign.specs.Point.{Point}
-use Rattle.solid_slice.specs.Cuts.{face_at}
-use Rattle.mesh_flips.specs.Turns.{IsTurned}
+use Rattle.mesh_edges.specs.Edges.{face_at}
+use Rattle.mesh_flips.specs.Turns.{IsCycled}
 use Rattle.mesh_flips.specs.Flips.{IsFlipped}
 
 -- the same faces, each written from another corner on
 pub record AreTurned (old new : List (List ℕ)) : Type 0 where
   pub count : length new ≡ length old
-  pub each : (i : ℕ) → i < length old → IsTurned (face_at old i) (face_at new i)
+  pub each : (i : ℕ) → i < length old → IsCycled (face_at old i) (face_at new i)
 
--- The faces stand in another order, edges are flipped, and the faces are written from another corner on. Only the flips change the
--- surface, and by them no two faces cross that did not, and no edge stands twice that did not.
+-- The faces are in another order, edges are flipped, and the faces are written from another corner on. Only the flips change the
+-- surface; by them faces that were apart stay apart, and no directed edge occurs twice that did not.
 pub record IsFinished (points : List Point) (old new : List (List ℕ)) : Type 0 where
   pub sorted : List (List ℕ)
   pub flipped : List (List ℕ)

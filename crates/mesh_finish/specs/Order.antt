@@ -1,8 +1,9 @@
--- Faces with the numbers by which they are sorted.
+-- Faces with their sort keys.
 --
---   the_face k    the face alone
+--   unkeyed k    the face alone
 use Rattle.std.specs.Prelude.{ℕ, List}
 use Rattle.mesh_finish.specs.declared.order.Keyed.{Keyed}
 
-abbrev pub the_face : Keyed → List ℕ
-the_face k = k.face
+-- the face alone
+abbrev pub unkeyed : Keyed → List ℕ
+unkeyed k = k.face

@@ -1,7 +1,9 @@
-//! A mesh as `recon build` wrote it becomes one to look at: edges are flipped where the angles between faces fall.
+//! Finishes a mesh for viewing and printing: edges are flipped where that lowers the angles between faces.
 //!
-//! What is promised is said by `finish_mesh`: the points are those of the mesh, the faces are reached by flips alone, so a closed mesh
-//! stays closed, and no two faces cross that did not. Which edges are flipped is nowhere promised.
+//! [`finish_mesh`] states what is kept: the points stay, the faces are reached by flips alone, so a closed mesh stays closed, and faces
+//! that were apart stay apart. Which edges are flipped is not promised.
+//!
+//! It depends on `mesh_flips` (flips) and `mesh_ply` (meshes).
 #![tactic(auto)]
 
 mod order;
@@ -12,5 +14,5 @@ mod whole;
 use std::alloc::AllocError;
 pub use whole::finish_mesh;
 
-/// Want of memory: the one answer that any mesh may get.
+/// Out of memory.
 pub type NoMemory = AllocError;

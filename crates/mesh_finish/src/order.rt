@@ -1,20 +1,20 @@
-//! Faces in an order in which those near each other follow each other, along the curve of Morton (1966).
+//! Sorts faces along the curve of Morton (1966), so that consecutive faces are near each other.
 
 ghost use Rattle.std.specs.Prelude.{◌≡◌, IfOk, IsPermutation, map};
-ghost use Rattle.mesh_finish.specs.Order.{the_face};
+ghost use Rattle.mesh_finish.specs.Order.{unkeyed};
 
 use crate::NoMemory;
 use geo_sign::Point;
 use std::alloc::Global;
 
-/// A face, and the number by which it is sorted.
+/// A face and its sort key.
 #[derive(Clone, Copy)]
 struct Keyed {
     key: u64,
     face: [u32; 3],
 }
 
-/// The bits of a number of 21 bits, two free bits behind each.
+/// Returns the bits of a number of 21 bits, each followed by two zeros.
 fn spread(x: u64) -> u64 {
     let x = (x | x << 32) & 0x001f_0000_0000_ffff;
     let x = (x | x << 16) & 0x001f_0000_ff00_00ff;
@@ -23,17 +23,17 @@ fn spread(x: u64) -> u64 {
     (x | x << 2) & 0x1249_2492_4924_9249
 }
 
-/// A coordinate from the wall of the box on, in eighths.
+/// Returns an eighth of the distance from the box's wall.
 fn cell(x: i32) -> u64 {
     (i64::from(x) + 8_388_608).unsigned_abs() >> 3 & 0x001f_ffff
 }
 
-/// Where a point lies on the curve.
+/// Returns the position of a point on the curve.
 fn key_of(p: Point) -> u64 {
     spread(cell(p.x())) | spread(cell(p.y())) << 1 | spread(cell(p.z())) << 2
 }
 
-/// Where a face lies on the curve, by one of its corners.
+/// Returns the position of a face on the curve, by one of its corners.
 fn key_at(points: &[Point], v: u32) -> u64 {
     match points.get(v as usize) {
         Some(p) => key_of(*p),
@@ -41,9 +41,9 @@ fn key_at(points: &[Point], v: u32) -> u64 {
     }
 }
 
-/// The faces with their keys.
+/// Returns the faces with their keys.
 fn with_keys(alloc: Global, points: &[Point], faces: &[[u32; 3]]) -> Result<Vec<Keyed>, NoMemory>
-    ensures { IfOk result (λ list. map the_face list.items ≡ faces.now) }
+    ensures { IfOk result (λ list. map unkeyed list.items ≡ faces.now) }
 {
     let mut list = Vec::with_capacity(alloc, faces.len())?;
     for face in faces {
@@ -56,16 +56,16 @@ fn with_keys(alloc: Global, points: &[Point], faces: &[[u32; 3]]) -> Result<Vec<
     Ok(list)
 }
 
-/// Puts faces in the order of their keys.
+/// Sorts faces by their keys.
 fn sort(list: &mut [Keyed])
     ensures { IsPermutation list.old list.new }
 {
     list.sort_unstable_by_key(|keyed| keyed.key);
 }
 
-/// The faces alone.
+/// Returns the faces without their keys.
 fn faces_of(alloc: Global, list: &[Keyed]) -> Result<Vec<[u32; 3]>, NoMemory>
-    ensures { IfOk result (λ faces. faces.items ≡ map the_face list.now) }
+    ensures { IfOk result (λ faces. faces.items ≡ map unkeyed list.now) }
 {
     let mut faces = Vec::with_capacity(alloc, list.len())?;
     for keyed in list {
@@ -74,7 +74,7 @@ fn faces_of(alloc: Global, list: &[Keyed]) -> Result<Vec<[u32; 3]>, NoMemory>
     Ok(faces)
 }
 
-/// The faces along the curve.
+/// Returns the faces sorted along the curve.
 pub(crate) fn in_order(
     alloc: Global,
     points: &[Point],

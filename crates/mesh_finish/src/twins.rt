@@ -1,4 +1,4 @@
-//! Which half edge is across each one. Nothing that is promised hangs on it: a flip looks at the faces again.
+//! Pairs opposite half edges. No clause depends on it, since a flip reads the two faces themselves.
 
 use crate::NoMemory;
 use std::alloc::Global;
@@ -20,7 +20,7 @@ fn half_of(from: u32, to: u32, number: u32) -> Half {
     }
 }
 
-/// The half edges of all faces, by edge.
+/// Returns the half edges of all faces, sorted by edge.
 fn halves_of(alloc: Global, faces: &[[u32; 3]]) -> Result<Vec<Half>, NoMemory> {
     let mut halves = Vec::with_capacity(alloc, faces.len().saturating_mul(3))?;
     let mut number = 0u32;
@@ -35,7 +35,7 @@ fn halves_of(alloc: Global, faces: &[[u32; 3]]) -> Result<Vec<Half>, NoMemory> {
     Ok(halves)
 }
 
-/// Whether the half edge at a place has the edge of another place.
+/// Returns whether two half edges, by their indices, have the same edge.
 fn is_same(halves: &[Half], at: usize, other: usize) -> bool {
     at < halves.len() && other < halves.len() && halves[at].key == halves[other].key
 }
@@ -46,7 +46,8 @@ fn set(twins: &mut [u32], h: u32, twin: u32) {
     }
 }
 
-/// The half edge across each one. Where not exactly two faces have an edge, there and back, each half edge of it has itself.
+/// Returns the opposite of each half edge. Unless an edge has exactly two faces, in opposite directions, each of its half edges
+/// gets itself.
 pub(crate) fn twins_of(alloc: Global, faces: &[[u32; 3]]) -> Result<Vec<u32>, NoMemory> {
     let halves = halves_of(alloc, faces)?;
     let mut twins = Vec::with_capacity(alloc, halves.len())?;

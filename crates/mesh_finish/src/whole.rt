@@ -1,8 +1,8 @@
-//! All of it.
+//! The finished mesh.
 
 ghost use Rattle.std.specs.Prelude.{◌≡◌, IfOk};
 ghost use Rattle.mesh_ply.specs.Meshes.{IsMesh};
-ghost use Rattle.solid_slice.specs.Edges.{IsBalanced};
+ghost use Rattle.mesh_edges.specs.Edges.{IsBalanced};
 ghost use Rattle.mesh_finish.specs.Finished.{IsFinished};
 
 use crate::NoMemory;
@@ -14,7 +14,7 @@ use mesh_flips::flip_edges;
 use mesh_ply::Mesh;
 use std::alloc::Global;
 
-/// The faces of a mesh with its edges flipped.
+/// Returns the faces of a mesh with edges flipped.
 fn finished_faces(
     alloc: Global,
     points: &[Point],
@@ -32,7 +32,8 @@ fn finished_faces(
     Ok(turned)
 }
 
-/// The mesh with its edges flipped where the angles between faces fall.
+/// Returns the mesh with edges flipped where that lowers the angles between faces. The points and their numbers stay, and the order of
+/// faces changes.
 pub fn finish_mesh(alloc: Global, mesh: Mesh) -> Result<Mesh, NoMemory>
     requires { IsMesh mesh.points.items mesh.faces.items }
     ensures points { IfOk result (λ new. new.points.items ≡ mesh.points.items) }

@@ -1,16 +1,16 @@
 -- No two faces cross after a flip that did not.
 --
 -- Of two faces after a flip both were there before; or one is new, and then it is apart from the other, since all other faces were
--- looked at; or both are new, and they were looked at too.
+-- tested; or both are new, and they were tested too.
 use Rattle.std.proofs.Common.{ℕ, ◌≡◌, ◌≢◌, ◌<◌, ◌⊎◌, inl, inr, ap, sym, ◌∙◌, subst, arith, List, [], ◌∷◌, length, set, get_or-set_other, get_or-set_same}
 use Rattle.std.proofs.Math.ListN.{length-set}
 use Rattle.std.proofs.lemmas.Bool.{cases_lt}
 use Rattle.geo_sign.specs.Point.{Point}
-use Rattle.solid_slice.specs.Cuts.{face_at}
-use Rattle.hull_tree.specs.Trees.{IsPut}
+use Rattle.mesh_edges.specs.Edges.{face_at}
+use Rattle.hull_tree.specs.Trees.{IsInserted}
 use Rattle.hull_tree.specs.declared.hull.Hull.{Hull}
 use Rattle.hull_tree.specs.declared.tree.HullTree.{HullTree}
-use Rattle.triangle_gap.specs.Gaps.{AreApart}
+use Rattle.triangle_gap.specs.Gaps.{AreFacesApart}
 use Rattle.mesh_flips.specs.Quads.{IsQuad, flipped}
 use Rattle.mesh_flips.specs.Flips.{KeepsApart}
 use Rattle.mesh_flips.specs.Clear.{IsFree}
@@ -66,10 +66,10 @@ module _ (points : List Point) (faces : List (List ℕ)) (one other : ℕ) (q : 
     (free : IsFree points faces one other q) where
   -- faces at two places, where each is one that stands there
   joined : (i j : ℕ) (f g : List ℕ) → face_at (flipped faces one other q) i ≡ f → face_at (flipped faces one other q) j ≡ g
-      → AreApart points f g → AreApart points (face_at (flipped faces one other q) i) (face_at (flipped faces one other q) j)
+      → AreFacesApart points f g → AreFacesApart points (face_at (flipped faces one other q) i) (face_at (flipped faces one other q) j)
   joined i j f g e h apart =
-      subst (λ (x : List ℕ). AreApart points x (face_at (flipped faces one other q) j)) (sym e)
-      (subst (λ (x : List ℕ). AreApart points f x) (sym h) apart)
+      subst (λ (x : List ℕ). AreFacesApart points x (face_at (flipped faces one other q) j)) (sym e)
+      (subst (λ (x : List ℕ). AreFacesApart points f x) (sym h) apart)
 
   pub flip_apart : KeepsApart points faces (flipped faces one other q)
   flip_apart i j ne li lj apart =
@@ -101,33 +101,33 @@ module _ (points : List Point) (faces : List (List ℕ)) (one other : ℕ) (q : 
         ]
       ]
 
--- the boxes of the new faces are put in, and those of the others stay
+-- the boxes of the new faces are inserted, and those of the others stay
 pub flip_boxes : (points : List Point) (faces : List (List ℕ)) (one other : ℕ) (q : Quad) (old mid new : HullTree) (h k : Hull)
     → IsQuad faces one other q → IsTreeOf points faces old → HoldsFace points h (q.a ∷ q.d ∷ q.c ∷ [])
-    → HoldsFace points k (q.d ∷ q.b ∷ q.c ∷ []) → IsPut mid one h → IsPut new other k
-    → ((i : ℕ) (g : Hull) → IsPut old i g → IsPut mid i g) → ((i : ℕ) (g : Hull) → IsPut mid i g → IsPut new i g)
+    → HoldsFace points k (q.d ∷ q.b ∷ q.c ∷ []) → IsInserted mid one h → IsInserted new other k
+    → ((i : ℕ) (g : Hull) → IsInserted old i g → IsInserted mid i g) → ((i : ℕ) (g : Hull) → IsInserted mid i g → IsInserted new i g)
     → mid.leaves ≡ old.leaves → new.leaves ≡ mid.leaves
     → IsTreeOf points (flipped faces one other q) new
-flip_boxes points faces one other q old mid new h k lie boxes first second put_one put_other kept kept_on same same_on =
+flip_boxes points faces one other q old mid new h k lie boxes first second insert_one insert_other kept kept_on same same_on =
     let count : length (flipped faces one other q) ≡ length faces =
     length-set {A = List ℕ} (set faces one _) other _ ∙ length-set {A = List ℕ} faces one _ in
     record {
       room = omega (arith, boxes.room, count);
-      put = λ i l.
+      insert = λ i l.
           elim (stands faces one other q lie i) [
             | inl s ↦ (
               h,
               subst (λ (f : List ℕ). HoldsFace points h f) (sym s.1) first,
-              subst (λ (n : ℕ). IsPut new n h) (sym s.0) (kept_on one h put_one),
+              subst (λ (n : ℕ). IsInserted new n h) (sym s.0) (kept_on one h insert_one),
             )
             | inr rest ↦ elim rest [
               | inl s ↦ (
                 k,
                 subst (λ (f : List ℕ). HoldsFace points k f) (sym s.1) second,
-                subst (λ (n : ℕ). IsPut new n k) (sym s.0) put_other,
+                subst (λ (n : ℕ). IsInserted new n k) (sym s.0) insert_other,
               )
               | inr s ↦
-                  let was = boxes.put i (omega (arith, count)) in (
+                  let was = boxes.insert i (omega (arith, count)) in (
                     was.0,
                     subst (λ (f : List ℕ). HoldsFace points was.0 f) (sym s.2) was.1,
                     kept_on i was.0 (kept i was.0 was.2),

@@ -8,7 +8,7 @@ use Rattle.std.proofs.Math.ListN.{length-set}
 use Rattle.std.specs.List.{All}
 use Rattle.std.proofs.lemmas.List.Elements.{All-set}
 use Rattle.std.proofs.lemmas.List.Sums.{sum_by-set}
-use Rattle.solid_slice.specs.Edges.{faces_with_edge}
+use Rattle.mesh_edges.specs.Edges.{faces_with_edge}
 use Rattle.mesh_flips.specs.Turns.{IsTriangle}
 use Rattle.mesh_flips.specs.Quads.{IsQuad, flipped}
 use Rattle.mesh_flips.specs.Flips.{IsFlip, AreFlips, SameExcess}
@@ -112,7 +112,7 @@ flips_excess n {old} each none u v = refl
 flips_excess n each (more {old} {mid} {new} before f) u v =
     omega (arith, flips_excess n each before u v, one_excess n mid new (flips_triangles n each before) f u v)
 
--- the laws
+-- the theorems
 
 pub flips_keep_triangles : FlipsKeepTriangles
 flips_keep_triangles = λ n old new each flips. flips_triangles n each flips

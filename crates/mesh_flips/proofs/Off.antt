@@ -9,7 +9,7 @@ use Rattle.mesh_ply.specs.Meshes.{point_at, is_vertex_of}
 use Rattle.hull_tree.specs.Hulls.{HoldsPoint, AreOff}
 use Rattle.hull_tree.specs.declared.hull.Hull.{Hull}
 use Rattle.triangle_gap.specs.Shared.{weighted_sum, weighted}
-use Rattle.triangle_gap.specs.Gaps.{AreApart}
+use Rattle.triangle_gap.specs.Gaps.{AreFacesApart}
 use Rattle.triangle_gap.proofs.Separations.{weights_gone, Gone}
 use Rattle.mesh_flips.specs.Turns.{IsTriangle}
 use Rattle.mesh_flips.specs.Clear.{IsClear}
@@ -64,7 +64,7 @@ module _ (points : List Point) (h k : Hull) (a b c d e f : Point) (ha : HoldsPoi
       ]
 
 pub off_apart : (points : List Point) (h k : Hull) (f g : List ℕ) → HoldsFace points h f → HoldsFace points k g → AreOff h k
-    → AreApart points f g
+    → AreFacesApart points f g
 off_apart points h k [] g i j off = absurd i
 off_apart points h k (a ∷ []) g i j off = absurd i
 off_apart points h k (a ∷ b ∷ []) g i j off = absurd i
@@ -78,7 +78,7 @@ off_apart points h k (a ∷ b ∷ c ∷ []) (d ∷ e ∷ f ∷ []) (ha, hb, hc) 
     inl (λ _. n.0, λ _. n.1, λ _. n.2)
 
 -- whichever way round they are named
-pub apart_back : (points : List Point) (f g : List ℕ) → AreApart points f g → AreApart points g f
+pub apart_back : (points : List Point) (f g : List ℕ) → AreFacesApart points f g → AreFacesApart points g f
 apart_back points [] g i = absurd i
 apart_back points (a ∷ []) g i = absurd i
 apart_back points (a ∷ b ∷ []) g i = absurd i

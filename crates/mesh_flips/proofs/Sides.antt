@@ -4,9 +4,9 @@
 -- sides that go there, which is the same however the face is turned.
 use Rattle.std.proofs.Common.{ℕ, ◌≡◌, ◌≢◌, ◌+◌, inl, inr, ap, sym, arith, List, [], ◌∷◌}
 use Rattle.std.proofs.lemmas.Bool.Decides.{nat_tests}
-use Rattle.solid_slice.specs.Edges.{is_edge, has_edge}
-use Rattle.solid_slice.proofs.Counts.{one_if}
-use Rattle.mesh_flips.specs.Turns.{IsTriangle, IsTurned}
+use Rattle.mesh_edges.specs.Edges.{is_edge, has_edge}
+use Rattle.mesh_edges.proofs.Counts.{one_if}
+use Rattle.mesh_flips.specs.Turns.{IsTriangle, IsCycled}
 
 -- 1 where the edge from u to v is that from a to b, else 0
 unfoldable pub one_side : (u v a b : ℕ) → ℕ
@@ -27,7 +27,7 @@ unfolding one_side sides
 three_sides u v a b c ab bc ca = grind (arith, nat_tests)
 
 -- a face that is turned is a triangle too, and has the same sides
-pub turned_triangle : (n : ℕ) (f g : List ℕ) → IsTriangle n f → IsTurned f g → IsTriangle n g
+pub turned_triangle : (n : ℕ) (f g : List ℕ) → IsTriangle n f → IsCycled f g → IsTriangle n g
 turned_triangle n [] g o t = absurd o
 turned_triangle n (a ∷ []) g o t = absurd o
 turned_triangle n (a ∷ b ∷ []) g o t = absurd o
@@ -41,7 +41,7 @@ turned_triangle n (a ∷ b ∷ c ∷ []) g (ab, bc, ca, na, nb, nc) t =
       ]
     ]
 
-pub turned_sides : (n u v : ℕ) (f g : List ℕ) → IsTriangle n f → IsTurned f g → sides u v f ≡ sides u v g
+pub turned_sides : (n u v : ℕ) (f g : List ℕ) → IsTriangle n f → IsCycled f g → sides u v f ≡ sides u v g
 turned_sides n u v [] g o t = absurd o
 turned_sides n u v (a ∷ []) g o t = absurd o
 turned_sides n u v (a ∷ b ∷ []) g o t = absurd o

@@ -9,10 +9,9 @@ use Rattle.std.proofs.lemmas.Bool.Decides.{nat_tests}
 use Rattle.std.proofs.lemmas.List.Sums.{sum_by-cons}
 use Rattle.geo_sign.specs.Point.{Point}
 use Rattle.mesh_ply.specs.Meshes.{is_vertex_of}
-use Rattle.solid_slice.specs.Edges.{has_edge, faces_with_edge}
-use Rattle.solid_slice.specs.Cuts.{face_at}
-use Rattle.solid_slice.proofs.Counts.{one_if}
-use Rattle.solid_slice.proofs.FaceEdges.{ends_in}
+use Rattle.mesh_edges.specs.Edges.{has_edge, faces_with_edge, face_at}
+use Rattle.mesh_edges.proofs.Counts.{one_if}
+use Rattle.mesh_edges.proofs.FaceEdges.{ends_in}
 use Rattle.mesh_flips.specs.Turns.{IsTriangle}
 use Rattle.mesh_flips.specs.Quads.{IsQuad, flipped}
 use Rattle.mesh_flips.specs.Flips.{KeepsSingle}

@@ -1,15 +1,16 @@
 -- Boxes of faces.
 --
---   HoldsFace points h f            a box holds the corners of a face
---   HoldsQuad points h q            it holds those of a quad
+--   HoldsFace points h f            a box contains the corners of a face
+--   HoldsQuad points h q            a box contains the corners of a quad
+--   HasBox points faces tree i      a box of face number i is inserted at i
 --   IsTreeOf points faces tree      the tree has a box of each face at the face's number
---   IsReady points faces tree       so it is, and each face is a triangle
+--   IsReady points faces tree       it has, and each face is a triangle
 use Rattle.std.specs.Prelude.{ℕ, ◌<◌, ◌≤◌, ◌*◌, List, [], ◌∷◌, length, All}
 use Rattle.geo_sign.specs.Point.{Point}
 use Rattle.mesh_ply.specs.Meshes.{point_at}
-use Rattle.solid_slice.specs.Cuts.{face_at}
+use Rattle.mesh_edges.specs.Edges.{face_at}
 use Rattle.hull_tree.specs.Hulls.{HoldsPoint}
-use Rattle.hull_tree.specs.Trees.{IsPut}
+use Rattle.hull_tree.specs.Trees.{IsInserted}
 use Rattle.hull_tree.specs.declared.hull.Hull.{Hull}
 use Rattle.hull_tree.specs.declared.tree.HullTree.{HullTree}
 use Rattle.mesh_flips.specs.Turns.{IsTriangle}
@@ -28,16 +29,16 @@ pub record HoldsQuad (points : List Point) (h : Hull) (q : Quad) : Type 0 where
   pub c : HoldsPoint h (point_at points q.c)
   pub d : HoldsPoint h (point_at points q.d)
 
--- a box of the face is put in
-abbrev pub IsPutFace : List Point → List (List ℕ) → HullTree → ℕ → Type 0
-IsPutFace points faces tree i = (h : Hull) × HoldsFace points h (face_at faces i) × IsPut tree i h
+-- a box of the face is inserted at its number
+abbrev pub HasBox : List Point → List (List ℕ) → HullTree → ℕ → Type 0
+HasBox points faces tree i = (h : Hull) × HoldsFace points h (face_at faces i) × IsInserted tree i h
 
--- the tree has a place and a box for each face
+-- the tree has room and a box for each face
 pub record IsTreeOf (points : List Point) (faces : List (List ℕ)) (tree : HullTree) : Type 0 where
   pub room : length faces ≤ 4 * tree.leaves
-  pub put : (i : ℕ) → i < length faces → IsPutFace points faces tree i
+  pub insert : (i : ℕ) → i < length faces → HasBox points faces tree i
 
--- so it is, and each face is a triangle among the points
+-- the tree has them, and each face is a triangle among the points
 pub record IsReady (points : List Point) (faces : List (List ℕ)) (tree : HullTree) : Type 0 where
   pub each : All (IsTriangle (length points)) faces
   pub boxes : IsTreeOf points faces tree

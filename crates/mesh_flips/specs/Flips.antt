@@ -1,16 +1,15 @@
 -- Meshes after flips of edges.
 --
 --   IsFlip old new         one edge is flipped
---   AreFlips old new       any number of edges are, one after another
---   SameExcess old new     each directed edge stands as many times more often than its reverse as before
+--   AreFlips old new       any number of edges are flipped, one after another
+--   SameExcess old new     for each directed edge, how much more often it occurs than its reverse is as before
 --   KeepsApart points old new   faces that were apart still are
---   KeepsSingle old new    no directed edge that stood once at most stands more often
---   IsFlipped points old new    edges were flipped, and so that the last two hold
+--   KeepsSingle old new    no directed edge that occurred at most once occurs more often
+--   IsFlipped points old new    edges were flipped so that the last two hold
 use Rattle.std.specs.Prelude.{ℕ, ◌≡◌, ◌≢◌, ◌+◌, ◌<◌, ◌≤◌, List, length}
 use Rattle.geo_sign.specs.Point.{Point}
-use Rattle.triangle_gap.specs.Gaps.{AreApart}
-use Rattle.solid_slice.specs.Cuts.{face_at}
-use Rattle.solid_slice.specs.Edges.{faces_with_edge}
+use Rattle.triangle_gap.specs.Gaps.{AreFacesApart}
+use Rattle.mesh_edges.specs.Edges.{face_at, faces_with_edge}
 use Rattle.mesh_flips.specs.Quads.{IsQuad, flipped}
 use Rattle.mesh_flips.specs.declared.quad.Quad.{Quad}
 
@@ -27,21 +26,22 @@ pub data AreFlips : (old new : List (List ℕ)) → Type 0 where
   none : {faces : List (List ℕ)} → AreFlips faces faces
   more : {old mid new : List (List ℕ)} → AreFlips old mid → IsFlip mid new → AreFlips old new
 
--- no directed edge has become more or less frequent, beside its reverse
+-- for each directed edge, how much more often it occurs than its reverse is as before
 abbrev pub SameExcess : (old new : List (List ℕ)) → Type 0
 SameExcess old new =
     (u v : ℕ) → faces_with_edge u v new + faces_with_edge v u old ≡ faces_with_edge u v old + faces_with_edge v u new
 
--- by their numbers
+-- faces that were apart, by their numbers, still are
 abbrev pub KeepsApart : List Point → (old new : List (List ℕ)) → Type 0
 KeepsApart points old new =
-    (i j : ℕ) → i ≢ j → i < length old → j < length old → AreApart points (face_at old i) (face_at old j)
-    → AreApart points (face_at new i) (face_at new j)
+    (i j : ℕ) → i ≢ j → i < length old → j < length old → AreFacesApart points (face_at old i) (face_at old j)
+    → AreFacesApart points (face_at new i) (face_at new j)
 
+-- no directed edge that occurred at most once occurs more often
 abbrev pub KeepsSingle : (old new : List (List ℕ)) → Type 0
 KeepsSingle old new = (u v : ℕ) → faces_with_edge u v old ≤ 1 → faces_with_edge u v new ≤ 1
 
--- edges were flipped, no two faces cross that did not, and no edge stands twice that did not
+-- edges were flipped, faces that were apart still are, and no directed edge occurs twice that did not
 pub record IsFlipped (points : List Point) (old new : List (List ℕ)) : Type 0 where
   pub flips : AreFlips old new
   pub apart : KeepsApart points old new

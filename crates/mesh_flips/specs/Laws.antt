@@ -1,10 +1,11 @@
 -- What flips keep.
 --
---   FlipsKeepExcess       each directed edge stands as many times more often than its reverse as before
+--   FlipsKeepExcess       for each directed edge, how much more often it occurs than its reverse is as before
 --   FlipsKeepTriangles    each face still has three distinct corners among the same points
---   FlipsKeepClosed       where each directed edge stood as often as its reverse, it still does
+--   FlipsKeepCount        there are as many faces
+--   FlipsKeepClosed       if each directed edge occurred as often as its reverse, it still does
 use Rattle.std.specs.Prelude.{ℕ, List, All, length, ◌≡◌}
-use Rattle.solid_slice.specs.Edges.{IsBalanced}
+use Rattle.mesh_edges.specs.Edges.{IsBalanced}
 use Rattle.mesh_flips.specs.Turns.{IsTriangle}
 use Rattle.mesh_flips.specs.Flips.{AreFlips, SameExcess}
 

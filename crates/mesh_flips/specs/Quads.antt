@@ -1,20 +1,20 @@
--- Two faces against each other, and the flip of their edge.
+-- Two faces with a common edge, and the flip of that edge.
 --
 --   IsQuad faces one other q    two faces of a list have the corners of q
 --   flipped faces one other q   the list after the flip
 --   HasCorners n q              its corners are below n
 use Rattle.std.specs.Prelude.{ℕ, ◌≢◌, ◌<◌, List, [], ◌∷◌, length, slice_set}
-use Rattle.solid_slice.specs.Cuts.{face_at}
-use Rattle.mesh_flips.specs.Turns.{IsTurned}
+use Rattle.mesh_edges.specs.Edges.{face_at}
+use Rattle.mesh_flips.specs.Turns.{IsCycled}
 use Rattle.mesh_flips.specs.declared.quad.Quad.{Quad}
 
--- One face is a b c and the other b a d, with another third corner. So they lie against each other in the edge between a and b.
+-- One face is a b c and the other b a d, with another third corner. So the edge between a and b is common to both.
 pub record IsQuad (faces : List (List ℕ)) (one other : ℕ) (q : Quad) : Type 0 where
   pub one_within : one < length faces
   pub other_within : other < length faces
   pub two : one ≢ other
-  pub first : IsTurned (face_at faces one) (q.a ∷ q.b ∷ q.c ∷ [])
-  pub second : IsTurned (face_at faces other) (q.b ∷ q.a ∷ q.d ∷ [])
+  pub first : IsCycled (face_at faces one) (q.a ∷ q.b ∷ q.c ∷ [])
+  pub second : IsCycled (face_at faces other) (q.b ∷ q.a ∷ q.d ∷ [])
   pub far : q.c ≢ q.d
 
 -- a b c and b a d become a d c and d b c

@@ -1,10 +1,10 @@
-//! Whether an edge may be flipped: its new faces are apart from all others, and the new edge is none of theirs.
+//! Tests whether an edge may be flipped: the new faces are apart from all others, and no other face has the new edge.
 
 ghost use Rattle.std.specs.Prelude.{◌≡◌, ◌≢◌, ◌<◌, ℕ, All, Contains, IfOk, length};
 ghost use Rattle.std.specs.Bool.{OnTrue};
 ghost use Rattle.mesh_flips.specs.Turns.{IsTriangle};
 ghost use Rattle.mesh_flips.specs.Quads.{HasCorners};
-ghost use Rattle.solid_slice.specs.Cuts.{face_at};
+ghost use Rattle.mesh_edges.specs.Edges.{face_at};
 ghost use Rattle.mesh_flips.specs.Clear.{IsClear, IsFree};
 ghost use Rattle.mesh_flips.specs.Fields.{HoldsFace, HoldsQuad, IsTreeOf};
 ghost use Rattle.mesh_ply.specs.Meshes.{is_vertex_of, point_at};
@@ -15,7 +15,7 @@ use geo_sign::Point;
 use hull_tree::{Hull, HullTree};
 use triangle_gap::are_apart;
 
-/// The point of a vertex.
+/// Returns the point of a vertex.
 fn place(points: &[Point], v: u32) -> Point
     requires { v < length points.now }
     ensures { result ≡ point_at points.now v }
@@ -23,7 +23,7 @@ fn place(points: &[Point], v: u32) -> Point
     points[v as usize]
 }
 
-/// The box of a face.
+/// Returns the box of a face.
 pub(crate) fn hull_of(points: &[Point], face: [u32; 3]) -> Hull
     requires { IsTriangle (length points.now) face }
     ensures { HoldsFace points.now result face }
@@ -32,7 +32,7 @@ pub(crate) fn hull_of(points: &[Point], face: [u32; 3]) -> Hull
     Hull::of_points(place(points, a), place(points, b), place(points, c))
 }
 
-/// Whether a face has a vertex.
+/// Returns whether a face has a vertex.
 fn has(face: [u32; 3], v: u32) -> bool
     ensures { result ≡ is_vertex_of v face }
 {
@@ -40,7 +40,8 @@ fn has(face: [u32; 3], v: u32) -> bool
     a == v || b == v || c == v
 }
 
-/// Whether the new faces of a quad in a box are apart from another face, which has not both ends of the new edge.
+/// Returns whether the new faces of a quad are known to be apart from a face, and the face has not both ends of the new edge. `hull` is
+/// a box of the quad.
 fn is_clear(points: &[Point], face: [u32; 3], hull: Hull, quad: Quad) -> bool
     requires face { IsTriangle (length points.now) face }
     requires corners { HasCorners (length points.now) quad }
@@ -60,7 +61,7 @@ fn is_clear(points: &[Point], face: [u32; 3], hull: Hull, quad: Quad) -> bool
     are_apart(points, [d, b, c], face)
 }
 
-/// The box of a quad.
+/// Returns the box of a quad.
 fn hull_of_quad(points: &[Point], quad: Quad) -> Hull
     requires { HasCorners (length points.now) quad }
     ensures { HoldsQuad points.now result quad }
@@ -71,7 +72,7 @@ fn hull_of_quad(points: &[Point], quad: Quad) -> Hull
     one.joined(Hull::of_point(p))
 }
 
-/// Whether a number is that of a quad's own faces, or of none, or of a face that is clear.
+/// Returns whether a number is that of one of the quad's own faces, of no face, or of a face that is clear.
 fn is_own_or_clear(
     points: &[Point],
     faces: &[[u32; 3]],
@@ -92,7 +93,7 @@ fn is_own_or_clear(
     is_clear(points, faces[i], hull, quad)
 }
 
-/// Whether each of some faces, but for two, is clear of a quad.
+/// Returns whether each of some faces, but for two, is clear of a quad.
 fn are_clear(
     points: &[Point],
     faces: &[[u32; 3]],
@@ -115,7 +116,7 @@ fn are_clear(
     true
 }
 
-/// Whether an edge may be flipped.
+/// Returns whether an edge may be flipped.
 pub(crate) fn is_free(
     points: &[Point],
     faces: &[[u32; 3]],

@@ -1,4 +1,4 @@
-//! Flips of all edges that gain.
+//! Flips edges while that lowers the angles between faces.
 
 ghost use Rattle.std.specs.Prelude.{◌≡◌, ◌<◌, ◌^◌, All, IfOk, length};
 ghost use Rattle.mesh_flips.specs.Turns.{IsTriangle};
@@ -16,13 +16,13 @@ use geo_sign::Point;
 use hull_tree::HullTree;
 use std::alloc::Global;
 
-/// Which part of the sum of angle times length a flip has to gain, pass by pass.
+/// The part of the sum of angle times length by which a flip has to lower it, pass by pass.
 const LEAST_GAINS: [f64; 3] = [0.3, 0.1, 0.000000001];
 
-/// How often an edge may be looked at in a pass, on the mean.
+/// How many edges are tried in a pass, for each edge of the mesh.
 const LOOKS: usize = 64;
 
-/// Flips an edge that is free, and puts the boxes of the new faces into the tree.
+/// Flips an edge and inserts the boxes of the new faces into the tree.
 fn turn(
     points: &[Point],
     faces: &mut [[u32; 3]],
@@ -38,12 +38,12 @@ fn turn(
     ensures ready { IsReady points.now faces.new tree.new }
 {
     let Quad { a, b, c, d } = quad;
-    tree.put(one, hull_of(points, [a, d, c]));
-    tree.put(other, hull_of(points, [d, b, c]));
+    tree.insert(one, hull_of(points, [a, d, c]));
+    tree.insert(other, hull_of(points, [d, b, c]));
     flip(faces, one, other, quad);
 }
 
-/// Flips an edge, if it is free and that gains enough.
+/// Flips an edge, if that gains enough and the new faces are clear of all others.
 fn try_flip(
     points: &[Point],
     faces: &mut [[u32; 3]],
@@ -73,7 +73,7 @@ fn try_flip(
     hints.turn(points, edge, twin, quad)
 }
 
-/// Looks at all edges, and at those around each that was flipped, until none waits.
+/// Tries all edges, and again those around each flip, until no edge waits.
 fn flip_pass(
     points: &[Point],
     faces: &mut [[u32; 3]],
@@ -98,7 +98,7 @@ fn flip_pass(
     Ok(())
 }
 
-/// A tree with the boxes of all faces.
+/// Returns a tree with the boxes of all faces.
 fn tree_of(alloc: Global, points: &[Point], faces: &[[u32; 3]]) -> Result<HullTree, NoMemory>
     requires each { All (IsTriangle (length points.now)) faces.now }
     requires few { length faces.now < 2 ^ 60 }
@@ -106,16 +106,16 @@ fn tree_of(alloc: Global, points: &[Point], faces: &[[u32; 3]]) -> Result<HullTr
 {
     let mut tree = HullTree::new(alloc, faces.len())?;
     for i in 0..faces.len() {
-        tree.put(i, hull_of(points, faces[i]));
+        tree.insert(i, hull_of(points, faces[i]));
     }
     Ok(tree)
 }
 
-/// Flips edges of a mesh where the angles between its faces fall. `twins` says which half edge is across each one, where half edge
-/// `h` is side `h % 3` of face `h / 3`; where it is wrong, or there is no such half edge, nothing is flipped.
+/// Flips edges of a mesh where that lowers the angles between its faces.
 ///
-/// No face crosses another after it that did not before, and no edge has more than two faces that had not. After `NoMemory` some edges
-/// are flipped.
+/// `twins[h]` is the opposite of half edge `h`, which is side `h % 3` of face `h / 3`. It is a hint: if it is wrong, that edge is not
+/// flipped. Faces that were apart stay apart, and no directed edge occurs twice that did not. After `NoMemory` some edges are flipped,
+/// and the same holds.
 pub fn flip_edges(
     alloc: Global,
     points: &[Point],

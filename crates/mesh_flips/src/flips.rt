@@ -1,4 +1,4 @@
-//! The flip of an edge.
+//! The flip of one edge.
 
 ghost use Rattle.std.specs.Prelude.{◌≡◌};
 ghost use Rattle.mesh_flips.specs.Quads.{IsQuad, flipped};

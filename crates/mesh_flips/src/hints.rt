@@ -1,5 +1,5 @@
-//! What flips go by: which half edge is across each one, where faces look, and which edges wait. None of it is promised; a flip looks
-//! again at the faces themselves.
+//! Hints for the choice of flips: opposite half edges, normals of faces, and the queue of edges. No clause depends on them, since a
+//! flip reads the two faces themselves.
 
 use crate::NoMemory;
 use crate::quad::Quad;
@@ -8,7 +8,7 @@ use geo_sign::Point;
 use std::alloc::Global;
 use std::collections::VecDeque;
 
-/// Half edges across, directions of faces, and the edges that wait.
+/// Opposite half edges, normals of faces, and the queue of edges.
 #[derive(Drop)]
 pub(crate) struct Hints {
     pub(crate) twins: Vec<u32>,
@@ -17,7 +17,7 @@ pub(crate) struct Hints {
     pub(crate) queue: VecDeque<u32>,
 }
 
-/// The half edge behind this one in its face.
+/// Returns the next half edge of the face.
 pub(crate) fn after(h: u32) -> u32 {
     if h % 3 == 2 {
         h - 2
@@ -26,7 +26,7 @@ pub(crate) fn after(h: u32) -> u32 {
     }
 }
 
-/// The half edge before this one in its face.
+/// Returns the previous half edge of the face.
 pub(crate) fn before(h: u32) -> u32 {
     if h % 3 == 0 {
         h.saturating_add(2)
@@ -35,12 +35,12 @@ pub(crate) fn before(h: u32) -> u32 {
     }
 }
 
-/// A point, or the origin where there is none.
+/// Returns a point, or the origin past the end.
 fn place(points: &[Point], v: u32) -> Option<Point> {
     points.get(v as usize).copied()
 }
 
-/// From one point to another.
+/// Returns the vector from one point to another.
 pub(crate) fn way(points: &[Point], from: u32, to: u32) -> Way {
     match (place(points, from), place(points, to)) {
         (Some(a), Some(b)) => Way::between(a, b),
@@ -48,18 +48,18 @@ pub(crate) fn way(points: &[Point], from: u32, to: u32) -> Way {
     }
 }
 
-/// The direction in which a face looks.
+/// Returns the normal of a face, of length 1.
 pub(crate) fn normal(points: &[Point], a: u32, b: u32, c: u32) -> Way {
     way(points, a, b).across(way(points, a, c)).unit()
 }
 
 impl Hints {
-    /// The half edge across.
+    /// Returns the opposite half edge.
     pub(crate) fn twin(&self, h: u32) -> u32 {
         self.twins.get(h as usize).copied().unwrap_or(h)
     }
 
-    /// Where the face of a half edge looks.
+    /// Returns the normal of the face of a half edge.
     pub(crate) fn normal_at(&self, h: u32) -> Way {
         self.normals
             .get((h / 3) as usize)
@@ -73,7 +73,7 @@ impl Hints {
         }
     }
 
-    /// Two half edges are across from each other.
+    /// Makes two half edges opposites of each other.
     pub(crate) fn pair(&mut self, h: u32, far: u32) {
         self.join(h, far);
         self.join(far, h);
@@ -85,7 +85,7 @@ impl Hints {
         }
     }
 
-    /// The edge is to be looked at, if it does not wait yet.
+    /// Appends an edge to the queue, unless it is in it.
     pub(crate) fn wait(&mut self, h: u32) -> Result<(), NoMemory> {
         let h = h.min(self.twin(h));
         if (h as usize) < self.waits.len() && !self.waits[h as usize] {
@@ -95,7 +95,7 @@ impl Hints {
         Ok(())
     }
 
-    /// The edge that waits longest.
+    /// Removes and returns the first edge of the queue.
     pub(crate) fn next(&mut self) -> Option<u32> {
         let h = self.queue.pop_front()?;
         if (h as usize) < self.waits.len() {
@@ -104,7 +104,7 @@ impl Hints {
         Some(h)
     }
 
-    /// All three edges of a face are to be looked at.
+    /// Appends the three edges of a face to the queue.
     pub(crate) fn wait_around(&mut self, face: u32) -> Result<(), NoMemory> {
         let first = face.saturating_mul(3);
         self.wait(first)?;
@@ -112,7 +112,7 @@ impl Hints {
         self.wait(first.saturating_add(2))
     }
 
-    /// After a flip of the edge between two faces: who is across, where they look, and which edges wait.
+    /// Updates opposites, normals and queue after the flip of the edge between two faces.
     pub(crate) fn turn(
         &mut self,
         points: &[Point],
@@ -141,8 +141,8 @@ impl Hints {
     }
 }
 
-/// By how much the sum of angle times length over the five edges of a quad falls where its edge is flipped, as a part of what it is;
-/// 0 where a new face turns away.
+/// Returns the part by which a flip lowers the sum of angle times length over the five edges of a quad, or 0 if a new face would be
+/// turned over.
 pub(crate) fn gain(hints: &Hints, points: &[Point], edge: u32, twin: u32, quad: Quad) -> f64 {
     let Quad { a, b, c, d } = quad;
     let left = way(points, a, d).across(way(points, a, c));
@@ -172,7 +172,7 @@ pub(crate) fn gain(hints: &Hints, points: &[Point], edge: u32, twin: u32, quad: 
     if now > 0.0 { (now - then) / now } else { 0.0 }
 }
 
-/// Hints on a mesh with these half edges across, where all edges wait.
+/// Returns hints for a mesh with these opposite half edges, with all edges in the queue.
 pub(crate) fn hints_of(
     alloc: Global,
     points: &[Point],

@@ -1,4 +1,4 @@
-//! Laws of flips. The functions here do nothing: their contracts are the promises.
+//! Theorems on flips, as contracts of functions that do nothing.
 
 ghost use Rattle.mesh_flips.specs.Laws.{FlipsKeepExcess, FlipsKeepTriangles, FlipsKeepCount, FlipsKeepClosed};
 
@@ -8,7 +8,7 @@ pub fn flips_keep_faces()
     ensures triangles { FlipsKeepTriangles }
 {}
 
-/// Each directed edge stands as many times more often than its reverse as before. So a closed mesh stays closed.
+/// For each directed edge, how much more often it occurs than its reverse stays as it was. So a closed mesh stays closed.
 pub fn flips_keep_closed()
     ensures excess { FlipsKeepExcess }
     ensures closed { FlipsKeepClosed }

@@ -1,4 +1,10 @@
-//! Edge flips of a closed mesh: an edge between two faces takes the other diagonal of their four corners.
+//! Edge flips: the edge between two faces is replaced by the other diagonal of their four corners.
+//!
+//! [`flip_edges`] flips edges where that lowers the angles between faces, and only where the new faces are apart from all others and
+//! the new edge is not there yet. So faces that were apart stay apart, and no directed edge occurs twice that did not. [`flip`]
+//! replaces two faces, and the theorems say what any number of flips keeps.
+//!
+//! It depends on `hull_tree` (faces near a box), `triangle_gap` (faces that are apart) and `mesh_edges` (edges of faces).
 #![tactic(auto)]
 
 mod clear;
@@ -15,5 +21,5 @@ pub use laws::{flips_keep_closed, flips_keep_faces};
 pub use quad::{Quad, quad_at};
 use std::alloc::AllocError;
 
-/// Want of memory.
+/// Out of memory.
 pub type NoMemory = AllocError;

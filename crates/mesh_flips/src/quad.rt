@@ -1,25 +1,25 @@
-//! Two faces that lie against each other in an edge, by their four corners.
+//! Two faces with a common edge, by their four corners.
 
 ghost use Rattle.std.specs.Prelude.{◌≡◌, ◌<◌, ◌/◌, ◌%◌, ℕ, IfSome};
-ghost use Rattle.mesh_flips.specs.Turns.{IsTurned};
+ghost use Rattle.mesh_flips.specs.Turns.{IsCycled};
 ghost use Rattle.mesh_flips.specs.Quads.{IsQuad};
 
-/// The corners of two faces: `a b c`, and `b a d` across the edge from `a` to `b`.
+/// The corners of two faces `a b c` and `b a d` with a common edge.
 #[derive(Clone, Copy, Debug, PartialEq, Eq)]
 pub struct Quad {
-    /// Where the edge begins.
+    /// The vertex from which the edge goes in the first face.
     pub a: u32,
-    /// Where it ends.
+    /// The vertex to which it goes.
     pub b: u32,
-    /// The third corner of the face that has the edge.
+    /// The third corner of the first face.
     pub c: u32,
-    /// The third corner of the face that has it back.
+    /// The third corner of the second face.
     pub d: u32,
 }
 
-/// A face turned so that this side comes first. It is the same face.
+/// Returns the face written from this side on.
 pub(crate) fn turned(face: [u32; 3], side: u32) -> [u32; 3]
-    ensures { IsTurned face result }
+    ensures { IsCycled face result }
 {
     let [a, b, c] = face;
     if side == 0 {
@@ -31,8 +31,8 @@ pub(crate) fn turned(face: [u32; 3], side: u32) -> [u32; 3]
     }
 }
 
-/// The corners of the faces at two half edges, where half edge `h` is side `h % 3` of face `h / 3`. None where the two are not one
-/// edge there and back, of two faces with different third corners.
+/// Returns the corners of the faces at two half edges, where half edge `h` is side `h % 3` of face `h / 3`, or `None` unless the two
+/// are opposite half edges of two faces with different third corners.
 pub fn quad_at(faces: &[[u32; 3]], edge: u32, twin: u32) -> Option<Quad>
     ensures { IfSome result (λ q. IsQuad faces.now (edge / 3) (twin / 3) q) }
 {

@@ -1,4 +1,4 @@
-//! Vectors in floating point. They serve to choose, and nothing that is promised hangs on them.
+//! Vectors in floating point, for the choice of flips. No clause depends on them.
 
 use geo_sign::Point;
 
@@ -10,7 +10,7 @@ pub(crate) struct Way {
     z: f64,
 }
 
-/// The factors by which the angle of a cosine is found within 2e-8 (Abramowitz and Stegun, 4.4.46), the highest first.
+/// Coefficients of the arc cosine with an error below 2e-8 (Abramowitz and Stegun, 4.4.46), the highest first.
 const ARC_COSINE: [f64; 8] = [
     -0.0012624911,
     0.0066700901,
@@ -31,7 +31,7 @@ impl Way {
         z: 0.0,
     };
 
-    /// From one point to another.
+    /// Returns the vector from one point to another.
     pub(crate) fn between(a: Point, b: Point) -> Way {
         Way {
             x: f64::from(b.x()) - f64::from(a.x()),
@@ -40,7 +40,7 @@ impl Way {
         }
     }
 
-    /// Upright on both.
+    /// Returns the cross product.
     pub(crate) fn across(self, other: Way) -> Way {
         Way {
             x: self.y * other.z - self.z * other.y,
@@ -65,7 +65,7 @@ impl Way {
         self.dot(self).sqrt()
     }
 
-    /// The vector at length 1; none stays none.
+    /// Returns the vector scaled to length 1; the zero vector stays.
     pub(crate) fn unit(self) -> Way {
         let long = self.length();
         if long > 0.0 {
@@ -79,7 +79,7 @@ impl Way {
         }
     }
 
-    /// The angle between two vectors of length 1.
+    /// Returns the angle between two vectors of length 1, in radians.
     pub(crate) fn angle(self, other: Way) -> f64 {
         let cosine = self.dot(other);
         let near = cosine.abs().min(1.0);

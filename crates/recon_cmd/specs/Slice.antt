@@ -15,7 +15,7 @@ use Rattle.geo_sign.specs.declared.point.TheConstants.{BOX_LIMIT}
 use Rattle.mesh_ply.specs.Meshes.{Surface}
 use Rattle.num_text.specs.WholeNumbers.{is_minus, signed}
 use Rattle.ply_head.specs.Optional.{◌>>=◌}
-use Rattle.solid_slice.specs.Edges.{IsFirstUnbalanced, IsBalanced}
+use Rattle.mesh_edges.specs.Edges.{IsFirstUnbalanced, IsBalanced}
 use Rattle.solid_slice.specs.Slices.{IsSlice}
 use Rattle.solid_slice.specs.Texts.{slice_text}
 use Rattle.solid_slice.specs.declared.step.Step.{Step}

@@ -9,13 +9,10 @@
 --     RunsOn words status before after    a run on these words ended with this status
 --     DoesNothing status before after     there was no memory for the words or for the forms
 --     RunsOrIdles words status ..         one of the two
---     words_behind_name args              the words but the first
 --     EndsOn args status before after     the program ended so on what the system handed in as words
---     fresh_state                         a host that was not used
---     EndsOver args status                the program ended so on these words, over that host
---     EndsAfterARun status                it ended so on some words
-use Rattle.std.specs.Prelude.{◌≡◌, ◌≢◌, ◌⊎◌, ℕ, ◌-◌, ◌<◌, List, [], ◌∷◌, length, map, drop, slice_index_or, Result, Ok, Err, Option, Some}
-use Rattle.std.specs.Prelude.{None, false, string_bytes, unwrap_or}
+--     EndsAfterARun status                the program ended so on some words, over that host
+use Rattle.std.specs.Prelude.{◌≡◌, ◌≢◌, ◌⊎◌, ℕ, ◌-◌, ◌<◌, List, [], ◌∷◌, length, map, slice_index_or, Result, Ok, Err, Option, Some}
+use Rattle.std.specs.Prelude.{None, unwrap_or}
 use Rattle.std.specs.IoError.{error_kind}
 use Rattle.std.specs.List.{zip}
 use Rattle.host.specs.State.{State, Files}
@@ -24,6 +21,7 @@ use Rattle.mesh_ply.specs.Meshes.{Surface}
 use Rattle.mesh_ply.specs.Texts.{mesh_text}
 use Rattle.scan.specs.Shown.{Shown}
 use Rattle.sweep.specs.Entries.{CostsAt, IsSurfaceAt, given_by, smoothing_of}
+use Rattle.real_host.specs.Start.{arguments_of, fresh_state}
 use Rattle.recon_cmd.specs.Answers.{Answer, MeshFileAnswer, ScanAnswer, MayRefuse}
 use Rattle.recon_cmd.specs.Export.{ExportNames, export_of, exported_line}
 use Rattle.recon_cmd.specs.Commands.{Outcome, command_of}
@@ -32,7 +30,6 @@ use Rattle.recon_cmd.specs.Status.{ExitsWith, code_of}
 use Rattle.recon_cmd.specs.Sweep.{SweepAsked, entries_of, sweep_line, sweep_of}
 use Rattle.recon_cmd.specs.declared.status.Status.{Status}
 use Rattle.recon_cmd.specs.declared.status.Status.TheVariants.{Done, NoMemory}
-use Rattle.std.specs.Vec.Iter.{into_iter_items}
 use Rattle.std.specs.declared.io.Error.{Error}
 use Rattle.std.specs.declared.io.ErrorKind.TheVariants.{OutOfMemory}
 use Rattle.std.specs.declared.alloc.Global.{Global}
@@ -102,26 +99,15 @@ DoesNothing code before after = (code ≡ code_of NoMemory) × (after ≡ before
 abbrev pub RunsOrIdles : List (List ℕ) → ℕ → State → State → Type 0
 RunsOrIdles words code before after = RunsOn words code before after ⊎ DoesNothing code before after
 
--- the words behind the program's name
-abbrev pub words_behind_name : {A : Type 0} → IntoIter (String A) A → List (List ℕ)
-words_behind_name args = map string_bytes (drop 1 (into_iter_items args))
-
 -- a run on the words behind the program's name, where there is memory for them and for the forms; words that are not text are
 -- no words
 abbrev pub EndsOn : {A : Type 0} → Result (IntoIter (String A) A) Error → ℕ → State → State → Type 0
-EndsOn (Ok args) code before after = RunsOrIdles (words_behind_name args) code before after
+EndsOn (Ok args) code before after = RunsOrIdles (arguments_of args) code before after
 EndsOn (Err error) code before after =
     ((error_kind error ≡ OutOfMemory) × DoesNothing code before after)
     ⊎ ((error_kind error ≢ OutOfMemory) × RunsOn [] code before after)
 
--- a host with no file open and no call so far, which tells no bytes
-abbrev pub fresh_state : State
-fresh_state = record { told = None; faults = 0; opens = 0; reading = false; writing = false }
-
--- the system handed in this as words, and over a fresh host the program ended on it so
-abbrev pub EndsOver : Result (IntoIter (String Global) Global) Error → ℕ → Type 0
-EndsOver args code = (after : State) × EndsOn args code fresh_state after
-
--- the system handed in something as words, and the program ended on it so
+-- the system handed in something as words, and the program ended so on it, over a fresh host
 abbrev pub EndsAfterARun : ℕ → Type 0
-EndsAfterARun code = (args : Result (IntoIter (String Global) Global) Error) × EndsOver args code
+EndsAfterARun code =
+    (args : Result (IntoIter (String Global) Global) Error) × (after : State) × EndsOn args code fresh_state after

@@ -2,6 +2,7 @@
 //! refused. No clause speaks of these texts. How to mend a refusal is the table of `docs/using.md`, and a test of `tools/tests`
 //! compares the two.
 
+use real_host::Advice;
 use std::rt::Env;
 
 /// The commands, each with the words behind it.
@@ -214,4 +215,37 @@ pub fn has_no_face(line: &[u8]) -> bool {
         && line
             .windows(9)
             .any(|front| front == b" faces 0 ".as_slice())
+}
+
+/// What `recon` tells a person, by the command that the words begin with, at its place among [`USES`].
+#[derive(Drop)]
+pub struct Hints {
+    pub command: Option<usize>,
+}
+
+impl Hints {
+    /// Tells how the command is used, or where the words begin with none how all are.
+    fn tell_uses<R: Eprint>(&self, rt: &R) {
+        for (place, (name, words)) in USES.iter().enumerate() {
+            if self.command.unwrap_or(place) == place {
+                let _ = eprintln!(rt; "usage: recon {name} {words}");
+            }
+        }
+    }
+}
+
+impl Advice for Hints {
+    fn program(&self) -> &'static str {
+        "recon"
+    }
+
+    fn advise<R: Eprint>(&self, rt: &R, line: &[u8]) {
+        if line == b"refused words\n".as_slice() {
+            self.tell_uses(rt);
+        } else if let Some(cure) = cure_of(line) {
+            let _ = eprintln!(rt; "recon: {cure}");
+        } else if has_no_face(line) {
+            let _ = eprintln!(rt; "recon: {NO_FACE}");
+        }
+    }
 }

@@ -1,15 +1,15 @@
 //! How the program ends, by what the system hands in as its words. It stands on `recon_cmd`, and on the forms of `mesh_form`.
-ghost use Rattle.std.specs.Prelude.{◌≡◌, false, drop, map, string_bytes, IfOk, OnErr, Some, None};
+ghost use Rattle.std.specs.Prelude.{◌≡◌, false, map, string_bytes, IfOk, OnErr, Some, None};
 ghost use Rattle.std.specs.Process.{exit_status};
-ghost use Rattle.std.specs.Vec.Iter.{into_iter_items};
 ghost use Rattle.recon_cmd.specs.Sweep.{entries_of};
-ghost use Rattle.recon_main.specs.Ends.{EndsOn, EndsOver, EndsAfterARun, RunsOn, RunsOrIdles};
+ghost use Rattle.recon_main.specs.Ends.{EndsOn, EndsAfterARun, RunsOn, RunsOrIdles};
+ghost use Rattle.real_host.specs.Real.{real_state};
+ghost use Rattle.real_host.specs.Start.{fresh_state};
 
-use crate::advice::command_begun;
-use crate::real::RealHost;
-use crate::unnamed::Unnamed;
+use crate::advice::{Hints, command_begun};
 use host::Host;
 use mesh_form::{Form, ObjForm, OffForm, PlyForm};
+use real_host::{RealHost, Unnamed, arguments_after_name};
 use recon_cmd::{FILE_LIMIT, Request, Status, run, run_forms_within};
 use std::alloc::{AllocError, Global};
 use std::env::Args;
@@ -21,8 +21,8 @@ use watch::Watch;
 
 /// The whole program: it ends with what the system's words come to over the system's files and output.
 ///
-/// Nothing is known of what a system hands in, so the clause names no words: it says that the status is one of [`ends_over`].
-/// The program's name is left out of them, whatever it is. A watch is told of the stages of the work.
+/// Nothing is known of what a system hands in, so the clause names no words: it says that the status is one of [`ends_over`], whose
+/// host is dropped here. The program's name is left out of the words, whatever it is. A watch is told of the stages of the work.
 pub fn ends_on<R: Env + Files + Print + Eprint + AllocGlobal + Drop, W: Watch>(
     rt: R,
     watch: &mut W,
@@ -30,24 +30,26 @@ pub fn ends_on<R: Env + Files + Print + Eprint + AllocGlobal + Drop, W: Watch>(
     ensures { EndsAfterARun (exit_status result) }
 {
     let args = env::args(&(Unnamed(&rt), rt.alloc()));
-    ends_over(rt, args, watch)
+    let (status, _host) = ends_over(rt, args, watch);
+    status
 }
 
-/// The status that the program ends with on these words, over the system's files and output, of which nothing was used before.
+/// Runs on these words over the system's files and output, of which nothing was used before. Returns the status that the program
+/// ends with, and the host as the run left it.
 ///
 /// What the system itself hands in as words decides only which lines of use a person is told.
 pub fn ends_over<R: Env + Files + Print + Eprint + AllocGlobal + Drop, W: Watch>(
     rt: R,
     args: io::Result<Args>,
     watch: &mut W,
-) -> ExitCode
-    ensures { EndsOver args (exit_status result) }
+) -> (ExitCode, RealHost<R, R::File, Hints>)
+    ensures { EndsOn args (exit_status result.0) fresh_state (real_state result.1) }
 {
     let alloc = rt.alloc();
     let command = command_begun(&rt);
-    let mut host = RealHost::new(rt);
-    host.begin(command);
-    ends(alloc, args, &mut host, watch)
+    let mut host = RealHost::new(rt, Hints { command });
+    let status = ends(alloc, args, &mut host, watch);
+    (status, host)
 }
 
 /// The status that the program ends with, after a run on the words behind the program's name.
@@ -64,7 +66,7 @@ pub fn ends<H: Host, W: Watch>(
     ensures { EndsOn args (exit_status result) (H.state host.old) (H.state host.new) }
 {
     let status = match args {
-        Ok(args) => match words_behind_name(alloc, args) {
+        Ok(args) => match arguments_after_name(alloc, args) {
             Ok(words) => run_on(alloc, &words, host, watch),
             Err(AllocError) => Status::NoMemory.code(),
         },
@@ -141,16 +143,4 @@ fn run_in_formats<H: Host, W: Watch>(
     forms.push(Box::new(alloc, OffForm::new(alloc))?)?;
     forms.push(Box::new(alloc, ObjForm::new(alloc))?)?;
     Ok(run_forms_within(alloc, words, host, &mut forms, FILE_LIMIT, watch))
-}
-
-/// All but the first.
-fn words_behind_name(alloc: Global, mut args: Args) -> Result<Vec<String>, AllocError>
-    ensures { IfOk result (λ words. words.items ≡ drop 1 (into_iter_items args)) }
-{
-    let mut words = Vec::new(alloc);
-    let _name = args.next();
-    while let Some(word) = args.next() {
-        words.push(word)?;
-    }
-    Ok(words)
 }

@@ -1,14 +1,11 @@
-//! `recon`, the program: it hands the words of its command line, forms of a mesh and the system to
-//! `recon_cmd::run_forms`, and ends with the status that this answers (`ends_over`). What the system hands in as words is not
+//! `recon`, the program: it passes the words of its command line, mesh writers and the system to
+//! `recon_cmd::run_forms_within`, and ends with the status that this returns (`ends_over`). What the system passes as words is not
 //! proved: that is one line of `ends_on`. Where standard error is a terminal, a person sees there how far the work is (`progress`).
 #![tactic(auto)]
 
 mod advice;
 mod ends;
 mod progress;
-mod real;
-mod retried;
-mod unnamed;
 
 use ends::ends_on;
 use progress::{Progress, is_dumb};

@@ -17,7 +17,7 @@ use Rattle.geo_sign.specs.Point.{Point}
 use Rattle.solid_slice.specs.Cuts.{is_cut_face, is_cut_at}
 use Rattle.solid_slice.specs.Loops.{IsLoop, AreLoops}
 use Rattle.solid_slice.specs.Walks.{IsSuccession, is_visited, visits, IsBetweenLoops}
-use Rattle.solid_slice.proofs.Counts.{one_if, hit_yes}
+use Rattle.mesh_edges.proofs.Counts.{one_if, hit_yes}
 use Rattle.solid_slice.proofs.Following.{next_is_cut}
 
 abbrev pub first_of : List (List ℕ) → ℕ → ℕ

@@ -11,9 +11,9 @@ use Rattle.std.proofs.lemmas.List.Sums.{sum_by-cons}
 use Rattle.geo_sign.specs.Tetrahedron.{facet_at}
 use Rattle.cell_laws.specs.ClosedLaws.{edges_of, edge_count}
 use Rattle.mesh_ply.specs.Meshes.{IsFace}
-use Rattle.solid_slice.specs.Edges.{has_edge, faces_with_edge}
+use Rattle.mesh_edges.specs.Edges.{has_edge, faces_with_edge}
 use Rattle.solid_slice.specs.Laws.{ClosedIsSliced}
-use Rattle.solid_slice.proofs.Counts.{one_if}
+use Rattle.mesh_edges.proofs.Counts.{one_if}
 use Rattle.solid_slice.proofs.Uniqueness.{balanced_is_sliced}
 
 -- a face has an edge once at most

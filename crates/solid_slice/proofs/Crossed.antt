@@ -14,16 +14,16 @@ use Rattle.std.proofs.lemmas.List.Elements.{filter-append}
 use Rattle.geo_sign.specs.Point.{Point}
 use Rattle.mesh_ply.specs.Meshes.{IsFace, below}
 use Rattle.mesh_ply.proofs.Vertices.{filter_below_more}
-use Rattle.solid_slice.specs.Edges.{has_edge}
-use Rattle.solid_slice.specs.Cuts.{is_above, is_cut_face, face_at, is_cut_at, IsUpEdge, IsDownEdge}
-use Rattle.solid_slice.specs.Pairs.{key_of, key_of_pair}
+use Rattle.mesh_edges.specs.Edges.{has_edge, face_at}
+use Rattle.solid_slice.specs.Cuts.{is_above, is_cut_face, is_cut_at, IsUpEdge, IsDownEdge}
+use Rattle.mesh_edges.specs.Pairs.{key_of, key_of_pair}
 use Rattle.solid_slice.specs.Crossings.{goes_up, key_of_crossing, the_crossed, crossings_at, faces_of_pair, is_upward, is_downward}
 use Rattle.solid_slice.specs.Crossings.{AreCrossings}
-use Rattle.solid_slice.specs.declared.pair.Pair.{Pair}
+use Rattle.mesh_edges.specs.declared.pair.Pair.{Pair}
 use Rattle.solid_slice.specs.declared.crossings.Crossing.{Crossing}
 use Rattle.geo_sign.proofs.Booleans.{same_bools}
-use Rattle.solid_slice.proofs.FaceEdges.{same_edge, ends_in, edge_within}
-use Rattle.solid_slice.proofs.FaceEdges.{key_parts}
+use Rattle.mesh_edges.proofs.FaceEdges.{same_edge, ends_in, edge_within}
+use Rattle.mesh_edges.proofs.FaceEdges.{key_parts}
 
 -- A face with an edge between a vertex above and one below is cut.
 pub cut_by_edge : (points : List Point) (h : ℤ) (face : List ℕ) (u v : ℕ) → has_edge u v face ≡ true

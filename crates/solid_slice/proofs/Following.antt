@@ -11,12 +11,12 @@ use Rattle.std.proofs.lemmas.List.{get_or_push, take-take}
 use Rattle.std.proofs.lemmas.List.Elements.{All-push}
 use Rattle.std.proofs.lemmas.List.Sums.{sum_by_push, sum_by_more, sum_by-take-le, sum_by-set}
 use Rattle.geo_sign.specs.Point.{Point}
-use Rattle.solid_slice.specs.Edges.{has_edge, faces_with_edge}
-use Rattle.solid_slice.specs.Cuts.{is_above, face_at, is_cut_at}
+use Rattle.mesh_edges.specs.Edges.{has_edge, faces_with_edge, face_at}
+use Rattle.solid_slice.specs.Cuts.{is_above, is_cut_at}
 use Rattle.solid_slice.specs.Loops.{IsNext, IsLoop}
 use Rattle.solid_slice.specs.Walks.{IsSuccession, is_visited, visits, IsBetweenLoops}
-use Rattle.solid_slice.proofs.Counts.{one_if, hit_no, hit_yes}
-use Rattle.solid_slice.proofs.FaceEdges.{same_edge}
+use Rattle.mesh_edges.proofs.Counts.{one_if, hit_no, hit_yes}
+use Rattle.mesh_edges.proofs.FaceEdges.{same_edge}
 use Rattle.solid_slice.proofs.Crossed.{cut_by_edge}
 use Rattle.solid_slice.proofs.Matching.{edge_of_face}
 

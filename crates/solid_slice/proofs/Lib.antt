@@ -1,7 +1,3 @@
-pub mod Counts
-pub mod Differences
-pub mod FaceEdges
-pub mod EdgeCounts
 pub mod Crossed
 pub mod Ranks
 pub mod Matching

@@ -15,14 +15,14 @@ use Rattle.std.proofs.lemmas.List.Sums.{length-filter}
 use Rattle.geo_sign.specs.Point.{Point}
 use Rattle.mesh_ply.specs.Meshes.{IsFace, below}
 use Rattle.mesh_ply.proofs.Vertices.{length_below, get_or-below}
-use Rattle.solid_slice.specs.Edges.{has_edge, faces_with_edge, IsBalanced}
-use Rattle.solid_slice.specs.Cuts.{is_above, face_at, is_cut_at}
+use Rattle.mesh_edges.specs.Edges.{has_edge, faces_with_edge, IsBalanced, face_at}
+use Rattle.solid_slice.specs.Cuts.{is_above, is_cut_at}
 use Rattle.solid_slice.specs.Loops.{IsNext}
-use Rattle.solid_slice.specs.Pairs.{key_of}
+use Rattle.mesh_edges.specs.Pairs.{key_of}
 use Rattle.solid_slice.specs.Crossings.{goes_up, key_of_crossing, the_crossed, faces_of_pair, is_upward, is_downward, AreCrossings}
 use Rattle.solid_slice.specs.declared.crossings.Crossing.{Crossing}
-use Rattle.solid_slice.proofs.Counts.{hits, hits_same, same_keys}
-use Rattle.solid_slice.proofs.FaceEdges.{down_edge_of, edge_within}
+use Rattle.mesh_edges.proofs.Counts.{hits, hits_same, same_keys}
+use Rattle.mesh_edges.proofs.FaceEdges.{down_edge_of, edge_within}
 use Rattle.solid_slice.proofs.Crossed.{goes_parts, goes_so, cut_within}
 use Rattle.solid_slice.proofs.Ranks.{in_filter, from_filter, rank_below, count_taken}
 

@@ -7,8 +7,8 @@ use Rattle.std.proofs.lemmas.List.{get_or_append_left, get_or-append_right}
 use Rattle.std.proofs.lemmas.List.Elements.{filter-append}
 use Rattle.std.proofs.lemmas.List.Sums.{sum_by-cons, sum_by_push, sum_by_more, length-filter}
 use Rattle.mesh_ply.specs.Meshes.{below}
-use Rattle.solid_slice.specs.Cuts.{face_at}
-use Rattle.solid_slice.proofs.Counts.{one_if}
+use Rattle.mesh_edges.specs.Edges.{face_at}
+use Rattle.mesh_edges.proofs.Counts.{one_if}
 
 -- its place is how many before it pass
 pub in_filter : {X : Type 0} (p : X → Bool) (xs : List X) (i : ℕ) (d : X) → i < length xs → p (get_or xs i d) ≡ true

@@ -10,7 +10,7 @@ use Rattle.geo_sign.specs.Point.{Point}
 use Rattle.solid_slice.specs.Cuts.{is_cut_at}
 use Rattle.solid_slice.specs.Loops.{the_face, AreLoops}
 use Rattle.solid_slice.specs.declared.step.Step.{Step}
-use Rattle.solid_slice.proofs.Counts.{one_if, hit_yes}
+use Rattle.mesh_edges.proofs.Counts.{one_if, hit_yes}
 use Rattle.solid_slice.proofs.Crossed.{cut_within}
 
 count-cons : (p : ℕ → Bool) (x : ℕ) (xs : List ℕ) → count_by p (x ∷ xs) ≡ one_if (p x) + count_by p xs

@@ -14,8 +14,8 @@ use Rattle.std.proofs.lemmas.List.Elements.{All-append, All-head, All-tail}
 use Rattle.std.proofs.lemmas.List.Sums.{sum_by-append, get_or-le-sum_by}
 use Rattle.geo_sign.specs.Point.{Point}
 use Rattle.mesh_ply.specs.Meshes.{point_at}
-use Rattle.solid_slice.specs.Cuts.{is_above, face_at, is_cut_at, IsUpEdge, at_height, rise, IsStep}
-use Rattle.solid_slice.specs.Edges.{ComesFirst, IsBalanced, IsFirstUnbalanced}
+use Rattle.solid_slice.specs.Cuts.{is_above, is_cut_at, IsUpEdge, at_height, rise, IsStep}
+use Rattle.mesh_edges.specs.Edges.{face_at, ComesFirst, IsBalanced, IsFirstUnbalanced}
 use Rattle.solid_slice.specs.Laws.{SliceIsOne, RefusalIsOne, BalancedIsSliced}
 use Rattle.solid_slice.specs.Loops.{IsNext, IsLoop, the_face, AreLoops}
 use Rattle.solid_slice.specs.Refusals.{IsRefusedSlice}
@@ -23,8 +23,8 @@ use Rattle.solid_slice.specs.declared.refusal.SliceRefusal.{SliceRefusal}
 use Rattle.solid_slice.specs.declared.refusal.SliceRefusal.TheVariants.{Unbalanced, NoMemory}
 use Rattle.solid_slice.specs.declared.step.Step.{Step}
 use Rattle.solid_slice.proofs.AllRings.{first_of, first_counts}
-use Rattle.solid_slice.proofs.Counts.{one_if, hits-cons, hits_none, hit_yes}
-use Rattle.solid_slice.proofs.FaceEdges.{same_edge}
+use Rattle.mesh_edges.proofs.Counts.{one_if, hits-cons, hits_none, hit_yes}
+use Rattle.mesh_edges.proofs.FaceEdges.{same_edge}
 use Rattle.solid_slice.proofs.Following.{one_after}
 
 -- how often a list has a face

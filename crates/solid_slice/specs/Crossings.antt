@@ -9,10 +9,10 @@
 use Rattle.std.specs.Prelude.{ℕ, ◌≡◌, ◌<◌, ◌^◌, ◌==◌, ◌&&◌, not, Bool, Option, None, Some, List, [], ◌∷◌, map, filter, ℤ}
 use Rattle.geo_sign.specs.Point.{Point}
 use Rattle.mesh_ply.specs.Meshes.{below}
-use Rattle.solid_slice.specs.Edges.{has_edge}
-use Rattle.solid_slice.specs.Cuts.{is_above, face_at}
-use Rattle.solid_slice.specs.Pairs.{key_of, key_of_pair}
-use Rattle.solid_slice.specs.declared.pair.Pair.{Pair}
+use Rattle.mesh_edges.specs.Edges.{has_edge, face_at}
+use Rattle.solid_slice.specs.Cuts.{is_above}
+use Rattle.mesh_edges.specs.Pairs.{key_of, key_of_pair}
+use Rattle.mesh_edges.specs.declared.pair.Pair.{Pair}
 use Rattle.solid_slice.specs.declared.crossings.Crossing.{Crossing}
 
 abbrev pub goes_up : List Point → ℤ → (u v : ℕ) → Bool

@@ -2,18 +2,18 @@
 --
 --   is_above points h v           whether vertex v is above the height
 --   is_cut_face points h face     whether the face has vertices above and below
---   face_at faces f, is_cut_at points faces h f   face number f, and whether it is cut
+--   is_cut_at points faces h f    whether face number f is cut
 --   IsUpEdge points h face u v    the edge from u to v is one of the face's, and goes up through the height
 --   IsDownEdge points h face u v  it is one of the face's, and goes down through it
 --   rise u v, climb h u           twice the heights from u to v, and from u to h + 1/2
 --   at_height h u v from to       the coordinate where the edge from u to v has the height, times its rise
 --   IsStep points faces h s       the step's point is that of its face: the one on the face's up edge
-use Rattle.std.specs.Prelude.{ℕ, ◌≡◌, ◌&&◌, not, Bool, true, false, List, [], slice_index_or, ℤ, pos, ◌+ℤ◌, ◌-ℤ◌, ◌*ℤ◌}
+use Rattle.std.specs.Prelude.{ℕ, ◌≡◌, ◌&&◌, not, Bool, true, false, List, ℤ, pos, ◌+ℤ◌, ◌-ℤ◌, ◌*ℤ◌}
 use Rattle.std.specs.Int.Signed.{lt_z}
 use Rattle.std.specs.List.{list_any}
 use Rattle.geo_sign.specs.Point.{Point}
 use Rattle.mesh_ply.specs.Meshes.{point_at}
-use Rattle.solid_slice.specs.Edges.{has_edge}
+use Rattle.mesh_edges.specs.Edges.{has_edge, face_at}
 use Rattle.solid_slice.specs.declared.step.Step.{Step}
 
 -- whether vertex v is above the height h + 1/2
@@ -24,10 +24,7 @@ is_above points h v = lt_z h (point_at points v).z
 abbrev pub is_cut_face : List Point → ℤ → List ℕ → Bool
 is_cut_face points h face = list_any (is_above points h) face && list_any (λ v. not (is_above points h v)) face
 
--- face number f
-abbrev pub face_at : List (List ℕ) → ℕ → List ℕ
-face_at faces f = slice_index_or faces f []
-
+-- whether face number f is cut
 abbrev pub is_cut_at : List Point → List (List ℕ) → ℤ → ℕ → Bool
 is_cut_at points faces h f = is_cut_face points h (face_at faces f)
 

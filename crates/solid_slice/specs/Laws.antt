@@ -10,7 +10,7 @@ use Rattle.geo_sign.specs.Point.{Point}
 use Rattle.geo_sign.specs.Tetrahedron.{facet_at}
 use Rattle.cell_laws.specs.ClosedLaws.{edge_count}
 use Rattle.mesh_ply.specs.Meshes.{IsMesh}
-use Rattle.solid_slice.specs.Edges.{IsBalanced}
+use Rattle.mesh_edges.specs.Edges.{IsBalanced}
 use Rattle.solid_slice.specs.Refusals.{IsRefusedSlice}
 use Rattle.solid_slice.specs.Slices.{IsSlice}
 use Rattle.solid_slice.specs.declared.refusal.SliceRefusal.{SliceRefusal}

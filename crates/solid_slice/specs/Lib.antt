@@ -1,9 +1,7 @@
-pub mod Edges
 pub mod Cuts
 pub mod Loops
 pub mod Slices
 pub mod Texts
-pub mod Pairs
 pub mod Crossings
 pub mod Walks
 pub mod Refusals

@@ -9,8 +9,8 @@ use Rattle.std.specs.Prelude.{ℕ, ◌≡◌, ◌+◌, ◌-◌, ◌<◌, ◌≤�
 use Rattle.std.specs.Prelude.{count_by, if◌then◌else◌, ℤ}
 use Rattle.std.specs.List.{concat}
 use Rattle.geo_sign.specs.Point.{Point}
-use Rattle.solid_slice.specs.Edges.{faces_with_edge}
-use Rattle.solid_slice.specs.Cuts.{face_at, is_cut_at, IsUpEdge, IsDownEdge}
+use Rattle.mesh_edges.specs.Edges.{faces_with_edge, face_at}
+use Rattle.solid_slice.specs.Cuts.{is_cut_at, IsUpEdge, IsDownEdge}
 use Rattle.solid_slice.specs.declared.step.Step.{Step}
 use Rattle.solid_slice.specs.declared.step.Ring.{Ring}
 

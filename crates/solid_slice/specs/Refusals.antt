@@ -1,6 +1,6 @@
 -- Why a mesh has no slice.
 use Rattle.std.specs.Prelude.{ℕ, List}
-use Rattle.solid_slice.specs.Edges.{IsFirstUnbalanced}
+use Rattle.mesh_edges.specs.Edges.{IsFirstUnbalanced}
 use Rattle.solid_slice.specs.declared.refusal.SliceRefusal.{SliceRefusal}
 use Rattle.solid_slice.specs.declared.refusal.SliceRefusal.TheVariants.{Unbalanced, NoMemory}
 

@@ -3,12 +3,12 @@
 ghost use Rattle.std.specs.Prelude.{◌≡◌, ◌++◌, ℕ, OnOk, IfOk, length, map};
 ghost use Rattle.std.specs.List.Sorted.{IsNonDecreasingBy};
 ghost use Rattle.mesh_ply.specs.Meshes.{IsMesh};
-ghost use Rattle.solid_slice.specs.Edges.{IsBalanced};
+ghost use Rattle.mesh_edges.specs.Edges.{IsBalanced};
 ghost use Rattle.solid_slice.specs.Crossings.{crossings_at, key_of_crossing, faces_of_pair, AreCrossings};
 
 use crate::height::{down_edge, up_edge};
-use crate::pair::Pair;
 use crate::{Mesh, NoMemory};
+use mesh_edges::Pair;
 use std::alloc::Global;
 
 /// A face, and the edge on which it goes through the height, its lower vertex first.

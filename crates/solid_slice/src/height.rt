@@ -5,9 +5,9 @@ ghost use Rattle.mesh_ply.specs.Meshes.{IsFace, IsMesh, point_at};
 ghost use Rattle.solid_slice.specs.Cuts.{is_above, is_cut_face, is_cut_at, IsUpEdge, IsDownEdge, IsStep, at_height, rise};
 
 use crate::Mesh;
-use crate::pair::Pair;
 use crate::step::Step;
 use geo_sign::Point;
+use mesh_edges::Pair;
 
 /// Whether a vertex is above `height + 1/2`.
 fn is_vertex_above(points: &[Point], height: i32, vertex: u32) -> bool

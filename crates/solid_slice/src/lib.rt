@@ -9,15 +9,13 @@
 //! So a mesh has one slice at a height (`slices_are_unique`), and a closed mesh is refused for want of memory alone
 //! (`closed_meshes_are_sliced`).
 //!
-//! The edges are sorted, and all else is linear. It stands on `mesh_ply` (meshes), `geo_sign` (points),
-//! `line_text` (numbers in lines) and, for the law of closed meshes, `cell_laws` (counts of edges).
+//! The edges are sorted, and all else is linear. It depends on `mesh_edges` (edges that are not balanced), `mesh_ply` (meshes),
+//! `geo_sign` (points), `line_text` (numbers in lines) and, for the theorem of closed meshes, `cell_laws` (counts of edges).
 #![tactic(auto)]
 
-mod balance;
 mod crossings;
 mod height;
 mod laws;
-mod pair;
 mod refusal;
 mod rings;
 mod slicing;

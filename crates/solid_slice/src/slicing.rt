@@ -2,17 +2,34 @@
 
 ghost use Rattle.std.specs.Prelude.{◌≤◌, IfOk, IfErr, length, map, sum_by};
 ghost use Rattle.mesh_ply.specs.Meshes.{IsMesh};
-ghost use Rattle.solid_slice.specs.Edges.{IsBalanced};
+ghost use Rattle.mesh_edges.specs.Edges.{IsBalanced};
 ghost use Rattle.solid_slice.specs.Slices.{steps_of, IsSlice};
 ghost use Rattle.solid_slice.specs.Refusals.{IsRefusedSlice};
 
-use crate::balance::check_balance;
 use crate::crossings::matched_crossings;
 use crate::rings::rings_of;
 use crate::step::Ring;
 use crate::successors::successors;
 use crate::{Mesh, SliceRefusal};
+use mesh_edges::first_unbalanced;
 use std::alloc::Global;
+
+/// Refuses a mesh in which some directed edge occurs another number of times than its reverse.
+fn check_balance(alloc: Global, mesh: &Mesh) -> Result<(), SliceRefusal>
+    requires { IsMesh mesh.now.points.items mesh.now.faces.items }
+    ensures balanced { IfOk result (λ _. IsBalanced mesh.now.faces.items) }
+    ensures refused { IfErr result (λ refusal. IsRefusedSlice mesh.now.faces.items refusal) }
+{
+    match first_unbalanced(alloc, mesh)? {
+        None => Ok(()),
+        Some(edge) => Err(SliceRefusal::Unbalanced {
+            from: edge.from,
+            to: edge.to,
+            there: edge.there,
+            back: edge.back,
+        }),
+    }
+}
 
 /// The loops in which the plane at `height + 1/2` cuts a valid mesh.
 ///

@@ -4,9 +4,9 @@ use Rattle.std.specs.Bool.{OnTrue}
 use Rattle.geo_sign.specs.Point.{Point}
 use Rattle.triangle_gap.specs.Shared.{weighted, Weights, IsShared}
 use Rattle.triangle_gap.specs.Settled.{AreCommon, AreSettled, AreMarks, IsTriangleOf}
-use Rattle.triangle_gap.specs.Gaps.{IsCommon, AreApart}
+use Rattle.triangle_gap.specs.Gaps.{IsCommon, AreFacesApart}
 use Rattle.triangle_gap.specs.declared.corners.Triangle.{Triangle}
-use Rattle.triangle_gap.specs.declared.corners.Freed.{Freed}
+use Rattle.triangle_gap.specs.declared.corners.Excluded.{Excluded}
 use Rattle.triangle_gap.specs.declared.corners.Marks.{Marks}
 
 -- the same sum of points that are the same
@@ -22,10 +22,10 @@ common (a ∷ b ∷ []) g m u v w marks h = absurd marks
 common (a ∷ b ∷ c ∷ d ∷ x) g m u v w marks h = absurd marks
 common (a ∷ b ∷ c ∷ []) g m u v w (p, q, r) h = (λ e. h.p (p ∙ e), λ e. h.q (q ∙ e), λ e. h.r (r ∙ e))
 
-three : (points : List Point) (a b c d e h : ℕ) (s t : Triangle) (k : Freed)
+three : (points : List Point) (a b c d e h : ℕ) (s t : Triangle) (k : Excluded)
     → AreMarks (a ∷ b ∷ c ∷ []) (d ∷ e ∷ h ∷ []) k.one → AreMarks (d ∷ e ∷ h ∷ []) (a ∷ b ∷ c ∷ []) k.other
     → IsTriangleOf points (a ∷ b ∷ c ∷ []) s → IsTriangleOf points (d ∷ e ∷ h ∷ []) t → AreSettled s t k
-    → AreApart points (a ∷ b ∷ c ∷ []) (d ∷ e ∷ h ∷ [])
+    → AreFacesApart points (a ∷ b ∷ c ∷ []) (d ∷ e ∷ h ∷ [])
 three points a b c d e h s t k marks others (sp, sq, sr) (tp, tq, tr) settled u v w x y z total place =
     let n : Weights = record { p = u; q = v; r = w; x = x; y = y; z = z } in
     let shared : IsShared s t n =
@@ -38,8 +38,8 @@ three points a b c d e h s t k marks others (sp, sq, sr) (tp, tq, tr) settled u 
       | inr i ↦ inr (common (d ∷ e ∷ h ∷ []) (a ∷ b ∷ c ∷ []) k.other x y z others i)
     ]
 
-pub apart : (points : List Point) (f g : List ℕ) (s t : Triangle) (k : Freed) → AreMarks f g k.one → AreMarks g f k.other
-    → IsTriangleOf points f s → IsTriangleOf points g t → AreSettled s t k → AreApart points f g
+pub apart : (points : List Point) (f g : List ℕ) (s t : Triangle) (k : Excluded) → AreMarks f g k.one → AreMarks g f k.other
+    → IsTriangleOf points f s → IsTriangleOf points g t → AreSettled s t k → AreFacesApart points f g
 apart points [] g s t k marks others i j settled = absurd marks
 apart points (a ∷ []) g s t k marks others i j settled = absurd marks
 apart points (a ∷ b ∷ []) g s t k marks others i j settled = absurd marks

@@ -1,3 +1,3 @@
 pub mod Separations
-pub mod Freeing
+pub mod Excluding
 pub mod Apart

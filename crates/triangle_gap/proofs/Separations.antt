@@ -1,6 +1,6 @@
 -- A plane between two triangles, by the heights of their corners over it.
 --
--- Weights that stand for one place give it one height over any plane: the mean of the heights of one triangle's corners, and of the
+-- Weights that give one point give it one height over any plane: the mean of the heights of one triangle's corners, and of the
 -- other's (same_height). Where no corner of the one is below a height m and none of the other above it, the place is at m, so what is
 -- above m or below it has the weight 0 (weights_gone): a sum of products of numbers that are not negative is 0 only where each is.
 use Rattle.std.proofs.Common.{ℕ, ◌≡◌, ◌+◌, ◌*◌, ◌<◌, ap, ap₂, sym, ◌∙◌, arith, ℤ, pos, ◌+ℤ◌, ◌-ℤ◌, ◌*ℤ◌, ◌≤ℤ◌, ◌<ℤ◌, unsigned_abs, [], ◌∷◌, zero, suc}

@@ -1,7 +1,7 @@
 -- Faces that are apart but for common corners.
 --
 --   IsCommon f g u v w     corners of f that g has not have the weight 0
---   AreApart points f g    each place that both faces have is one of their common corners, or on the edge between them
+--   AreFacesApart points f g    each point that both faces contain is one of their common corners, or on the edge between them
 use Rattle.std.specs.Prelude.{ℕ, ◌≡◌, ◌+◌, ◌⊎◌, false, List, [], ◌∷◌}
 use Rattle.geo_sign.specs.Point.{Point}
 use Rattle.mesh_ply.specs.Meshes.{is_vertex_of, point_at}
@@ -13,11 +13,11 @@ IsCommon (a ∷ b ∷ c ∷ []) g u v w =
     (is_vertex_of a g ≡ false → u ≡ 0) × (is_vertex_of b g ≡ false → v ≡ 0) × (is_vertex_of c g ≡ false → w ≡ 0)
 IsCommon _ g u v w = ⊥
 
--- Where weights of both faces stand for one place, the one or the other's weights are those of common corners alone.
-abbrev pub AreApart : List Point → (f g : List ℕ) → Type 0
-AreApart points (a ∷ b ∷ c ∷ []) (d ∷ e ∷ h ∷ []) =
+-- Where weights of both faces give one point, the one or the other's weights are 0 but at common corners.
+abbrev pub AreFacesApart : List Point → (f g : List ℕ) → Type 0
+AreFacesApart points (a ∷ b ∷ c ∷ []) (d ∷ e ∷ h ∷ []) =
     (u v w x y z : ℕ) → u + v + w ≡ x + y + z
     → weighted (point_at points a) (point_at points b) (point_at points c) u v w
     ≡ weighted (point_at points d) (point_at points e) (point_at points h) x y z
     → IsCommon (a ∷ b ∷ c ∷ []) (d ∷ e ∷ h ∷ []) u v w ⊎ IsCommon (d ∷ e ∷ h ∷ []) (a ∷ b ∷ c ∷ []) x y z
-AreApart points _ _ = ⊥
+AreFacesApart points _ _ = ⊥

@@ -1,8 +1,8 @@
--- What settles that two triangles are apart.
+-- What shows that two triangles are apart.
 --
---   AreCovered freed common       each corner that is not common is freed
+--   AreCovered excluded common       each corner that is not common is excluded
 --   AreCommon m u v w             corners that are not marked have the weight 0
---   AreSettled s t common         at each place that both have, the one or the other's weights are those of common corners alone
+--   AreSettled s t common         at each point that both contain, the one or the other's weights are those of common corners alone
 --   AreMarks f g m                the marks say which corners of f are corners of g
 --   IsTriangleOf points f t       t has the points of f
 use Rattle.std.specs.Prelude.{ℕ, ◌≡◌, ◌⊎◌, true, false, List, [], ◌∷◌}
@@ -10,14 +10,14 @@ use Rattle.geo_sign.specs.Point.{Point}
 use Rattle.mesh_ply.specs.Meshes.{is_vertex_of, point_at}
 use Rattle.triangle_gap.specs.Shared.{Weights, IsShared}
 use Rattle.triangle_gap.specs.declared.corners.Triangle.{Triangle}
-use Rattle.triangle_gap.specs.declared.corners.Freed.{Freed}
+use Rattle.triangle_gap.specs.declared.corners.Excluded.{Excluded}
 use Rattle.triangle_gap.specs.declared.corners.Marks.{Marks}
 
--- each corner that is not common is freed
-pub record AreCovered (freed common : Marks) : Type 0 where
-  pub p : common.p ≡ false → freed.p ≡ true
-  pub q : common.q ≡ false → freed.q ≡ true
-  pub r : common.r ≡ false → freed.r ≡ true
+-- each corner that is not common is excluded
+pub record AreCovered (excluded common : Marks) : Type 0 where
+  pub p : common.p ≡ false → excluded.p ≡ true
+  pub q : common.q ≡ false → excluded.q ≡ true
+  pub r : common.r ≡ false → excluded.r ≡ true
 
 -- corners that are not marked have the weight 0
 pub record AreCommon (m : Marks) (u v w : ℕ) : Type 0 where
@@ -25,8 +25,8 @@ pub record AreCommon (m : Marks) (u v w : ℕ) : Type 0 where
   pub q : m.q ≡ false → v ≡ 0
   pub r : m.r ≡ false → w ≡ 0
 
--- at each place that both have
-abbrev pub AreSettled : Triangle → Triangle → Freed → Type 0
+-- at each point that both contain
+abbrev pub AreSettled : Triangle → Triangle → Excluded → Type 0
 AreSettled s t common = (n : Weights) → IsShared s t n → AreCommon common.one n.p n.q n.r ⊎ AreCommon common.other n.x n.y n.z
 
 -- which corners of f are corners of g

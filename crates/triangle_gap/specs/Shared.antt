@@ -1,17 +1,17 @@
--- Places that two triangles have, by weights of their corners.
+-- Points that two triangles contain, by weights of their corners.
 --
 --   weighted a b c u v w   the sum of three points, each as often as its weight says
 --   Weights                six whole numbers, three for the corners of each triangle
---   IsShared s t n         the weights stand for one place of both
---   IsFreed f n            the weights of freed corners are 0
---   AreFreed s t f         they are at each place that both triangles have
+--   IsShared s t n         the weights give one point of both
+--   IsExcluded f n            the weights of excluded corners are 0
+--   AreExcluded s t f         they are at each point that both triangles contain
 --
--- A place of a triangle with whole corners is the mean of these by weights. The places that two such triangles have are a point, a
+-- A point of a triangle with whole corners is a weighted mean of them. The points that two such triangles share are a point, a
 -- segment or a polygon with rational corners, so where there is one but for common corners there is one with whole weights.
 use Rattle.std.specs.Prelude.{ℕ, ◌≡◌, ◌+◌, true, ℤ, pos, ◌+ℤ◌, ◌*ℤ◌}
 use Rattle.geo_sign.specs.Point.{Point, point}
 use Rattle.triangle_gap.specs.declared.corners.Triangle.{Triangle}
-use Rattle.triangle_gap.specs.declared.corners.Freed.{Freed}
+use Rattle.triangle_gap.specs.declared.corners.Excluded.{Excluded}
 
 -- the sum of three numbers, each as often as its weight says
 abbrev pub weighted_sum : (a b c : ℤ) → (u v w : ℕ) → ℤ
@@ -31,13 +31,13 @@ pub record Weights : Type 0 where
   pub y : ℕ
   pub z : ℕ
 
--- as many in all, and the same place
+-- as many in all, and the same point
 pub record IsShared (s t : Triangle) (n : Weights) : Type 0 where
   pub total : n.p + n.q + n.r ≡ n.x + n.y + n.z
   pub place : weighted s.p s.q s.r n.p n.q n.r ≡ weighted t.p t.q t.r n.x n.y n.z
 
--- the weights of freed corners are 0
-pub record IsFreed (f : Freed) (n : Weights) : Type 0 where
+-- the weights of excluded corners are 0
+pub record IsExcluded (f : Excluded) (n : Weights) : Type 0 where
   pub p : f.one.p ≡ true → n.p ≡ 0
   pub q : f.one.q ≡ true → n.q ≡ 0
   pub r : f.one.r ≡ true → n.r ≡ 0
@@ -45,5 +45,5 @@ pub record IsFreed (f : Freed) (n : Weights) : Type 0 where
   pub y : f.other.q ≡ true → n.y ≡ 0
   pub z : f.other.r ≡ true → n.z ≡ 0
 
-abbrev pub AreFreed : Triangle → Triangle → Freed → Type 0
-AreFreed s t f = (n : Weights) → IsShared s t n → IsFreed f n
+abbrev pub AreExcluded : Triangle → Triangle → Excluded → Type 0
+AreExcluded s t f = (n : Weights) → IsShared s t n → IsExcluded f n

@@ -1,4 +1,4 @@
-//! Three points, and which corners have no part in a place that two triangles have.
+//! Triangles, and marks on their corners.
 
 ghost use Rattle.std.specs.Prelude.{◌≡◌, ◌||◌};
 
@@ -20,15 +20,15 @@ pub(crate) struct Marks {
     pub(crate) r: bool,
 }
 
-/// Whether each corner of two triangles is known to have no part in any place that both have.
+/// Which corners of two triangles are known to have the weight 0 at each point that both triangles contain.
 #[derive(Clone, Copy)]
-pub(crate) struct Freed {
+pub(crate) struct Excluded {
     pub(crate) one: Marks,
     pub(crate) other: Marks,
 }
 
 impl Marks {
-    /// The corners that have one of two marks.
+    /// Returns the corners that have one of two marks.
     pub(crate) fn or(self, more: Marks) -> Marks
         ensures p { result.p ≡ (self.p || more.p) }
         ensures q { result.q ≡ (self.q || more.q) }
@@ -42,9 +42,9 @@ impl Marks {
     }
 }
 
-impl Freed {
-    /// The corners that have one of two marks.
-    pub(crate) fn or(self, one: Marks, other: Marks) -> Freed
+impl Excluded {
+    /// Returns the corners that have one of two marks.
+    pub(crate) fn or(self, one: Marks, other: Marks) -> Excluded
         ensures p { result.one.p ≡ (self.one.p || one.p) }
         ensures q { result.one.q ≡ (self.one.q || one.q) }
         ensures r { result.one.r ≡ (self.one.r || one.r) }
@@ -54,7 +54,7 @@ impl Freed {
     {
         let first = self.one.or(one);
         let second = self.other.or(other);
-        Freed {
+        Excluded {
             one: first,
             other: second,
         }

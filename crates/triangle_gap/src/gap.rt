@@ -1,15 +1,15 @@
-//! The test.
+//! The test whether two triangles are apart.
 
 ghost use Rattle.std.specs.Prelude.{◌≡◌, ◌<◌, ◌^◌, ◌⊎◌, All, length};
 ghost use Rattle.std.specs.Bool.{OnTrue};
 ghost use Rattle.geo_sign.specs.Point.{IsWithin};
 ghost use Rattle.mesh_ply.specs.Meshes.{is_vertex_of};
-ghost use Rattle.triangle_gap.specs.Shared.{AreFreed};
+ghost use Rattle.triangle_gap.specs.Shared.{AreExcluded};
 ghost use Rattle.triangle_gap.specs.Settled.{AreCovered, AreSettled, AreMarks, IsTriangleOf};
-ghost use Rattle.triangle_gap.specs.Gaps.{AreApart};
+ghost use Rattle.triangle_gap.specs.Gaps.{AreFacesApart};
 
-use crate::corners::{Freed, Marks, Triangle};
-use crate::planes::freed_by;
+use crate::corners::{Excluded, Marks, Triangle};
+use crate::planes::excluded_by;
 use geo_sign::{Point, Vector};
 
 /// The three sides of a triangle.
@@ -32,8 +32,8 @@ fn sides_of(triangle: &Triangle) -> Sides
     }
 }
 
-/// What is upright on a triangle.
-fn upright_on(sides: &Sides) -> Vector
+/// Returns a normal of a triangle.
+fn normal_of(sides: &Sides) -> Vector
     requires pq { IsWithin (2 ^ 24) sides.now.pq }
     requires qr { IsWithin (2 ^ 24) sides.now.qr }
     ensures { IsWithin (2 ^ 49) result }
@@ -42,41 +42,47 @@ fn upright_on(sides: &Sides) -> Vector
     pq.cross(qr)
 }
 
-/// The corners that are freed by planes along one side and each of three others.
-fn freed_along(side: Vector, sides: &Sides, one: &Triangle, other: &Triangle, freed: Freed) -> Freed
+/// Returns the corners that are excluded before or by planes along one side and each of three others.
+fn excluded_along(
+    side: Vector,
+    sides: &Sides,
+    one: &Triangle,
+    other: &Triangle,
+    excluded: Excluded,
+) -> Excluded
     requires side { IsWithin (2 ^ 24) side }
     requires pq { IsWithin (2 ^ 24) sides.now.pq }
     requires qr { IsWithin (2 ^ 24) sides.now.qr }
     requires rp { IsWithin (2 ^ 24) sides.now.rp }
-    requires before { AreFreed one.now other.now freed }
-    ensures { AreFreed one.now other.now result }
+    requires before { AreExcluded one.now other.now excluded }
+    ensures { AreExcluded one.now other.now result }
 {
     let Sides { pq, qr, rp } = *sides;
     let first = side.cross(pq);
-    let freed = freed_by(first, one, other, freed);
+    let excluded = excluded_by(first, one, other, excluded);
     let second = side.cross(qr);
-    let freed = freed_by(second, one, other, freed);
+    let excluded = excluded_by(second, one, other, excluded);
     let third = side.cross(rp);
-    freed_by(third, one, other, freed)
+    excluded_by(third, one, other, excluded)
 }
 
-/// Whether each corner of a triangle is freed or common.
-fn are_covered(freed: Marks, common: Marks) -> bool
-    ensures { OnTrue result (AreCovered freed common) }
+/// Returns whether each corner of a triangle is excluded or common.
+fn are_covered(excluded: Marks, common: Marks) -> bool
+    ensures { OnTrue result (AreCovered excluded common) }
 {
-    let all = freed.or(common);
+    let all = excluded.or(common);
     all.p && all.q && all.r
 }
 
-/// Whether that is so of one of two triangles.
-fn is_settled(freed: Freed, common: Freed) -> bool
-    ensures { OnTrue result (AreCovered freed.one common.one ⊎ AreCovered freed.other common.other) }
+/// Returns whether that holds for one of two triangles.
+fn is_settled(excluded: Excluded, common: Excluded) -> bool
+    ensures { OnTrue result (AreCovered excluded.one common.one ⊎ AreCovered excluded.other common.other) }
 {
-    are_covered(freed.one, common.one) || are_covered(freed.other, common.other)
+    are_covered(excluded.one, common.one) || are_covered(excluded.other, common.other)
 }
 
-/// Whether two triangles with these common corners are apart.
-fn is_gap(one: &Triangle, other: &Triangle, common: Freed) -> bool
+/// Returns whether planes show that two triangles with these common corners are apart.
+fn is_gap(one: &Triangle, other: &Triangle, common: Excluded) -> bool
     ensures { OnTrue result (AreSettled one.now other.now common) }
 {
     let none = Marks {
@@ -84,35 +90,35 @@ fn is_gap(one: &Triangle, other: &Triangle, common: Freed) -> bool
         q: false,
         r: false,
     };
-    let freed = Freed {
+    let excluded = Excluded {
         one: none,
         other: none,
     };
     let Sides { pq, qr, rp } = sides_of(one);
     let across = pq.cross(qr);
-    let freed = freed_by(across, one, other, freed);
-    if is_settled(freed, common) {
+    let excluded = excluded_by(across, one, other, excluded);
+    if is_settled(excluded, common) {
         return true;
     }
     let sides = sides_of(other);
-    let across = upright_on(&sides);
-    let freed = freed_by(across, one, other, freed);
-    if is_settled(freed, common) {
+    let across = normal_of(&sides);
+    let excluded = excluded_by(across, one, other, excluded);
+    if is_settled(excluded, common) {
         return true;
     }
-    let freed = freed_along(pq, &sides, one, other, freed);
-    if is_settled(freed, common) {
+    let excluded = excluded_along(pq, &sides, one, other, excluded);
+    if is_settled(excluded, common) {
         return true;
     }
-    let freed = freed_along(qr, &sides, one, other, freed);
-    if is_settled(freed, common) {
+    let excluded = excluded_along(qr, &sides, one, other, excluded);
+    if is_settled(excluded, common) {
         return true;
     }
-    let freed = freed_along(rp, &sides, one, other, freed);
-    is_settled(freed, common)
+    let excluded = excluded_along(rp, &sides, one, other, excluded);
+    is_settled(excluded, common)
 }
 
-/// Whether a face has a vertex.
+/// Returns whether a face has a vertex.
 fn has(face: [u32; 3], v: u32) -> bool
     ensures { result ≡ is_vertex_of v face }
 {
@@ -120,7 +126,7 @@ fn has(face: [u32; 3], v: u32) -> bool
     a == v || b == v || c == v
 }
 
-/// The corners of a face that another has too.
+/// Returns the corners of a face that another has too.
 fn common_corners(one: [u32; 3], other: [u32; 3]) -> Marks
     ensures { AreMarks one other result }
 {
@@ -132,7 +138,7 @@ fn common_corners(one: [u32; 3], other: [u32; 3]) -> Marks
     }
 }
 
-/// A face's corners.
+/// Returns the corners of a face.
 fn triangle_of(points: &[Point], face: [u32; 3]) -> Triangle
     requires { All (λ v. v < length points.now) face }
     ensures { IsTriangleOf points.now face result }
@@ -145,13 +151,16 @@ fn triangle_of(points: &[Point], face: [u32; 3]) -> Triangle
     }
 }
 
-/// Whether planes show that each place that two faces have is one of their common corners, or on the edge between them.
+/// Returns whether planes show that each point that two faces contain is one of their common corners or on the edge between them.
+///
+/// `true` is exact. That `true` is returned for each such pair is not promised: eleven planes are tried, those of the two faces and
+/// those parallel to an edge of each.
 pub fn are_apart(points: &[Point], one: [u32; 3], other: [u32; 3]) -> bool
     requires one_in { All (λ v. v < length points.now) one }
     requires other_in { All (λ v. v < length points.now) other }
-    ensures { OnTrue result (AreApart points.now one other) }
+    ensures { OnTrue result (AreFacesApart points.now one other) }
 {
-    let common = Freed {
+    let common = Excluded {
         one: common_corners(one, other),
         other: common_corners(other, one),
     };

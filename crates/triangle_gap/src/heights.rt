@@ -14,22 +14,22 @@ pub(crate) struct Heights {
     pub(crate) r: i128,
 }
 
-/// How high the corners are over the plane through a point that is upright on a vector, times the vector's length.
-pub(crate) fn heights_over(triangle: &Triangle, from: Point, upright: Vector) -> Heights
-    requires { IsWithin (2 ^ 49) upright }
-    ensures p { result.p ≡ dot upright (step from triangle.now.p) }
-    ensures q { result.q ≡ dot upright (step from triangle.now.q) }
-    ensures r { result.r ≡ dot upright (step from triangle.now.r) }
+/// Returns the heights of the corners over the plane through a point with this normal, times the length of the normal.
+pub(crate) fn heights_over(triangle: &Triangle, from: Point, normal: Vector) -> Heights
+    requires { IsWithin (2 ^ 49) normal }
+    ensures p { result.p ≡ dot normal (step from triangle.now.p) }
+    ensures q { result.q ≡ dot normal (step from triangle.now.q) }
+    ensures r { result.r ≡ dot normal (step from triangle.now.r) }
 {
     Heights {
-        p: upright.dot(from.to(triangle.p)),
-        q: upright.dot(from.to(triangle.q)),
-        r: upright.dot(from.to(triangle.r)),
+        p: normal.dot(from.to(triangle.p)),
+        q: normal.dot(from.to(triangle.q)),
+        r: normal.dot(from.to(triangle.r)),
     }
 }
 
 impl Heights {
-    /// The least of the three.
+    /// Returns the smallest of the three.
     pub(crate) fn least(self) -> i128
         ensures p { result ≤ℤ self.p }
         ensures q { result ≤ℤ self.q }
@@ -38,7 +38,7 @@ impl Heights {
         self.p.min(self.q).min(self.r)
     }
 
-    /// The greatest of the three.
+    /// Returns the greatest of the three.
     pub(crate) fn most(self) -> i128
         ensures p { self.p ≤ℤ result }
         ensures q { self.q ≤ℤ result }
@@ -47,7 +47,7 @@ impl Heights {
         self.p.max(self.q).max(self.r)
     }
 
-    /// The corners above a height.
+    /// Returns the corners above a height.
     pub(crate) fn above(self, height: i128) -> Marks
         ensures p { result.p ≡ true → height <ℤ self.p }
         ensures q { result.q ≡ true → height <ℤ self.q }
@@ -60,7 +60,7 @@ impl Heights {
         }
     }
 
-    /// The corners below a height.
+    /// Returns the corners below a height.
     pub(crate) fn below(self, height: i128) -> Marks
         ensures p { result.p ≡ true → self.p <ℤ height }
         ensures q { result.q ≡ true → self.q <ℤ height }

@@ -1,9 +1,9 @@
-//! Whether two triangles are apart but for the corners that they have in common: exactly, by planes between them.
+//! An exact test that two triangles share no more than common corners and edges, by separating planes.
 //!
-//! Two triangles are *apart* where each place that both have lies in the corner, or on the edge, that both have. The test looks for
-//! planes that have all of one triangle on one side and all of the other on the other side. Where such a plane touches a corner of one
-//! of them not, that corner has no part in a place that both have. So several planes together, each through a common corner, settle what
-//! none of them does alone. Planes along a face of one, or along an edge of each, are tried; where none is found the answer is no.
+//! Two triangles are *apart* if each point that both contain is a common corner or on a common edge. The test looks for planes that
+//! weakly separate the two. A corner strictly off such a plane has the weight 0 in each common point: it is *excluded*. So several
+//! planes, each through a common corner, can show together what none shows alone. Planes parallel to a face of one, or to an edge of
+//! each, are tried; if they do not suffice, the answer is no.
 //!
 //! Heights over a plane are of degree 3 in coordinates, below 2^75.
 #![tactic(auto)]

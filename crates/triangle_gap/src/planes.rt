@@ -1,35 +1,40 @@
-//! What a plane between two triangles says of their corners.
+//! The corners that a separating plane excludes.
 
 ghost use Rattle.std.specs.Prelude.{◌≡◌, ◌^◌};
 ghost use Rattle.geo_sign.specs.Point.{IsWithin};
-ghost use Rattle.triangle_gap.specs.Shared.{AreFreed};
+ghost use Rattle.triangle_gap.specs.Shared.{AreExcluded};
 
-use crate::corners::{Freed, Triangle};
+use crate::corners::{Excluded, Triangle};
 use crate::heights::heights_over;
 use geo_sign::Vector;
 
-/// The corners that are freed by planes upright on this vector, and those that were before. A plane through the highest corner of the
-/// lower triangle frees the corners of the upper one that lie above it, and one through the lowest corner of the upper triangle those
+/// Returns the corners that are excluded before or by planes with this normal. A plane through the highest corner of the lower
+/// triangle excludes the corners of the upper one that lie above it, and a plane through the lowest corner of the upper triangle those
 /// of the lower one that lie below it.
-pub(crate) fn freed_by(upright: Vector, one: &Triangle, other: &Triangle, freed: Freed) -> Freed
-    requires within { IsWithin (2 ^ 49) upright }
-    requires before { AreFreed one.now other.now freed }
-    ensures { AreFreed one.now other.now result }
+pub(crate) fn excluded_by(
+    normal: Vector,
+    one: &Triangle,
+    other: &Triangle,
+    excluded: Excluded,
+) -> Excluded
+    requires within { IsWithin (2 ^ 49) normal }
+    requires before { AreExcluded one.now other.now excluded }
+    ensures { AreExcluded one.now other.now result }
 {
     let from = one.p;
-    let a = heights_over(one, from, upright);
-    let b = heights_over(other, from, upright);
+    let a = heights_over(one, from, normal);
+    let b = heights_over(other, from, normal);
     let (floor, roof) = (a.least(), b.most());
     if roof <= floor {
         let above = a.above(roof);
         let below = b.below(floor);
-        return freed.or(above, below);
+        return excluded.or(above, below);
     }
     let (floor, roof) = (b.least(), a.most());
     if roof <= floor {
         let below = a.below(floor);
         let above = b.above(roof);
-        return freed.or(below, above);
+        return excluded.or(below, above);
     }
-    freed
+    excluded
 }

@@ -1,10 +1,10 @@
 use Rattle.std.proofs.Common.{arith}
 use Rattle.hull_tree.proofs.Overs.{over_itself, over_half}
-use Rattle.hull_tree.proofs.Growth.{put_more}
+use Rattle.hull_tree.proofs.Growth.{insert_more}
 use Rattle.hull_tree.proofs.near.grow.Goals as goal
 
 pub loop-init : goal.loop-init
-loop-init c = record { over = over_itself _; within = omega arith; put = λ s node l. absurd (omega arith); kept = λ k h held. held }
+loop-init c = record { over = over_itself _; within = omega arith; insert = λ s node l. absurd (omega arith); kept = λ k h held. held }
 
 pub loop-preserved : goal.loop-preserved
 loop-preserved c =
@@ -12,9 +12,9 @@ loop-preserved c =
     record {
       over = over_half _ _ _ i.over;
       within = omega (arith, i.within);
-      put = put_more _ _ _ _ _ _ i.put c.widen.ensures.kept i.over c.widen.ensures.put;
+      insert = insert_more _ _ _ _ _ _ i.insert c.widen.ensures.kept i.over c.widen.ensures.insert;
       kept = λ k h held. c.widen.ensures.kept k h (i.kept k h held);
     }
 
-pub returns-clause-put : goal.returns-clause-put
-returns-clause-put c = λ s node l over. c.loop.invariant.put s node (omega arith) over
+pub returns-clause-insert : goal.returns-clause-insert
+returns-clause-insert c = λ s node l over. c.loop.invariant.insert s node (omega arith) over

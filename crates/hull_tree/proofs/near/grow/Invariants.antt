@@ -1,13 +1,13 @@
 use Rattle.std.proofs.Common.{ℕ, ◌<◌, ◌≤◌}
 use Rattle.hull_tree.specs.Hulls.{HoldsHull}
-use Rattle.hull_tree.specs.Trees.{IsOver, HasGrown, hull_in}
+use Rattle.hull_tree.specs.Trees.{IsNodeAbove, HasGrown, hull_in}
 use Rattle.hull_tree.proofs.near.grow.Given as goal
 
 abbrev pub invariant-loop : goal.invariant-loop
 invariant-loop l =
     record {
-      over : IsOver l.node l.counter l.place;
+      over : IsNodeAbove l.node l.counter l.place;
       within : l.node ≤ l.place;
-      put : (s node : ℕ) → s < l.counter → IsOver node s l.place → HoldsHull (hull_in l.hulls node) l.hull;
+      insert : (s node : ℕ) → s < l.counter → IsNodeAbove node s l.place → HoldsHull (hull_in l.hulls node) l.hull;
       kept : HasGrown l.initial.hulls l.hulls;
     }

@@ -4,7 +4,7 @@ use Rattle.std.specs.List.Sorted.{IsPermutation}
 use Rattle.std.proofs.lemmas.List.{take_at}
 use Rattle.std.proofs.lemmas.List.Sorted.{length_permutation, IsPermutation-map}
 use Rattle.std.proofs.lemmas.Result.{IfOk-weaker}
-use Rattle.mesh_finish.specs.Order.{the_face}
+use Rattle.mesh_finish.specs.Order.{unkeyed}
 use Rattle.mesh_finish.specs.declared.order.Keyed.{Keyed}
 use Rattle.mesh_finish.proofs.order.in_order.Goals as goal
 
@@ -21,10 +21,10 @@ read c =
 
 pub returns : goal.returns
 returns c =
-    IfOk-weaker c.faces_of.result (λ faces. faces.items ≡ map the_face c.deref.result.now)
+    IfOk-weaker c.faces_of.result (λ faces. faces.items ≡ map unkeyed c.deref.result.now)
     (λ sorted. IsPermutation {X = List ℕ} c.args.faces.now sorted.items)
     (λ faces e.
-    subst (λ (z : List (List ℕ)). IsPermutation c.args.faces.now z) (sym (e ∙ ap (map the_face) (read c)))
-    (subst (λ (z : List (List ℕ)). IsPermutation z (map the_face c.sort.new.list)) c.in_ok-list.ensures
-    (IsPermutation-map the_face c.in_ok-list.list.items c.sort.new.list (moved c))))
+    subst (λ (z : List (List ℕ)). IsPermutation c.args.faces.now z) (sym (e ∙ ap (map unkeyed) (read c)))
+    (subst (λ (z : List (List ℕ)). IsPermutation z (map unkeyed c.sort.new.list)) c.in_ok-list.ensures
+    (IsPermutation-map unkeyed c.in_ok-list.list.items c.sort.new.list (moved c))))
     c.faces_of.ensures

@@ -1,8 +1,8 @@
 use Rattle.std.proofs.Common.{ℕ, ◌≡◌, List, [], length, arith, sym, subst, ◌∷◌, ◌++◌, ◌+◌, ◌<◌, length-append}
 use Rattle.std.proofs.lemmas.List.{get_or_default}
-use Rattle.mesh_flips.specs.Turns.{IsTriangle, IsTurned}
+use Rattle.mesh_flips.specs.Turns.{IsTriangle, IsCycled}
 use Rattle.mesh_ply.specs.Meshes.{IsFace}
-use Rattle.solid_slice.specs.Cuts.{face_at}
+use Rattle.mesh_edges.specs.Edges.{face_at}
 use Rattle.mesh_finish.proofs.Rewritten.{turned_more}
 use Rattle.mesh_finish.proofs.turned.turned_faces.Goals as goal
 
@@ -11,7 +11,7 @@ abbrev Kept : (faces turned : List (List ℕ)) → ℕ → Type 0
 Kept faces turned i =
     record {
       count : length turned ≡ i;
-      each : (k : ℕ) → k < i → IsTurned (face_at faces k) (face_at turned k);
+      each : (k : ℕ) → k < i → IsCycled (face_at faces k) (face_at turned k);
       faces : (n k : ℕ) → k < i → IsTriangle n (face_at faces k) → IsFace n (face_at turned k);
     }
 
@@ -29,7 +29,7 @@ loop-face-preserved c =
     (sym pushed)
     (record {
       count = omega (arith, count, length-append ys (f ∷ []));
-      each = turned_more faces ys f (λ g h. IsTurned g h) i count c.smallest_first.ensures.turned was.each;
+      each = turned_more faces ys f (λ g h. IsCycled g h) i count c.smallest_first.ensures.turned was.each;
       faces = λ n. turned_more faces ys f (λ g h. IsTriangle n g → IsFace n h) i count (c.smallest_first.ensures.face n) (was.faces n);
     })
 

@@ -1,5 +1,5 @@
 use Rattle.std.proofs.Common.{ℕ, List, sym, subst}
-use Rattle.solid_slice.specs.Edges.{IsBalanced}
+use Rattle.mesh_edges.specs.Edges.{IsBalanced}
 use Rattle.mesh_finish.proofs.whole.finish_mesh.Goals as goal
 
 pub returns-clause-closed : goal.returns-clause-closed

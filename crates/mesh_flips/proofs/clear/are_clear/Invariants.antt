@@ -1,5 +1,5 @@
 use Rattle.std.proofs.Common.{ℕ, ◌<◌, ◌≢◌, length, get_or}
-use Rattle.solid_slice.specs.Cuts.{face_at}
+use Rattle.mesh_edges.specs.Edges.{face_at}
 use Rattle.mesh_flips.specs.Clear.{IsClear}
 use Rattle.mesh_flips.proofs.clear.are_clear.Given as goal
 

@@ -9,10 +9,10 @@ returns c =
     on_yes c.are_apart.result
     (λ both. record {
       clear = λ i l one other.
-          let put = c.requires.tree.put i l in
-          elim (c.in_ok-near.ensures.found i put.0 (omega (arith, c.requires.tree.room)) put.2) [
+          let insert = c.requires.tree.insert i l in
+          elim (c.in_ok-near.ensures.found i insert.0 (omega (arith, c.requires.tree.room)) insert.2) [
             | inl has ↦ c.if-not-are_clear.ensures i (subst (λ (xs : List ℕ). Contains xs i) (sym c.deref.ensures.value) has) l one other
-            | inr off ↦ off_clear c.args.points.now c.args.quad put.0 c.hull_of_quad-hull.result _ c.hull_of_quad-hull.ensures put.1 off
+            | inr off ↦ off_clear c.args.points.now c.args.quad insert.0 c.hull_of_quad-hull.result _ c.hull_of_quad-hull.ensures insert.1 off
           ];
       both = both;
     })

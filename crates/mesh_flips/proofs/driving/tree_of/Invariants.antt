@@ -1,10 +1,10 @@
 use Rattle.std.proofs.Common.{ℕ, ◌<◌, ◌≤◌, ◌*◌, length}
-use Rattle.mesh_flips.specs.Fields.{IsPutFace}
+use Rattle.mesh_flips.specs.Fields.{HasBox}
 use Rattle.mesh_flips.proofs.driving.tree_of.Given as goal
 
 abbrev pub invariant-loop-i : goal.invariant-loop-i
 invariant-loop-i l =
     record {
       room : length l.faces ≤ 4 * l.tree.leaves;
-      put : (k : ℕ) → k < l.i → IsPutFace l.points l.faces l.tree k;
+      insert : (k : ℕ) → k < l.i → HasBox l.points l.faces l.tree k;
     }

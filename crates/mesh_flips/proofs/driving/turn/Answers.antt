@@ -7,6 +7,6 @@ returns-clause-flipped c =
 
 pub returns-clause-ready : goal.returns-clause-ready
 returns-clause-ready c =
-    turned_ready _ _ _ c.args.one c.args.other c.args.quad c.requires.ready.each c.requires.lie c.flip.ensures _ c.put.new.self
-    c.put-2.new.self _ _ c.requires.ready c.hull_of.ensures c.hull_of-2.ensures c.put.ensures.put c.put-2.ensures.put
-    c.put.ensures.kept c.put-2.ensures.kept c.put.ensures.same c.put-2.ensures.same
+    turned_ready _ _ _ c.args.one c.args.other c.args.quad c.requires.ready.each c.requires.lie c.flip.ensures _ c.insert.new.self
+    c.insert-2.new.self _ _ c.requires.ready c.hull_of.ensures c.hull_of-2.ensures c.insert.ensures.insert c.insert-2.ensures.insert
+    c.insert.ensures.kept c.insert-2.ensures.kept c.insert.ensures.same c.insert-2.ensures.same

@@ -1,5 +1,5 @@
 use Rattle.std.proofs.Common.{ℕ, ◌<◌, arith, List, [], length, ap}
-use Rattle.solid_slice.proofs.EdgeCounts.{each_among}
+use Rattle.mesh_edges.proofs.EdgeCounts.{each_among}
 use Rattle.solid_slice.proofs.Crossed.{crossings_more}
 use Rattle.solid_slice.proofs.crossings.crossings_of.Goals as goal
 

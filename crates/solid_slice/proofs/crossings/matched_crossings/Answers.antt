@@ -1,7 +1,7 @@
 use Rattle.std.proofs.Common.{◌≡◌, ◌∙◌, arith, subst, length, ℤ, to_z, of_z}
 use mir.Syntax.{w32}
 use Rattle.std.proofs.lemmas.Int.{ints}
-use Rattle.solid_slice.specs.Pairs.{key_of}
+use Rattle.mesh_edges.specs.Pairs.{key_of}
 use Rattle.solid_slice.specs.Crossings.{AreCrossings}
 use Rattle.solid_slice.proofs.Matching.{matched}
 use Rattle.solid_slice.proofs.crossings.matched_crossings.Goals as goal

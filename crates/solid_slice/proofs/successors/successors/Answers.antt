@@ -12,7 +12,7 @@ use Rattle.std.proofs.lemmas.List.{length-set, get_or_default, length-map}
 use Rattle.solid_slice.specs.Loops.{IsNext}
 use Rattle.solid_slice.specs.Crossings.{key_of_crossing, AreCrossings}
 use Rattle.solid_slice.specs.declared.crossings.Crossing.{Crossing}
-use Rattle.solid_slice.proofs.EdgeCounts.{each_among}
+use Rattle.mesh_edges.proofs.EdgeCounts.{each_among}
 use Rattle.solid_slice.proofs.Matching.{no_crossing, next_at, next_within, cut_is_listed, written}
 use Rattle.solid_slice.proofs.successors.successors.Goals as goal
 

@@ -15,7 +15,7 @@ returns-then-not-meets-clause-found t c =
     subst (λ (g : Hull). AreOff g c.args.hull)
     (get_or_read tree.hulls.items _ _ (omega (arith, in_heap, tree.hulls.ok.0, tree.filled)) c.index.ensures nowhere)
     c.if-not-meets.ensures in
-    λ i h put over. inr (off_within _ h c.args.hull (put c.args.height c.args.node c.requires.low over) off)
+    λ i h insert over. inr (off_within _ h c.args.hull (insert c.args.height c.args.node c.requires.low over) off)
 
 pub gather-requires : goal.gather-requires
 gather-requires t c =
@@ -28,11 +28,11 @@ gather-requires-2 t c =
     (omega (arith, c.decreases), (omega (arith, c.requires.low), (b.0, b.1)))
 
 pub returns-clause-found : goal.returns-clause-found
-returns-clause-found t c = λ i h put over.
+returns-clause-found t c = λ i h insert over.
     elim (over_one_of c.args.node c.args.height _ c.if-height-eq0.false over) [
-      | inl left ↦ elim (c.in_ok-gather.ensures.found i h put left) [
+      | inl left ↦ elim (c.in_ok-gather.ensures.found i h insert left) [
         | inl had ↦ inl (c.in_ok-gather-2.ensures.kept i had)
         | inr off ↦ inr off
       ]
-      | inr right ↦ c.in_ok-gather-2.ensures.found i h put right
+      | inr right ↦ c.in_ok-gather-2.ensures.found i h insert right
     ]

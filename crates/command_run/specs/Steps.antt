@@ -1,0 +1,109 @@
+-- The steps of a run: making an answer, and carrying it out.
+--
+--   IsAnswered status                  a status that an answer may have
+--   IsReplied task reply before        the reply may end a run of the command, and is one of its answers
+--   surface_of mesh                    the points and faces of a mesh that the program holds
+--   IsUnderstoodMesh, IsMeshReading    what the bytes of a mesh, and those of the named file, are read as
+--   IsPrintedIfRead reading            a mesh that was read has a text
+--   ReadsBy most Answers before after  what making one of these answers does to the host
+--   ReadsFor task before after         the same by all answers of a command
+--   CountsFaults result before after   the count of faults, by whether there is a reply
+--   IsWritten writes before after      files were written, and nothing was said yet
+--   CarriesAllOut, StopsOnTheWay       an answer was carried out, or a call failed on the way
+--   CarriesOut                         one of the two
+use Rattle.std.specs.Prelude.{⊤, ℕ, Some, IfSome, ◌≡◌, ◌≤◌, List, length, Ok, ◌+◌, false, Result, Err, ◌⊎◌}
+use Rattle.host.specs.Counts.{Rose}
+use Rattle.host.specs.State.{State, Told, Files}
+use Rattle.host.specs.Whole.{apart_from_left}
+use Rattle.mesh_ply.specs.Meshes.{Surface}
+use Rattle.mesh_ply.specs.Texts.{mesh_text, IsPrinted}
+use Rattle.mesh_ply.specs.declared.mesh.Mesh.{Mesh}
+use Rattle.command_run.specs.Answers.{invalid, IsUnreadMesh, Answer, Write, MayEnd, Task}
+use Rattle.command_run.specs.Outcome.{OpensNoMore, WhereTold, all_written, IsCarriedOut, StoppedIn}
+use Rattle.command_run.specs.Replies.{answer_of, line_bytes}
+use Rattle.command_run.specs.declared.reply.Reply.{Reply}
+use Rattle.command_run.specs.declared.reply.Stop.{Stop}
+use Rattle.command_run.specs.declared.status.Status.{Status}
+use Rattle.command_run.specs.declared.status.Status.TheVariants.{Done, No, BadArguments, Refused, Failed, NoMemory}
+use Rattle.command_run.specs.declared.meshes.MeshReading.{MeshReading}
+use Rattle.command_run.specs.declared.meshes.MeshReading.TheVariants as readings
+use Rattle.command_run.specs.declared.reply.Stop.TheVariants as stops
+
+-- a status that an answer may have
+abbrev pub IsAnswered : Status → Type 0
+IsAnswered Done = ⊤
+IsAnswered No = ⊤
+IsAnswered BadArguments = ⊤
+IsAnswered Refused = ⊤
+IsAnswered Failed = ⊥
+IsAnswered NoMemory = ⊥
+
+-- the reply has a status that a run of the command may end with, and is one of its answers to the files
+pub record IsReplied (task : Task) (reply : Reply) (before : State) : Type 0 where
+  pub fits : MayEnd task reply.status
+  pub answered : IsAnswered reply.status
+  pub answers : IfSome before.told (λ told. (reads : ℕ) × task.Answers told.files (answer_of reads reply))
+
+-- the points and faces of a mesh that the program holds
+abbrev pub surface_of : Mesh → Surface
+surface_of mesh = record { points = mesh.points.items; faces = mesh.faces.items }
+
+-- the mesh whose text the bytes are, or the line that says why they are invalid
+abbrev pub IsUnderstoodMesh : (limit : ℕ) → (bytes : List ℕ) → MeshReading → Type 0
+IsUnderstoodMesh limit bytes (readings.Mesh mesh) =
+    (length bytes ≤ limit) × IsPrinted mesh.points.items mesh.faces.items
+    × (bytes ≡ mesh_text mesh.points.items mesh.faces.items)
+IsUnderstoodMesh limit bytes (readings.Refused line) = IsUnreadMesh limit bytes (invalid 1 (line_bytes line))
+
+-- the bytes of the named file are read so
+abbrev pub IsMeshReading : (limit : ℕ) → (name : List ℕ) → MeshReading → Told → Type 0
+IsMeshReading limit name reading told =
+    (bytes : List ℕ) × (told.files name ≡ Some bytes) × IsUnderstoodMesh limit bytes reading
+
+-- a mesh that was read has a text, whether the host tells it or not
+abbrev pub IsPrintedIfRead : MeshReading → Type 0
+IsPrintedIfRead (readings.Mesh mesh) = IsPrinted mesh.points.items mesh.faces.items
+IsPrintedIfRead (readings.Refused line) = ⊤
+
+-- nothing changed but what readings change, and no more files were opened than so many and than each of these answers reads
+pub record ReadsBy (most : ℕ) (Answers : Files → Answer → Type 0) (before after : State) : Type 0 where
+  pub told : apart_from_left after.told ≡ apart_from_left before.told
+  pub writing : after.writing ≡ false
+  pub opens : after.opens ≤ before.opens + most
+  pub no_more : OpensNoMore Answers before after
+
+-- the same by all answers of a command
+abbrev pub ReadsFor : Task → State → State → Type 0
+ReadsFor task = ReadsBy task.most task.Answers
+
+-- the count of faults rose where a call failed, and is else as it was
+abbrev pub CountsFaults : {T : Type 0} → Result T Stop → ℕ → ℕ → Type 0
+CountsFaults (Ok reply) before after = after ≡ before
+CountsFaults (Err stops.Failed) before after = Rose before after
+CountsFaults (Err stops.NoMemory) before after = after ≡ before
+
+-- files were written, and nothing was said yet
+pub record IsWritten (writes : List Write) (before after : State) : Type 0 where
+  pub faults : after.faults ≡ before.faults
+  pub opens : after.opens ≡ before.opens
+  pub writing : after.writing ≡ false
+  pub told : WhereTold before after (λ old new. (new.files ≡ all_written writes old.files) × (new.said ≡ old.said))
+
+-- all files were written and the line was said
+pub record CarriesAllOut (writes : List Write) (line : List ℕ) (before after : State) : Type 0 where
+  pub faults : after.faults ≡ before.faults
+  pub opens : after.opens ≡ before.opens
+  pub writing : after.writing ≡ false
+  pub told : WhereTold before after (λ old new. IsCarriedOut writes line old new)
+
+-- a call failed on the way
+pub record StopsOnTheWay (writes : List Write) (line : List ℕ) (before after : State) : Type 0 where
+  pub faults : Rose before.faults after.faults
+  pub opens : after.opens ≡ before.opens
+  pub writing : after.writing ≡ false
+  pub told : WhereTold before after (λ old new. StoppedIn writes line old new)
+
+-- the answer was carried out, or a call failed on the way
+abbrev pub CarriesOut : List Write → List ℕ → (status result : Status) → State → State → Type 0
+CarriesOut writes line status result before after =
+    ((result ≡ status) × CarriesAllOut writes line before after) ⊎ ((result ≡ Failed) × StopsOnTheWay writes line before after)

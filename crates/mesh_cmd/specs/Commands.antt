@@ -1,0 +1,80 @@
+-- The commands of the program.
+--
+--   Asked                        a command with its names and options
+--   finish_of words              what the arguments after `finish` ask for
+--   command_of words             the command that the arguments ask for, if they are valid
+--   asked command                a command as the program holds it
+--   task_of asked                what a command is apart from its arguments
+--   bad_arguments_answer         the answer to invalid arguments
+--   AnswerOf asked files answer  the answer of a command, or to invalid arguments, where the files are these
+--   most_reads asked             how many files it reads at most
+--   StatusFits status asked      the statuses that a run of it may end with
+--   Outcome asked status ..      what a run of it does to its host
+use Rattle.std.specs.Option.{option_map}
+use Rattle.std.specs.Prelude.{ℕ, List, [], ◌∷◌, if◌then◌else◌, Option, Some, None, codes, ◌≡◌, ⊤}
+use Rattle.std.specs.Str.{bytes_eq}
+use Rattle.host.specs.State.{Files, State}
+use Rattle.command_run.specs.Answers.{Answer, Task, MayEnd}
+use Rattle.command_run.specs.Lines.{bad_arguments_line}
+use Rattle.command_run.specs.Outcome.{Run}
+use Rattle.command_run.specs.Words.{Names, are_names}
+use Rattle.command_run.specs.declared.status.Status.{Status}
+use Rattle.command_run.specs.declared.status.Status.TheVariants.{Done, No, BadArguments, Refused, Failed, NoMemory}
+use Rattle.mesh_cmd.specs.Finish.{finish_names, finish_task, finish_options}
+use Rattle.mesh_cmd.specs.declared.commands.Command.{Command}
+use Rattle.mesh_cmd.specs.declared.commands.Command.TheVariants as commands
+use Rattle.mesh_cmd.specs.declared.commands.finish.FinishOptions.{FinishOptions}
+
+-- a command with its names and options
+pub data Asked : Type 0 where
+  finish : Names → FinishOptions → Asked
+
+-- two names, and options
+abbrev pub finish_of : List (List ℕ) → Option Asked
+finish_of [] = None
+finish_of (mesh ∷ []) = None
+finish_of (mesh ∷ output ∷ options) =
+    if are_names (mesh ∷ output ∷ [])
+    then option_map (finish (record { input = mesh; output = output })) (finish_options options)
+    else None
+
+-- the command that the arguments ask for, if they are valid
+abbrev pub command_of : List (List ℕ) → Option Asked
+command_of [] = None
+command_of (word ∷ words) = if bytes_eq word (codes "finish") then finish_of words else None
+
+-- a command as the program holds it
+abbrev pub asked : Command → Asked
+asked (commands.Finish words) = finish (finish_names words) words.options
+
+-- what a command is apart from its arguments
+abbrev pub task_of : Asked → Task
+task_of (finish names options) = finish_task names options
+
+-- invalid arguments: nothing is read or written
+abbrev pub bad_arguments_answer : Answer
+bad_arguments_answer = record { status = BadArguments; reads = 0; writes = []; line = bad_arguments_line }
+
+-- the answer of a command, or to invalid arguments, where the files are these
+abbrev pub AnswerOf : Option Asked → Files → Answer → Type 0
+AnswerOf None files answer = answer ≡ bad_arguments_answer
+AnswerOf (Some asked) files answer = (task_of asked).Answers files answer
+
+-- how many files a command reads at most
+abbrev pub most_reads : Option Asked → ℕ
+most_reads None = 0
+most_reads (Some asked) = (task_of asked).most
+
+-- the statuses that a run of a command may end with; invalid arguments are said to be so, or a call fails
+abbrev pub StatusFits : Status → Option Asked → Type 0
+StatusFits status (Some asked) = MayEnd (task_of asked) status
+StatusFits Done None = ⊥
+StatusFits No None = ⊥
+StatusFits BadArguments None = ⊤
+StatusFits Refused None = ⊥
+StatusFits Failed None = ⊤
+StatusFits NoMemory None = ⊥
+
+-- what a run of a command, or on invalid arguments, does to its host
+abbrev pub Outcome : Option Asked → Status → State → State → Type 0
+Outcome asked = Run (λ status. StatusFits status asked) (most_reads asked) (AnswerOf asked)

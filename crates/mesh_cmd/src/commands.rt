@@ -1,0 +1,51 @@
+//! The commands: the arguments that ask for each, and the making of its answer.
+ghost use Rattle.std.specs.Option.{option_map};
+ghost use Rattle.std.specs.Prelude.{◌≡◌, false, map, string_bytes, IfOk};
+ghost use Rattle.command_run.specs.Steps.{IsReplied, ReadsFor, CountsFaults};
+ghost use Rattle.mesh_cmd.specs.Commands.{command_of, asked, task_of};
+
+mod finish;
+
+use command_run::{Reply, Stop};
+use finish::{finish_command, reply_to_finish};
+pub use finish::{FinishOptions, FinishWords};
+use host::Host;
+use std::alloc::Global;
+
+/// What a run is asked for.
+#[derive(Clone, Copy, Debug)]
+pub enum Command<'a> {
+    /// `finish MESH OUT [flips=no]`: reads the mesh, flips its edges where the angles between faces fall, and writes the result.
+    Finish(FinishWords<'a>),
+}
+
+/// Returns the command that the arguments ask for, and `None` exactly if they are invalid.
+///
+/// Names of files come right after the command. They are not empty, and no two are equal. Options follow, each at most once.
+pub fn understand(words: &[String]) -> Option<Command<'_>>
+    ensures { option_map asked result ≡ command_of (map string_bytes words.now) }
+{
+    let [command, words @ ..] = words else {
+        return None;
+    };
+    match command.as_str() {
+        "finish" => finish_command(words),
+        _ => None,
+    }
+}
+
+/// Reads what a command reads and makes its answer. Nothing is written or said.
+pub fn reply_to<'a, H: Host>(
+    alloc: Global,
+    host: &mut H,
+    command: &Command<'a>,
+) -> Result<Reply<'a>, Stop>
+    requires { (H.state host.old).writing ≡ false }
+    ensures replied { IfOk result (λ reply. IsReplied (task_of (asked command.now)) reply (H.state host.old)) }
+    ensures reads { ReadsFor (task_of (asked command.now)) (H.state host.old) (H.state host.new) }
+    ensures cause { CountsFaults result (H.state host.old).faults (H.state host.new).faults }
+{
+    match command {
+        Command::Finish(words) => reply_to_finish(alloc, host, words),
+    }
+}

@@ -1,0 +1,152 @@
+//! `finish MESH OUT [flips=no]`: its arguments, its answer and its line.
+ghost use Rattle.std.specs.Option.{option_map};
+ghost use Rattle.std.specs.Prelude.{◌≡◌, false, map, string_bytes, IfOk};
+ghost use Rattle.mesh_ply.specs.Texts.{IsPrinted};
+ghost use Rattle.command_run.specs.Replies.{answer_of};
+ghost use Rattle.command_run.specs.Steps.{IsReplied, ReadsFor, CountsFaults, surface_of};
+ghost use Rattle.mesh_cmd.specs.Commands.{asked, finish_of};
+ghost use Rattle.mesh_cmd.specs.Finish.{option_of, finish_options, finish_names, finish_task, finished_line, finish_done, IsFinishedMesh, WritesFinished};
+
+use crate::commands::Command;
+use command_run::{
+    FILE_LIMIT, Line, MeshReading, NoMemory, Reply, Status, Stop, Text, are_names, invalid_input,
+    push_labelled, read_mesh_file,
+};
+use host::Host;
+use mesh_finish::finish_mesh;
+use mesh_ply::{Mesh, push_mesh};
+use std::alloc::Global;
+
+/// What is done to a mesh.
+#[derive(Clone, Copy, Debug, PartialEq, Eq)]
+pub struct FinishOptions {
+    /// Edges are flipped where the angles between faces fall (default: true; `flips=no`: false).
+    pub flips: bool,
+}
+
+/// The arguments of `finish`.
+#[derive(Clone, Copy, Debug)]
+pub struct FinishWords<'a> {
+    /// The name of the mesh that is read.
+    pub mesh: &'a str,
+    /// The name of the file that is written.
+    pub output: &'a str,
+    /// What is done to the mesh.
+    pub options: FinishOptions,
+}
+
+/// Returns the command that the arguments after `finish` ask for, if they are valid.
+pub fn finish_command(words: &[String]) -> Option<Command<'_>>
+    ensures { option_map asked result ≡ finish_of (map string_bytes words.now) }
+{
+    let [mesh, output, options @ ..] = words else {
+        return None;
+    };
+    if !are_names(&words[..2]) {
+        return None;
+    }
+    let options = options_in(options)?;
+    Some(Command::Finish(FinishWords {
+        mesh: mesh.as_str(),
+        output: output.as_str(),
+        options,
+    }))
+}
+
+/// Returns the options that these arguments are, if they are valid.
+fn options_in(words: &[String]) -> Option<FinishOptions>
+    ensures { result ≡ finish_options (map string_bytes words.now) }
+{
+    match words {
+        [] => Some(FinishOptions { flips: true }),
+        [word] => option_in(word.as_str()),
+        _ => None,
+    }
+}
+
+/// Returns the options with this one given, if it is one.
+fn option_in(word: &str) -> Option<FinishOptions>
+    ensures { result ≡ option_of word.now }
+{
+    if word == "flips=no" {
+        Some(FinishOptions { flips: false })
+    } else {
+        None
+    }
+}
+
+/// Reads the mesh and makes the answer of `finish`. Nothing is written or said.
+pub fn reply_to_finish<'a, H: Host>(
+    alloc: Global,
+    host: &mut H,
+    words: &FinishWords<'a>,
+) -> Result<Reply<'a>, Stop>
+    requires { (H.state host.old).writing ≡ false }
+    ensures replied { IfOk result (λ reply. IsReplied (finish_task (finish_names words.now) words.now.options) reply (H.state host.old)) }
+    ensures reads { ReadsFor (finish_task (finish_names words.now) words.now.options) (H.state host.old) (H.state host.new) }
+    ensures cause { CountsFaults result (H.state host.old).faults (H.state host.new).faults }
+{
+    match read_mesh_file(alloc, host, words.mesh, FILE_LIMIT)? {
+        MeshReading::Mesh(mesh) => Ok(reply_to_mesh(alloc, mesh, words.options, words.output)?),
+        MeshReading::Refused(line) => Ok(invalid_input(alloc, line)),
+    }
+}
+
+/// Makes the answer to a mesh.
+fn reply_to_mesh<'a>(
+    alloc: Global,
+    mesh: Mesh,
+    options: FinishOptions,
+    output: &'a str,
+) -> Result<Reply<'a>, NoMemory>
+    requires { IsPrinted mesh.points.items mesh.faces.items }
+    ensures { IfOk result (λ reply. WritesFinished output.now options (surface_of mesh) (answer_of 1 reply)) }
+{
+    let finished = finished(alloc, mesh, options)?;
+    let reply = reply_of_mesh(alloc, &finished, output)?;
+    Ok(reply)
+}
+
+/// Returns the mesh with its edges flipped, or as it is if the options say so.
+fn finished(alloc: Global, mesh: Mesh, options: FinishOptions) -> Result<Mesh, NoMemory>
+    requires { IsPrinted mesh.points.items mesh.faces.items }
+    ensures { IfOk result (λ new. IsFinishedMesh options (surface_of mesh) (surface_of new)) }
+{
+    if !options.flips {
+        return Ok(mesh);
+    }
+    let finished = finish_mesh(alloc, mesh)?;
+    Ok(finished)
+}
+
+/// Makes the answer that writes this mesh.
+fn reply_of_mesh<'a>(alloc: Global, mesh: &Mesh, output: &'a str) -> Result<Reply<'a>, NoMemory>
+    requires { IsPrinted mesh.now.points.items mesh.now.faces.items }
+    ensures { IfOk result (λ reply. answer_of 1 reply ≡ finish_done output.now (surface_of mesh.now)) }
+{
+    let mut text = Vec::new(alloc);
+    push_mesh(&mut text, mesh)?;
+    let line = line_of_finish(alloc, mesh.points.len() as u64, mesh.faces.len() as u64)?;
+    let mut texts = Vec::new(alloc);
+    texts.push(Text {
+        name: output,
+        bytes: text,
+    })?;
+    Ok(Reply {
+        status: Status::Done,
+        texts,
+        line: Line::Made(line),
+    })
+}
+
+/// Returns the line of `finish`: the numbers of points and faces that were written.
+#[tactic(auto, unfolding(crate::specs::Finish::finished_line))]
+fn line_of_finish(alloc: Global, points: u64, faces: u64) -> Result<Vec<u8>, NoMemory>
+    ensures { IfOk result (λ line. line.items ≡ finished_line points faces) }
+{
+    let mut line = Vec::new(alloc);
+    push_labelled(&mut line, b"finished points ", points)?;
+    push_labelled(&mut line, b" faces ", faces)?;
+    line.push(b'\n')?;
+    Ok(line)
+}

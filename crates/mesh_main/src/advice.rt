@@ -1,0 +1,46 @@
+//! What a person is told on standard error beside the line that is promised: how a command is used, and how to fix an invalid mesh.
+//! No clause speaks of these texts.
+
+use real_host::Advice;
+
+/// The commands, each with its arguments.
+const USES: [(&str, &str); 1] = [("finish", "MESH OUT [flips=no]")];
+
+/// How the line of an error begins, and how to fix what caused it.
+const CURES: [(&[u8], &str); 3] = [
+    (
+        b"refused 19 too_long mesh",
+        "over 4 GiB, so most likely another file than was meant",
+    ),
+    (
+        b"refused 29 mesh_line",
+        "the mesh is not as recon build wrote it: edited, saved by a viewer, brought to floats, or with other line ends (then n is 1): take that file",
+    ),
+    (
+        b"refused 30 mesh_cut",
+        "the mesh is truncated: take the file that recon build wrote",
+    ),
+];
+
+/// What `recon-mesh` tells a person.
+#[derive(Drop)]
+pub struct Hints;
+
+impl Advice for Hints {
+    fn program(&self) -> &'static str {
+        "recon-mesh"
+    }
+
+    fn advise<R: Eprint>(&self, rt: &R, line: &[u8]) {
+        if line == b"refused words\n".as_slice() {
+            for (name, words) in &USES {
+                let _ = eprintln!(rt; "usage: recon-mesh {name} {words}");
+            }
+        }
+        for (front, cure) in &CURES {
+            if line.starts_with(front) {
+                let _ = eprintln!(rt; "recon-mesh: {cure}");
+            }
+        }
+    }
+}

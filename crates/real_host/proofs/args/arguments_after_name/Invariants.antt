@@ -1,0 +1,10 @@
+-- The words so far, and those to come, are all words but the first.
+use Rattle.std.proofs.Common.{◌≡◌, drop, ◌++◌}
+use Rattle.std.specs.Vec.Iter.{into_iter_items, into_iter_len}
+use Rattle.real_host.proofs.args.arguments_after_name.Given as goal
+
+abbrev pub invariant-loop-word : goal.invariant-loop-word
+invariant-loop-word l = drop 1 (into_iter_items l.fn.args) ≡ l.words.items ++ into_iter_items l.args
+
+abbrev pub decreases-loop-word : goal.decreases-loop-word
+decreases-loop-word l = into_iter_len l.args

@@ -1,0 +1,18 @@
+//! The system as a host: its files and standard output, for every program of this repository.
+//!
+//! [`RealHost`] implements the trait of `host` over std's files. What a person is told on standard error is the program's own
+//! matter, by [`Advice`]. [`Unnamed`] is a system whose program has no name, from which the arguments of the command line are read.
+//!
+//! It depends on `host`.
+#![tactic(auto)]
+
+mod advice;
+mod args;
+mod real;
+mod retried;
+mod unnamed;
+
+pub use advice::Advice;
+pub use args::arguments_after_name;
+pub use real::RealHost;
+pub use unnamed::Unnamed;

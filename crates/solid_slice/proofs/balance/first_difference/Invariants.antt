@@ -1,7 +1,0 @@
-use Rattle.std.proofs.Common.{◌≡◌, ◌≤◌, length, map, take}
-use Rattle.solid_slice.specs.Pairs.{key_of_pair}
-use Rattle.solid_slice.proofs.balance.first_difference.Given as goal
-
-abbrev pub invariant-loop-at : goal.invariant-loop-at
-invariant-loop-at l =
-    record { same : map key_of_pair (take l.at l.there) ≡ map key_of_pair (take l.at l.back); within : l.at ≤ length l.back }
