@@ -252,8 +252,9 @@ module _ (s : Store) (p from : ℕ) (found : List ℕ) (fan : List Facet) (store
       })) (vertex_law (vertices_of s) (boxed s store_is) p new (at from).a (at from).b (at from).c (at from).d c
       (f.conflict from f.start) u h)
 
-  can : (room : ℕ) → length fan ≤ room → CanReplace (record s { spare = room }) found fan p
-  can room l = record {
+  can : (room capacity : ℕ) → length fan ≤ room
+      → CanReplace (record s { spare = room; capacity = capacity }) found fan p
+  can room capacity l = record {
     some_cell = let m : f.start.0 < length found = f.start.1 in omega arith;
     live = f.live;
     distinct = f.distinct;

@@ -11,11 +11,13 @@ use Rattle.geo_sign.specs.Boxes.{IsInConflict}
 use Rattle.cell_laws.specs.Fans.{IsOnFan}
 
 -- The cells are exactly those in conflict with p, each once (`can_replace` has that they are distinct). Each facet of the fan
--- is one over which a Delaunay cell with p stands. As soon as there is room, cells over the fan can be put in place of these.
+-- is one over which a Delaunay cell with p stands. As soon as there is room, however much memory the store has taken, cells over
+-- the fan can be put in place of these.
 pub record IsCavity (s : Store) (p : ℕ) (cells : List ℕ) (fan : List Facet) : Type 0 where
   pub live : (id : ℕ) → Contains cells id → IsLive (links_of s.slots) id
   pub conflict : (id : ℕ) → Contains cells id → IsInConflict (vertices_of s) p ((links_of s.slots).at id)
   pub all : (id : ℕ) → IsLive (links_of s.slots) id → IsInConflict (vertices_of s) p ((links_of s.slots).at id)
       → Contains cells id
   pub rim : (i : ℕ) → i < length fan → IsOnFan (vertices_of s) p (fan_facet fan i).a (fan_facet fan i).b (fan_facet fan i).c
-  pub can_replace : (room : ℕ) → length fan ≤ room → CanReplace (record s { spare = room }) cells fan p
+  pub can_replace : (room capacity : ℕ) → length fan ≤ room
+      → CanReplace (record s { spare = room; capacity = capacity }) cells fan p

@@ -30,16 +30,25 @@ use Rattle.delaunay.proofs.Whole.{AreLiveCells}
 
 renewed : (s t : Store) → t.points ≡ s.points → t.inserted ≡ s.inserted → t.slots ≡ s.slots → t.kept ≡ s.kept → record s {
   spare = t.spare;
+  capacity = t.capacity;
 } ≡ t
-renewed s t e f g h = λ i. record { points = sym e i; inserted = sym f i; slots = sym g i; kept = sym h i; spare = t.spare }
+renewed s t e f g h = λ i. record {
+  points = sym e i;
+  inserted = sym f i;
+  slots = sym g i;
+  kept = sym h i;
+  spare = t.spare;
+  capacity = t.capacity;
+}
 
 pub can_replace : (s t : Store) (p : ℕ) (cells : List ℕ) (fan : List Facet) → t.points ≡ s.points → t.inserted ≡ s.inserted
     → t.slots ≡ s.slots → t.kept ≡ s.kept → length fan ≤ t.spare → IsCavity s p cells fan → CanReplace t cells fan p
 can_replace s t p cells fan e f g h l c =
-    subst (λ (u : Store). CanReplace u cells fan p) (renewed s t e f g h) (c.can_replace t.spare l)
+    subst (λ (u : Store). CanReplace u cells fan p) (renewed s t e f g h) (c.can_replace t.spare t.capacity l)
 
 pub replaced : (s t u : Store) (p : ℕ) (cells : List ℕ) (fan : List Facet) → t.points ≡ s.points → t.inserted ≡ s.inserted
-    → t.slots ≡ s.slots → t.kept ≡ s.kept → IsReplaced t u cells fan p → IsReplaced (record s { spare = t.spare }) u cells fan p
+    → t.slots ≡ s.slots → t.kept ≡ s.kept → IsReplaced t u cells fan p
+    → IsReplaced (record s { spare = t.spare; capacity = t.capacity }) u cells fan p
 replaced s t u p cells fan e f g h r = subst (λ (z : Store). IsReplaced z u cells fan p) (sym (renewed s t e f g h)) r
 
 -- the point of a vertex that is not inserted is a data point
@@ -60,10 +69,10 @@ one_more points flags p h =
 
 -- ---- each cell is one
 
-module _ (s t : Store) (room p : ℕ) (cells : List ℕ) (fan : List Facet) (store_is : IsStore s)
+module _ (s t : Store) (room capacity p : ℕ) (cells : List ℕ) (fan : List Facet) (store_is : IsStore s)
     (delaunay : IsDelaunay (vertices_of s) (links_of s.slots)) (below : p < length s.points)
     (out : slice_index_or s.inserted p false ≡ false) (c : IsCavity s p cells fan)
-    (r : IsReplaced (record s { spare = room }) t cells fan p) where
+    (r : IsReplaced (record s { spare = room; capacity = capacity }) t cells fan p) where
   abbrev at : ℕ → Tetrahedron
   at = (links_of s.slots).at
 

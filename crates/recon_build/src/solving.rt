@@ -24,7 +24,7 @@ use mesh_ply::Mesh;
 use scan::Scan;
 use scan_cut::{MinimumCut, counted_cells, minimum_cut_of};
 use std::alloc::Global;
-use surface::facets;
+use surface::facets_by_number;
 use tetra_store::Tetra;
 use watch::{Silent, Watch};
 
@@ -88,7 +88,7 @@ fn solve_over(
     ensures tetra { IfOk result (λ solved. IsStoreOf (shown_of scan.now) settings solved.tetra) }
     ensures closed { IfOk result (λ solved. IsClosed solved.mesh.faces.items) }
 {
-    let mesh = facets(alloc, &tetra, cut.labels.inside.as_slice())?;
+    let mesh = facets_by_number(alloc, &tetra, cut.labels.inside.as_slice())?;
     let cert = certificate(alloc, scan, settings, &tetra, &cut, stamp)?;
     Ok(Solved { tetra, mesh, cert })
 }

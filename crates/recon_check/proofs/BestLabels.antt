@@ -91,7 +91,7 @@ module _ (s : Scene) (net : CellNetwork) (store : Store) (crossed behind : List 
 pub labels_over : (scan : Shown) (settings : Settings) (store : Store) (claim : Claim) (labels : Labels) (given : List Bool)
     → AreCellsOf (scene_of_scan scan settings) store.slots → (best : AreShownLabels scan settings store.slots claim labels)
     → given ≡ labels.inside
-    → AreLabelsOver (scene_of_scan scan settings) best.complex store.slots given (is_inside claim)
+    → AreLabelsOver (scene_of_scan scan settings) best.complex store.slots (flag_at given) (is_inside claim)
 labels_over scan settings store claim labels given cells best same = record {
   cells = cells;
   complex_is = best.complex_is;

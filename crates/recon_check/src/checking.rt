@@ -30,7 +30,7 @@ use scan::Scan;
 use scan_cut::counted_cells_with;
 use solution::seen_in;
 use std::alloc::{AllocError, Global};
-use surface::facets;
+use surface::facets_by_number;
 use tetra_store::Tetra;
 use votes::Votes;
 use watch::{Silent, Watch};
@@ -112,7 +112,7 @@ fn best_surface(
     ensures fault { (mesh : List ℕ) → IfErr result (StopsFor (IsFault (shown_of scan.now) settings mesh (claim_of cert.now))) }
 {
     let labels = best_labels(alloc, scan, settings, &tetra, votes, cert)?;
-    Ok(facets(alloc, &tetra, labels.inside.as_slice())?)
+    Ok(facets_by_number(alloc, &tetra, labels.inside.as_slice())?)
 }
 
 /// The numbers of the surface whose text the mesh is, where the certificate shows it best over the scan's cells. The certificate

@@ -71,12 +71,12 @@ none_low t k h l =
     by (suc (suc (suc k))) l a b c d = d
 
 -- cells with no flag have no corner, where these are the cells inside
-pub none_flagged : (slots : List (Option Cell)) (inside outside : List Bool) → NoneHasCorner slots inside
-    → ((x : ℕ) → IsLive (links_of slots) x → flag_at outside x ≡ not (flag_at inside x)) → (x k : ℕ)
+pub none_flagged : (slots : List (Option Cell)) (inside : ℕ → Bool) (outside : List Bool) → NoneHasCorner slots inside
+    → ((x : ℕ) → IsLive (links_of slots) x → flag_at outside x ≡ not (inside x)) → (x k : ℕ)
     → IsLive (links_of slots) x → not (flag_at outside x) ≡ true → k < 4 → 8 ≤ vertex_of ((links_of slots).at x) k
 none_flagged slots inside outside none flags x k h free l =
     none_low ((links_of slots).at x) k
-    (none x h (not-false (flag_at inside x) (sym (flags x h) ∙ not-true (flag_at outside x) free))) l
+    (none x h (not-false (inside x) (sym (flags x h) ∙ not-true (flag_at outside x) free))) l
 
 module _ (v : Vertices) (slots : List (Option Cell)) (linked : IsLinked v (links_of slots)) (outside : List Bool)
     (free : (x k : ℕ) → IsLive (links_of slots) x → not (flag_at outside x) ≡ true → k < 4

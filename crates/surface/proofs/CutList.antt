@@ -8,7 +8,6 @@ use Rattle.std.proofs.lemmas.Bool.{and_parts, and_from, not-true, not_from_false
 use Rattle.std.proofs.lemmas.List.Elements.{Contains-get_or}
 use Rattle.std.proofs.lemmas.List.Kept.{AllPairs-filter}
 use Rattle.std.proofs.lemmas.List.Sums.{passes_at_first}
-use Rattle.flow_net.specs.Nets.{flag_at}
 use Rattle.geo_sign.specs.Tetrahedron.{Tetrahedron, DirectedFacet, facet_of, facet_at, numbers_of, turned}
 use Rattle.geo_sign.specs.Cells.{written}
 use Rattle.geo_sign.specs.Rising.{IsBefore}
@@ -99,7 +98,7 @@ module _ (s : Scene) (slots : List (Option Cell)) (cells : AreCellsOf s slots) (
       → cell_of s.vertices complex.cells f ≡ row
   cell_is row f c h = let p = first_in f (has row f c h) in one_cell (cell_of s.vertices complex.cells f) row f p.0 c p.1 h
 
-  module _ (inside : List Bool) (test : List ℕ → Bool) (says : SaysOfCells slots (flag_at inside) test)
+  module _ (inside : ℕ → Bool) (test : List ℕ → Bool) (says : SaysOfCells slots inside test)
       (none : IsAdmissible s complex test) where
     to_cut : (f : List ℕ) → IsCutFacet slots inside f → Contains (cut_facets s.vertices complex test) f
     to_cut f c =
@@ -173,7 +172,7 @@ module _ (s : Scene) (slots : List (Option Cell)) (cells : AreCellsOf s slots) (
         (λ f. ((λ h. to_cut f (are_cut.only f h)), λ h. are_cut.all f (from_cut f h)))
 
 -- ---- in the words of the clauses
-module _ (s : Scene) (rising : Complex) (slots : List (Option Cell)) (inside : List Bool) (test : List ℕ → Bool)
+module _ (s : Scene) (rising : Complex) (slots : List (Option Cell)) (inside : ℕ → Bool) (test : List ℕ → Bool)
     (over : AreLabelsOver s rising slots inside test) where
   pub cut_in_scene : (facets : List (List ℕ)) → AreCutFacets slots inside facets
       → facets ≡ cut_facets s.vertices rising test

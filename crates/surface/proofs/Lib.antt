@@ -1,5 +1,6 @@
 pub mod Renumbered
 pub mod Listed
+pub mod ListedCut
 pub mod ListedLabels
 pub mod CutList
 pub mod StoreCut

@@ -1,6 +1,6 @@
 -- The cells of a scene by the numbers that they have in a store. Each row of the list is that of one live cell, so numbers in the
--- order of the rows, however these stand, are those of all live cells, each once. The label of a row is the flag at its index, which a
--- list by numbers has at the cell's number. No cell inside has a corner where no fixed cell is inside.
+-- order of the rows, however these stand, are those of all live cells, each once. The label of a row is the flag at its index, and so is
+-- that of the cell's number. No cell inside has a corner where no fixed cell is inside.
 use Rattle.std.proofs.Common.{ℕ, ◌<◌, ◌≡◌, refl, sym, ap, subst, ◌∙◌, arith, Bool, true, false, true≢false, List, [], Option, length}
 use Rattle.std.proofs.Common.{get_or, Contains}
 use Rattle.std.specs.List.Sorted.{IsPermutation}
@@ -71,20 +71,20 @@ module _ (s : Scene) (slots : List (Option Cell)) (cells : AreCellsOf s slots) (
         let at : get_or order k [] ≡ row_of slots x = get_or_default order k [] (row_of slots x) l ∙ c.2 in
         (k, m, l, one_id (get_or ids k 0) x (are.live k m) h (sym (are.row k m) ∙ at), at)
 
-    -- flags at the numbers of the cells, where each is the label at the cell's index, are those of the test of the labels
-    pub says_by_number : (labels inside : List Bool)
-        → ((k : ℕ) → k < length ids → flag_at inside (get_or ids k 0) ≡ flag_at labels k)
-        → SaysOfCells slots (flag_at inside) (test_of order labels)
+    -- labels of the numbers of the cells, where each is the label at the cell's index, are those of the test of the labels
+    pub says_by_number : (labels : List Bool) (inside : ℕ → Bool)
+        → ((k : ℕ) → k < length ids → inside (get_or ids k 0) ≡ flag_at labels k)
+        → SaysOfCells slots inside (test_of order labels)
     says_by_number labels inside each x h =
         let i = index_of x h in
         let once = once_permuted complex.cells order listing (once_rising complex.cells all.cells_are.rising) in
-        ap (flag_at inside) (sym i.3) ∙ each i.0 i.1 ∙ sym (ap (flag_at labels) (row_index_at order i.0 once i.2))
+        ap inside (sym i.3) ∙ each i.0 i.1 ∙ sym (ap (flag_at labels) (row_index_at order i.0 once i.2))
         ∙ ap (test_of order labels) i.4
 
   -- ---- labels at the numbers of cells
-  module _ (inside : List Bool) (test : List ℕ → Bool) (says : SaysOfCells slots (flag_at inside) test)
+  module _ (inside : ℕ → Bool) (test : List ℕ → Bool) (says : SaysOfCells slots inside test)
       (none : IsAdmissible s complex test) where
-    pub free : (x : ℕ) → IsLive (links_of slots) x → flag_at inside x ≡ true
+    pub free : (x : ℕ) → IsLive (links_of slots) x → inside x ≡ true
         → is_fixed s.vertices s.scanners (row_of slots x) ≡ false
     free x l h = by (is_fixed s.vertices s.scanners (row_of slots x)) refl
       where

@@ -1,6 +1,11 @@
--- Labels at the numbers that cells have in the store are labels over the scene (labels_over), and labels in the order of a listing of the
--- scene's cells can be put there (numbered).
-use Rattle.std.proofs.Common.{ℕ, ◌<◌, ◌≡◌, sym, subst, Bool, List, Option, length, get_or}
+-- Labels at the numbers that cells have in the store are labels over the scene (labels_over). So are labels in the order of the scene's
+-- rising cells, where `ids` are their numbers (listed_over), which are all live cells, each once (all_live).
+use Rattle.std.proofs.Common.{ℕ, ◌<◌, ◌≡◌, ◌==◌, refl, sym, ap, ◌∙◌, subst, arith, Bool, List, Option, length, get_or}
+use Rattle.std.specs.List.Sorted.{IsPermutation}
+use Rattle.std.proofs.lemmas.Bool.{eqb-true, eq-eqb, false_from_ne_true}
+use Rattle.std.proofs.lemmas.List.{get_or_default}
+use Rattle.std.proofs.lemmas.List.Sorted.{IsPermutation-refl}
+use Rattle.std.proofs.lemmas.List.Sums.{position_or_len_is}
 use Rattle.flow_net.specs.Nets.{flag_at}
 use Rattle.visibility.specs.Scenes.{Scene}
 use Rattle.visibility.specs.Complexes.{Complex}
@@ -9,17 +14,17 @@ use Rattle.visibility.specs.Laws.{test_of}
 use Rattle.visibility.specs.Listings.{IsListingOf}
 use Rattle.visibility.specs.Votes.{IsComplexOf}
 use Rattle.visibility.proofs.ListingAgreements.{with_rising}
-use Rattle.visibility.proofs.Ordered.{one_complex}
+use Rattle.visibility.proofs.Indices.{once_rising, same_index}
 use Rattle.tetra_store.specs.declared.link.Cell.{Cell}
 use Rattle.vote_net.specs.ByNumber.{SaysOfCells}
-use Rattle.vote_net.specs.Counts.{AreCellsOf, AreIdsOf}
-use Rattle.surface.specs.Labelled.{AreLabelsOver}
-use Rattle.surface.proofs.Listed.{says_by_number}
+use Rattle.vote_net.specs.Counts.{AreCellsOf, AreIdsOf, row_of}
+use Rattle.surface.specs.Labelled.{AreAllLive, AreDistinctNumbers, AreLabelsOver, listed_label}
+use Rattle.surface.proofs.Listed.{index_of, says_by_number}
 
 -- what labels by number say is over the scene, whatever their list is called
 pub labels_over : (s : Scene) (listing : Complex) (slots : List (Option Cell)) (given inside : List Bool) (test : List ℕ → Bool)
     → AreCellsOf s slots → (lists : IsListingOf s listing) → given ≡ inside → SaysOfCells slots (flag_at inside) test
-    → IsAdmissible s listing test → AreLabelsOver s lists.complex slots given test
+    → IsAdmissible s listing test → AreLabelsOver s lists.complex slots (flag_at given) test
 labels_over s listing slots given inside test cells lists same says admissible = record {
   cells = cells;
   complex_is = lists.complex_is;
@@ -27,25 +32,45 @@ labels_over s listing slots given inside test cells lists same says admissible =
   admissible = ((with_rising s listing lists).admissible test).0 admissible;
 }
 
--- the numbers of the cells and the labels are in the order of the listing, and no fixed cell is inside
-pub record AreListed (s : Scene) (listing : Complex) (slots : List (Option Cell)) (ids : List ℕ) (labels : List Bool)
-    : Type 0 where
-  pub cells : AreCellsOf s slots
-  pub lists : IsListingOf s listing
-  pub ids_are : AreIdsOf slots listing.cells ids
-  pub count : length labels ≡ length listing.cells
-  pub admissible : IsAdmissible s listing (test_of listing.cells labels)
+-- numbers of the scene's rising cells, in their order
+module _ (s : Scene) (slots : List (Option Cell)) (cells : AreCellsOf s slots) (complex : Complex) (all : IsComplexOf s complex)
+    (ids : List ℕ) (are : AreIdsOf slots complex.cells ids) where
+  same : IsPermutation complex.cells complex.cells
+  same = IsPermutation-refl complex.cells
 
-module _ (s : Scene) (listing : Complex) (slots : List (Option Cell)) (ids : List ℕ) (labels : List Bool)
-    (listed : AreListed s listing slots ids labels) where
-  -- what comes of it, whatever the list by numbers is called
-  pub numbered : (rising : Complex) → IsComplexOf s rising → (given inside : List Bool) → given ≡ inside
-      → ((k : ℕ) → k < length ids → flag_at inside (get_or ids k 0) ≡ flag_at labels k)
-      → AreLabelsOver s rising slots given (test_of listing.cells labels)
-  numbered rising is given inside same each =
-      let lists = listed.lists in
-      subst (λ (complex : Complex). AreLabelsOver s complex slots given (test_of listing.cells labels))
-      (one_complex s lists.complex rising lists.complex_is is)
-      (labels_over s listing slots given inside (test_of listing.cells labels) listed.cells lists same
-      (says_by_number s slots listed.cells lists.complex lists.complex_is listing.cells lists.cells_are ids listed.ids_are labels
-      inside each) listed.admissible)
+  once : AreDistinctNumbers ids
+  once i j li lj e =
+      let n = are.count in
+      same_index complex.cells i j (once_rising complex.cells all.cells_are.rising) (omega (arith, li, n)) (omega (arith, lj, n))
+      (are.row i li ∙ ap (row_of slots) e ∙ sym (are.row j lj))
+
+  pub all_live : AreAllLive slots ids
+  all_live = record {
+    live = are.live;
+    all = λ id live.
+        (let i = index_of s slots cells complex all complex.cells same ids are id live in (
+          i.0,
+          i.1,
+          sym (get_or_default ids i.0 0 id i.1) ∙ i.3,
+        ));
+    once = once;
+  }
+
+  -- a number is first found where it stands
+  label_at : (labels : List Bool) (k : ℕ) → k < length ids → listed_label ids labels (get_or ids k 0) ≡ flag_at labels k
+  label_at labels k l =
+      ap (flag_at labels)
+      (position_or_len_is (λ other. other == get_or ids k 0) ids k 0 (omega (arith, l))
+      (λ i m. false_from_ne_true (get_or ids i 0 == get_or ids k 0)
+      (λ h. let e = once i k (omega (arith, m, l)) l (eqb-true (get_or ids i 0) (get_or ids k 0) h) in omega (arith, m, e)))
+      (λ m. eq-eqb (get_or ids k 0) (get_or ids k 0) refl))
+
+  pub listed_over : (labels : List Bool) → IsAdmissible s complex (test_of complex.cells labels)
+      → AreLabelsOver s complex slots (listed_label ids labels) (test_of complex.cells labels)
+  listed_over labels admissible = record {
+    cells = cells;
+    complex_is = all;
+    says =
+        says_by_number s slots cells complex all complex.cells same ids are labels (listed_label ids labels) (label_at labels);
+    admissible = admissible;
+  }

@@ -132,8 +132,7 @@ module _ (v : Vertices) (slots : List (Option Cell)) (linked : IsLinked v (links
     are_faces = subst (IsFaceList v.count) (sym cut.facets_are) faces
 
     -- ---- labels of the cells
-    module _ (inside : List Bool)
-        (flags : (x : ℕ) → IsLive (links_of slots) x → flag_at outside x ≡ not (flag_at inside x)) where
+    module _ (inside : ℕ → Bool) (flags : (x : ℕ) → IsLive (links_of slots) x → flag_at outside x ≡ not (inside x)) where
       only : (x : Side) → Contains cut.sides x → IsCutFacet slots inside x.facet
       only x h =
           let p = cut.are_cut.each x h in
@@ -145,8 +144,8 @@ module _ (v : Vertices) (slots : List (Option Cell)) (linked : IsLinked v (links
             live = p.live;
             in_range = p.in_range;
             across = p.next;
-            is_outside = not-true (flag_at inside x.id) (sym (flags x.id p.live) ∙ p.own);
-            is_inside = not-false (flag_at inside p.other) (sym (flags p.other b.live) ∙ p.inside);
+            is_outside = not-true (inside x.id) (sym (flags x.id p.live) ∙ p.own);
+            is_inside = not-false (inside p.other) (sym (flags p.other b.live) ∙ p.inside);
             facet_is = p.facet_is;
           }
 
@@ -155,7 +154,7 @@ module _ (v : Vertices) (slots : List (Option Cell)) (linked : IsLinked v (links
           let b = linked.back c.own c.side c.other c.live c.in_range c.across in
           let z =
           cut.are_cut.all c.own c.side c.other c.in_range c.across
-          (flags c.own c.live ∙ not_from_false (flag_at inside c.own) c.is_outside)
+          (flags c.own c.live ∙ not_from_false (inside c.own) c.is_outside)
           (flags c.other b.live ∙ ap not c.is_inside) in
           let is : z.0.facet ≡ f =
           (cut.are_cut.each z.0 z.1).facet_is ∙ ap₂ (λ (i k : ℕ). facet_row (cell i) k) z.2 z.3 ∙ sym c.facet_is in

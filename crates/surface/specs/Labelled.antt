@@ -1,7 +1,8 @@
--- Labels of a store's cells, at the numbers that cells have in it, and the mesh that they cut.
+-- Labels of a store's cells, as a test of the numbers that cells have in it, and the mesh that they cut.
 --
 --   AreDistinctNumbers ids                    no number stands twice
 --   AreAllLive slots ids                      all live cells, each once
+--   listed_label ids labels id                the label of a cell where the labels are in the order of a list of cells
 --   NoneHasCorner slots inside                no cell inside has a corner of the box
 --   IsCutFacet slots inside facet             a facet of an outside cell with an inside cell across
 --   AreCutFacets slots inside facets          all of these, rising
@@ -10,7 +11,8 @@
 --   OverScenes slots inside claim             the claim is true of each scene, rising complex and test that the labels are over
 --   mesh_over points scene rising test        the mesh of the scene's facets that the test cuts, among these points
 --   IsSortedCut slots outside facets          the facets, sorted, of the sides of cells with a flag whose neighbor has none
-use Rattle.std.specs.Prelude.{ℕ, ◌≡◌, ◌<◌, Bool, true, false, List, Option, Some, map, length, slice_index, AllPairs, Contains}
+use Rattle.std.specs.Prelude.{ℕ, ◌≡◌, ◌<◌, ◌==◌, Bool, true, false, List, Option, Some, map, length, slice_index, AllPairs, Contains}
+use Rattle.std.specs.List.{position_or_len}
 use Rattle.std.specs.List.Sorted.{IsNonDecreasingBy}
 use Rattle.flow_net.specs.Nets.{flag_at}
 use Rattle.geo_sign.specs.Point.{Point}
@@ -41,47 +43,51 @@ pub record AreAllLive (slots : List (Option Cell)) (ids : List ℕ) : Type 0 whe
   pub all : (id : ℕ) → IsLive (links_of slots) id → Contains ids id
   pub once : AreDistinctNumbers ids
 
+-- at the index of the cell; a cell that is not in the list is outside, where there are as many labels as cells
+abbrev pub listed_label : List ℕ → List Bool → ℕ → Bool
+listed_label ids labels id = flag_at labels (position_or_len (λ other. other == id) ids)
+
 -- live cells with a corner are outside
-abbrev pub NoneHasCorner : List (Option Cell) → List Bool → Type 0
+abbrev pub NoneHasCorner : List (Option Cell) → (ℕ → Bool) → Type 0
 NoneHasCorner slots inside =
-    (id : ℕ) → IsLive (links_of slots) id → flag_at inside id ≡ true → has_corner ((links_of slots).at id) ≡ false
+    (id : ℕ) → IsLive (links_of slots) id → inside id ≡ true → has_corner ((links_of slots).at id) ≡ false
 
 -- The cell across the side of a live one that is outside is inside. The facet is that of the outside cell, the least vertex first.
-pub record IsCutFacet (slots : List (Option Cell)) (inside : List Bool) (facet : List ℕ) : Type 0 where
+pub record IsCutFacet (slots : List (Option Cell)) (inside : ℕ → Bool) (facet : List ℕ) : Type 0 where
   pub own : ℕ
   pub side : ℕ
   pub other : ℕ
   pub live : IsLive (links_of slots) own
   pub in_range : side < 4
   pub across : (links_of slots).next own side ≡ Some other
-  pub is_outside : flag_at inside own ≡ false
-  pub is_inside : flag_at inside other ≡ true
+  pub is_outside : inside own ≡ false
+  pub is_inside : inside other ≡ true
   pub facet_is : facet ≡ facet_row ((links_of slots).at own) side
 
 -- there are no others, and they rise, so each stands once
-pub record AreCutFacets (slots : List (Option Cell)) (inside : List Bool) (facets : List (List ℕ)) : Type 0 where
+pub record AreCutFacets (slots : List (Option Cell)) (inside : ℕ → Bool) (facets : List (List ℕ)) : Type 0 where
   pub only : (f : List ℕ) → Contains facets f → IsCutFacet slots inside f
   pub all : (f : List ℕ) → IsCutFacet slots inside f → Contains facets f
   pub rising : AllPairs IsBefore facets
 
 -- among these points
-pub record IsCutMesh (points : List Point) (slots : List (Option Cell)) (inside : List Bool) (mesh : Mesh) : Type 0 where
+pub record IsCutMesh (points : List Point) (slots : List (Option Cell)) (inside : ℕ → Bool) (mesh : Mesh) : Type 0 where
   pub facets : List (List ℕ)
   pub are_cut : AreCutFacets slots inside facets
   pub points_are : mesh.points.items ≡ (mesh_of points facets).points
   pub faces_are : mesh.faces.items ≡ (mesh_of points facets).faces
 
--- the store has all cells of the scene, the labels at their numbers are those of a test of cells, and no cell inside has a corner or a
+-- the store has all cells of the scene, the labels of their numbers are those of a test of cells, and no cell inside has a corner or a
 -- scanner
-pub record AreLabelsOver (s : Scene) (rising : Complex) (slots : List (Option Cell)) (inside : List Bool) (test : List ℕ → Bool)
+pub record AreLabelsOver (s : Scene) (rising : Complex) (slots : List (Option Cell)) (inside : ℕ → Bool) (test : List ℕ → Bool)
     : Type 0 where
   pub cells : AreCellsOf s slots
   pub complex_is : IsComplexOf s rising
-  pub says : SaysOfCells slots (flag_at inside) test
+  pub says : SaysOfCells slots inside test
   pub admissible : IsAdmissible s rising test
 
 -- over each such scene, its rising complex and the test
-abbrev pub OverScenes : List (Option Cell) → List Bool → (Scene → Complex → (List ℕ → Bool) → Type 0) → Type 0
+abbrev pub OverScenes : List (Option Cell) → (ℕ → Bool) → (Scene → Complex → (List ℕ → Bool) → Type 0) → Type 0
 OverScenes slots inside claim =
     (scene : Scene) (rising : Complex) (test : List ℕ → Bool) → AreLabelsOver scene rising slots inside test
     → claim scene rising test

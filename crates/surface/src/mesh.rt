@@ -1,17 +1,20 @@
 //! The mesh of labels.
 
-ghost use Rattle.std.specs.Prelude.{◌≡◌, IfOk, AllPairs};
+ghost use Rattle.std.specs.Prelude.{◌≡◌, IfOk, AllPairs, length};
+ghost use Rattle.flow_net.specs.Nets.{flag_at};
 ghost use Rattle.geo_sign.specs.Rising.{IsBefore};
 ghost use Rattle.mesh_ply.specs.Meshes.{IsMesh};
 ghost use Rattle.surface.specs.Closed.{IsClosed};
-ghost use Rattle.surface.specs.Labelled.{IsCutMesh, NoneHasCorner, OverScenes, mesh_over};
+ghost use Rattle.surface.specs.Labelled.{AreAllLive, IsCutMesh, NoneHasCorner, OverScenes, listed_label, mesh_over};
 
 use crate::NoMemory;
 use crate::cut::{cut_facets, outside_flags};
+use crate::numbered::labels_by_number;
+use flow_net::Labels;
 use geo_sign::Point;
 use mesh_ply::{Mesh, mesh_of_facets};
 use std::alloc::Global;
-use tetra_store::Tetra;
+use tetra_store::{CellId, Tetra};
 
 /// Where the vertices are, in order of their numbers.
 fn points_of(alloc: Global, t: &Tetra) -> Result<Vec<Point>, NoMemory>
@@ -24,19 +27,38 @@ fn points_of(alloc: Global, t: &Tetra) -> Result<Vec<Point>, NoMemory>
     Ok(points)
 }
 
-/// The mesh of labels of linked cells: the facets of outside cells with an inside cell across, as outside cells have them, so that a
-/// face's three points turn counterclockwise as seen from outside. Nothing is asked of the cells but what each store keeps.
+/// Makes the mesh of labels of linked cells: the facets of outside cells with an inside cell across, as outside cells have them, so that
+/// a face's three points turn counterclockwise as seen from outside. Nothing is asked of the cells but what each store keeps.
 ///
-/// `inside` has the labels at the cells' numbers in the store; a cell past its end is outside. No cell inside has a corner of the box.
-/// Points that no face has are left out, and the others are numbered in the order of their vertex numbers. The faces have their
-/// smallest number first and rise. They are closed: each directed edge is met by its reverse equally often. Where the cells are all
-/// cells of a scene and none inside is fixed, the facets are those of the scene that the labels cut. The only error is want of memory,
-/// which also stands for 2^32 faces and more.
-pub fn facets(alloc: Global, t: &Tetra, inside: &[bool]) -> Result<Mesh, NoMemory>
-    requires { NoneHasCorner t.now.slots inside.now }
-    ensures cut { IfOk result (IsCutMesh t.now.points t.now.slots inside.now) }
-    ensures points { OverScenes t.now.slots inside.now (λ scene rising test. IfOk result (λ mesh. mesh.points.items ≡ (mesh_over t.now.points scene rising test).points)) }
-    ensures faces { OverScenes t.now.slots inside.now (λ scene rising test. IfOk result (λ mesh. mesh.faces.items ≡ (mesh_over t.now.points scene rising test).faces)) }
+/// `ids` are all live cells of the store, each once, in any order, and `labels` has one label for each of them, in this order. No cell
+/// inside has a corner of the box. Points that no face has are left out, and the others are numbered in the order of their vertex
+/// numbers. The faces have their smallest number first and ascend. They are closed: each directed edge is met by its reverse equally
+/// often. If the cells are all cells of a scene and none inside is fixed, the facets are those of the scene that the labels cut. The only
+/// error is out of memory, which also stands for 2^32 faces and more. With the labels at the cells' numbers, `facets_by_number` makes the
+/// same mesh and copies no labels.
+pub fn facets(alloc: Global, t: &Tetra, ids: &[CellId], labels: &Labels) -> Result<Mesh, NoMemory>
+    requires ids { AreAllLive t.now.slots ids.now }
+    requires labels { length labels.now.inside ≡ length ids.now }
+    requires corners { NoneHasCorner t.now.slots (listed_label ids.now labels.now.inside) }
+    ensures cut { IfOk result (IsCutMesh t.now.points t.now.slots (listed_label ids.now labels.now.inside)) }
+    ensures points { OverScenes t.now.slots (listed_label ids.now labels.now.inside) (λ scene rising test. IfOk result (λ mesh. mesh.points.items ≡ (mesh_over t.now.points scene rising test).points)) }
+    ensures faces { OverScenes t.now.slots (listed_label ids.now labels.now.inside) (λ scene rising test. IfOk result (λ mesh. mesh.faces.items ≡ (mesh_over t.now.points scene rising test).faces)) }
+    ensures valid { IfOk result (λ mesh. IsMesh mesh.points.items mesh.faces.items) }
+    ensures rising { IfOk result (λ mesh. AllPairs IsBefore mesh.faces.items) }
+    ensures closed { IfOk result (λ mesh. IsClosed mesh.faces.items) }
+{
+    t.facts();
+    let inside = labels_by_number(alloc, t, ids, labels)?;
+    facets_by_number(alloc, t, &inside)
+}
+
+/// Makes the mesh of labels as `facets` does, where `inside` has the labels at the cells' numbers in the store; a cell past its end is
+/// outside.
+pub fn facets_by_number(alloc: Global, t: &Tetra, inside: &[bool]) -> Result<Mesh, NoMemory>
+    requires { NoneHasCorner t.now.slots (flag_at inside.now) }
+    ensures cut { IfOk result (IsCutMesh t.now.points t.now.slots (flag_at inside.now)) }
+    ensures points { OverScenes t.now.slots (flag_at inside.now) (λ scene rising test. IfOk result (λ mesh. mesh.points.items ≡ (mesh_over t.now.points scene rising test).points)) }
+    ensures faces { OverScenes t.now.slots (flag_at inside.now) (λ scene rising test. IfOk result (λ mesh. mesh.faces.items ≡ (mesh_over t.now.points scene rising test).faces)) }
     ensures valid { IfOk result (λ mesh. IsMesh mesh.points.items mesh.faces.items) }
     ensures rising { IfOk result (λ mesh. AllPairs IsBefore mesh.faces.items) }
     ensures closed { IfOk result (λ mesh. IsClosed mesh.faces.items) }

@@ -10,9 +10,9 @@ use flow_net::Labels;
 use std::alloc::Global;
 use tetra_store::{CellId, Tetra};
 
-/// The labels at the cells' numbers, where `ids` are the numbers of all cells in the store, each once, in the order of the labels. The
-/// list has a place for each cell. The only error is want of memory.
-pub fn labels_by_number(
+/// Lists the labels at the cells' numbers, where `ids` are all cells of the store, each once, in the order of the labels. The list has an
+/// entry for each cell. The only error is out of memory.
+pub(crate) fn labels_by_number(
     alloc: Global,
     t: &Tetra,
     ids: &[CellId],

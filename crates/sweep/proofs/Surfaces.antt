@@ -1,6 +1,7 @@
 -- The surface and the cost that the fields of a sweep keep: flow and labels are a cut of the scene's cells (`scan_cut`).
 use Rattle.std.proofs.Common.{ℕ, ◌≡◌, ◌<◌, ◌++◌, ◌^◌, refl, sym, subst, ◌∙◌, Bool, List}
 use Rattle.cell_net.specs.Shape.{numbered_with}
+use Rattle.flow_net.specs.Nets.{flag_at}
 use Rattle.flow_net.specs.NumberedFlows.{cost_of}
 use Rattle.flow_net.specs.declared.Flow.{Flow}
 use Rattle.flow_net.specs.declared.Labels.{Labels}
@@ -69,7 +70,8 @@ module _ (points scanners : List Point) (sights : List Sight) (settings : Settin
       (sym (scene_kept kept.scan points scanners sights settings kept.points_are kept.scanners_are kept.sights_are)) is)
 
   -- the labels are those of the scene's cells, whatever their list is called
-  pub labelled : (given : List Bool) → given ≡ labels.inside → AreLabelsOver scene rising store.slots given inside
+  pub labelled : (given : List Bool) → given ≡ labels.inside
+      → AreLabelsOver scene rising store.slots (flag_at given) inside
   labelled given same =
       labels_over scene (stored_complex is.fixed store.slots) store.slots given labels.inside inside kept.counts.cells is.listing same
       is.labels_say is.least.least_cost.admissible

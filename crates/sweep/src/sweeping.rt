@@ -21,7 +21,7 @@ use scan_cut::counted_cells_with;
 use solution::{SeenPoints, seen_in};
 use std::alloc::Global;
 use std::marker::Model;
-use surface::facets;
+use surface::facets_by_number;
 use tetra_store::Tetra;
 use votes::Votes;
 use watch::{Silent, Watch};
@@ -147,6 +147,6 @@ impl Sweep {
         ensures valid { IfOk result (λ mesh. IsMesh mesh.points.items mesh.faces.items) }
         ensures closed { IfOk result (λ mesh. IsClosed mesh.faces.items) }
     {
-        facets(self.alloc, &self.tetra, self.labels.inside.as_slice())
+        facets_by_number(self.alloc, &self.tetra, self.labels.inside.as_slice())
     }
 }

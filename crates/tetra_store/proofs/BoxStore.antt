@@ -114,9 +114,9 @@ module _ (points : List Point) (data_points : (k : ℕ) → k < length points �
               (subst (λ (t : Tetrahedron). IsVertexOf t u) (sym (box.at (box_keeper u) k.0)) k.1),
         )
 
-    pub box_store : (spare : ℕ) → length flags ≡ length all → length kept ≡ length all
-        → IsStore (record { points = all; inserted = flags; slots = slots; kept = kept; spare = spare })
-    box_store spare f k = record {
+    pub box_store : (spare capacity : ℕ) → length flags ≡ length all → length kept ≡ length all
+        → IsStore (record { points = all; inserted = flags; slots = slots; kept = kept; spare = spare; capacity = capacity })
+    box_store spare capacity f k = record {
       flags = f;
       keeps = k;
       vertices = box_vertices;

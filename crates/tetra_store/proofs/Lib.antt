@@ -3,6 +3,7 @@ pub mod Facets
 pub mod Rebuilt
 pub mod Backs
 pub mod Again
+pub mod DataPoints
 pub mod Observed
 pub mod Live
 pub mod Putting

@@ -269,12 +269,13 @@ delaunay_again v a b r h = record {
 
 -- ---- the store
 pub store_moved : (points : List Point) (inserted : List Bool) (old slots : List (Option Cell)) (kept new : List ℕ)
-    (spare spare_now : ℕ) (places : List (Option ℕ)) (from : List ℕ)
-    → IsStore (record { points = points; inserted = inserted; slots = old; kept = kept; spare = spare })
+    (spare spare_now capacity capacity_now : ℕ) (places : List (Option ℕ)) (from : List ℕ)
+    → IsStore (record { points = points; inserted = inserted; slots = old; kept = kept; spare = spare; capacity = capacity })
     → AreAssigned (links_of old) places from → ((x : ℕ) → IsLive (links_of old) x → HasPlace places x)
     → AreMoved old slots places from (length from) → AreKeptMoved places kept new (length kept)
-    → IsStore (record { points = points; inserted = inserted; slots = slots; kept = new; spare = spare_now })
-store_moved points inserted old slots kept new spare spare_now places from s assigned all moved_all kept_moved =
+    → IsStore
+    (record { points = points; inserted = inserted; slots = slots; kept = new; spare = spare_now; capacity = capacity_now })
+store_moved points inserted old slots kept new spare spare_now capacity capacity_now places from s assigned all moved_all kept_moved =
     let v = vertices_at points inserted in
     record {
       flags = s.flags;

@@ -263,9 +263,10 @@ module _ (s : Store) (old : List ℕ) (fan : List Facet) (p : ℕ) (store : IsSt
       was_in : (u : ℕ) → Has (vertices_at s.points flags) u → u ≢ p → Has (vertices_of s) u
       was_in u h n = (h.0, sym (flag_other u n) ∙ h.1)
 
-      pub store_again : (spare : ℕ)
-          → IsStore (record { points = s.points; inserted = flags; slots = s2; kept = kept2; spare = spare })
-      store_again spare = record {
+      pub store_again : (spare capacity : ℕ)
+          → IsStore
+          (record { points = s.points; inserted = flags; slots = s2; kept = kept2; spare = spare; capacity = capacity })
+      store_again spare capacity = record {
         flags = length-set s.inserted p true ∙ store.flags;
         keeps = mends.count ∙ (keeps.count ∙ store.keeps);
         vertices = record {
@@ -285,9 +286,10 @@ module _ (s : Store) (old : List ℕ) (fan : List Facet) (p : ℕ) (store : IsSt
           box : IsBoxed (vertices_of s)
           box = store.vertices.boxed
 
-      pub replaced_now : (spare : ℕ) → s.spare ≤ spare + length fan
-          → IsReplaced s (record { points = s.points; inserted = flags; slots = s2; kept = kept2; spare = spare }) old fan p
-      replaced_now spare l = record {
+      pub replaced_now : (spare capacity : ℕ) → s.spare ≤ spare + length fan
+          → IsReplaced s
+          (record { points = s.points; inserted = flags; slots = s2; kept = kept2; spare = spare; capacity = capacity }) old fan p
+      replaced_now spare capacity l = record {
         points = refl;
         inserted = refl;
         stays = λ id live h. (rebuilt.stays id live h, rebuilt.same id live h);

@@ -1,6 +1,7 @@
 -- What a store is seen as, and what it keeps.
 --
---   Store                            points, which are inserted, slots of the cells, kept cells, room
+--   Store                            points, which are inserted, slots of the cells, kept cells, room, capacity
+--   data_points_of s                 the points of all vertices but the corners
 --   vertices_at points inserted      vertices by number, with the heights of the tie rule
 --   vertices_of s                    those of a store
 --   AreVertices points inserted      they are the corners and data points
@@ -8,7 +9,7 @@
 --   IsStore s                        what is true of each store
 --   spare_room capacity count ..     how many cells fit
 --   store_from points ..             what a store is seen as, from its parts
-use Rattle.std.specs.Prelude.{ℕ, ◌≡◌, ◌≤◌, ◌+◌, ◌-◌, ◌/◌, Bool, false, List, Option, length, get_or, slice_index}
+use Rattle.std.specs.Prelude.{ℕ, ◌≡◌, ◌≤◌, ◌+◌, ◌-◌, ◌/◌, Bool, false, List, Option, length, drop, get_or, slice_index}
 use Rattle.std.specs.Prelude.{slice_index_or, min, if◌then◌else◌, nat_lt}
 use Rattle.geo_sign.specs.declared.point.TheConstants.{CORNERS}
 use Rattle.geo_sign.specs.Point.{Point, origin}
@@ -21,14 +22,19 @@ use Rattle.tetra_store.specs.declared.link.Cell.{Cell}
 use Rattle.geo_sign.specs.Writings.{IsVertexOf}
 use Rattle.tetra_store.specs.Links.{links_of, IsLive, IsLinked}
 
--- the point of each vertex, which are inserted, the cell at each number, a cell of each inserted vertex, and how many cells
--- more fit with no memory taken
+-- the point of each vertex, which are inserted, the cell at each number, a cell of each inserted vertex, how many cells more
+-- fit with no memory taken, and for how many cells, those that are there included, the slab has taken memory
 pub record Store : Type 0 where
   pub points : List Point
   pub inserted : List Bool
   pub slots : List (Option Cell)
   pub kept : List ℕ
   pub spare : ℕ
+  pub capacity : ℕ
+
+-- from vertex 8 on
+abbrev pub data_points_of : Store → List Point
+data_points_of s = drop CORNERS s.points
 
 -- these vertices by number, with the heights of the tie rule
 abbrev pub vertices_at : List Point → List Bool → Vertices
@@ -75,4 +81,5 @@ store_from points inserted cells kept ids edges =
       slots = cells.slots;
       kept = kept;
       spare = spare_room cells.capacity (slab_len cells) ids edges;
+      capacity = cells.capacity;
     }

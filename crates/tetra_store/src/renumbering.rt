@@ -202,11 +202,11 @@ fn all_moved_kept(alloc: Global, kept: &[KeptCell], of: &[Link]) -> Result<Vec<K
 }
 
 impl Tetra {
-    /// Gives the same cells other numbers: those with these numbers in their order first, and then all that it leaves out. So cells
-    /// that are near each other in the order have numbers near each other, and no number below that of a cell is free. A number that
-    /// stands twice or has no cell is passed over.
+    /// Gives the same cells other numbers, so that no number below that of a cell is free. `order` lists numbers of cells: cells that are
+    /// near each other in it get numbers near each other. It is a hint that decides nothing but speed, and no clause speaks of it: any
+    /// list will do, also one in which numbers stand twice, have no cell, or are left out.
     ///
-    /// The memory of numbers that are free is let go of. The only error is want of memory, and after it all is as it was.
+    /// It frees the memory of numbers that are free. The only error is out of memory, and after it all is as it was.
     pub fn renumber(&mut self, alloc: Global, order: &[u32]) -> Result<(), NoMemory>
         ensures renumbered { OnOk result (IsRenumbered (links_of self.old.slots) (links_of self.new.slots)) }
         ensures points { self.new.points ≡ self.old.points }

@@ -3,6 +3,7 @@
 //! The new cells are put in before the old ones are taken out, so no number is both. Nothing has to hold in between: each step says what
 //! it writes, and one lemma (`linked_again`) shows that the cells are linked at the end.
 
+ghost use Rattle.std.specs.Prelude.{◌≡◌};
 ghost use Rattle.tetra_store.specs.Links.{links_of, IsLive};
 ghost use Rattle.tetra_store.specs.Fan.{CanReplace, IsReplaced, IsOver};
 
@@ -24,6 +25,7 @@ impl Tetra {
         ensures replaced { IsReplaced self.old self.new old.now fan.now p }
         ensures live { IsLive (links_of self.new.slots) result }
         ensures new { IsOver (links_of self.new.slots) fan.now p result }
+        ensures capacity { self.new.capacity ≡ self.old.capacity }
     {
         // Each live number is below the capacity, which the room that was reserved keeps below the number that stands for none.
         let _most = self.cells.capacity();

@@ -1,9 +1,9 @@
 //! The store.
 
-ghost use Rattle.std.specs.Prelude.{◌≡◌, ◌<◌, ◌≤◌, ◌↔◌, ℕ, Some, None, OnOk, length, get_or, slice_index, slice_index_or, false, IfSome, IfNone};
+ghost use Rattle.std.specs.Prelude.{◌≡◌, ◌<◌, ◌≤◌, ◌++◌, ◌↔◌, ℕ, Some, None, OnOk, length, get_or, slice_index, slice_index_or, false, IfSome, IfNone};
 ghost use Rattle.geo_sign.specs.Point.{origin};
 ghost use Rattle.geo_sign.specs.Tetrahedron.{facet_of};
-ghost use Rattle.geo_sign.specs.Vertices.{Has, IsWall};
+ghost use Rattle.geo_sign.specs.Vertices.{corners, Has, IsWall};
 ghost use Rattle.geo_sign.specs.Writings.{IsVertexOf};
 ghost use Rattle.tetra_store.specs.Links.{links_of, slot_at, tetrahedron_from, IsLive, IsOnlyAcross};
 
@@ -12,7 +12,7 @@ use crate::hints::Hints;
 use crate::kept::KeptCell;
 use crate::linked::Linked;
 use crate::{Cell, CellId, NoMemory};
-use geo_sign::Point;
+use geo_sign::{CORNERS, Point};
 use slab::Slab;
 use std::alloc::AllocError;
 use std::marker::Model;
@@ -61,7 +61,7 @@ pub struct Neighbor {
 }
 
 impl Tetra {
-    ghost use Rattle.tetra_store.specs.Store.{IsStore, vertices_of};
+    ghost use Rattle.tetra_store.specs.Store.{IsStore, data_points_of, vertices_of};
 
     /// Does nothing. Its clause is what each store keeps, for the proofs of callers.
     pub fn facts(&self)
@@ -83,6 +83,14 @@ impl Tetra {
         ensures { result ≡ get_or self.now.points v origin }
     {
         self.points[v as usize]
+    }
+
+    /// The points of all vertices but the eight corners, in order of their numbers: the first is that of vertex 8.
+    pub fn data_points(&self) -> &[Point]
+        ensures value { result.now ≡ data_points_of self.now }
+        ensures points { self.now.points ≡ corners ++ result.now }
+    {
+        &self.points[CORNERS as usize..]
     }
 
     /// Whether a vertex is inserted.
@@ -154,8 +162,9 @@ impl Tetra {
         self.kept[v as usize].id()
     }
 
-    /// A number above those of all cells, as for a list with an entry for each cell.
+    /// A number above those of all cells, as for a list with an entry for each cell: for how many cells the store has taken memory.
     pub fn number_limit(&self) -> usize
+        ensures capacity { result ≡ self.now.capacity }
         ensures slots { length self.now.slots ≤ result }
         ensures above { (id : ℕ) → IsLive (links_of self.now.slots) id → id < result }
     {
@@ -167,6 +176,7 @@ impl Tetra {
     /// room that `replace` has does not grow less. Want of memory is answered too where numbers of cells would not fit 32 bits.
     pub fn reserve_cells(&mut self, cells: usize) -> Result<(), NoMemory>
         ensures spare { OnOk result (self.old.spare ≤ self.new.spare) }
+        ensures capacity { self.old.capacity ≤ self.new.capacity }
         ensures points { self.new.points ≡ self.old.points }
         ensures inserted { self.new.inserted ≡ self.old.inserted }
         ensures slots { self.new.slots ≡ self.old.slots }
@@ -186,6 +196,7 @@ impl Tetra {
     /// numbers of cells would not fit 32 bits. Points, cells and what is inserted stay in any case.
     pub fn reserve(&mut self, cells: usize) -> Result<(), NoMemory>
         ensures spare { OnOk result (cells ≤ self.new.spare) }
+        ensures capacity { self.old.capacity ≤ self.new.capacity }
         ensures points { self.new.points ≡ self.old.points }
         ensures inserted { self.new.inserted ≡ self.old.inserted }
         ensures slots { self.new.slots ≡ self.old.slots }

@@ -1,12 +1,17 @@
-//! The network of linked Delaunay cells: a node for each cell, an arc for each directed facet with a free cell across.
+//! Linked cells and their sides as sorted lists, what is counted at them over a scene, and their network as lists of nodes and arcs.
 //!
-//! What sights vote for is counted elsewhere, by the numbers that cells have in the store. Here the nodes and arcs are listed and
-//! numbered in rising order: `rows` lists the cells and `sides` the facets, by the numbers of `keys`, `tables` finds their indices,
-//! `arcs` makes the arcs, and `network` the whole. `cells` is the list of all cells, and `laws` says what the counts are however a cell
-//! is written, and that the network of `cell_net`, which lists nothing, judges labels and flows as this one does.
+//! `cells` lists all cells in ascending order (`rising_cells`), `rows` has the sorted vertices of one cell, `sides` the directed facets of
+//! cells and the sorted ones between cells with a flag and cells with none (`sorted_cut`), and `keys` the numbers by which both are
+//! sorted. `laws` has the theorems that lead from the numbers of cells and sides to cells and facets: what is counted does not depend on
+//! how a cell or a facet is written, and labels and flows of the network of `cell_net`, which is the store itself and lists no arcs, are
+//! judged as those over cells and facets. All this is what the program uses.
 //!
-//! No sight and no point is looked at. The crate stands on `tetra_store` (linked cells), `visibility` (scenes, and what their network
-//! is), `flow_net` and `cell_net` (networks) and the laws of `cell_laws`.
+//! `network` makes of what is counted the network as lists (`assemble`): a node for each cell, an arc for each directed facet with a free
+//! cell across, both in ascending order. `tables` finds their indices and `arcs` makes the arcs. `count_votes` of `votes` returns it; the
+//! program does not call it.
+//!
+//! No sight and no point is looked at. The crate depends on `tetra_store` (linked cells), `visibility` (scenes, and what their network
+//! is), `flow_net` and `cell_net` (networks) and the theorems of `cell_laws`.
 #![tactic(auto)]
 
 mod arcs;

@@ -1,14 +1,15 @@
 //! From sights to the network.
 
-ghost use Rattle.std.specs.Prelude.{◌≡◌, ◌<◌, ◌^◌, IfOk, All, length};
+ghost use Rattle.std.specs.Prelude.{◌≡◌, ◌<◌, ◌^◌, ℕ, true, false, IfOk, All, length, slice_index_or};
 ghost use Rattle.geo_sign.specs.declared.point.TheConstants.{DATA_LIMIT};
 ghost use Rattle.geo_sign.specs.Point.{IsWithin};
 ghost use Rattle.flow_net.specs.Weights.{IsSightList};
 ghost use Rattle.visibility.specs.SceneViews.{view_of, IsSound};
+ghost use Rattle.visibility.specs.Scenes.{scene_of};
 ghost use Rattle.visibility.specs.Networks.{IsNetworkOf};
 ghost use Rattle.tetra_store.specs.Delaunay.{IsDelaunay};
 ghost use Rattle.tetra_store.specs.Links.{links_of};
-ghost use Rattle.tetra_store.specs.Store.{vertices_of};
+ghost use Rattle.tetra_store.specs.Store.{data_points_of, vertices_of};
 ghost use Rattle.vote_net.specs.Counts.{AreCountsOf, AreIdsOf};
 ghost use Rattle.votes.specs.Counts.{HasCellsOf, IsInRange, AreScannerCells, AreCounted};
 
@@ -17,7 +18,7 @@ use crate::fixing::{fixed_cells, scanner_cells};
 use crate::ordering::ordered;
 use crate::tally::{Counts, count_sights};
 use cell_net::StoreCounts;
-use flow_net::Sight;
+use flow_net::{Settings, Sight};
 use geo_sign::Point;
 use std::alloc::{AllocError, Global};
 use tetra_store::{CellId, Tetra};
@@ -103,17 +104,33 @@ pub fn counted<W: Watch>(
     })
 }
 
-/// The network of the cells of a scene's points, by a walk along each sight.
+/// Makes the network of the cells of a store's data points, by a walk along each sight.
 ///
-/// All points have to be inserted, and the cells Delaunay, as `delaunay::build` leaves them. Equal sights count as often as they were
-/// seen, each by its weight, and a scanner that sees nothing fixes its cell as well. Nodes are in the order of their cells' rising
-/// numbers, arcs in that of their facets. The only error is want of memory, which also stands for 2^32 cells or facets and more.
-pub fn count_votes(alloc: Global, t: &Tetra, scene: &Scene<'_>) -> Result<Counted, NoMemory>
-    requires cells { HasCellsOf t.now scene.now }
-    requires scene { IsSound scene.now }
-    ensures network { IfOk result (λ counted. IsNetworkOf (view_of scene.now) counted.voted) }
+/// All points are inserted, and the cells Delaunay, as `delaunay::build` leaves them. A sight is from an inserted data point, by its
+/// vertex number, to a scanner, by its index in `scanners`. Equal sights count as often as they were seen, each by its weight, and a
+/// scanner that sees nothing fixes its cell as well. Nodes are in the order of their cells' ascending numbers, arcs in that of their
+/// facets. The only error is out of memory, which also stands for 2^32 cells or facets and more.
+pub fn count_votes(
+    alloc: Global,
+    t: &Tetra,
+    sights: &[Sight],
+    scanners: &[Point],
+    settings: Settings,
+) -> Result<Counted, NoMemory>
+    requires inserted { (u : ℕ) → u < length t.now.points → slice_index_or t.now.inserted u false ≡ true }
+    requires delaunay { IsDelaunay (vertices_of t.now) (links_of t.now.slots) }
+    requires sights { All (IsInRange (vertices_of t.now) scanners.now) sights.now }
+    requires few { IsSightList sights.now }
+    requires scanners { All (IsWithin DATA_LIMIT) scanners.now }
+    ensures network { IfOk result (λ counted. IsNetworkOf (scene_of (data_points_of t.now) scanners.now sights.now settings) counted.voted) }
     ensures ids { IfOk result (λ counted. AreIdsOf t.now.slots counted.voted.cells counted.ids.items) }
 {
-    let votes = counted(alloc, t, scene, &mut Silent)?;
-    assemble(alloc, t, scene, &votes.store_counts())
+    let scene = Scene {
+        points: t.data_points(),
+        scanners,
+        sights,
+        settings,
+    };
+    let votes = counted(alloc, t, &scene, &mut Silent)?;
+    assemble(alloc, t, &scene, &votes.store_counts())
 }

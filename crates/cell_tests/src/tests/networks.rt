@@ -1,9 +1,11 @@
 //! `count_votes` over built cells beside the plain network, on scans whose sights go through other cells, stand twice, or have scanners
-//! in one cell.
+//! in one cell; and `facets` of the cells that it tells beside the plain mesh, where each free cell is inside.
 
-ghost use Rattle.std.specs.Prelude.{All, IsTrue};
+ghost use Rattle.std.specs.Prelude.{◌≤◌, All, IsTrue, length};
+ghost use Rattle.flow_net.specs.Weights.{IsSightList};
 ghost use Rattle.visibility.specs.SceneViews.{IsSightOf};
 
+use super::plain_networks::all_free_inside;
 use super::points::{
     are_data, are_distinct, cube, five_scanners, five_sights, four_points, point, scattered,
     scene_of,
@@ -11,9 +13,11 @@ use super::points::{
 use delaunay::build;
 use flow_net::{Sight, Voted, are_sights};
 use geo_sign::Point;
-use plain_net::plain_net;
+use mesh_ply::Mesh;
+use plain_net::{plain_mesh, plain_net};
 use std::alloc::{AllocError, Global};
 use std::test::Fail;
+use surface::facets;
 use visibility::Scene;
 use votes::count_votes;
 
@@ -46,9 +50,25 @@ fn is_same(alloc: Global, one: &Voted, other: &Voted) -> Result<bool, AllocError
     )
 }
 
-/// The network by walks along the sights. None where points are not distinct data points or too many, or sights out of range or of no
-/// weight.
-fn walked(alloc: Global, scene: &Scene<'_>) -> Result<Option<Voted>, AllocError> {
+/// A network, and the mesh where each free cell is inside.
+#[derive(Drop)]
+struct Answers {
+    voted: Voted,
+    mesh: Mesh,
+}
+
+/// Whether two are equal.
+fn are_same(alloc: Global, one: &Answers, other: &Answers) -> Result<bool, AllocError> {
+    Ok(
+        is_same(alloc, &one.voted, &other.voted)?
+            && one.mesh.points.as_slice() == other.mesh.points.as_slice()
+            && one.mesh.faces.as_slice() == other.mesh.faces.as_slice(),
+    )
+}
+
+/// Those of linked cells, by walks along the sights. None where points are not distinct data points or too many, or sights out of range or
+/// of no weight.
+fn walked(alloc: Global, scene: &Scene<'_>) -> Result<Option<Answers>, AllocError> {
     if scene.points.len() > 48 || !are_sights(scene.sights) {
         return Ok(None);
     }
@@ -59,11 +79,34 @@ fn walked(alloc: Global, scene: &Scene<'_>) -> Result<Option<Voted>, AllocError>
         return Ok(None);
     }
     let t = build(alloc, scene.points)?;
-    let counted = count_votes(alloc, &t, scene)?;
-    Ok(Some(counted.voted))
+    t.facts();
+    let counted = count_votes(alloc, &t, scene.sights, scene.scanners, scene.settings)?;
+    let labels = all_free_inside(alloc, &counted.voted.net)?;
+    let mesh = facets(alloc, &t, &counted.ids, &labels)?;
+    Ok(Some(Answers {
+        voted: counted.voted,
+        mesh,
+    }))
 }
 
-/// Whether it is the one by tests of each facet against each sight.
+/// Those by tests of each facet against each sight.
+fn tested(alloc: Global, scene: &Scene<'_>) -> Result<Answers, AllocError>
+    requires few { length scene.now.points.now ≤ 48 }
+    requires sights { IsSightList scene.now.sights.now }
+{
+    let voted = plain_net(
+        alloc,
+        scene.points,
+        scene.sights,
+        scene.scanners,
+        scene.settings,
+    )?;
+    let labels = all_free_inside(alloc, &voted.net)?;
+    let mesh = plain_mesh(alloc, scene.points, &voted, &labels)?;
+    Ok(Answers { voted, mesh })
+}
+
+/// Whether both are the same.
 fn agrees(
     alloc: Global,
     points: &[Point],
@@ -74,9 +117,9 @@ fn agrees(
     if scene.points.len() > 48 || !are_sights(scene.sights) {
         return Ok(false);
     }
-    let counted = walked(alloc, &scene)?.ok_or("a scan")?;
-    let plain = plain_net(alloc, &scene)?;
-    Ok(is_same(alloc, &counted, &plain)?)
+    let walked = walked(alloc, &scene)?.ok_or("a scan")?;
+    let tested = tested(alloc, &scene)?;
+    Ok(are_same(alloc, &walked, &tested)?)
 }
 
 /// Whether it is where the first of four points is seen once more, through their cell, by a sight of this weight.

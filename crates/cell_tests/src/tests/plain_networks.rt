@@ -11,7 +11,7 @@ use std::alloc::Global;
 use std::test::Fail;
 
 /// Labels with each free node inside.
-fn all_free_inside(alloc: Global, net: &Net) -> Result<Labels, NoMemory>
+pub fn all_free_inside(alloc: Global, net: &Net) -> Result<Labels, NoMemory>
     ensures { IfOk result (IsAdmissible net.now) }
 {
     let mut inside = Vec::new(alloc);
@@ -32,7 +32,13 @@ fn mesh_of_four(alloc: Global) -> Result<Mesh, Fail> {
         return Err(Fail::from("sights"));
     }
     let scene = scene_of(&points, &scanners, &sights)?;
-    let voted = plain_net(alloc, &scene)?;
+    let voted = plain_net(
+        alloc,
+        scene.points,
+        scene.sights,
+        scene.scanners,
+        scene.settings,
+    )?;
     let labels = all_free_inside(alloc, &voted.net)?;
     Ok(plain_mesh(alloc, scene.points, &voted, &labels)?)
 }

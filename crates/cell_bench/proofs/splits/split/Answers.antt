@@ -56,7 +56,7 @@ are_cells g c =
     subst (λ (z : List ℕ). IsReplaced t u z fan c.args.p) c.deref.ensures
     (subst (λ (z : List Facet). IsReplaced t u c.deref.result.now z c.args.p) c.deref-2.ensures
     c.replace-id.ensures.replaced) in
-    live_cells s u t.spare c.args.p cells fan c.facts.ensures c.requires.delaunay c.requires.below c.requires.out
+    live_cells s u t.spare t.capacity c.args.p cells fan c.facts.ensures c.requires.delaunay c.requires.below c.requires.out
     c.in_ok-cavity_of.ensures.cavity (replaced s t u c.args.p cells fan e.points e.inserted e.slots e.kept r)
 
 pub returns-clause-delaunay : goal.returns-clause-delaunay

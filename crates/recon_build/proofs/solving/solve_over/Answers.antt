@@ -3,6 +3,7 @@
 -- corners and the scan's points (mesh_is). The certificate is of this cut, over the same complex. So mesh and certificate are one solution,
 -- and the certificate is well formed.
 use Rattle.std.proofs.Common.{◌≡◌, ◌++◌, List, Bool}
+use Rattle.flow_net.specs.Nets.{flag_at}
 use Rattle.geo_sign.specs.Vertices.{corners}
 use Rattle.scan.specs.Shown.{Shown}
 use Rattle.scan.specs.Views.{shown_of}
@@ -23,13 +24,13 @@ use Rattle.recon_build.proofs.solving.solve_over.Goals as goal
 -- the labels are those of the scene's cells, whatever their list is called
 over : (s : Scene) (store : Store) (cut : MinimumCut) (given : List Bool) → AreCellsOf s store.slots
     → (is : IsCutOf s store.slots cut) → given ≡ cut.labels.inside
-    → AreLabelsOver s is.listing.complex store.slots given is.inside
+    → AreLabelsOver s is.listing.complex store.slots (flag_at given) is.inside
 over s store cut given cells is same =
     labels_over s (stored_complex is.fixed store.slots) store.slots given cut.labels.inside is.inside cells is.listing same
     is.labels_say is.least.least_cost.admissible
 
-pub facets-requires : goal.facets-requires
-facets-requires c =
+pub facets_by_number-requires : goal.facets_by_number-requires
+facets_by_number-requires c =
     let s : Scene = scene_of_scan (shown_of c.args.scan.now) c.args.settings in
     can_be_cut _ _ _ _ _ (over s c.args.tetra c.args.cut _ c.requires.cells c.requires.cut c.as_slice.ensures)
 

@@ -18,8 +18,8 @@ returns-in_err-labels-clause-fault c = λ mesh.
     (IsFault (shown_of c.args.scan.now) c.args.settings mesh (claim_of c.args.cert.now)) c.from_residual.ensures.1
     (c.in_err-labels.ensures.fault mesh)
 
-pub facets-requires : goal.facets-requires
-facets-requires c =
+pub facets_by_number-requires : goal.facets_by_number-requires
+facets_by_number-requires c =
     can_be_cut _ _ _ _ _
     (labels_over (shown_of c.args.scan.now) c.args.settings c.args.tetra (claim_of c.args.cert.now) c.in_ok-labels.labels _
     c.requires.counts.cells c.in_ok-labels.ensures.best c.as_slice.ensures)
@@ -38,7 +38,7 @@ returns-clause-surface c =
       best = best.best;
       cost_is = best.cost_is;
       surface_is =
-          mesh_is c.in_ok-facets.field-0 c.args.tetra.points (corners ++ points_of scan) _ c.requires.store.points
-          (c.in_ok-facets.ensures.points (scene_of_scan scan c.args.settings) best.complex _ labels)
-          (c.in_ok-facets.ensures.faces (scene_of_scan scan c.args.settings) best.complex _ labels);
+          mesh_is c.in_ok-facets_by_number.field-0 c.args.tetra.points (corners ++ points_of scan) _ c.requires.store.points
+          (c.in_ok-facets_by_number.ensures.points (scene_of_scan scan c.args.settings) best.complex _ labels)
+          (c.in_ok-facets_by_number.ensures.faces (scene_of_scan scan c.args.settings) best.complex _ labels);
     }

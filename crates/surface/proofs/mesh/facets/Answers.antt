@@ -1,97 +1,60 @@
--- The mesh of the facets between inside and outside.
---
--- The flags of live cells are the labels turned round. So the sorted facets that the store's cells give are
--- those that the labels cut (`are_cut_facets`), and a list of faces of the points (`are_faces`), as the mesh wants them. Over a scene
--- they are its facets that the labels cut (`cut_in_scene`). The sides of the cut are closed (`closed_sides`), and the mesh keeps this
--- (`mesh_closed`).
-use Rattle.std.proofs.Common.{ℕ, ◌^◌, ◌≡◌, ◌<◌, ◌≤◌, ◌∙◌, not, length, subst, sym, ap, arith, IfOk, List, Bool}
-use Rattle.std.proofs.Common.{Result, Ok, Err}
+-- Labels in the order of the list and the same labels by number are one test of live cells (ListedCut), so what `facets_by_number` asks
+-- follows from what is asked here, and each clause of the one is that of the other. `each` is what is known of the list by number, whatever
+-- it is called.
+use Rattle.std.proofs.Common.{ℕ, ◌≡◌, ◌<◌, sym, subst, Bool, List, IfOk, length, get_or}
 use Rattle.std.proofs.lemmas.Result.{IfOk-weaker}
-use Rattle.geo_sign.specs.Point.{Point}
 use Rattle.flow_net.specs.Nets.{flag_at}
-use Rattle.mesh_ply.specs.Meshes.{mesh_of, IsFaceList}
 use Rattle.mesh_ply.specs.declared.mesh.Mesh.{Mesh}
-use Rattle.tetra_store.specs.Links.{links_of, IsLive}
-use Rattle.tetra_store.specs.Store.{Store, IsStore, vertices_of}
-use Rattle.surface.specs.Closed.{IsClosed}
-use Rattle.surface.specs.Labelled.{AreCutFacets, IsCutMesh, IsSortedCut, NoneHasCorner}
-use Rattle.surface.proofs.ClosedCut.{closed_sides, mesh_closed, none_flagged}
-use Rattle.surface.proofs.CutList.{cut_in_scene}
-use Rattle.surface.proofs.StoreCut.{are_cut_facets, are_faces}
+use Rattle.tetra_store.specs.Store.{vertices_of}
+use Rattle.surface.specs.Labelled.{IsCutMesh, listed_label, mesh_over}
+use Rattle.surface.proofs.ListedCut.{cut_mesh, none_has_corner, over_scenes}
 use Rattle.surface.proofs.mesh.facets.Goals as goal
 
--- what is known of the facets
-record AreFound (s : Store) (inside : List Bool) (facets : List (List ℕ)) : Type 0 where
-  are_cut : AreCutFacets s.slots inside facets
-  faces : IsFaceList (length s.points) facets
-  closed : IsClosed facets
+each : (ids : List ℕ) (labels flags inside : List Bool) → flags ≡ inside
+    → ((k : ℕ) → k < length ids → flag_at inside (get_or ids k 0) ≡ flag_at labels k) → (k : ℕ) → k < length ids
+    → flag_at flags (get_or ids k 0) ≡ flag_at labels k
+each ids labels flags inside same are =
+    subst (λ (list : List Bool). (k : ℕ) → k < length ids → flag_at list (get_or ids k 0) ≡ flag_at labels k) (sym same) are
 
--- by the names that the lists have in the code
-found : (s : Store) → IsStore s → (inside flags outside : List Bool) (limit : ℕ)
-    → ((id : ℕ) → IsLive (links_of s.slots) id → id < limit) → NoneHasCorner s.slots inside
-    → ((id : ℕ) → id < limit → flag_at flags id ≡ not (flag_at inside id)) → outside ≡ flags
-    → (facets given : List (List ℕ)) → given ≡ facets → IsSortedCut s.slots outside facets → AreFound s inside given
-found s store inside flags outside limit below none turned flags_are facets given same cut =
-    subst (AreFound s inside) (sym same)
-    (record {
-      are_cut = are_cut_facets (vertices_of s) s.slots store.linked few outside facets cut inside flagged;
-      faces = are_faces (vertices_of s) s.slots store.linked few outside facets cut;
-      closed =
-          subst IsClosed (sym cut.facets_are)
-          (closed_sides (vertices_of s) s.slots store.linked outside (none_flagged s.slots inside outside none flagged)
-          cut.sides cut.are_cut);
-    })
-  where
-    few : length s.points ≤ 2 ^ 32
-    few = let n = store.vertices.few in omega (arith, n)
+pub facets_by_number-requires : goal.facets_by_number-requires
+facets_by_number-requires c =
+    let ids : List ℕ = c.args.ids.now in
+    let labels : List Bool = c.args.labels.now.inside in
+    let flags : List Bool = c.deref.result.now in
+    none_has_corner c.args.t.now.slots ids labels flags c.requires.ids
+    (each ids labels flags _ c.deref.ensures.value c.in_ok-inside.ensures.flags) c.requires.corners
 
-    flagged : (x : ℕ) → IsLive (links_of s.slots) x → flag_at outside x ≡ not (flag_at inside x)
-    flagged x l = ap (λ (list : List Bool). flag_at list x) flags_are ∙ turned x (below x l)
+pub returns-clause-cut : goal.returns-clause-cut
+returns-clause-cut c =
+    let ids : List ℕ = c.args.ids.now in
+    let labels : List Bool = c.args.labels.now.inside in
+    let flags : List Bool = c.deref.result.now in
+    let s = c.args.t.now in
+    IfOk-weaker c.facets_by_number.result (IsCutMesh s.points s.slots (flag_at flags))
+    (IsCutMesh s.points s.slots (listed_label ids labels))
+    (λ (mesh : Mesh).
+    cut_mesh s.slots ids labels flags c.requires.ids
+    (each ids labels flags _ c.deref.ensures.value c.in_ok-inside.ensures.flags) (vertices_of s) c.facts.ensures.linked s.points
+    mesh) c.facets_by_number.ensures.cut
 
-pub mesh_of_facets-requires-clause-facets : goal.mesh_of_facets-requires-clause-facets
-mesh_of_facets-requires-clause-facets c =
-    let is =
-    found c.args.t.now c.facts.ensures c.args.inside.now _ _ _ c.number_limit.ensures.above c.requires
-    c.in_ok-outside.ensures c.deref.ensures.value _ _ c.deref-3.ensures.value c.in_ok-facets.ensures in
-    subst (λ (points : List Point). IsFaceList (length points) c.deref-3.result.now)
-    (sym (c.deref-2.ensures.value ∙ c.in_ok-points.ensures)) is.faces
+pub returns-clause-points : goal.returns-clause-points
+returns-clause-points c =
+    let ids : List ℕ = c.args.ids.now in
+    let labels : List Bool = c.args.labels.now.inside in
+    let flags : List Bool = c.deref.result.now in
+    over_scenes c.args.t.now.slots ids labels flags c.requires.ids
+    (each ids labels flags _ c.deref.ensures.value c.in_ok-inside.ensures.flags)
+    (λ scene rising test.
+    IfOk c.facets_by_number.result (λ mesh. mesh.points.items ≡ (mesh_over c.args.t.now.points scene rising test).points))
+    c.facets_by_number.ensures.points
 
--- what follows of a mesh of these points and faces
-of_both : {E : Type 0} (P Q R : Mesh → Type 0) (result : Result Mesh E) → ((mesh : Mesh) → P mesh → Q mesh → R mesh)
-    → IfOk result P → IfOk result Q → IfOk result R
-of_both P Q R (Ok mesh) so p q = so mesh p q
-of_both P Q R (Err e) so p q = tt
-
-pub returns : goal.returns
-returns c =
-    let is =
-    found c.args.t.now c.facts.ensures c.args.inside.now _ _ _ c.number_limit.ensures.above c.requires
-    c.in_ok-outside.ensures c.deref.ensures.value _ _ c.deref-3.ensures.value c.in_ok-facets.ensures in
-    let points : List Point = c.args.t.now.points in
-    let inside : List Bool = c.args.inside.now in
-    let facets : List (List ℕ) = c.deref-3.result.now in
-    let result = c.mesh_of_facets.result in
-    let at : c.deref-2.result.now ≡ points = c.deref-2.ensures.value ∙ c.in_ok-points.ensures in
-    let points_are : IfOk result (λ mesh. mesh.points.items ≡ (mesh_of points facets).points) =
-    subst (λ (places : List Point). IfOk result (λ mesh. mesh.points.items ≡ (mesh_of places facets).points)) at
-    c.mesh_of_facets.ensures.points in
-    let faces_are : IfOk result (λ mesh. mesh.faces.items ≡ (mesh_of points facets).faces) =
-    subst (λ (places : List Point). IfOk result (λ mesh. mesh.faces.items ≡ (mesh_of places facets).faces)) at
-    c.mesh_of_facets.ensures.faces in
-    record {
-      cut =
-          of_both (λ mesh. mesh.points.items ≡ (mesh_of points facets).points)
-          (λ mesh. mesh.faces.items ≡ (mesh_of points facets).faces) (IsCutMesh points c.args.t.now.slots inside) result
-          (λ mesh p f. record { facets = facets; are_cut = is.are_cut; points_are = p; faces_are = f }) points_are faces_are;
-      points = λ scene rising test over.
-          subst (λ (fs : List (List ℕ)). IfOk result (λ mesh. mesh.points.items ≡ (mesh_of points fs).points))
-          (cut_in_scene scene rising c.args.t.now.slots inside test over facets is.are_cut) points_are;
-      faces = λ scene rising test over.
-          subst (λ (fs : List (List ℕ)). IfOk result (λ mesh. mesh.faces.items ≡ (mesh_of points fs).faces))
-          (cut_in_scene scene rising c.args.t.now.slots inside test over facets is.are_cut) faces_are;
-      valid = c.mesh_of_facets.ensures.valid;
-      rising = c.mesh_of_facets.ensures.rising;
-      closed =
-          IfOk-weaker result (λ mesh. mesh.faces.items ≡ (mesh_of points facets).faces) (λ mesh. IsClosed mesh.faces.items)
-          (λ mesh e. subst IsClosed (sym e) (mesh_closed (length points) points facets is.faces is.closed)) faces_are;
-    }
+pub returns-clause-faces : goal.returns-clause-faces
+returns-clause-faces c =
+    let ids : List ℕ = c.args.ids.now in
+    let labels : List Bool = c.args.labels.now.inside in
+    let flags : List Bool = c.deref.result.now in
+    over_scenes c.args.t.now.slots ids labels flags c.requires.ids
+    (each ids labels flags _ c.deref.ensures.value c.in_ok-inside.ensures.flags)
+    (λ scene rising test.
+    IfOk c.facets_by_number.result (λ mesh. mesh.faces.items ≡ (mesh_over c.args.t.now.points scene rising test).faces))
+    c.facets_by_number.ensures.faces

@@ -8,8 +8,8 @@ use Rattle.sweep.specs.Swept.{Swept, scene_in}
 use Rattle.sweep.proofs.Surfaces.{inside, labelled, rising, surface_is}
 use Rattle.sweep.proofs.sweeping.Sweep.mesh.Goals as goal
 
-pub facets-requires : goal.facets-requires
-facets-requires c = can_be_cut _ _ _ _ _ (labelled _ _ _ _ _ _ _ _ _ _ c.self.invariant _ c.as_slice.ensures)
+pub facets_by_number-requires : goal.facets_by_number-requires
+facets_by_number-requires c = can_be_cut _ _ _ _ _ (labelled _ _ _ _ _ _ _ _ _ _ c.self.invariant _ c.as_slice.ensures)
 
 -- what follows of a mesh of these points and faces
 of_both : {E : Type 0} (P Q R : Mesh → Type 0) (result : Result Mesh E) → IfOk result P → IfOk result Q
@@ -26,8 +26,8 @@ returns-clause-surface c =
     let cells = rising _ _ _ _ _ _ _ _ _ _ kept in
     let test = inside _ _ _ _ _ _ _ _ _ _ kept in
     let labels = labelled _ _ _ _ _ _ _ _ _ _ kept _ c.as_slice.ensures in
-    subst (λ (w : Swept). IfOk c.facets.result (λ mesh. IsSurfaceOf (scene_in w) w.points (surface_of mesh)))
+    subst (λ (w : Swept). IfOk c.facets_by_number.result (λ mesh. IsSurfaceOf (scene_in w) w.points (surface_of mesh)))
     c.self.view_is
-    (of_both _ _ (λ mesh. IsSurfaceOf scene c.self.inside.seen.points.items (surface_of mesh)) c.facets.result
-    (c.facets.ensures.points scene cells test labels) (c.facets.ensures.faces scene cells test labels)
+    (of_both _ _ (λ mesh. IsSurfaceOf scene c.self.inside.seen.points.items (surface_of mesh)) c.facets_by_number.result
+    (c.facets_by_number.ensures.points scene cells test labels) (c.facets_by_number.ensures.faces scene cells test labels)
     (λ mesh points faces. surface_is _ _ _ _ _ _ _ _ _ _ kept mesh points faces))

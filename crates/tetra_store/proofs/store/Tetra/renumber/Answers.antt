@@ -35,7 +35,7 @@ invariant_of-self c =
     subst (λ (xs : List ℕ). AreKeptMoved p.of.items xs new (length xs)) c.deref.ensures.value
     (subst (λ (xs : List (Option ℕ)). AreKeptMoved xs c.deref.result.now new (length c.deref.result.now))
     c.deref-2.ensures.value c.in_ok-kept.ensures) in
-    store_moved i.points.items i.inserted.items i.cells.slots c.in_ok-cells.cells.slots i.kept.items new _ _ p.of.items
+    store_moved i.points.items i.inserted.items i.cells.slots c.in_ok-cells.cells.slots i.kept.items new _ _ _ _ p.of.items
     p.from.items c.self.invariant c.in_ok-places.ensures.assigned c.in_ok-places.ensures.all c.in_ok-cells.ensures kept
 
 pub returns-clause-renumbered : goal.returns-clause-renumbered

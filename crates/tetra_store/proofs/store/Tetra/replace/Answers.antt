@@ -94,13 +94,14 @@ invariant_of-self c =
     (vec_capacity c.grow.new.edges) in
     let again =
     store_again s old fan p c.self.invariant can c.grow.new.cells.slots ids kept1 c.grow.ensures.grown c.grow.ensures.count
-    keeps c.take_out.new.cells.slots kept2 mends c.take_out.ensures.out spare in
+    keeps c.take_out.new.cells.slots kept2 mends c.take_out.ensures.out spare c.take_out.new.cells.capacity in
     let here : List ℕ → Store = λ z. record {
       points = i.points.items;
       inserted = set i.inserted.items p true;
       slots = c.take_out.new.cells.slots;
       kept = z;
       spare = spare;
+      capacity = c.take_out.new.cells.capacity;
     } in
     subst (λ (z : List ℕ). IsStore (here z))
     (sym (items_written i.kept.len kept2 (take i.kept.len (kept1 ++ drop (length kept1) i.kept.items)) n2)) again
@@ -142,13 +143,14 @@ returns-clause-replaced c =
     (sym c.grow.ensures.edges_list) left)) in
     let done =
     replaced_now s old fan p c.self.invariant can c.grow.new.cells.slots ids kept1 c.grow.ensures.grown c.grow.ensures.count
-    keeps c.take_out.new.cells.slots kept2 mends c.take_out.ensures.out spare spares in
+    keeps c.take_out.new.cells.slots kept2 mends c.take_out.ensures.out spare c.take_out.new.cells.capacity spares in
     let here : List ℕ → Store = λ z. record {
       points = i.points.items;
       inserted = set i.inserted.items p true;
       slots = c.take_out.new.cells.slots;
       kept = z;
       spare = spare;
+      capacity = c.take_out.new.cells.capacity;
     } in
     let whole =
     subst (λ (z : List ℕ). IsReplaced s (here z) old fan p)

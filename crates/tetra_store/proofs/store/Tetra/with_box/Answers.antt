@@ -33,10 +33,13 @@ invariant_of-result c =
     omega (arith, c.in_ok-inserted.ensures.count, c.len.ensures, c.in_ok-all.all.ok.0) in
     let k : length kept ≡ length (corners ++ points) =
     omega (arith, c.in_ok-kept.ensures.count, c.len-2.ensures, c.in_ok-all.all.ok.0) in
-    subst (λ (z : List Point). IsStore (record { points = z; inserted = flags; slots = slots; kept = kept; spare = spare }))
+    let capacity = c.in_ok-cells.cells.capacity in
+    subst
+    (λ (z : List Point).
+    IsStore (record { points = z; inserted = flags; slots = slots; kept = kept; spare = spare; capacity = capacity }))
     (sym all_is)
     (box_store points c.requires.within c.requires.distinct c.requires.few flags c.in_ok-inserted.ensures.flags slots ids kept
-    c.in_ok-cells.ensures.cells keeps spare f k)
+    c.in_ok-cells.ensures.cells keeps spare capacity f k)
 
 pub returns-clause-cells : goal.returns-clause-cells
 returns-clause-cells c =
