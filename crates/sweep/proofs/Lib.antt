@@ -1,5 +1,5 @@
 pub mod Scenes
-pub mod Raising
 pub mod Surfaces
+pub mod Raising
 pub mod FreshBuilds
 pub mod Handings
