@@ -1,5 +1,5 @@
 -- A mesh after what the options of `finish` ask for.
-use Rattle.std.proofs.Common.{◌≡◌, Bool, true, false, List, ℕ, refl, sym, subst}
+use Rattle.std.proofs.Common.{◌≡◌, Bool, true, List, sym, subst}
 use Rattle.std.specs.List.{All}
 use Rattle.geo_sign.specs.Point.{Point, IsWithin}
 use Rattle.geo_sign.specs.declared.point.TheConstants.{BOX_LIMIT}
@@ -9,17 +9,6 @@ use Rattle.mesh_edges.specs.Edges.{IsBalanced}
 use Rattle.mesh_finish.specs.Finished.{IsFinished}
 use Rattle.mesh_cmd.specs.Finish.{AreFlippedIf, IsFinishedMesh}
 use Rattle.mesh_cmd.specs.declared.commands.finish.FinishOptions.{FinishOptions}
-
--- without flips it is as it was
-pub kept_mesh : (options : FinishOptions) (mesh : Surface) → options.flips ≡ false → IsPrinted mesh.points mesh.faces
-    → IsFinishedMesh options mesh mesh
-kept_mesh options mesh no printed =
-    record {
-      points = refl;
-      faces = subst (λ (b : Bool). AreFlippedIf b mesh.points mesh.faces mesh.faces) (sym no) refl;
-      printed = printed;
-      closed = λ balanced. balanced;
-    }
 
 -- with flips its points stay, so they stay in the box
 pub flipped_mesh : (options : FinishOptions) (old new : Surface) → options.flips ≡ true → IsPrinted old.points old.faces
