@@ -14,10 +14,10 @@ use Rattle.mesh_cmd.specs.declared.commands.finish.FinishOptions.{FinishOptions}
 pub flipped_mesh : (options : FinishOptions) (old new : Surface) → options.flips ≡ true → IsPrinted old.points old.faces
     → new.points ≡ old.points → IsFinished old.points old.faces new.faces → IsMesh new.points new.faces
     → (IsBalanced old.faces → IsBalanced new.faces) → IsFinishedMesh options old new
-flipped_mesh options old new yes printed same finished valid closed =
+flipped_mesh options old new on printed same finished valid closed =
     record {
       points = same;
-      faces = subst (λ (b : Bool). AreFlippedIf b old.points old.faces new.faces) (sym yes) finished;
+      faces = subst (λ (b : Bool). AreFlippedIf b old.points old.faces new.faces) (sym on) finished;
       printed =
           record { valid = valid; boxed = subst (λ (ps : List Point). All (IsWithin BOX_LIMIT) ps) (sym same) printed.boxed };
       closed = closed;
