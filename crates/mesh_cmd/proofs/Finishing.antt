@@ -1,5 +1,5 @@
 -- A mesh after what the options of `finish` ask for.
-use Rattle.std.proofs.Common.{◌≡◌, Bool, true, false, List, ℕ, refl, sym, subst}
+use Rattle.std.proofs.Common.{◌≡◌, Bool, true, List, sym, subst}
 use Rattle.std.specs.List.{All}
 use Rattle.geo_sign.specs.Point.{Point, IsWithin}
 use Rattle.geo_sign.specs.declared.point.TheConstants.{BOX_LIMIT}
@@ -10,25 +10,14 @@ use Rattle.mesh_finish.specs.Finished.{IsFinished}
 use Rattle.mesh_cmd.specs.Finish.{AreFlippedIf, IsFinishedMesh}
 use Rattle.mesh_cmd.specs.declared.commands.finish.FinishOptions.{FinishOptions}
 
--- without flips it is as it was
-pub kept_mesh : (options : FinishOptions) (mesh : Surface) → options.flips ≡ false → IsPrinted mesh.points mesh.faces
-    → IsFinishedMesh options mesh mesh
-kept_mesh options mesh no printed =
-    record {
-      points = refl;
-      faces = subst (λ (b : Bool). AreFlippedIf b mesh.points mesh.faces mesh.faces) (sym no) refl;
-      printed = printed;
-      closed = λ balanced. balanced;
-    }
-
 -- with flips its points stay, so they stay in the box
 pub flipped_mesh : (options : FinishOptions) (old new : Surface) → options.flips ≡ true → IsPrinted old.points old.faces
     → new.points ≡ old.points → IsFinished old.points old.faces new.faces → IsMesh new.points new.faces
     → (IsBalanced old.faces → IsBalanced new.faces) → IsFinishedMesh options old new
-flipped_mesh options old new yes printed same finished valid closed =
+flipped_mesh options old new on printed same finished valid closed =
     record {
       points = same;
-      faces = subst (λ (b : Bool). AreFlippedIf b old.points old.faces new.faces) (sym yes) finished;
+      faces = subst (λ (b : Bool). AreFlippedIf b old.points old.faces new.faces) (sym on) finished;
       printed =
           record { valid = valid; boxed = subst (λ (ps : List Point). All (IsWithin BOX_LIMIT) ps) (sym same) printed.boxed };
       closed = closed;
