@@ -11,10 +11,10 @@ import unittest
 from typing import Any, Sequence
 
 from helpers import RECON, ROOT, SCAN, InFolder, call, equal, head, read, refuses, says, write
-from toolbox import tile_boxes, tile_split
-from toolbox.exact import differences
-from toolbox.ply_text import Refusal
-from toolbox.tile_gaps import Gaps
+from recon.toolbox import tile_boxes, tile_split
+from recon.toolbox.exact import differences
+from recon.toolbox.ply_text import Refusal
+from recon.toolbox.tile_gaps import Gaps
 from test_stations import PTX
 
 PLACES = [(0, 0, 900), (900, 0, 0), (0, 900, 5), (5, 5, 5)]
@@ -88,7 +88,7 @@ def listed(folder: str, tile: dict[Any, Any]) -> list[Any]:
 def refuses_split(part: str, *words: str) -> None:
     """The split is refused with a line that has this part, and no folder is left."""
     status, said, error = call('tiles', 'split', *words)
-    equal((status, said, part in error or error, error.startswith('tiles.py: refused: ')), (1, '', True, True))
+    equal((status, said, part in error or error, error.startswith('recon-tiles: refused: ')), (1, '', True, True))
     equal((os.path.exists('none'), os.path.exists('none.part')), (False, False))
 
 
@@ -240,7 +240,7 @@ class Tiles(InFolder):
         rows = drawn(1000)
         write('in.ply', scan_of(rows))
         status, said, error = call('tiles', 'split', 'in.ply', 'out', 'points=400', 'overlap=20', 'unit=2', 'vote=9')
-        equal((status, error, said[:66]), (0, '', 'tiles.py: read 1000 points of in.ply; left out nothing; wrote 4 ti'))
+        equal((status, error, said[:66]), (0, '', 'recon-tiles: read 1000 points of in.ply; left out nothing; wrote 4 ti'))
         tiles = are_tiles('out', rows, 400)
         wanted = ['000.ply', '001.ply', '002.ply', '003.ply', 'Makefile', 'handed.txt', 'jobs.txt', 'tiles.json']
         equal((len(tiles), sorted(os.listdir('out'))), (4, wanted))
@@ -477,7 +477,7 @@ class Tiles(InFolder):
 
     def test_help_and_words(self) -> None:
         status, said, error = call('tiles', '--help')
-        equal((status, error, 'tiles.py split FILE .. FOLDER' in said), (0, '', True))
+        equal((status, error, 'recon-tiles split FILE .. FOLDER' in said), (0, '', True))
         for words in ((), ('split',), ('split', 'a'), ('split', 'a', 'b', 'points=1', 'points=2'), ('join', 'a', 'b', 'c')):
             equal(call('tiles', *words)[0], 2)
 
@@ -486,7 +486,7 @@ class Tiles(InFolder):
         lines = []
         for page in ('large.md', 'using.md'):
             with open(os.path.join(ROOT, 'docs', page), encoding='utf-8') as file:
-                lines += re.findall(r'python3 tools/tiles\.py ([^`\n]+)', file.read())
+                lines += re.findall(r'recon-tiles ((?:split|join) [^`\n]+)', file.read())
         equal(len(lines) > 3, True)
         for words in lines:
             status, _, error = call('tiles', *words.split())

@@ -1,0 +1,1 @@
+"""The surface of a laser scan, by the program `recon`."""

@@ -1,0 +1,67 @@
+"""What the rows of a scan say beside their coordinates, by the places that `recon` makes of them."""
+from __future__ import annotations
+
+import re
+from decimal import ROUND_HALF_UP, Decimal
+from typing import Any, Iterator
+
+import numpy as np
+
+from recon.toolbox.mesh_files import WHOLE, Column
+from recon.toolbox.ply_text import IS_NUMBER, Reader, Refusal
+
+PLAIN = re.compile(r'([+-]?)([0-9]+)(?:\.([0-9]*))?').fullmatch
+
+
+def scaled(word: str, unit: int) -> int:
+    """The number times the unit, rounded to the nearest whole number, halves away from zero."""
+    plain = PLAIN(word)
+    if plain is None:
+        if not IS_NUMBER(word):
+            raise Refusal(f'{word[:40]} is no number')
+        return int((Decimal(word) * unit).to_integral_value(ROUND_HALF_UP))
+    sign, before, behind = plain.groups()
+    one = 10 ** len(behind or '')
+    value = (int(before + (behind or '')) * unit * 2 + one) // (2 * one)
+    return -value if sign == '-' else value
+
+
+def value_of(word: str, kind: str) -> float:
+    """A word as a number of its type."""
+    return int(float(word)) if kind in WHOLE else float(word)
+
+
+def columns_of(path: str, unit: int, array: np.ndarray) -> list[Column]:
+    """The columns of a scan beside x, y and z, each as a name, a type and the values at these places: those of the first row
+    at each. Refused where a place is that of no row."""
+    places: list[tuple[int, int, int]] = list(map(tuple, array.tolist()))
+    reader = Reader(path, True)
+    try:
+        vertex = reader.element('vertex')
+        if vertex is None or reader.elements[0] is not vertex:
+            raise Refusal(f'{path} does not begin with an element vertex')
+        if vertex.has_lists():
+            raise Refusal(f'{path} has a list among the properties of vertex')
+        point = vertex.point_columns()
+        kept = [k for k in range(len(vertex.properties)) if k not in point]
+        rows = rows_at(reader.rows(vertex), point, kept, unit, {place: None for place in places})
+    finally:
+        reader.close()
+    missing = sum(rows[place] is None for place in places)
+    if missing:
+        raise Refusal(f'{missing} of {len(places)} vertices are no points of {path} at unit={unit}: is it the scan of this '
+                      'mesh?')
+    columns = [(vertex.properties[k].name, vertex.properties[k].kind) for k in kept]
+    return [(name, kind, np.array([value_of(rows[place][at], kind) for place in places], float if kind not in WHOLE else np.int64))
+            for at, (name, kind) in enumerate(columns)]
+
+
+def rows_at(rows: Iterator[Any], point: list[int], kept: list[int], unit: int,
+            found: dict[tuple[int, int, int], Any]) -> dict[tuple[int, int, int], Any]:
+    """The kept words of the first row at each of these places."""
+    x, y, z = point
+    for words in rows:
+        place = scaled(words[x], unit), scaled(words[y], unit), scaled(words[z], unit)
+        if place in found and found[place] is None:
+            found[place] = [words[k] for k in kept]
+    return found

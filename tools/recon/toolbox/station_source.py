@@ -1,0 +1,174 @@
+"""Points of files that are one a station, each with its scanner's position. Of points that stand in rows the coordinates are
+taken alone, digits as they stand.
+
+A file is a PLY of any kind, a PCD, a LAS or an E57; a PTS (the number of its rows, and then the rows); or a list of numbers with
+X, Y and Z first in each line, parted by spaces, tabs, commas or semicolons, perhaps with one heading, and with lines of remarks
+that begin with `#` or `//`.
+"""
+from __future__ import annotations
+
+import os
+from typing import Any, Iterator, List, Sequence, Tuple
+
+from recon.toolbox.ply_text import IS_NOT_FINITE, IS_NUMBER, SCANNER_LIMIT, Refusal, decimals, read_positions
+from recon.toolbox.point_files import has_rows, open_points
+from recon.toolbox.sieve import Passage
+from recon.toolbox.sources import Source, refuse_others, scan_columns
+from recon.toolbox.text_lines import DECIMAL_COMMAS, Lines
+from recon.toolbox.tool import number_of, three, yes
+
+Point = Tuple[List[str], Tuple[str, int]]
+
+
+def row_points(path: str, open_end: bool) -> Iterator[Point]:
+    """The points of a file of rows, each with a word for its place."""
+    reader = open_points(path, open_end)
+    try:
+        vertex = reader.element('vertex')
+        if vertex is None:
+            raise Refusal('there is no element vertex')
+        if vertex.has_lists():
+            raise Refusal('a property of vertex is a list')
+        x, y, z = vertex.point_columns()
+        for element in reader.elements:
+            for row, words in enumerate(reader.rows(element)):
+                if element is vertex:
+                    yield [words[x], words[y], words[z]], ('vertex row', row)
+        reader.finish()
+    finally:
+        reader.close()
+
+
+def is_count(words: Sequence[str]) -> bool:
+    return len(words) == 1 and words[0].isdecimal()
+
+
+def pts_points(lines: Lines) -> Iterator[Point]:
+    """The points of a PTS file: blocks of a count and as many rows."""
+    words = lines.next_words()
+    while words is not None:
+        if not is_count(words):
+            raise Refusal(f'line {lines.number} stands where the number of the next rows should')
+        count = int(words[0])
+        for row in range(count):
+            words = lines.next_words()
+            if words is None:
+                raise Refusal(f'cut: the file ends in row {row} of {count}')
+            if row == 0 and is_count(words):
+                raise Refusal('this is a PTX, which says itself where its stations stood: name it alone, without a position')
+            if len(words) < 3:
+                raise Refusal(f'line {lines.number} is not a row X Y Z ...')
+            yield words[:3], ('line', lines.number)
+        words = lines.next_words()
+
+
+def is_value(word: str) -> bool:
+    return bool(IS_NUMBER(word) or IS_NOT_FINITE(word))
+
+
+def list_points(lines: Lines, counts: dict[str, int]) -> Iterator[Point]:
+    """The points of a list of numbers. The first row decides what parts the numbers and how many there are."""
+    sign, width, first = None, None, 0
+    line = lines.next_line()
+    while line is not None:
+        text = line.strip()
+        if text and not text.startswith(('#', '//')):
+            if DECIMAL_COMMAS(text):
+                raise Refusal(f'line {lines.number} has decimal commas: {text[:40]}; write its numbers with points')
+            if sign is None:
+                sign = ';' if ';' in text else ',' if ',' in text else ''
+            words = [word.strip() for word in text.split(sign)] if sign else text.split()
+            if width is None and first == 0 and not is_value(words[0]):
+                first, sign = lines.number, None
+                counts['heading'] = counts.get('heading', 0) + 1
+            else:
+                width = width or len(words)
+                if len(words) != width or width < 3:
+                    raise Refusal(f'line {lines.number} has {number_of(len(words), "value")}'
+                                  + (f' where the first row has {width}' if width >= 3 else ', and a point has three'))
+                yield words[:3], ('line', lines.number)
+        line = lines.next_line()
+
+
+def points_of(path: str, open_end: bool, counts: dict[str, int]) -> Iterator[Point]:
+    """The points of a file of any of the three kinds."""
+    with open(path, 'rb') as file:
+        start = file.readline(100)
+    if not start:
+        raise Refusal('the file is empty')
+    if has_rows(path):
+        yield from row_points(path, open_end)
+        return
+    lines = Lines(path, open_end)
+    try:
+        yield from pts_points(lines) if start.strip().isdigit() else list_points(lines, counts)
+    finally:
+        lines.close()
+
+
+def station_of(name: str) -> tuple[str, Sequence[str]]:
+    """A file and its position: that of the words, or of the file itself."""
+    path, equals, position = name.rpartition('=')
+    if equals and path and not os.path.exists(name):
+        if ',' not in position and not os.path.exists(path):
+            raise Refusal(f'{name} is no option, and no file with its position, FILE=X,Y,Z')
+        return path, three(position, f'the position of {path}')
+    if not has_rows(name):
+        raise Refusal(f'{name} does not say where its scanner stood: {name}=X,Y,Z does')
+    reader = open_points(name)
+    try:
+        scanner = reader.element('scanner')
+        if scanner is None or scanner.count != 1 or not hasattr(reader, 'position'):
+            raise Refusal(f'{name} does not say where its scanner stood: {name}=X,Y,Z does')
+        return name, reader.position()
+    finally:
+        reader.close()
+
+
+def stations(names: Sequence[str], table: str | None) -> list[tuple[str, Sequence[str]]]:
+    """The files and their positions."""
+    found: list[tuple[str, Sequence[str]]]
+    if table is not None:
+        if names:
+            raise Refusal('the stations stand in the table or in the words, and not in both')
+        folder = os.path.dirname(table)
+        rows = read_positions(table)
+        if any(name is None for _, name in rows):
+            raise Refusal(f'a line of {table} names no file')
+        found = [(os.path.join(folder, name or ''), position) for position, name in rows]
+    else:
+        found = [station_of(name) for name in names]
+    if not found or len(found) > SCANNER_LIMIT:
+        raise Refusal('there is no station' if not found else f'there are over {SCANNER_LIMIT} stations')
+    return found
+
+
+class Stations(Source):
+    """Files of stations."""
+
+    def __init__(self, names: Sequence[str], options: Any) -> None:
+        refuse_others(options, ('table', 'open_end'), 'files of stations')
+        self.files, self.open_end = stations(names, options.table), yes(options.open_end, 'open_end')
+        super().__init__(scan_columns(), self.files[0][0] if len(self.files) == 1 else number_of(len(self.files), 'file'))
+        self.positions = [position for _, position in self.files]
+
+    def run(self, receiver: Passage) -> None:
+        for index, (path, _) in enumerate(self.files):
+            try:
+                self.pass_file(path, str(index), receiver)
+            except Refusal as refusal:
+                raise Refusal(f'{path}: {refusal}') from None
+
+    def pass_file(self, path: str, index: str, receiver: Passage) -> None:
+        at = ('', 0)
+
+        def place() -> str:
+            return f'{at[0]} {at[1]}'
+
+        for point, at in points_of(path, self.open_end, self.counts):
+            self.count += 1
+            if decimals(point[0], point[1], point[2], place):
+                point.append(index)
+                receiver.row(point)
+            else:
+                self.counts['not finite'] += 1

@@ -1,0 +1,124 @@
+"""What the programs of tools/ share on the command line.
+
+The words are names first and then options `key=value`, as those of `recon`; --help prints the head of the program's file.
+A program says one line and ends with 0 (3 where it wrote no point), or says on standard error why not and ends with 1 (2 where
+the words are wrong).
+"""
+from __future__ import annotations
+
+import os
+import sys
+from typing import Any, Callable
+
+from recon.toolbox.ply_text import IS_NUMBER, Refusal, Writer
+
+PACKAGE = os.path.dirname(os.path.dirname(os.path.abspath(__file__)))
+
+
+def field(key: str) -> str:
+    """The name under which an option is kept; `from` is a word of the language."""
+    return 'from_' if key == 'from' else key
+
+
+class NotUnderstood(Exception):
+    """The words are none of the program's."""
+
+
+class NoPoint(str):
+    """The line of a run that wrote a scan without a point."""
+
+
+def said_of(writer: Writer, line: str) -> str:
+    """The line of a run that wrote points, or that of one that wrote none."""
+    return line if writer.count else NoPoint(line + ': no point is left')
+
+
+class Options:
+    """The values of the options by key, or None."""
+
+    def __init__(self, keys: tuple[str, ...]) -> None:
+        for key in keys:
+            setattr(self, field(key), None)
+
+
+def read_words(words: list[str], name_count: int | None, keys: tuple[str, ...]) -> tuple[list[str], Options]:
+    """The names, and the options behind them. Without a count all words that are no option are names."""
+    names, options = [], Options(keys)
+    for word in words:
+        key, equals, value = word.partition('=')
+        if name_count is not None and len(names) < name_count:
+            names.append(word)
+        elif equals and key in keys:
+            if getattr(options, field(key)) is not None or not value:
+                raise NotUnderstood
+            setattr(options, field(key), value)
+        elif name_count is None:
+            names.append(word)
+        else:
+            raise NotUnderstood
+    if '' in names or name_count is not None and len(names) != name_count:
+        raise NotUnderstood
+    return names, options
+
+
+def program_name() -> str:
+    """The name of the program that runs: `recon-scan` for the module `recon.scan`, however it was started."""
+    folder, base = os.path.split(os.path.abspath(sys.argv[0]))
+    stem, ending = os.path.splitext(base)
+    return 'recon-' + stem.replace('_', '-') if folder == PACKAGE and ending == '.py' else base
+
+
+def run(main: Callable[..., Any], doc: str, name_count: int | None, keys: tuple[str, ...]) -> None:
+    """Runs `main(names, options)`, which answers the line to be said."""
+    words = sys.argv[1:]
+    name = program_name()
+    try:
+        if '--help' in words or '-h' in words:
+            print(doc.strip(), flush=True)
+            return
+        line = main(*read_words(words, name_count, keys))
+        print(f'{name}: {line}', flush=True)
+        sys.exit(3 if isinstance(line, NoPoint) else 0)
+    except NotUnderstood:
+        sys.exit(told(2, f'{name}: the words are not understood; {name} --help says which are'))
+    except Refusal as refusal:
+        sys.exit(told(1, f'{name}: refused: {refusal}'))
+    except ArithmeticError:
+        sys.exit(told(1, f'{name}: refused: a number is far out of range'))
+    except BrokenPipeError:
+        os.dup2(os.open(os.devnull, os.O_WRONLY), sys.stdout.fileno())
+        sys.exit(0 if '--help' in words or '-h' in words else 1)
+    except OSError as error:
+        sys.exit(told(1, f'{name}: refused: {error.strerror}: {error.filename or "writing"}'))
+
+
+def told(status: int, line: str) -> int:
+    """Says a line on standard error, and answers the status."""
+    print(line, file=sys.stderr)
+    return status
+
+
+def three(text: str, what: str) -> list[str]:
+    """The three numbers of `X,Y,Z`, as words."""
+    words = text.split(',')
+    if len(words) != 3 or not all(map(IS_NUMBER, words)):
+        raise Refusal(f'{what} is not X,Y,Z: {text}')
+    return words
+
+
+def yes(value: str | None, key: str) -> bool:
+    """Whether a switch is on."""
+    if value not in (None, 'yes', 'no'):
+        raise Refusal(f'{key} is yes or no')
+    return value == 'yes'
+
+
+def left_out(counts: dict[str, int]) -> str:
+    """What was left out, in words."""
+    parts = [f'{count} {what}' for what, count in counts.items() if count]
+    return ', '.join(parts) or 'nothing'
+
+
+def number_of(count: int, what: str) -> str:
+    """`1 point`, `2 points`."""
+    return f'{count} {what}' + ('' if count == 1 else 's')
