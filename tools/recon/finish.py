@@ -268,6 +268,14 @@ def seen_path(path: str) -> str:
     return stem + '-seen' + ending
 
 
+def write_seen(path: str, mesh: Finished) -> int:
+    """Writes the seen part of a mesh beside it, and returns how many faces it has. Of 0 faces no file is made."""
+    part = seen_part(mesh)
+    if len(part.faces):
+        write_mesh(seen_path(path), part)
+    return len(part.faces)
+
+
 def stamped_unit(mesh: str, named: str | None) -> tuple[str, str] | None:
     """The unit that the certificate states which is named, or the only one in the folder of the mesh, and its name."""
     folder = glob.escape(os.path.dirname(mesh) or '.')
@@ -296,9 +304,8 @@ def work(names: Sequence[str], options: Any) -> str:
         write_mesh(names[1], mesh)
         wrote = f'wrote {len(mesh.places)} vertices and {number_of(len(mesh.faces), "face")} to {names[1]}'
         if wishes.seen:
-            part = seen_part(mesh)
-            write_mesh(seen_path(names[1]), part)
-            wrote += f', and the {number_of(len(part.faces), "face")} that were seen to {seen_path(names[1])}, which is open'
+            count = write_seen(names[1], mesh)
+            wrote += f', and the {number_of(count, "face")} that were seen to {seen_path(names[1])}, which is open' if count else ''
     finally:
         progress.end()
     return '; '.join([*report.sentences(), wrote])

@@ -5,7 +5,9 @@ Names: build · Surface · sights_of (who saw which point, as two columns) · wr
 from __future__ import annotations
 
 import os
+import shutil
 import tempfile
+import weakref
 from dataclasses import dataclass, field
 from pathlib import Path
 from typing import Any, NamedTuple, Sequence, Union
@@ -143,7 +145,6 @@ class Surface(Mesh):
     counts: dict[str, int] = field(default_factory=dict)
     folder: Path = Path('.')
     program: str | None = None
-    owned: Any = field(default=None, repr=False)
 
     @property
     def scan(self) -> Path:
@@ -252,14 +253,16 @@ def build(points: Any, scanners: Any = None, seen_by: SeenBy | None = None, *, n
     frame_origin, frame_unit = chosen_frame(places, stations, unit, origin)
     whole = whole_rows(places, frame_origin, frame_unit, 'points')
     whole_stations = whole_rows(stations, frame_origin, frame_unit, 'scanners')
-    owned = None if folder is not None else tempfile.TemporaryDirectory(prefix='recon-')
-    kept = Path(folder if owned is None else owned.name)
+    kept = Path(tempfile.mkdtemp(prefix='recon-') if folder is None else folder)
     kept.mkdir(parents=True, exist_ok=True)
     write_scan(kept / 'scan.ply', whole, sights, whole_stations, checked_weights(weights, len(places)))
     counts = run(['build', kept / 'scan.ply', kept / 'mesh.ply', kept / 'scan.cert', f'smooth={smooth}', f'vote={vote}'], program, is_shown)
     spots, corners = read_mesh(os.fspath(kept / 'mesh.ply'))
-    return Surface(spots / frame_unit + frame_origin, corners.reshape(-1, 3), rows_at(whole, spots), frame_unit, frame_origin, smooth, vote,
-                   counts, kept, program, owned)
+    surface = Surface(spots / frame_unit + frame_origin, corners.reshape(-1, 3), rows_at(whole, spots), frame_unit, frame_origin, smooth, vote,
+                      counts, kept, program)
+    if folder is None:
+        weakref.finalize(surface, shutil.rmtree, kept, True)
+    return surface
 
 
 def stations_of(points: np.ndarray, scanners: Any, seen_by: SeenBy | None, normals: Any, far: float | None) -> tuple[np.ndarray, Sights]:

@@ -17,7 +17,7 @@ import numpy as np
 
 from recon.choices import Choices
 from recon.clouds import Spacing
-from recon.finish import Report, seen_part, seen_path
+from recon.finish import Report, seen_path, write_seen
 from recon.inputs import Cloud
 from recon.library import Surface
 from recon.meshes import Mesh, areas
@@ -69,7 +69,8 @@ def write_outputs(made: Made) -> None:
         choices.warn(f'{part:.0%} of the area span space that no scanner saw, by {int(unseen.sum()):,} long faces: '
                      f'{os.path.basename(seen_path(os.fspath(made.out)))} is without them, and open')
     write_mesh(os.fspath(made.out), made.mesh)
-    write_mesh(seen_path(os.fspath(made.out)), seen_part(made.mesh))
+    if not write_seen(os.fspath(made.out), made.mesh):
+        choices.warn('nearly all faces span space that no scanner saw: there is no mesh of what was seen')
     digests = {name: digest(made.folder / name) for name in FILES}
     write_again(made, digests)
     figures = figures_of(made, part)

@@ -24,7 +24,7 @@ import numpy as np
 
 from recon.choices import Choices
 from recon.clouds import Spacing, frame, lone_points, spacing, surrounding, thinned, thinning_side
-from recon.finish import Wishes, finished
+from recon.finish import Wishes, finished, seen_path
 from recon.inputs import Cloud, Inputs, read_cloud
 from recon.library import Surface, build
 from recon.meshes import pieces
@@ -234,10 +234,21 @@ def colored(mesh: Finished, surface: Surface, cloud: Cloud) -> np.ndarray | None
     return np.asarray(colors)
 
 
+def refuse_own_inputs(args: Any) -> None:
+    """Stops before a file that is read would be written over."""
+    out = os.fspath(args.output)
+    written = {os.path.realpath(path) for path in (out, seen_path(out), os.path.splitext(out)[0] + '.html')}
+    for name in args.input:
+        path = name if os.path.exists(name) else name.rpartition('=')[0]
+        if os.path.realpath(path) in written:
+            raise Refusal(f'{path} is read, and would be written over: choose another name for -o')
+
+
 def made(args: Any, choices: Choices) -> Made:
     """The whole run."""
     out = Path(args.output)
     form_of(args.output)
+    refuse_own_inputs(args)
     args.program = program_path(args.program)
     folder = Path(args.keep or out.with_suffix('.recon'))
     folder.mkdir(parents=True, exist_ok=True)
@@ -340,12 +351,12 @@ def run(words: Sequence[str]) -> int:
         write_outputs(result)
     except NoSurface as error:
         return failed(3, error)
-    except (Refusal, Invalid, Refused, FileNotFoundError) as error:
+    except (Refusal, Invalid, Refused) as error:
         return failed(1, f'error: {error}')
     except ArithmeticError:
         return failed(1, 'error: a number is far out of range')
     except OSError as error:
-        return failed(1, f'error: {error.strerror}: {error.filename or "writing"}')
+        return failed(1, f'error: {error.strerror}: {error.filename or "writing"}' if error.strerror else f'error: {error}')
     against = result.surface.votes_against_per_sight
     if against > WRONG and not args.force:
         return failed(4, f'{against:.2f} votes against the surface for each line of sight: positions or normals look wrong (--force)')
