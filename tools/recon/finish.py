@@ -34,7 +34,7 @@ from recon.toolbox.mesh_files import Column, Finished, form_of, read_mesh, write
 from recon.toolbox.ply_text import IS_NUMBER, Refusal
 from recon.toolbox.scan_rows import columns_of
 from recon.toolbox.smoothing import Smoother
-from recon.toolbox.tool import number_of, run, three, yes
+from recon.toolbox.tool import number_of, run, three, whole, yes
 from recon.toolbox.vectors import across, angle, axes, dot, normal
 
 LONGEST = 1 << 22
@@ -56,12 +56,6 @@ class Progress:
     def end(self) -> None:
         if self.is_on:
             print('\r' + ' ' * 78 + '\r', end='', file=sys.stderr, flush=True)
-
-
-def whole(word: str, key: str, least: int, most: int) -> int:
-    if not word.isdecimal() or not least <= int(word) <= most:
-        raise Refusal(f'{key}= is a whole number from {least} to {most:,}')
-    return int(word)
 
 
 class Wishes:

@@ -2,33 +2,42 @@
 from __future__ import annotations
 
 import re
+import struct
 from decimal import ROUND_HALF_UP, Decimal
 from typing import Any, Iterator
 
 import numpy as np
 
 from recon.toolbox.mesh_files import WHOLE, Column
-from recon.toolbox.ply_text import IS_NUMBER, Reader, Refusal
+from recon.toolbox.ply_text import FORMATS, IS_NUMBER, Reader, Refusal
 
+LONG = 60
+OUTSIDE = 1 << 62
 PLAIN = re.compile(r'([+-]?)([0-9]+)(?:\.([0-9]*))?').fullmatch
 
 
 def scaled(word: str, unit: int) -> int:
-    """The number times the unit, rounded to the nearest whole number, halves away from zero."""
+    """The number times the unit, rounded to the nearest whole number, halves away from zero; OUTSIDE where that has over 60 digits."""
     plain = PLAIN(word)
-    if plain is None:
+    if plain is None or len(word) > LONG:
         if not IS_NUMBER(word):
             raise Refusal(f'{word[:40]} is no number')
-        return int((Decimal(word) * unit).to_integral_value(ROUND_HALF_UP))
+        value = Decimal(word) * unit
+        return OUTSIDE if value.adjusted() > LONG else int(value.to_integral_value(ROUND_HALF_UP))
     sign, before, behind = plain.groups()
     one = 10 ** len(behind or '')
     value = (int(before + (behind or '')) * unit * 2 + one) // (2 * one)
     return -value if sign == '-' else value
 
 
-def value_of(word: str, kind: str) -> float:
-    """A word as a number of its type."""
-    return int(float(word)) if kind in WHOLE else float(word)
+def value_of(word: str, name: str, kind: str) -> float:
+    """A word as a number of the type of its column."""
+    try:
+        value = int(float(word)) if kind in WHOLE else float(word)
+        struct.pack('<' + FORMATS[kind], value)
+        return value
+    except (ValueError, OverflowError, struct.error):
+        raise Refusal(f'{name[:40]} is {word[:40]} in a row of the scan, which is no {kind}') from None
 
 
 def columns_of(path: str, unit: int, array: np.ndarray) -> list[Column]:
@@ -52,7 +61,7 @@ def columns_of(path: str, unit: int, array: np.ndarray) -> list[Column]:
         raise Refusal(f'{missing} of {len(places)} vertices are no points of {path} at unit={unit}: is it the scan of this '
                       'mesh?')
     columns = [(vertex.properties[k].name, vertex.properties[k].kind) for k in kept]
-    return [(name, kind, np.array([value_of(rows[place][at], kind) for place in places], float if kind not in WHOLE else np.int64))
+    return [(name, kind, np.array([value_of(rows[place][at], name, kind) for place in places], float if kind not in WHOLE else np.int64))
             for at, (name, kind) in enumerate(columns)]
 
 
