@@ -246,7 +246,7 @@ class Tiles(InFolder):
         rows = drawn(1000)
         write('in.ply', scan_of(rows))
         status, said, error = call('tiles', 'split', 'in.ply', 'out', 'points=400', 'overlap=20', 'unit=2', 'vote=9')
-        equal((status, error, said[:66]), (0, '', 'recon-tiles: read 1000 points of in.ply; left out nothing; wrote 4 ti'))
+        equal((status, error, said[:69]), (0, '', 'recon-tiles: read 1000 points of in.ply; left out nothing; wrote 4 ti'))
         tiles = are_tiles('out', rows, 400)
         wanted = ['000.ply', '001.ply', '002.ply', '003.ply', 'Makefile', 'handed.txt', 'jobs.txt', 'tiles.json']
         equal((len(tiles), sorted(os.listdir('out'))), (4, wanted))
