@@ -41,8 +41,8 @@ def path_of(loop: Sequence[tuple[str, str]]) -> str:
 def draw(slice_path: str, frame: Frame, file: TextIO) -> tuple[int, int]:
     """Writes a drawing, and answers how many loops and points it has."""
     loops = [[(frame.word(0, x, under), frame.word(1, y, under)) for _, x, y, under in loop] for loop in read_loops(slice_path)]
-    if not loops:
-        raise Refusal('the slice has no loops, so there is nothing to draw')
+    if not any(loops):
+        raise Refusal(f'the slice has no {"points" if loops else "loops"}, so there is nothing to draw')
     left, low, right, high = box_of(loops)
     edge = max(right - left, high - low) * MARGIN
     view = [left - edge, -high - edge, right - left + 2 * edge, high - low + 2 * edge]

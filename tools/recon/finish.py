@@ -46,7 +46,7 @@ from recon.toolbox.mesh_files import Column, Finished, form_of, read_mesh, write
 from recon.toolbox.ply_text import IS_NUMBER, Refusal
 from recon.toolbox.scan_rows import columns_of
 from recon.toolbox.smoothing import Smoother
-from recon.toolbox.tool import number_of, run, three, yes
+from recon.toolbox.tool import number_of, run, three, whole, yes
 from recon.toolbox.vectors import across, angle, axes, dot, normal
 
 LONGEST = 1 << 22
@@ -71,6 +71,7 @@ class Progress:
             print('\r' + ' ' * 78 + '\r', end='', file=sys.stderr, flush=True)
 
 
+<<<<<<< HEAD
 def whole(word: str, key: str, least: int, most: int) -> int:
     if not word.isdecimal() or not least <= int(word) <= most:
         raise Refusal(f'{key}= is a whole number from {least} to {most:,}')
@@ -78,6 +79,8 @@ def whole(word: str, key: str, least: int, most: int) -> int:
 
 
 @dataclass
+=======
+>>>>>>> 45b262abca05811b69ba91904708c1dc17baaf27
 class Wishes:
     """What is asked for, in the words of the options; `unit` and `origin` are those of the scan, `within` a length of it. Of `scan`
     the properties are brought back."""

@@ -113,15 +113,16 @@ def load_scan(path: str) -> Table:
 
 
 def load_lists(body: bytes, names: list[str], count: int, scanner_count: int) -> Table:
-    """The same of points with lists, of which that of the scanners is the last property."""
+    """The same of points with lists, of which that of the scanners is the only one."""
     lines = body.decode('ascii').split('\n')
     at = names.index('scanner')
     rows = [line.split() for line in lines[:count]]
     lists = [list(map(int, row[at + 1:at + 1 + int(row[at])])) for row in rows]
-    single = np.array([row[:at] for row in rows], float).reshape(count, at)
+    names = [name for k, name in enumerate(names) if k != at]
+    single = np.array([row[:at] + row[at + 1 + int(row[at]):] for row in rows], float).reshape(count, len(names))
     sights = Sights(np.array([len(numbers) for numbers in lists], np.int64), np.array([k for numbers in lists for k in numbers], np.int64))
     scanners = np.array([line.split() for line in lines[count:count + scanner_count]], float).reshape(scanner_count, 3)
-    return Table({name: single[:, k] for k, name in enumerate(names[:at])}, sights, scanners)
+    return Table({name: single[:, k] for k, name in enumerate(names)}, sights, scanners)
 
 
 class Inputs:

@@ -15,14 +15,7 @@ from typing import Any, Sequence, TextIO
 
 from recon.toolbox.exact import quotients
 from recon.toolbox.ply_text import ARE_THREE, Element, Property, Reader, Refusal, plain_names, whole_file
-from recon.toolbox.tool import number_of, run, three
-
-
-def unit_of(options: Any) -> Decimal:
-    word = options.unit or '1'
-    if not word.isdecimal() or not 1 <= int(word) <= 1000000:
-        raise Refusal('unit= is a whole number from 1 to 1,000,000')
-    return Decimal(word)
+from recon.toolbox.tool import number_of, run, three, whole
 
 
 def head(vertex: Element, face: Element) -> str:
@@ -53,7 +46,8 @@ def pass_mesh(reader: Reader, file: TextIO, unit: Decimal, origin: list[Decimal]
 
 
 def work(names: Sequence[str], options: Any) -> str:
-    unit, origin = unit_of(options), [Decimal(word) for word in three(options.origin or '0,0,0', 'origin')]
+    unit = Decimal(whole(options.unit or '1', 'unit', 1, 1000000))
+    origin = [Decimal(word) for word in three(options.origin or '0,0,0', 'origin')]
     reader = Reader(names[0])
     try:
         with whole_file(names[1]) as file:

@@ -34,17 +34,10 @@ from recon.toolbox.ply_text import IS_NUMBER, Refusal
 from recon.toolbox.scan_feeds import KEYS
 from recon.toolbox.tile_join import join
 from recon.toolbox.tile_split import Wanted, split
-from recon.toolbox.tool import NotUnderstood, run, yes
+from recon.toolbox.tool import NotUnderstood, run, whole, yes
 
 SPLIT = ('points', 'overlap', 'spacings', 'through', 'unit', 'vote', 'smooth') + KEYS
 JOIN = ('fill', 'report')
-
-
-def whole(text: str, key: str, least: int, most: int) -> int:
-    """The value of an option, a whole number."""
-    if not text.isdecimal() or not least <= int(text) <= most:
-        raise Refusal(f'{key}= is a whole number from {least} to {most:,}')
-    return int(text)
 
 
 def length(text: str, key: str) -> float:

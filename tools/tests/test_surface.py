@@ -68,7 +68,7 @@ class Surfaces(InFolder):
         points = points[points[:, 0] > 600000]
         listed('my points.xyz', points)
         report = made('my points.xyz=600003,5000000,1', '--force', out='out.glb')
-        equal(chosen(report, 'origin', 'sights'), ['600001,5000000,0', 'as given'])
+        equal(chosen(report, 'origin', 'sights'), ['600002,5000000,0', 'as given'])
         os.mkdir('elsewhere')
         done = subprocess.run(['sh', '../out.recon/again.sh', 'again'], cwd='elsewhere', capture_output=True, text=True,
                               env={**os.environ, 'RECON': RECON, 'PATH': '/usr/bin:/bin'})
@@ -160,7 +160,7 @@ class Words(InFolder):
         colors = table.colors()
         assert table.sights is not None and table.scanners is not None and colors is not None
         equal((table.points().tolist(), table.scanners.tolist(), colors.tolist()), ([[1, 2, 3], [4, 5, -60]], [[7, 8, 9]], [[0, 1, 255], [0, 0, 0]]))
-        write('b.ply', head(2, 'double x, double y, double z, uchar weight, list uchar int scanner', 2) + '1 2 3 9 2 0 1\n4 5 6 1 0\n0 0 0\n1 1 1\n')
+        write('b.ply', head(2, 'double x, double y, double z, list uchar int scanner, uchar weight', 2) + '1 2 3 2 0 1 9\n4 5 6 0 1\n0 0 0\n1 1 1\n')
         table = load_scan('b.ply')
         assert table.sights is not None
         equal(([part.tolist() for part in table.sights], table.columns['weight'].tolist()), ([[2, 0], [0, 1]], [9, 1]))

@@ -7,6 +7,7 @@ from __future__ import annotations
 
 import os
 import struct
+from math import isfinite
 from typing import Any, BinaryIO, Iterator, Sequence
 
 from recon.toolbox.ply_text import IS_NUMBER, SCANNER_LIMIT, Property, Reader, Refusal, decimals
@@ -19,10 +20,15 @@ from recon.toolbox.vectors import turn_of
 
 def place_of(turn: Sequence[float], shift: Sequence[float]) -> list[float]:
     """Where a camera stands, of its turn (a quaternion, w first) and its shift, which bring the world into its frame."""
+    if not all(map(isfinite, (*turn, *shift))):
+        raise Refusal('the pose of a picture is not finite')
     rows = turn_of(*turn)
     if rows is None:
         raise Refusal('the turn of a picture is 0 0 0 0')
-    return [-sum(rows[k][axis] * shift[k] for k in range(3)) for axis in range(3)]
+    place = [-sum(rows[k][axis] * shift[k] for k in range(3)) for axis in range(3)]
+    if not all(map(isfinite, place)):
+        raise Refusal('the position of a picture is not finite')
+    return place
 
 
 def text_places(file: BinaryIO) -> list[list[float]]:

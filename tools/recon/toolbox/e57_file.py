@@ -9,7 +9,7 @@ import struct
 from xml.etree import ElementTree
 from typing import Any, Iterator, Sequence
 
-from recon.toolbox.ply_text import SCANNER_LIMIT, Element, Property, Refusal
+from recon.toolbox.ply_text import ROW_LIMIT, SCANNER_LIMIT, Element, Property, Refusal
 from recon.toolbox.point_files import FileReader
 from recon.toolbox.vectors import turn_of
 
@@ -17,7 +17,9 @@ PLACE = ('cartesianX', 'cartesianY', 'cartesianZ')
 MORE = {'intensity': ('intensity', 'double'), 'colorRed': ('red', 'int'), 'colorGreen': ('green', 'int'),
         'colorBlue': ('blue', 'int')}
 INVALID = 'cartesianInvalidState'
-XML_LIMIT = 1 << 28
+XML_LIMIT = 1 << 26
+MOST_BITS = 64
+ROWS_AT_ONCE = 4096
 
 
 class Column:
@@ -37,6 +39,8 @@ class Column:
             self.is_scaled = kind == 'ScaledInteger'
         else:
             raise Refusal(f'a column of the E57 has the type {kind}, which is not read')
+        if self.bits > MOST_BITS:
+            raise Refusal(f'a column of the E57 has values of over {MOST_BITS} bits')
 
     def count(self, limit: int) -> int:
         """How many values are there, or the limit where a value takes no bits."""
@@ -61,6 +65,13 @@ class Column:
         return whole * self.scale + self.start if self.is_scaled else whole
 
 
+class PlainTree(ElementTree.TreeBuilder):
+    """Builds the tree of a description, in which nothing is defined that could make it grow."""
+
+    def doctype(self, *_: str | None) -> None:
+        raise Refusal('the description in the E57 has a DOCTYPE, which is not read')
+
+
 class Station:
     """A station of the file: its pose, and where its points stand."""
 
@@ -69,7 +80,10 @@ class Station:
         self.offset, self.count = int(points.get('fileOffset')), int(points.get('recordCount'))
         self.names = [child.tag for child in points.find('prototype')]
         self.nodes = list(points.find('prototype'))
-        self.columns()
+        if not 0 <= self.count <= ROW_LIMIT:
+            raise Refusal(f'a station of the E57 has {str(self.count)[:20]} points')
+        if self.count > 1 and not any(column.bits for column in self.columns()):
+            raise Refusal(f'a station of the E57 states {self.count} points whose values take no bytes')
         if any(name not in self.names for name in PLACE):
             raise Refusal('a station of the E57 has no cartesian coordinates, and spherical ones are not read')
         if any(list(codec) for codec in points.findall('codecs')):
@@ -104,8 +118,8 @@ class E57Reader(FileReader):
         length, offset, xml_length, self.page = struct.unpack_from('<4Q', head, 16)
         if not 64 <= self.page <= 1 << 20 or xml_length > XML_LIMIT:
             raise Refusal('the header of the E57 is not understood')
-        if self.file.seek(0, 2) < length:
-            raise Refusal(f'cut: the header of the E57 says {length} bytes, and there are fewer')
+        if self.file.seek(0, 2) < max(length, xml_length):
+            raise Refusal(f'cut: the header of the E57 says {max(length, xml_length)} bytes, and there are fewer')
         try:
             self.stations = self.stations_of(self.read(self.logical(offset), xml_length))
         except (ElementTree.ParseError, AttributeError, TypeError, ValueError) as error:
@@ -120,7 +134,7 @@ class E57Reader(FileReader):
 
     @staticmethod
     def stations_of(text: bytes) -> list[Station]:
-        root = ElementTree.fromstring(text)
+        root = ElementTree.fromstring(text, ElementTree.XMLParser(target=PlainTree()))
         for node in root.iter():
             node.tag = node.tag.rpartition('}')[2]
         return [Station(node) for node in root.findall('data3D/vectorChild')]
@@ -160,13 +174,14 @@ class E57Reader(FileReader):
         for parts in self.packets(station):
             for column, part in zip(columns, parts):
                 column.bytes += part
-            ready = min(column.count(station.count) for column in columns)
-            values = [column.take(min(ready, station.count - done)) for column in columns]
-            for row in zip(*values):
-                is_valid = invalid is None or not row[invalid]
-                point = map(repr, station.moved([row[k] for k in place])) if is_valid else ['nan'] * 3
-                yield [*point, *(repr(row[k]) for k in more), number]
-            done += len(values[0])
+            ready = min(min(column.count(station.count) for column in columns), station.count - done)
+            for start in range(0, ready, ROWS_AT_ONCE):
+                values = [column.take(min(ROWS_AT_ONCE, ready - start)) for column in columns]
+                for row in zip(*values):
+                    is_valid = invalid is None or not row[invalid]
+                    point = map(repr, station.moved([row[k] for k in place])) if is_valid else ['nan'] * 3
+                    yield [*point, *(repr(row[k]) for k in more), number]
+            done += ready
         if done < station.count:
             raise Refusal(f'cut: station {number} has {done} of its {station.count} points')
 

@@ -28,12 +28,20 @@ FORMATS = {'char': 'b', 'int8': 'b', 'uchar': 'B', 'uint8': 'B', 'short': 'h', '
 ORDERS = {'ascii': '', 'binary_little_endian': '<', 'binary_big_endian': '>'}
 NUMBER = r'[+-]?(?:[0-9]+\.?[0-9]*|\.[0-9]+)(?:[eE][+-]?[0-9]+)?'
 IS_NUMBER = re.compile(NUMBER).fullmatch
+IS_COUNT = re.compile('0*([0-9]{1,20})').fullmatch
 ARE_THREE = re.compile(f'{NUMBER} {NUMBER} {NUMBER}').fullmatch
 IS_NOT_FINITE = re.compile(r'[+-]?(?:nan(?:\(.*\))?|inf|infinity|1\.#(?:q?nan|snan|ind|inf)[0-9]*)', re.I).fullmatch
 
 
 class Refusal(Exception):
     """A file that is not taken, in one line."""
+
+
+def count_in(word: str, most: int) -> int | None:
+    """The whole number that a word is, from 0 to the most; else None. Of any length, without work for digits that are too many."""
+    found = IS_COUNT(word)
+    value = int(found[1]) if found else most + 1
+    return value if value <= most else None
 
 
 class Property:
@@ -384,7 +392,7 @@ def index_text(word: str, place: Callable[[], str]) -> str | None:
 
 def read_positions(path: str) -> list[tuple[list[str], str | None]]:
     """A table of scanner positions: a line `X Y Z` each, perhaps with a file's name behind; `#` begins a comment."""
-    rows = []
+    rows: list[tuple[list[str], str | None]] = []
     with open(path, encoding='utf-8', errors='surrogateescape') as file:
         for number, line in enumerate(file, 1):
             words = line.split(None, 3)
@@ -392,7 +400,9 @@ def read_positions(path: str) -> list[tuple[list[str], str | None]]:
                 continue
             if len(words) < 3 or not all(map(IS_NUMBER, words[:3])):
                 raise Refusal(f'line {number} of {path} is not X Y Z')
+            if '\0' in line:
+                raise Refusal(f'line {number} of {path} has a byte 0')
             rows.append((words[:3], words[3].strip() if len(words) > 3 else None))
-    if len(rows) > SCANNER_LIMIT:
-        raise Refusal(f'{path} has over {SCANNER_LIMIT} positions')
+            if len(rows) > SCANNER_LIMIT:
+                raise Refusal(f'{path} has over {SCANNER_LIMIT} positions')
     return rows

@@ -7,10 +7,14 @@ from __future__ import annotations
 
 import os
 import struct
+from decimal import Decimal
+from math import isfinite
 from typing import Any, Iterator
 
+import numpy as np
+
 from recon.toolbox.exact import shifted
-from recon.toolbox.ply_text import CHUNK, FORMATS, ROW_LIMIT, Element, Property, Reader, Refusal
+from recon.toolbox.ply_text import CHUNK, FORMATS, LINE_LIMIT, ROW_LIMIT, Element, Property, Reader, Refusal, count_in
 from recon.toolbox.text_lines import Lines
 
 def open_points(path: str, open_end: bool = False) -> Any:
@@ -71,9 +75,13 @@ class FileReader:
     def close(self) -> None:
         self.file.close()
 
+    def left(self) -> int:
+        """How many bytes of the file are still to be read."""
+        return os.fstat(self.file.fileno()).st_size - self.file.tell()
+
     def structs(self, row: struct.Struct, count: int) -> Iterator[tuple[float, ...]]:
         """The rows of a binary body."""
-        left, done = os.fstat(self.file.fileno()).st_size - self.file.tell(), 0
+        left, done = self.left(), 0
         if left < row.size * count:
             raise Refusal(f'cut: the file ends in point {left // row.size} of {count}')
         while done < count:
@@ -82,6 +90,10 @@ class FileReader:
             done += taken
 
 
+PCD_LINE = 1 << 16
+PCD_COLUMNS = 4096
+LZF_GROWTH = 90
+PACKED_ROWS = 4096
 PCD_TYPES = {('F', '4'): 'float', ('F', '8'): 'double', ('U', '1'): 'uchar', ('U', '2'): 'ushort', ('U', '4'): 'uint',
              ('I', '1'): 'char', ('I', '2'): 'short', ('I', '4'): 'int'}
 
@@ -113,8 +125,10 @@ class PcdReader(FileReader):
     def read_head(self) -> dict[str, list[str]]:
         head, self.head_lines = {}, 0
         while 'DATA' not in head:
-            line = self.file.readline(CHUNK)
+            line = self.file.readline(PCD_LINE)
             self.head_lines += 1
+            if self.head_lines > LINE_LIMIT or len(line) == PCD_LINE:
+                raise Refusal('the header of the PCD is too long')
             if not line.endswith(b'\n'):
                 raise Refusal('cut: the file ends in the header of a PCD')
             words = line.decode('latin-1').split()
@@ -124,9 +138,10 @@ class PcdReader(FileReader):
 
     def number(self, key: str) -> int:
         words = self.head[key]
-        if len(words) != 1 or not words[0].isdecimal() or int(words[0]) > ROW_LIMIT:
+        count = count_in(words[0], ROW_LIMIT) if len(words) == 1 else None
+        if count is None:
             raise Refusal(f'the line {key} of the PCD is no count')
-        return int(words[0])
+        return count
 
     def columns(self) -> tuple[list[tuple[str, str]], list[Property]]:
         """The types of the values of a row, and the properties that they become."""
@@ -134,11 +149,15 @@ class PcdReader(FileReader):
         counts = self.head.get('COUNT', ['1'] * len(names))
         if not len(names) == len(sizes) == len(types) == len(counts):
             raise Refusal('FIELDS, SIZE, TYPE and COUNT of the PCD have not as many words')
-        kinds, properties = [], []
+        kinds: list[tuple[str, str]] = []
+        properties: list[Property] = []
         for name, size, kind, count in zip(names, sizes, types, counts):
-            if (kind, size) not in PCD_TYPES or not count.isdecimal():
-                raise Refusal(f'the field {name} of the PCD has a type that is not read: {kind} {size} {count}')
-            for number in range(int(count)):
+            many = count_in(count, PCD_COLUMNS)
+            if (kind, size) not in PCD_TYPES or many is None:
+                raise Refusal(f'the field {name[:40]} of the PCD has a type that is not read: {kind[:9]} {size[:9]} {count[:20]}')
+            if len(kinds) + many > PCD_COLUMNS:
+                raise Refusal(f'a point of the PCD has over {PCD_COLUMNS} values')
+            for number in range(many):
                 kinds.append((name, PCD_TYPES[kind, size]))
                 own = name if count == '1' else f'{name}_{number}'
                 properties += ([Property(color, 'uchar') for color in ('red', 'green', 'blue')] if name in ('rgb', 'rgba')
@@ -181,15 +200,16 @@ class PcdReader(FileReader):
         codes = [FORMATS[kind] for _, kind in self.kinds]
         if size != count * struct.calcsize('<' + ''.join(codes)):
             raise Refusal(f'the compressed body of the PCD has not the bytes of {count} points')
-        data = self.file.read(packed)
-        if len(data) < packed:
+        if packed > self.left() or size > LZF_GROWTH * packed:
             raise Refusal('cut: the file ends in the compressed body of a PCD')
-        data, columns, at = unpacked(data, size), [], 0
+        data, columns, at = unpacked(self.file.read(packed), size), [], 0
         for code in codes:
-            columns.append(struct.unpack_from(f'<{count}{code}', data, at))
+            columns.append(np.frombuffer(data, '<' + code, count, at))
             at += count * struct.calcsize('<' + code)
-        for values in zip(*columns):
-            yield list(map(repr, values))
+        for start in range(0, count, PACKED_ROWS):
+            parts = [column[start:start + PACKED_ROWS] for column in columns]
+            for values in zip(*(part.astype('f8').tolist() if part.dtype.kind == 'f' else part.tolist() for part in parts)):
+                yield list(map(repr, values))
 
     def text_rows(self, count: int) -> Iterator[list[str]]:
         lines = Lines(self.path, self.open_end, self.file.tell())
@@ -214,7 +234,7 @@ def unpacked(data: bytes, size: int) -> bytearray:
     """Bytes that were packed by LZF: runs as they stand, and copies of what came before."""
     out, at = bytearray(), 0
     try:
-        while at < len(data):
+        while at < len(data) and len(out) <= size:
             head = data[at]
             if head < 32:
                 out += data[at + 1:at + head + 2]
@@ -246,7 +266,8 @@ LAS_TYPES = {'H': 'ushort', 'B': 'uchar', 'd': 'double', 'i': 'double'}
 
 def whole_and_places(number: float) -> tuple[int, int]:
     """A number as a whole one over a power of ten, by its shortest decimal."""
-    from decimal import Decimal
+    if not isfinite(number):
+        raise Refusal('a scale or an offset of the LAS is not finite')
     sign, digits, exponent = Decimal(repr(number)).as_tuple()
     whole = int(''.join(map(str, digits))) * (-1 if sign else 1)
     return (whole * 10 ** int(exponent), 0) if int(exponent) > 0 else (whole, -int(exponent))

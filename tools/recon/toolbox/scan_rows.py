@@ -2,33 +2,42 @@
 from __future__ import annotations
 
 import re
+import struct
 from decimal import ROUND_HALF_UP, Decimal
 from typing import Any, Iterator
 
 import numpy as np
 
 from recon.toolbox.mesh_files import WHOLE, Column
-from recon.toolbox.ply_text import IS_NUMBER, Reader, Refusal
+from recon.toolbox.ply_text import FORMATS, IS_NUMBER, Element, Reader, Refusal
 
+LONG = 60
+OUTSIDE = 1 << 62
 PLAIN = re.compile(r'([+-]?)([0-9]+)(?:\.([0-9]*))?').fullmatch
 
 
 def scaled(word: str, unit: int) -> int:
-    """The number times the unit, rounded to the nearest whole number, halves away from zero."""
+    """The number times the unit, rounded to the nearest whole number, halves away from zero; OUTSIDE where that has over 60 digits."""
     plain = PLAIN(word)
-    if plain is None:
+    if plain is None or len(word) > LONG:
         if not IS_NUMBER(word):
             raise Refusal(f'{word[:40]} is no number')
-        return int((Decimal(word) * unit).to_integral_value(ROUND_HALF_UP))
+        value = Decimal(word) * unit
+        return OUTSIDE if value.adjusted() > LONG else int(value.to_integral_value(ROUND_HALF_UP))
     sign, before, behind = plain.groups()
     one = 10 ** len(behind or '')
     value = (int(before + (behind or '')) * unit * 2 + one) // (2 * one)
     return -value if sign == '-' else value
 
 
-def value_of(word: str, kind: str) -> float:
-    """A word as a number of its type."""
-    return int(float(word)) if kind in WHOLE else float(word)
+def value_of(word: str, name: str, kind: str) -> float:
+    """A word as a number of the type of its column."""
+    try:
+        value = int(float(word)) if kind in WHOLE else float(word)
+        struct.pack('<' + FORMATS[kind], value)
+        return value
+    except (ValueError, OverflowError, struct.error):
+        raise Refusal(f'{name[:40]} is {word[:40]} in a row of the scan, which is no {kind}') from None
 
 
 def columns_of(path: str, unit: int, array: np.ndarray) -> list[Column]:
@@ -40,11 +49,10 @@ def columns_of(path: str, unit: int, array: np.ndarray) -> list[Column]:
         vertex = reader.element('vertex')
         if vertex is None or reader.elements[0] is not vertex:
             raise Refusal(f'{path} does not begin with an element vertex')
-        if vertex.has_lists():
-            raise Refusal(f'{path} has a list among the properties of vertex')
         point = vertex.point_columns()
-        kept = [k for k in range(len(vertex.properties)) if k not in point]
-        rows = rows_at(reader.rows(vertex), point, kept, unit, {place: None for place in places})
+        kept = [k for k, p in enumerate(vertex.properties) if k not in point and p.count_kind is None]
+        single = singles(reader.rows(vertex), vertex) if vertex.has_lists() else reader.rows(vertex)
+        rows = rows_at(single, point, kept, unit, {place: None for place in places})
     finally:
         reader.close()
     missing = sum(rows[place] is None for place in places)
@@ -52,8 +60,18 @@ def columns_of(path: str, unit: int, array: np.ndarray) -> list[Column]:
         raise Refusal(f'{missing} of {len(places)} vertices are no points of {path} at unit={unit}: is it the scan of this '
                       'mesh?')
     columns = [(vertex.properties[k].name, vertex.properties[k].kind) for k in kept]
-    return [(name, kind, np.array([value_of(rows[place][at], kind) for place in places], float if kind not in WHOLE else np.int64))
+    return [(name, kind, np.array([value_of(rows[place][at], name, kind) for place in places], float if kind not in WHOLE else np.int64))
             for at, (name, kind) in enumerate(columns)]
+
+
+def singles(rows: Iterator[list[str]], vertex: Element) -> Iterator[list[str]]:
+    """Rows without the values of lists: one word a property, that of a list its count."""
+    for words in rows:
+        at, found = 0, []
+        for p in vertex.properties:
+            found.append(words[at])
+            at += 1 if p.count_kind is None else 1 + int(words[at])
+        yield found
 
 
 def rows_at(rows: Iterator[Any], point: list[int], kept: list[int], unit: int,
@@ -62,6 +80,6 @@ def rows_at(rows: Iterator[Any], point: list[int], kept: list[int], unit: int,
     x, y, z = point
     for words in rows:
         place = scaled(words[x], unit), scaled(words[y], unit), scaled(words[z], unit)
-        if place in found and found[place] is None:
+        if found.get(place, ()) is None:
             found[place] = [words[k] for k in kept]
     return found

@@ -10,7 +10,7 @@ from typing import Any, Iterator
 from recon.toolbox.exact import READ, text
 from recon.toolbox.ply_text import Refusal
 from recon.toolbox.text_lines import Lines
-from recon.toolbox.tool import three
+from recon.toolbox.tool import three, whole
 
 ARE_FOUR = re.compile(r'([0-9]{1,10}) (-?[0-9]{1,19}) (-?[0-9]{1,19}) ([1-9][0-9]{0,18})').fullmatch
 
@@ -47,10 +47,7 @@ class Frame:
     """The unit and the origin of the scan. `word` is a coordinate in the scan's own numbers, exact but for a last digit."""
 
     def __init__(self, options: Any) -> None:
-        word = options.unit or '1'
-        if not word.isdecimal() or not 1 <= int(word) <= 1000000:
-            raise Refusal('unit= is a whole number from 1 to 1,000,000')
-        self.unit = int(word)
+        self.unit = whole(options.unit or '1', 'unit', 1, 1000000)
         self.origin = [Fraction(Decimal(part)) for part in three(options.origin or '0,0,0', 'origin')]
 
     def word(self, axis: int, over: str, under: str) -> str:

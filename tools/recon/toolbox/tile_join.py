@@ -13,6 +13,7 @@ import contextlib
 import json
 import math
 import os
+import re
 import shutil
 from array import array
 from decimal import ROUND_HALF_UP, Decimal
@@ -21,8 +22,10 @@ from typing import Any, BinaryIO, Callable, Iterator, TextIO
 
 from recon.toolbox.ply_text import CHUNK, Refusal, read_head, whole_file
 from recon.toolbox.tile_gaps import Gaps
+from recon.toolbox.tile_jobs import is_done
 from recon.toolbox.tool import number_of
 
+IS_NAME = re.compile('[0-9]{3,20}').fullmatch
 HALF = 1 << 21
 FAR = 1 << 24
 HEAD = """ply
@@ -48,6 +51,8 @@ class Tile:
 
     def __init__(self, number: int, row: dict[str, Any], unit: int, overlap: float) -> None:
         self.number, self.name = number, row['name']
+        if not IS_NAME(self.name) or len(row['low']) != 3 or len(row['high']) != 3:
+            raise ValueError
         low, high = scaled(row['low'], unit, -FAR), scaled(row['high'], unit, FAR)
         self.low, self.high = [math.ceil(3 * end) for end in low], [math.ceil(3 * end) for end in high]
         # A point is rounded by half a unit, and whether it is near enough was told in floating point: a unit has room for both.
@@ -87,15 +92,21 @@ def read_tiles(folder: str) -> tuple[list[Tile], set[int]]:
     with open(path, encoding='ascii') as file:
         try:
             about = json.load(file)
+            if not isinstance(about['unit'], int) or not 1 <= about['unit'] <= 1000000:
+                raise ValueError
             tiles = [Tile(number, row, about['unit'], about['overlap']) for number, row in enumerate(about['tiles'])]
             handed = read_handed(folder, about['unit'])
-        except (ArithmeticError, ValueError, KeyError, TypeError):
+        except (ArithmeticError, ValueError, KeyError, TypeError, RecursionError):
             raise Refusal(f'{path} is not what split wrote') from None
     for tile in tiles:
         tile.others = [other for other in tiles if other.meets(tile)]
     undone = [tile.name for tile in tiles if not os.path.exists(os.path.join(folder, tile.name + '.done'))]
     if undone:
         raise Refusal(f'{number_of(len(undone), "tile")} of {len(tiles)} not done yet: {" ".join(undone[:9])}')
+    stale = [tile.name for tile in tiles if not is_done(folder, tile.name)]
+    if stale:
+        raise Refusal(f'the scan or the surface of {number_of(len(stale), "tile")} is not that of NAME.done: remove NAME.done and '
+                      f'run the jobs again: {" ".join(stale[:9])}')
     return tiles, handed
 
 
@@ -115,6 +126,8 @@ def whole_numbers(file: BinaryIO) -> array:
         cut = data.rfind(b'\n') + 1
         numbers.extend(map(int, data[:cut].split()))
         tail = data[cut:]
+        if len(tail) > CHUNK:
+            raise ValueError
     if tail:
         raise ValueError
     return numbers

@@ -8,11 +8,13 @@ from __future__ import annotations
 
 import os
 import sys
+from decimal import Decimal
 from typing import Any, Callable, Iterator, Sequence
 
-from recon.toolbox.ply_text import IS_NUMBER, Refusal, Writer
+from recon.toolbox.ply_text import IS_NUMBER, Refusal, Writer, count_in
 
-SWITCHES = ('outside', 'open_end', 'normals', 'flips', 'manifold', 'seen', 'fill')
+SWITCHES = ('above', 'outside', 'open_end', 'normals', 'flips', 'manifold', 'seen', 'fill')
+FARTHEST = 300
 PACKAGE = os.path.dirname(os.path.dirname(os.path.abspath(__file__)))
 
 
@@ -107,6 +109,8 @@ def run(main: Callable[..., Any], doc: str, name_count: int | None, keys: tuple[
         sys.exit(told(1, f'{name}: refused: {refusal}'))
     except ArithmeticError:
         sys.exit(told(1, f'{name}: refused: a number is far out of range'))
+    except MemoryError:
+        sys.exit(told(1, f'{name}: refused: out of memory'))
     except BrokenPipeError:
         os.dup2(os.open(os.devnull, os.O_WRONLY), sys.stdout.fileno())
         sys.exit(0 if '--help' in words or '-h' in words else 1)
@@ -121,11 +125,22 @@ def told(status: int, line: str) -> int:
 
 
 def three(text: str, what: str) -> list[str]:
-    """The three numbers of `X,Y,Z`, as words."""
+    """The three numbers of `X,Y,Z`, as words. One of over 300 digits before its point, or of as many zeros after it, raises
+    ArithmeticError."""
     words = text.split(',')
     if len(words) != 3 or not all(map(IS_NUMBER, words)):
-        raise Refusal(f'{what} is not X,Y,Z: {text}')
+        raise Refusal(f'{what} is not X,Y,Z: {text[:80]}')
+    if any(number and abs(number.adjusted()) > FARTHEST for number in map(Decimal, words)):
+        raise ArithmeticError
     return words
+
+
+def whole(text: str, key: str, least: int, most: int) -> int:
+    """The value of an option, a whole number."""
+    value = count_in(text, most)
+    if value is None or value < least:
+        raise Refusal(f'{key}= is a whole number from {least} to {most:,}')
+    return value
 
 
 def yes(value: str | None, key: str) -> bool:
