@@ -41,19 +41,17 @@ def value_of(word: str, name: str, kind: str) -> float:
 
 
 def columns_of(path: str, unit: int, array: np.ndarray) -> list[Column]:
-    """The columns of a scan beside x, y and z, each as a name, a type and the values at these places: those of the first row
-    at each. Refused where a place is that of no row."""
+    """The columns of a scan beside x, y and z that are no lists, each as a name, a type and the values at these places: those of
+    the first row at each. Refused where a place is that of no row."""
     places: list[tuple[int, int, int]] = list(map(tuple, array.tolist()))
     reader = Reader(path, True)
     try:
         vertex = reader.element('vertex')
         if vertex is None or reader.elements[0] is not vertex:
             raise Refusal(f'{path} does not begin with an element vertex')
-        if vertex.has_lists():
-            raise Refusal(f'{path} has a list among the properties of vertex')
         point = vertex.point_columns()
-        kept = [k for k in range(len(vertex.properties)) if k not in point]
-        rows = rows_at(reader.rows(vertex), point, kept, unit, {place: None for place in places})
+        kept = [k for k, p in enumerate(vertex.properties) if k not in point and p.count_kind is None]
+        rows = rows_at(vertex.scalars(reader.rows(vertex)), point, kept, unit, {place: None for place in places})
     finally:
         reader.close()
     missing = sum(rows[place] is None for place in places)
