@@ -6,7 +6,7 @@ import os
 import sys
 
 HERE = os.path.dirname(os.path.abspath(__file__))
-PROGRAMS = ('contours', 'finish', 'grid', 'make-scan', 'mesh-to-floats', 'scan', 'tiles')
+PROGRAMS = ('contours', 'finish', 'grid', 'make-scan', 'mesh-to-floats', 'scan', 'surface', 'tiles')
 
 
 def main() -> None:

@@ -234,7 +234,7 @@ class Finish(InFolder):
                 (-0.1, 0.1, -0.1, 7, 8, 9, 1), (-0.0996, -0.1, 0.1004, 10, 11, 12, 2)]
         write('scan.ply', head(5, columns) + ''.join(' '.join(map(str, row)) + '\n' for row in rows))
         status, said, error = call('finish', 'in.ply', 'out.ply', 'unit=1000', 'scan=scan.ply', 'origin=5,0,0')
-        equal((status, error, 'brought back red, green, blue, intensity of scan.ply' in said), (0, '', True))
+        equal((status, error, 'brought back red, green, blue, intensity of the scan' in said), (0, '', True))
         with open('out.ply', 'rb') as file:
             text, body = file.read().split(b'end_header\n')
         equal(struct.unpack_from('<dddBBBf', body, 31), (5.1, -0.1, -0.1, 4, 5, 6, 0.25))
@@ -300,7 +300,7 @@ class Finish(InFolder):
         equal(call('make_scan', 'statue', '600', '1', 'scan.ply')[0], 0)
         subprocess.run([RECON, 'build', 'scan.ply', 'mesh.ply', 'cert'], check=True, capture_output=True)
         status, said, error = call('finish', 'mesh.ply', 'out.ply', 'pieces=1', 'scan=scan.ply', 'manifold=yes')
-        equal((status, error, 'brought back scanner of scan.ply' in said), (0, '', True))
+        equal((status, error, 'brought back scanner of the scan' in said), (0, '', True))
 
     def test_meshes_that_are_not_finished(self) -> None:
         tetrahedron = mesh_text(SCAN_ROWS, [(0, 1, 2), (0, 2, 3), (0, 3, 1), (1, 3, 2)])

@@ -69,11 +69,12 @@ def numbers_of(data: bytes, count: int) -> np.ndarray:
 @dataclass
 class Finished:
     """A mesh to be written: (n, 3) coordinates, (m, 3) corners, and columns of the vertices and of the faces: a name, a type of
-    PLY and the values, one each."""
+    PLY and the values, one each. `vertex_of` (n,) is the vertex of the mesh that was read that each vertex is."""
     places: np.ndarray
     faces: np.ndarray
     columns: List[Column]
     face_columns: List[Column] = field(default_factory=list)
+    vertex_of: np.ndarray = field(default_factory=lambda: np.zeros(0, np.int64))
 
     def colors(self) -> np.ndarray | None:
         """Red, green and blue of each vertex as bytes, where it has them as whole numbers. Of 16 bits the upper eight are taken."""

@@ -69,6 +69,6 @@ def rows_at(rows: Iterator[Any], point: list[int], kept: list[int], unit: int,
     x, y, z = point
     for words in rows:
         place = scaled(words[x], unit), scaled(words[y], unit), scaled(words[z], unit)
-        if place in found and found[place] is None:
+        if found.get(place, ()) is None:
             found[place] = [words[k] for k in kept]
     return found

@@ -9,10 +9,11 @@ from __future__ import annotations
 import os
 import sys
 from decimal import Decimal
-from typing import Any, Callable
+from typing import Any, Callable, Iterator, Sequence
 
 from recon.toolbox.ply_text import IS_NUMBER, Refusal, Writer, count_in
 
+SWITCHES = ('above', 'outside', 'open_end', 'normals', 'flips', 'manifold', 'seen', 'fill')
 FARTHEST = 300
 PACKAGE = os.path.dirname(os.path.dirname(os.path.abspath(__file__)))
 
@@ -43,10 +44,31 @@ class Options:
             setattr(self, field(key), None)
 
 
+def with_equals(words: Sequence[str], keys: tuple[str, ...]) -> Iterator[str]:
+    """The words, with `--unit 1000`, `--unit=1000`, `--seen` and `--no-flips` as unit=1000, seen=yes and flips=no."""
+    rest = iter(words)
+    for word in rest:
+        key, equals, value = word[2:].partition('=')
+        key = key.replace('-', '_')
+        if not word.startswith('--'):
+            yield word
+        elif key in keys and equals:
+            yield f'{key}={value}'
+        elif key in SWITCHES and key in keys:
+            yield f'{key}=yes'
+        elif key[3:] in SWITCHES and key[3:] in keys and key.startswith('no_'):
+            yield f'{key[3:]}=no'
+        elif key in keys:
+            yield f'{key}={next(rest, "")}'
+        else:
+            raise NotUnderstood
+
+
 def read_words(words: list[str], name_count: int | None, keys: tuple[str, ...]) -> tuple[list[str], Options]:
     """The names, and the options behind them. Without a count all words that are no option are names."""
-    names, options = [], Options(keys)
-    for word in words:
+    names: list[str] = []
+    options = Options(keys)
+    for word in with_equals(words, keys):
         key, equals, value = word.partition('=')
         if name_count is not None and len(names) < name_count:
             names.append(word)
