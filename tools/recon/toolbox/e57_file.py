@@ -22,6 +22,10 @@ MOST_BITS = 64
 ROWS_AT_ONCE = 4096
 
 
+class NotRead(Refusal):
+    """An E57 that is right, and of a kind that is not read here."""
+
+
 class Column:
     """The values of one column, as far as their bytes are there."""
 
@@ -38,7 +42,7 @@ class Column:
             self.scale, self.start = float(node.get('scale', 1)), float(node.get('offset', 0))
             self.is_scaled = kind == 'ScaledInteger'
         else:
-            raise Refusal(f'a column of the E57 has the type {kind}, which is not read')
+            raise NotRead(f'a column of the E57 has the type {kind}, which is not read')
         if self.bits > MOST_BITS:
             raise Refusal(f'a column of the E57 has values of over {MOST_BITS} bits')
 
@@ -85,9 +89,9 @@ class Station:
         if self.count > 1 and not any(column.bits for column in self.columns()):
             raise Refusal(f'a station of the E57 states {self.count} points whose values take no bytes')
         if any(name not in self.names for name in PLACE):
-            raise Refusal('a station of the E57 has no cartesian coordinates, and spherical ones are not read')
+            raise NotRead('a station of the E57 has no cartesian coordinates, and spherical ones are not read')
         if any(list(codec) for codec in points.findall('codecs')):
-            raise Refusal('a station of the E57 is packed by a codec of its own, which is not read')
+            raise NotRead('a station of the E57 is packed by a codec of its own, which is not read')
         turn = turn_of(*(self.part(node, 'rotation', axis, axis == 'w') for axis in 'wxyz'))
         if turn is None:
             raise Refusal('the turn of a station of the E57 is 0 0 0 0')

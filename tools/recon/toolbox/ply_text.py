@@ -75,6 +75,23 @@ class Element:
         folded = [n.lower() for n in names]
         return folded.index(name.lower()) if folded.count(name.lower()) == 1 else None
 
+    def values(self, words: Sequence[str]) -> list[Sequence[str]]:
+        """The values of each property in the words of a row; of a list without their count."""
+        at, found = 0, []
+        for p in self.properties:
+            count = 1
+            if p.count_kind is not None:
+                count, at = int(words[at]), at + 1
+            found.append(words[at:at + count])
+            at += count
+        return found
+
+    def scalars(self, rows: Iterator[list[str]]) -> Iterator[list[str]]:
+        """The rows with one word for each property, which of a list is the first, or none."""
+        if not self.has_lists():
+            return rows
+        return ([''.join(value[:1]) for value in self.values(words)] for words in rows)
+
     def point_columns(self) -> list[int]:
         """The places of x, y and z."""
         places = []

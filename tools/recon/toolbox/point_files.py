@@ -1,20 +1,22 @@
 """Files of points of other programs, read as if they were PLY: PCD, LAS and E57, told by their first bytes.
 
 Each reader has `elements`, whose first is `vertex`, and then perhaps `scanner`, as ply_text.Reader has them, and their rows
-as lists of words. Names: open_points · PcdReader, LasReader.
+as lists of words. Names: open_points · FileReader (what readers share) · PcdReader, LasReader.
 """
 from __future__ import annotations
 
 import os
 import struct
 from decimal import Decimal
+from importlib.util import find_spec
 from math import isfinite
 from typing import Any, Iterator
 
 import numpy as np
 
 from recon.toolbox.exact import shifted
-from recon.toolbox.ply_text import CHUNK, FORMATS, LINE_LIMIT, ROW_LIMIT, Element, Property, Reader, Refusal, count_in
+from recon.toolbox.ply_text import (ARE_THREE, CHUNK, FORMATS, LINE_LIMIT, ROW_LIMIT, SCANNER_LIMIT, Element, Property, Reader, Refusal,
+                                    count_in)
 from recon.toolbox.text_lines import Lines
 
 def open_points(path: str, open_end: bool = False) -> Any:
@@ -23,8 +25,8 @@ def open_points(path: str, open_end: bool = False) -> Any:
     if start.startswith(b'LASF'):
         return LasReader(path)
     if start.startswith(b'ASTM-E57'):
-        from recon.toolbox.e57_file import E57Reader
-        return E57Reader(path)
+        from recon.toolbox.e57_library import open_e57
+        return open_e57(path)
     if is_pcd(start):
         return PcdReader(path, open_end)
     if not start.startswith(b'ply'):
@@ -94,13 +96,15 @@ class FileReader:
 PCD_LINE = 1 << 16
 PCD_COLUMNS = 4096
 LZF_GROWTH = 90
+VIEW = ('vp_x', 'vp_y', 'vp_z')
 PACKED_ROWS = 4096
 PCD_TYPES = {('F', '4'): 'float', ('F', '8'): 'double', ('U', '1'): 'uchar', ('U', '2'): 'ushort', ('U', '4'): 'uint',
              ('I', '1'): 'char', ('I', '2'): 'short', ('I', '4'): 'int'}
 
 
 class PcdReader(FileReader):
-    """A PCD file, ascii, binary or compressed. Its VIEWPOINT is the one scanner of all points; a packed color becomes three columns."""
+    """A PCD file, ascii, binary or compressed. The fields vp_x, vp_y and vp_z say where each point was seen from; without them the
+    VIEWPOINT is the one scanner of all points. A packed color becomes three columns."""
 
     def __init__(self, path: str, open_end: bool) -> None:
         self.open_end = open_end
@@ -119,9 +123,14 @@ class PcdReader(FileReader):
         count = self.number('POINTS')
         self.kinds, properties = self.columns()
         view = self.head.get('VIEWPOINT', ['0'] * 3)[:3]
-        self.place = view if len(view) == 3 else ['0'] * 3
+        place = view if len(view) == 3 else ['0'] * 3
+        fields = [name for name, _ in self.kinds]
+        self.view = [fields.index(name) for name in VIEW] if all(fields.count(name) == 1 for name in VIEW) else []
+        self.views: dict[tuple[str, ...], int] = {}
+        self.places = [] if self.view else [place]
+        properties = [p for p in properties if not self.view or p.name not in VIEW]
         self.elements = [Element('vertex', count, properties + [Property('scanner', 'int')]),
-                         Element('scanner', 1, [Property(axis, 'double') for axis in 'xyz'])]
+                         Element('scanner', SCANNER_LIMIT if self.view else 1, [Property(axis, 'double') for axis in 'xyz'])]
 
     def read_head(self) -> dict[str, list[str]]:
         head, self.head_lines = {}, 0
@@ -167,18 +176,30 @@ class PcdReader(FileReader):
 
     def rows(self, element: Element) -> Iterator[list[str]]:
         if element.name == 'scanner':
-            yield self.place
+            yield from self.places
             return
         packed = [k for k, (name, _) in enumerate(self.kinds) if name in ('rgb', 'rgba')]
         for words in self.rows_of_kind(element.count):
-            for k in reversed(packed):
-                words[k:k + 1] = self.colors(words[k], self.kinds[k][1])
-            words.append('0')
+            number = self.number_of_view([words[k] for k in self.view]) if self.view else '0'
+            for k in sorted(packed + self.view, reverse=True):
+                words[k:k + 1] = [] if k in self.view else self.colors(words[k], self.kinds[k][1])
+            words.append(number)
             yield words
 
+    def number_of_view(self, place: list[str]) -> str:
+        """The number of a place that a point was seen from, or `nan` where it is none."""
+        if not ARE_THREE(' '.join(place)):
+            return 'nan'
+        number = self.views.setdefault(tuple(place), len(self.places))
+        if number == len(self.places):
+            self.places.append(place)
+        if number >= SCANNER_LIMIT:
+            raise Refusal(f'the points were seen from over {SCANNER_LIMIT} places')
+        return str(number)
+
     def position(self) -> list[str]:
-        """Where the scanner stood."""
-        return self.place
+        """Where the scanner stood, where it is one."""
+        return self.places[0]
 
     @staticmethod
     def colors(word: str, kind: str) -> list[str]:
@@ -255,6 +276,7 @@ def unpacked(data: bytes, size: int) -> bytearray:
     return out
 
 
+LAZ_ROWS = 100000
 LAS_START = [('i', 'x'), ('i', 'y'), ('i', 'z'), ('H', 'intensity')]
 LAS_OLD = [*LAS_START, ('B', None), ('B', 'classification'), ('b', None), ('B', None), ('H', 'pointsourceid')]
 LAS_NEW = [*LAS_START, ('H', None), ('B', 'classification'), ('B', None), ('h', None), ('H', 'pointsourceid')]
@@ -275,8 +297,8 @@ def whole_and_places(number: float) -> tuple[int, int]:
 
 
 class LasReader(FileReader):
-    """A LAS file that is not compressed, of version 1.0 to 1.4. Coordinates keep their digits; `pointsourceid` numbers the
-    station of a point. LAS has no positions of stations."""
+    """A LAS file of version 1.0 to 1.4, or a LAZ where `laspy` is installed with `lazrs` or `laszip`. Coordinates keep their digits;
+    `pointsourceid` numbers the station of a point. LAS has no positions of stations."""
 
     def begin(self) -> None:
         head = self.file.read(375)
@@ -286,8 +308,9 @@ class LasReader(FileReader):
         kind, size, count = struct.unpack_from('<BHI', head, 104)
         if head[25] >= 4 and len(head) >= 255:
             count = struct.unpack_from('<Q', head, 247)[0] or count
-        if kind & 128:
-            raise Refusal('this is LAZ, compressed LAS, which is not read: uncompress it by LAStools or PDAL')
+        self.is_packed, kind = kind > 127, kind & 127
+        if self.is_packed and find_spec('laspy') is None:
+            raise Refusal('this is LAZ, compressed LAS: install laspy and lazrs, or uncompress it by LAStools or PDAL')
         if kind >= len(LAS_ROWS):
             raise Refusal(f'a LAS of the point format {kind} is not read')
         if count > ROW_LIMIT:
@@ -310,8 +333,22 @@ class LasReader(FileReader):
             most = max(places, start_places)
             sums.append((scale * 10 ** (most - places), start * 10 ** (most - start_places), most))
         (a, p, i), (b, q, j), (c, r, k) = sums
-        for values in self.structs(self.row, element.count):
+        for values in (self.unpacked_rows if self.is_packed else self.structs)(self.row, element.count):
             x, y, z = shifted(values[0] * a + p, i), shifted(values[1] * b + q, j), shifted(values[2] * c + r, k)
             if x is None or y is None or z is None:
                 raise Refusal('a coordinate has over 30 digits')
             yield [x, y, z, *(repr(values[at]) for at in kept)]
+
+    def unpacked_rows(self, row: struct.Struct, count: int) -> Iterator[tuple[float, ...]]:
+        """The rows of a LAZ, which laspy unpacks to those of a LAS."""
+        import laspy
+        done = 0
+        try:
+            with laspy.open(self.path) as file:
+                for points in file.chunk_iterator(LAZ_ROWS):
+                    yield from row.iter_unpack(points.array.tobytes())
+                    done += len(points.array)
+        except Exception as error:
+            raise Refusal(f'laspy cannot unpack the LAZ: {" ".join(str(error).split())[:200]}') from None
+        if done < count:
+            raise Refusal(f'cut: the LAZ ends in point {done} of {count}')

@@ -6,10 +6,11 @@ from __future__ import annotations
 
 from typing import Any, Callable, Sequence
 
+from recon.toolbox.flight import TIMES, Above, Flight
 from recon.toolbox.ply_text import (ARE_THREE, FORMATS, SCANNER_LIMIT, Element, Property, Refusal, decimals, index_text,
                               read_positions)
 from recon.toolbox.sieve import Passage
-from recon.toolbox.sources import Source, refuse_others, scan_columns
+from recon.toolbox.sources import Source, refuse_others
 
 
 def index_column(vertex: Element, name: str | None) -> int | None:
@@ -136,31 +137,22 @@ class Rows(OfReader):
 
 
 class Listed(OfReader):
-    """Points that name a list of scanners each. Of their properties the place, that list and the weight are kept."""
+    """Points that name a list of scanners each. All their properties but other lists are kept."""
     has_lists = True
 
     def __init__(self, reader: Any, path: str, options: Any) -> None:
         refuse_others(options, ('open_end',), 'lists of scanners')
-        vertex, columns = reader.element('vertex'), scan_columns()
+        vertex = reader.element('vertex')
         self.named, self.weighed = vertex.column('scanner'), weight_column(vertex)
         if self.named is None or vertex.properties[self.named].count_kind is None or reader.element('scanner') is None:
             raise Refusal('a property of vertex is a list, and not that of the scanners')
-        columns[3].count_kind = 'uint'
-        super().__init__(reader, path, columns)
-        if self.weighed is not None:
-            self.weight = 4
-            columns.append(Property('weight', 'int'))
-
-    def values(self, words: Sequence[str]) -> list[Sequence[str]]:
-        """The values of each property of a row."""
-        at, found = 0, []
-        for p in self.vertex.properties:
-            count = 1
-            if p.count_kind is not None:
-                count, at = int(words[at]), at + 1
-            found.append(words[at:at + count])
-            at += count
-        return found
+        self.kept = [k for k, p in enumerate(vertex.properties) if p.count_kind is None]
+        columns = [Property(vertex.properties[k].name, vertex.properties[k].kind) for k in self.kept]
+        super().__init__(reader, path, [*columns, Property('scanner', 'int', 'uint')])
+        self.point, self.scanner = [self.kept.index(k) for k in self.places], len(columns)
+        self.weight = None if self.weighed is None else self.kept.index(self.weighed)
+        for column, axis in zip(self.point, 'xyz'):
+            columns[column].name = axis
 
     def pass_vertices(self, receiver: Passage) -> None:
         row = 0
@@ -169,7 +161,7 @@ class Listed(OfReader):
             return f'vertex row {row}'
 
         for row, words in enumerate(self.reader.rows(self.vertex)):
-            values = self.values(words)
+            values = self.vertex.values(words)
             point = [values[k][0] for k in self.places]
             if not decimals(point[0], point[1], point[2], place):
                 self.counts['not finite'] += 1
@@ -178,5 +170,50 @@ class Listed(OfReader):
             numbers = [number for number in named if number is not None]
             if len(numbers) < len(named):
                 raise Refusal(f'{place()}: a number of a scanner is not finite')
-            weight = [] if self.weighed is None else list(values[self.weighed])
-            receiver.row(point + [' '.join([str(len(numbers)), *numbers])] + weight)
+            receiver.row([values[k][0] for k in self.kept] + [' '.join([str(len(numbers)), *numbers])])
+
+
+class Airborne(OfReader):
+    """Points that were seen from a flight, or from far above, and do not say from where. All properties are kept."""
+
+    def __init__(self, reader: Any, path: str, options: Any) -> None:
+        refuse_others(options, ('above', 'flight', 'open_end'), 'an airborne scan')
+        vertex = reader.element('vertex')
+        if vertex.has_lists() or reader.element('scanner') is not None:
+            raise Refusal('the file says itself where its points were seen from')
+        columns = [Property('scanner_before' if p.name == 'scanner' else p.name, p.kind) for p in vertex.properties]
+        super().__init__(reader, path, [*columns, Property('scanner', 'int')])
+        self.point, self.scanner, self.weight = self.places, len(columns), weight_column(vertex)
+        for place, axis in zip(self.point, 'xyz'):
+            self.columns[place].name = axis
+        self.above = Above()
+        self.flight = Flight(options.flight) if options.flight is not None else None
+        self.time = next((place for place in map(vertex.column, TIMES) if place is not None), None)
+        if self.flight and self.time is None:
+            raise Refusal('the points have no times: vertex has no property gpstime')
+
+    def pass_vertices(self, receiver: Passage) -> None:
+        x, y, z = self.point
+        row, number, unknown = 0, '0', 0
+
+        def place() -> str:
+            return f'vertex row {row}'
+
+        for row, words in enumerate(self.reader.rows(self.vertex)):
+            if not decimals(words[x], words[y], words[z], place):
+                self.counts['not finite'] += 1
+                continue
+            if self.flight:
+                found = self.flight.number(words[self.time or 0])
+                if found is None:
+                    unknown += 1
+                    continue
+                number = found
+            else:
+                self.above.box.show(float(words[x]), float(words[y]), float(words[z]))
+            receiver.row([*words, number])
+        self.positions = list(self.flight.positions) if self.flight else [self.above.position()]
+        self.counts['before or after the flight'] = unknown
+
+    def remark(self) -> str:
+        return '' if self.flight else self.above.remark()

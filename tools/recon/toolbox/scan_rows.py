@@ -9,7 +9,7 @@ from typing import Any, Iterator
 import numpy as np
 
 from recon.toolbox.mesh_files import WHOLE, Column
-from recon.toolbox.ply_text import FORMATS, IS_NUMBER, Element, Reader, Refusal
+from recon.toolbox.ply_text import FORMATS, IS_NUMBER, Reader, Refusal
 
 LONG = 60
 OUTSIDE = 1 << 62
@@ -41,8 +41,8 @@ def value_of(word: str, name: str, kind: str) -> float:
 
 
 def columns_of(path: str, unit: int, array: np.ndarray) -> list[Column]:
-    """The columns of a scan beside x, y and z, each as a name, a type and the values at these places: those of the first row
-    at each. Refused where a place is that of no row."""
+    """The columns of a scan beside x, y and z that are no lists, each as a name, a type and the values at these places: those of
+    the first row at each. Refused where a place is that of no row."""
     places: list[tuple[int, int, int]] = [(x, y, z) for x, y, z in array.tolist()]
     reader = Reader(path, True)
     try:
@@ -51,8 +51,7 @@ def columns_of(path: str, unit: int, array: np.ndarray) -> list[Column]:
             raise Refusal(f'{path} does not begin with an element vertex')
         point = vertex.point_columns()
         kept = [k for k, p in enumerate(vertex.properties) if k not in point and p.count_kind is None]
-        single = singles(reader.rows(vertex), vertex) if vertex.has_lists() else reader.rows(vertex)
-        rows = rows_at(single, point, kept, unit, {place: None for place in places})
+        rows = rows_at(vertex.scalars(reader.rows(vertex)), point, kept, unit, {place: None for place in places})
     finally:
         reader.close()
     missing = sum(rows[place] is None for place in places)
@@ -62,16 +61,6 @@ def columns_of(path: str, unit: int, array: np.ndarray) -> list[Column]:
     columns = [(vertex.properties[k].name, vertex.properties[k].kind) for k in kept]
     return [(name, kind, np.array([value_of(rows[place][at], name, kind) for place in places], float if kind not in WHOLE else np.int64))
             for at, (name, kind) in enumerate(columns)]
-
-
-def singles(rows: Iterator[list[str]], vertex: Element) -> Iterator[list[str]]:
-    """Rows without the values of lists: one word a property, that of a list its count."""
-    for words in rows:
-        at, found = 0, []
-        for p in vertex.properties:
-            found.append(words[at])
-            at += 1 if p.count_kind is None else 1 + int(words[at])
-        yield found
 
 
 def rows_at(rows: Iterator[Any], point: list[int], kept: list[int], unit: int,

@@ -13,7 +13,7 @@ from recon.toolbox.tool import number_of
 if TYPE_CHECKING:
     from recon.toolbox.sieve import Passage
 
-READING = ('table', 'index', 'positions', 'position', 'images', 'normals', 'far', 'above', 'open_end')
+READING = ('table', 'index', 'positions', 'position', 'images', 'normals', 'far', 'above', 'flight', 'open_end')
 
 
 def scan_columns() -> list[Property]:

@@ -8,16 +8,18 @@ that begin with `#` or `//`.
 from __future__ import annotations
 
 import os
-from typing import Any, Iterator, List, Sequence, Tuple
+from typing import Any, Callable, Iterator, List, Optional, Sequence, Tuple
 
+from recon.toolbox.flight import Above
 from recon.toolbox.ply_text import IS_NOT_FINITE, IS_NUMBER, SCANNER_LIMIT, Refusal, decimals, read_positions
-from recon.toolbox.point_files import has_rows, open_points
+from recon.toolbox.point_files import PcdReader, has_rows, open_points
 from recon.toolbox.sieve import Passage
 from recon.toolbox.sources import Source, refuse_others, scan_columns
 from recon.toolbox.text_lines import DECIMAL_COMMAS, Lines
 from recon.toolbox.tool import number_of, three, yes
 
 Point = Tuple[List[str], Tuple[str, int]]
+Station = Tuple[str, Optional[Sequence[str]]]
 
 
 def row_points(path: str, open_end: bool) -> Iterator[Point]:
@@ -106,8 +108,8 @@ def points_of(path: str, open_end: bool, counts: dict[str, int]) -> Iterator[Poi
         lines.close()
 
 
-def station_of(name: str) -> tuple[str, Sequence[str]]:
-    """A file and its position: that of the words, or of the file itself."""
+def station_of(name: str) -> Station:
+    """A file and its position: that of the words, or of the file itself; None where each point says it."""
     path, equals, position = name.rpartition('=')
     if equals and path and not os.path.exists(name):
         if ',' not in position and not os.path.exists(path):
@@ -117,6 +119,8 @@ def station_of(name: str) -> tuple[str, Sequence[str]]:
         raise Refusal(f'{name} does not say where its scanner stood: {name}=X,Y,Z does')
     reader = open_points(name)
     try:
+        if isinstance(reader, PcdReader) and reader.view:
+            return name, None
         scanner = reader.element('scanner')
         if scanner is None or scanner.count != 1 or not hasattr(reader, 'position'):
             raise Refusal(f'{name} does not say where its scanner stood: {name}=X,Y,Z does')
@@ -125,9 +129,17 @@ def station_of(name: str) -> tuple[str, Sequence[str]]:
         reader.close()
 
 
-def stations(names: Sequence[str], table: str | None) -> list[tuple[str, Sequence[str]]]:
+def refuse_unknown(found: Sequence[Station], names: Sequence[str]) -> None:
+    """Refuses several files that all say themselves that they were seen from 0 0 0."""
+    own = [position for (path, position), name in zip(found, names) if path == name and position is not None]
+    if len(own) > 1 and not any(float(word) for position in own for word in position if IS_NUMBER(word)):
+        raise Refusal(f'the position of the scanner is 0 0 0 in all {len(own)} files, which PCL writes as VIEWPOINT where it knows '
+                      f'none: name the positions, as {names[0]}=X,Y,Z')
+
+
+def stations(names: Sequence[str], table: str | None) -> list[Station]:
     """The files and their positions."""
-    found: list[tuple[str, Sequence[str]]]
+    found: list[Station]
     if table is not None:
         if names:
             raise Refusal('the stations stand in the table or in the words, and not in both')
@@ -138,6 +150,7 @@ def stations(names: Sequence[str], table: str | None) -> list[tuple[str, Sequenc
         found = [(os.path.join(folder, name or ''), position) for position, name in rows]
     else:
         found = [station_of(name) for name in names]
+        refuse_unknown(found, names)
     if not found or len(found) > SCANNER_LIMIT:
         raise Refusal('there is no station' if not found else f'there are over {SCANNER_LIMIT} stations')
     return found
@@ -150,16 +163,47 @@ class Stations(Source):
         refuse_others(options, ('table', 'open_end'), 'files of stations')
         self.files, self.open_end = stations(names, options.table), yes(options.open_end, 'open_end')
         super().__init__(scan_columns(), self.files[0][0] if len(self.files) == 1 else number_of(len(self.files), 'file'))
-        self.positions = [position for _, position in self.files]
+        self.numbers: dict[tuple[str, ...], str] = {}
 
     def run(self, receiver: Passage) -> None:
-        for index, (path, _) in enumerate(self.files):
+        for path, position in self.files:
             try:
-                self.pass_file(path, str(index), receiver)
+                if position is None:
+                    self.pass_viewed(path, receiver)
+                else:
+                    self.positions.append(position)
+                    self.pass_file(path, str(len(self.positions) - 1), receiver.row)
             except Refusal as refusal:
                 raise Refusal(f'{path}: {refusal}') from None
 
-    def pass_file(self, path: str, index: str, receiver: Passage) -> None:
+    def number_of_view(self, place: Sequence[str]) -> str:
+        """The number of a place that points of any file were seen from."""
+        number = self.numbers.setdefault(tuple(place), str(len(self.positions)))
+        if int(number) == len(self.positions):
+            self.positions.append(place)
+        if len(self.positions) > SCANNER_LIMIT:
+            raise Refusal(f'the points were seen from over {SCANNER_LIMIT} places')
+        return number
+
+    def pass_viewed(self, path: str, receiver: Passage) -> None:
+        """Passes on the points of a PCD each of which says where it was seen from."""
+        reader = PcdReader(path, self.open_end)
+        try:
+            vertex, row = reader.elements[0], 0
+            x, y, z = vertex.point_columns()
+            for row, words in enumerate(reader.rows(vertex)):
+                self.count += 1
+                if not decimals(words[x], words[y], words[z], lambda: f'vertex row {row}'):
+                    self.counts['not finite'] += 1
+                elif words[-1] == 'nan':
+                    self.counts['without scanner'] = self.counts.get('without scanner', 0) + 1
+                else:
+                    place = reader.places[int(words[-1])]
+                    receiver.row([words[x], words[y], words[z], self.number_of_view(place)])
+        finally:
+            reader.close()
+
+    def pass_file(self, path: str, index: str, row: Callable[[list[str]], None]) -> None:
         at = ('', 0)
 
         def place() -> str:
@@ -169,6 +213,31 @@ class Stations(Source):
             self.count += 1
             if decimals(point[0], point[1], point[2], place):
                 point.append(index)
-                receiver.row(point)
+                row(point)
             else:
                 self.counts['not finite'] += 1
+
+
+class Overhead(Stations):
+    """Files of points that were all seen from far above, from one position that is made up."""
+
+    def __init__(self, names: Sequence[str], options: Any) -> None:
+        refuse_others(options, ('above', 'open_end'), 'files of an airborne scan')
+        self.files, self.open_end = [(name, ('0', '0', '0')) for name in names], yes(options.open_end, 'open_end')
+        Source.__init__(self, scan_columns(), names[0] if len(names) == 1 else number_of(len(names), 'file'))
+        self.above = Above()
+
+    def run(self, receiver: Passage) -> None:
+        def row(words: list[str]) -> None:
+            self.above.box.show(float(words[0]), float(words[1]), float(words[2]))
+            receiver.row(words)
+
+        for path, _ in self.files:
+            try:
+                self.pass_file(path, '0', row)
+            except Refusal as refusal:
+                raise Refusal(f'{path}: {refusal}') from None
+        self.positions = [self.above.position()]
+
+    def remark(self) -> str:
+        return self.above.remark()
