@@ -3,7 +3,8 @@ PREFIX ?= /usr/local
 PROGRAM = crates/recon_main/out/recon_main
 MESH_PROGRAM = crates/mesh_main/out/mesh_main
 
-USER_TOOLS = $(notdir $(basename $(wildcard tools/*.py)))
+# The interpreter that has numpy and scipy, which a run and the tests install where they may.
+PYTHON = $(shell sh dev/python)
 MACHINE = $(shell uname -s | tr A-Z a-z)-$(shell uname -m)
 
 .PHONY: run recon recon-mesh test attack bench bench-short install dist clean
@@ -11,13 +12,14 @@ MACHINE = $(shell uname -s | tr A-Z a-z)-$(shell uname -m)
 # Proves and builds the program (the first time about twenty minutes on four processors, afterwards seconds), leaves it
 # as ./recon and ./recon-mesh and runs them on an example.
 run: recon recon-mesh
+	@sh dev/python install >/dev/null
 	@echo "recon build: the surface of the tetrahedron in examples/"
 	./recon build examples/tetrahedron.ply tetrahedron_mesh.ply tetrahedron.cert
 	@echo "recon check: whether mesh and certificate are those of the scan"
 	./recon check examples/tetrahedron.ply tetrahedron_mesh.ply tetrahedron.cert
 	@echo "recon-mesh finish: the mesh with its edges flipped where the angles between faces fall"
 	./recon-mesh finish tetrahedron_mesh.ply tetrahedron_finished.ply
-	@echo "tetrahedron_mesh.ply opens in viewers of PLY meshes, in MeshLab after tools/finish.py or tools/mesh_to_floats.py"
+	@echo "tetrahedron_mesh.ply opens in viewers of PLY meshes, in MeshLab after recon-finish or recon-mesh-to-floats"
 
 recon:
 	@echo "proving and building the program, a line for each crate; all that rt prints goes to run.log"
@@ -33,6 +35,7 @@ recon-mesh:
 # the documents name, the tests of tools/ and those of the built program. What passed here before and has not changed is not proved again.
 test:
 	@echo "every proof, every edit that must be refused, every test, then the tests of tools/; all that they print goes to test.log"
+	@sh dev/python install >/dev/null
 	python3 dev/progress.py test.log bash .ci/run
 
 # The wrong bodies of attack/, which the gate leaves out: all (half an hour on four processors where the gate has passed before, an hour where it
@@ -48,27 +51,22 @@ bench: recon
 	@echo "times of calls of linked cells and of walks along sights, 100,000 points"
 	cd crates/cell_bench && rt run -- 100000
 	@echo "times of build and check at growing sizes, into bench_scans/"
-	python3 dev/bench.py ./recon bench_scans $(if $(BESIDE),beside=$(BESIDE))
+	$(PYTHON) dev/bench.py ./recon bench_scans $(if $(BESIDE),beside=$(BESIDE))
 
 # Times build alone on the three worst shapes and on a cube, a room and a torus of a million points, a run each (some minutes; BESIDE as
 # above), and prints the table of docs/performance.md that has these.
 bench-short: recon
-	python3 dev/bench.py ./recon bench_scans scans=short check=no runs=1 $(if $(BESIDE),beside=$(BESIDE))
+	$(PYTHON) dev/bench.py ./recon bench_scans scans=short check=no runs=1 $(if $(BESIDE),beside=$(BESIDE))
 
 # Installs the two programs, their manual pages and the programs of tools/ under PREFIX (a second, where they are built; else they
-# are built first). scan.py becomes recon-scan, mesh_to_floats.py recon-mesh-to-floats, and so on; they want Python 3.8 or later.
+# are built first). recon-scan and the others run the package in share/recon by any Python 3.8 or later that has numpy and scipy.
 install: recon recon-mesh
 	install -D -m 755 recon $(DESTDIR)$(PREFIX)/bin/recon
 	install -D -m 755 recon-mesh $(DESTDIR)$(PREFIX)/bin/recon-mesh
 	install -D -m 644 docs/recon.1 $(DESTDIR)$(PREFIX)/share/man/man1/recon.1
 	install -D -m 644 docs/recon-mesh.1 $(DESTDIR)$(PREFIX)/share/man/man1/recon-mesh.1
-	install -d $(DESTDIR)$(PREFIX)/share/recon/toolbox
-	install -m 644 tools/*.py $(DESTDIR)$(PREFIX)/share/recon
-	install -m 644 tools/toolbox/*.py $(DESTDIR)$(PREFIX)/share/recon/toolbox
-	for tool in $(USER_TOOLS); do \
-	  name=$(DESTDIR)$(PREFIX)/bin/recon-$$(echo $$tool | tr _ -); \
-	  printf '#!/bin/sh\nexec python3 "$$(dirname "$$(readlink -f "$$0")")/../share/recon/%s.py" "$$@"\n' $$tool > $$name && \
-	  chmod 755 $$name || exit 1; done
+	install -D -m 755 dev/python $(DESTDIR)$(PREFIX)/share/recon/python
+	sh dev/install_package $(DESTDIR)$(PREFIX)
 
 # Packs what is installed into one archive, for machines of this kind that have no toolchain: unpacked anywhere, its folder bin/ has
 # the program and the tools (a second, where the program is built).

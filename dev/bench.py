@@ -9,7 +9,7 @@
   beside=PROGRAM     another program that takes the same words, timed run by run beside RECON; its lines and its meshes have to
                      be the same, byte for byte
   sizes=N,N,..       without it 10000,100000,1000000
-  shapes=NAME,..     shapes of make_scan.py; without it cube,torus,room,statue. Where neither sizes nor shapes are given, the
+  shapes=NAME,..     shapes of recon-make-scan; without it cube,torus,room,statue. Where neither sizes nor shapes are given, the
                      worst shapes follow, each at a size of its own
   scans=NAME.N,..    these scans, each a shape with its own size, in the place of sizes and shapes; scans=short stands for the worst
                      shapes, and a cube, a room and a torus of 1000000
@@ -28,9 +28,9 @@ import sys
 import time
 from typing import Any, Sequence
 
-from tools_path import TOOLS
-from toolbox.ply_text import Refusal
-from toolbox.tool import run
+from tools_path import PACKAGE
+from recon.toolbox.ply_text import Refusal
+from recon.toolbox.tool import run
 
 SEED = '7'
 # Shapes whose sights cross as many cells as may be, and how many rows of each take about as long as the others.
@@ -77,7 +77,7 @@ def scan_of(folder: str, shape: str, size: int) -> str:
     """The path of a scan, which is made where it is missing."""
     path = os.path.join(folder, f'{shape}.{size}.ply')
     if not os.path.exists(path):
-        subprocess.run([sys.executable, os.path.join(TOOLS, 'make_scan.py'), shape, str(size), SEED, path], check=True,
+        subprocess.run([sys.executable, PACKAGE, 'make-scan', shape, str(size), SEED, path], check=True,
                        stdout=subprocess.DEVNULL)
     return path
 

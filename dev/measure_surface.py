@@ -8,7 +8,7 @@
   OBJECT             a mesh of triangles, OFF or PLY; its box has the diagonal 1000 in all that is written and said, but with
                      own=yes it stays as it is
   OUT                a scan of it from 12 places around it, for `recon build` with unit=1000
-  MESH               surfaces to be compared, in the numbers of the scan, as finish.py and mesh_to_floats.py write them
+  MESH               surfaces to be compared, in the numbers of the scan, as recon-finish and recon-mesh-to-floats write them
   points=N           how many points the scan has. Without it 42000
   noise=F            how far a point errs along its sight, as the deviation of a normal error, in diagonals. Without it 0.0005
   stray=F            which part of the points is wrong, half of them too short on their sight, half anywhere. Without it 0
@@ -16,7 +16,7 @@
   samples=N          how many places are drawn for distances, each way. Without it 50000
 
 A place is drawn evenly on the object together with a scanner, and kept where that scanner sees it, and not at a grazing
-angle. `room` writes the room of make_scan.py as an object, OFF in thousandths of its length 1. `compare` says a line for each
+angle. `room` writes the room of recon-make-scan as an object, OFF in thousandths of its length 1. `compare` says a line for each
 surface: distances from it to the object and from the object to it (mean, 95 of 100, greatest), to exact triangles; how many
 edges are open, how many have more than two faces, where sheets touch; how many pieces hang together by edges; the mean angle
 between neighboring faces; and how many pairs of faces cross.
@@ -32,10 +32,10 @@ if __name__ == '__main__':
 import numpy as np  # noqa: E402
 
 from objects import Camera, Surface, draw_places, joined, read_object, vectors_across
-from make_scan import shape_of
-from toolbox import fast_mesh
-from toolbox.ply_text import IS_NUMBER, Property, Refusal, Writer, whole_file
-from toolbox.tool import run, yes
+from recon.make_scan import shape_of
+from recon.toolbox import half_edges, triangles
+from recon.toolbox.ply_text import IS_NUMBER, Property, Refusal, Writer, whole_file
+from recon.toolbox.tool import run, yes
 
 DIAGONAL = 1000.0
 GRAZING = 0.08
@@ -114,7 +114,7 @@ def told(values: np.ndarray) -> str:
 def edges_of(faces: np.ndarray) -> tuple[int, int, np.ndarray, np.ndarray]:
     """How many edges are open, how many have more than two faces, and pairs of faces with a common edge of two."""
     corners = faces.ravel()
-    keys = fast_mesh.edge_keys(corners, corners.max() + 1)
+    keys = half_edges.edge_keys(corners, corners.max() + 1)
     order = np.argsort(keys, kind='stable')
     starts = np.flatnonzero(np.r_[True, np.diff(keys[order]) != 0])
     counts = np.diff(np.r_[starts, len(keys)])
@@ -139,11 +139,11 @@ def crossing_pairs(places: np.ndarray, faces: np.ndarray) -> int:
     """How many pairs of faces cross, of places rounded to a 2^36th of the box: coarser ones make neighbors cross."""
     scale = (1 << 36) / max(np.ptp(places, axis=0).max(), 1e-300)
     whole = np.round((places - places.min(axis=0)) * scale).astype(np.int64)
-    low, high = fast_mesh.boxes_of(whole, faces)
-    one, other = fast_mesh.Grid(low, high, np.arange(len(faces))).meet(low, high)
+    low, high = triangles.boxes_of(whole, faces)
+    one, other = triangles.Grid(low, high, np.arange(len(faces))).meet(low, high)
     keep = one < other
     one, other = one[keep], other[keep]
-    return int(fast_mesh.crossing(whole, faces[one], faces[other]).sum())
+    return int(triangles.crossing(whole, faces[one], faces[other]).sum())
 
 
 def mean_angle(places: np.ndarray, faces: np.ndarray, one: np.ndarray, other: np.ndarray) -> float:

@@ -8,7 +8,7 @@
   PICTURE            inside, sight, torus, statue, room, smooth, unit, scanner, slice, finish, kitten; all of them where none
                      is named
 
-Scans are made by make_scan.py, and drawn by render.py: points on white, surfaces with their outer side warm and their
+Scans are made by recon-make-scan, and drawn by render.py: points on white, surfaces with their outer side warm and their
 inner side blue. `finish` and `kitten` are of objects that Debian's package libcgal-demo has. Some minutes.
 """
 from __future__ import annotations
@@ -34,7 +34,7 @@ from PIL import Image  # noqa: E402
 
 import objects  # noqa: E402
 import render  # noqa: E402
-from tools_path import TOOLS  # noqa: E402
+from tools_path import PACKAGE  # noqa: E402
 
 DEV = os.path.dirname(os.path.abspath(__file__))
 CGAL = '/usr/share/doc/libcgal-dev/data.tar.gz'
@@ -178,7 +178,7 @@ def side_by_side(images: list[np.ndarray], titles: list[str], folder: str, name:
 
 
 def tool(program: str, *words: str) -> None:
-    subprocess.run([sys.executable, os.path.join(TOOLS, program + '.py'), *words], check=True, stdout=subprocess.DEVNULL)
+    subprocess.run([sys.executable, PACKAGE, program, *words], check=True, stdout=subprocess.DEVNULL)
 
 
 def scan(work: str, shape: str, *options: str) -> str:

@@ -10,7 +10,7 @@
   count=N            points of a scan; without it 100000
   points=N           the most points of a tile; without it 45000
   spacings=K,..      overlaps in mean spacings; without it 5,10,20,50
-  through=N          points from outside that are handed in to a tile; without it as many as tiles.py takes
+  through=N          points from outside that are handed in to a tile; without it as many as recon-tiles takes
   whole=no           the scan is too large for one run, so there is no mesh of the whole to compare with
   jobs=N             runs side by side; without it 1
 
@@ -32,11 +32,11 @@ if __name__ == '__main__':
 import numpy  # noqa: E402
 
 import tools_path  # noqa: E402
-from make_scan import FIGURE, FURNITURE, ROOM
-from toolbox.tile_join import Tile, read_mesh, read_tiles
-from toolbox.tool import run
+from recon.make_scan import FIGURE, FURNITURE, ROOM
+from recon.toolbox.tile_join import Tile, read_mesh, read_tiles
+from recon.toolbox.tool import run
 
-TOOLS = tools_path.TOOLS
+PACKAGE = tools_path.PACKAGE
 SCALE, NOISE, NEAR = 500000, 0.0015, 20
 
 
@@ -107,7 +107,7 @@ def called(words: list[str]) -> str:
 
 
 def tool(name: str, *words: str) -> str:
-    return called([sys.executable, os.path.join(TOOLS, name + '.py'), *words])
+    return called([sys.executable, PACKAGE, name, *words])
 
 
 def scan_of(folder: str, shape: str, count: str) -> str:

@@ -12,6 +12,7 @@ from typing import Any, Sequence
 
 HERE = os.path.dirname(os.path.abspath(__file__))
 TOOLS = os.path.dirname(HERE)
+PACKAGE = os.path.join(TOOLS, 'recon')
 ROOT = os.path.dirname(TOOLS)
 DEV = os.path.join(ROOT, 'dev')
 PLACES = [os.environ.get('RECON', ''), os.path.join(ROOT, 'recon'),
@@ -45,9 +46,19 @@ def read(name: str) -> str:
 
 def call(program: str, *words: str) -> Any:
     """Status, standard output and standard error of a program of tools/ or dev/."""
-    path = next(filter(os.path.exists, (os.path.join(folder, program + '.py') for folder in (TOOLS, DEV))))
-    done = subprocess.run([sys.executable, path, *words], capture_output=True, text=True)
+    done = subprocess.run([*command(program), *words], capture_output=True, text=True)
     return done.returncode, done.stdout, done.stderr
+
+
+def command(program: str) -> list[str]:
+    """The words that run a program of tools/ or dev/, from any folder."""
+    path = os.path.join(DEV, program + '.py')
+    return [sys.executable, path] if os.path.exists(path) else [sys.executable, PACKAGE, program]
+
+
+def spoken(program: str) -> str:
+    """The name under which a program speaks."""
+    return program + '.py' if os.path.exists(os.path.join(DEV, program + '.py')) else 'recon-' + program.replace('_', '-')
 
 
 def equal(got: Any, wanted: Any) -> None:
@@ -57,14 +68,14 @@ def equal(got: Any, wanted: Any) -> None:
 
 def says(program: str, line: str, *words: str) -> None:
     """The program ends well with this line."""
-    equal(call(program, *words), (0, f'{program}.py: {line}\n', ''))
+    equal(call(program, *words), (0, f'{spoken(program)}: {line}\n', ''))
 
 
 def refuses(program: str, part: str, *words: str, out: str = 'out.ply') -> None:
     """The program refuses with a line that has this part, and leaves what was there."""
     write(out, 'before')
     status, said, error = call(program, *words)
-    if status != 1 or said or part not in error or not error.startswith(f'{program}.py: refused: ') or error.count('\n') != 1:
+    if status != 1 or said or part not in error or not error.startswith(f'{spoken(program)}: refused: ') or error.count('\n') != 1:
         raise AssertionError(f'\n  got    {(status, said, error)!r}\n  wanted a refusal with {part!r}')
     equal((read(out), os.path.exists(out + '.part')), ('before', False))
 

@@ -9,11 +9,20 @@ wrote, and is run on files that are cut, spoiled and that lie. `python3 -m unitt
 """
 from __future__ import annotations
 
+import importlib.util
+import os
+import subprocess
 import sys
 import unittest
 from typing import cast
 
-from helpers import HERE, RECON
+if not (importlib.util.find_spec('numpy') and importlib.util.find_spec('scipy')):
+    # another interpreter has them, or it is said how to get them
+    finder = os.path.join(os.path.dirname(os.path.abspath(__file__)), '..', '..', 'dev', 'python')
+    found = subprocess.run(['sh', finder], stdout=subprocess.PIPE, text=True).stdout.strip()
+    sys.exit(1) if not found else os.execv(found, [found, *sys.argv])
+
+from helpers import HERE, RECON  # noqa: E402
 
 
 class Counted(unittest.TextTestResult):

@@ -1,6 +1,7 @@
 """What holds for all programs; meshes and scans that are made."""
 from __future__ import annotations
 
+import importlib
 import os
 import random
 import re
@@ -8,8 +9,9 @@ import struct
 import subprocess
 import sys
 
-from helpers import MESH, POINTS, ROOT, SCAN, TOOLS, Given, InFolder, binary, call, equal, head, holds, read, refuses, says, write
-from toolbox.ply_text import Refusal
+from helpers import (MESH, PACKAGE, POINTS, ROOT, SCAN, Given, InFolder, binary, call, command, equal, head, holds, read, refuses,
+                     says, spoken, write)
+from recon.toolbox.ply_text import Refusal
 from test_stations import FIRST_STATION, PTX
 
 SLICE = 'loops 1\nloop 4\n0 200 40000 400\n2 40000 200 400\n3 -200 -40000 400\n1 -40000 -200 400\n'
@@ -85,7 +87,7 @@ class All(InFolder):
             refuses('grid', why, 'points', 'out.txt', *words, out='out.txt')
         says('grid', 'wrote 1048576 points to out.txt, 1024 by 1024 by 1', 'points', 'out.txt', 'from=0,0,0', 'to=1024,1024,1', 'side=1')
         write('in.txt', 'answers 3\ninside\noutside\ninside\n')
-        equal(call('grid', 'volume', 'in.txt', 'side=0.1'), (0, 'grid.py: read 3 answers of in.txt; inside 2, volume 0.002\n', ''))
+        equal(call('grid', 'volume', 'in.txt', 'side=0.1'), (0, 'recon-grid: read 3 answers of in.txt; inside 2, volume 0.002\n', ''))
         write('in.txt', 'answers 0\n')
         says('grid', 'read 0 answers of in.txt; inside 0, volume 0', 'volume', 'in.txt', 'side=2')
         spoiled = (('', 'line 1'), ('answers\n', 'line 1'), ('answers 1\n', 'missing behind line 1'), ('answers 1\ninside', 'cut: line 2'),
@@ -104,20 +106,20 @@ class All(InFolder):
                  ('scan', ('cut', 'out.ply'), PTX.encode('ascii')),
                  ('scan', ('cut=1,2,3', 'out.ply'), b'2\n1 2 3 4\n5 6 7 8\n'))
         for program, words, data in files:
-            module = __import__(program)
+            module = importlib.import_module('recon.' + program)
             for length in range(len(data)):
                 if data[:length] == FIRST_STATION.encode('ascii'):
                     continue
                 write('cut', data[:length])
                 write('out.ply', 'before')
                 try:
-                    module.main(words, Given())
+                    module.work(words, Given())
                 except Refusal:
                     equal((read('out.ply'), os.path.exists('out.ply.part')), ('before', False))
                 else:
                     raise AssertionError(f'{program}: cut at {length}, and taken')
             write('cut', data)
-            module.main(words, Given())
+            module.work(words, Given())
 
     def test_changed_files_are_taken_or_refused(self) -> None:
         draw = random.Random(1)
@@ -131,7 +133,7 @@ class All(InFolder):
             program, words, data = draw.choice(files)
             write('in', changed(draw, data))
             try:
-                __import__(program).main(words, Given())
+                importlib.import_module('recon.' + program).work(words, Given())
                 taken += 1
             except (Refusal, ArithmeticError):
                 equal(os.path.exists('out.part'), False)
@@ -149,7 +151,7 @@ class All(InFolder):
     def test_help_and_words(self) -> None:
         for program in PROGRAMS:
             status, said, error = call(program, '--help')
-            equal((status, error, f'{program}.py' in said), (0, '', True))
+            equal((status, error, spoken(program) in said), (0, '', True))
             equal(call(program, 'a', 'b', 'c', 'd=e', 'f=g')[0] in (1, 2), True)
         equal(call('scan', 'a', 'b', 'side=1', 'side=2')[0], 2)
         refuses('scan', 'No such file or directory: none', 'none', 'out.ply', 'side=1')
@@ -167,14 +169,14 @@ class All(InFolder):
 
     def test_the_first_line_of_the_help_alone(self) -> None:
         for program in PROGRAMS:
-            command = f'{sys.executable} {os.path.join(TOOLS, program + ".py")} --help | head -c 1'
-            done = subprocess.run(command, shell=True, capture_output=True, text=True)
+            line = ' '.join([*command(program), '--help | head -c 1'])
+            done = subprocess.run(line, shell=True, capture_output=True, text=True)
             equal((len(done.stdout), done.stderr), (1, ''))
 
     def test_the_lines_of_the_guide_are_understood(self) -> None:
         # no file is there, so each program that reads one has to say so, and not that it does not know the words
         with open(os.path.join(ROOT, 'docs', 'using.md'), encoding='utf-8') as file:
-            lines = re.findall(r'python3 tools/(\w+)\.py ([^`\n]+)', file.read())
+            lines = re.findall(r'(?:^    |^      |`)recon-([a-z-]+) ([^`\n]*(?:\.|[a-z]=)[^`\n]*)', file.read(), re.MULTILINE)
         equal(len(lines) > 15, True)
         for program, words in lines:
             status, said, error = call(program, *words.split())
@@ -189,7 +191,7 @@ class All(InFolder):
                    'subprocess.run([sys.executable] + sys.argv[1:], check=True, stdout=subprocess.DEVNULL);'
                    'print(resource.getrusage(resource.RUSAGE_CHILDREN).ru_maxrss)')
         for words in ([], ['side=0.5']):
-            done = subprocess.run([sys.executable, '-c', measure, os.path.join(TOOLS, 'scan.py'), 'in.ply', 'out.ply'] + words,
+            done = subprocess.run([sys.executable, '-c', measure, PACKAGE, 'scan', 'in.ply', 'out.ply'] + words,
                                   capture_output=True, text=True)
             equal((words, done.returncode, int(done.stdout) < 60000), (words, 0, True))
             equal(read('out.ply')[:400].count('element vertex 200000\n'), 1)

@@ -1,21 +1,23 @@
 """Meshes that are finished: crossings, flips, smoothing, pieces, splits, colors and forms, on small meshes."""
 from __future__ import annotations
 
+import gzip
 import itertools
 import json
 import os
 import random
 import struct
 import subprocess
-import sys
 import unittest
 from fractions import Fraction
 from typing import Any, Sequence
 
-from helpers import RECON, TOOLS, InFolder, call, equal, head, refuses, write
-from toolbox import flips, half_edges, smoothing
-from toolbox.crossing import cross, orient
-from toolbox.vectors import Numbers, normal
+import numpy as np
+
+from helpers import RECON, InFolder, call, equal, head, refuses, write
+from recon.toolbox import flips, half_edges, smoothing, triangles
+from recon.toolbox.crossing import cross, orient
+from recon.toolbox.vectors import axes, normal
 
 
 def mesh_text(places: Sequence[Any], faces: Sequence[Any]) -> str:
@@ -106,9 +108,9 @@ def clipped(polygon: Sequence[Any], walls: Sequence[Any]) -> list[Any]:
 
 def check_flips(places: Sequence[Any], faces: Sequence[Any]) -> int:
     """Flips a mesh, and checks what holds of it after."""
-    corners = flat(faces)
+    corners = np.array(flat(faces))
     before = crossing_pairs(places, corners)
-    flipper = flips.Flipper(places, corners, half_edges.pair_edges(places, corners))
+    flipper = flips.Flipper(np.array(places), corners, half_edges.pair_edges(np.array(places), corners))
     falling = []
 
     def tell(_: str) -> None:
@@ -118,27 +120,27 @@ def check_flips(places: Sequence[Any], faces: Sequence[Any]) -> int:
     flipper.run(tell)
     equal(all(later <= earlier for earlier, later in zip([start] + falling, falling)) and falling[-1] < start, True)
     equal(len(crossing_pairs(places, corners)) <= len(before) and (bool(before) or not crossing_pairs(places, corners)), True)
-    twins = half_edges.pair_edges(places, corners)
+    twins = half_edges.pair_edges(np.array(places), corners)
     equal(all(corners[h] == corners[half_edges.after(twin)] for h, twin in enumerate(twins)), True)
     return flipper.flipped
 
 
-def total_angle(places: Sequence[Any], corners: list[int]) -> float:
+def total_angle(places: Sequence[Any], corners: np.ndarray) -> float:
     """The sum of angle times length."""
     from math import acos, dist
-    twins = half_edges.pair_edges(places, corners)
-    normals = [normal(Numbers, *(places[corner] for corner in corners[at:at + 3])) for at in range(0, len(corners), 3)]
+    twins = half_edges.pair_edges(np.array(places), corners)
+    spots = np.array(places, float)
+    normals = np.stack(normal(*(axes(spots, corners[k::3]) for k in range(3))), axis=1)
     return sum(acos(max(-1, min(1, sum(x * y for x, y in zip(normals[h // 3], normals[t // 3])))))
                * dist(places[corners[h]], places[corners[t]]) for h, t in enumerate(twins) if h < t)
 
 
 def best_edge(places: Sequence[Any], corners: list[int]) -> Any:
     """The flipper of a mesh and the edge that gains most."""
-    flipper = flips.Flipper(places, corners, half_edges.pair_edges(places, corners))
-    for edge, twin in enumerate(flipper.twins):
-        if edge < twin:
-            flipper.weigh(edge)
-    return flipper, max(flipper.gains, key=flipper.gains.get)
+    array, sides = np.array(places), np.array(corners)
+    flipper = flips.Flipper(array, sides, half_edges.pair_edges(array, sides))
+    flipper.weigh(np.flatnonzero(np.arange(len(sides)) < flipper.twins))
+    return flipper, int(flipper.gains.argmax())
 
 
 TOUCHING = [(0, 0, 0), (0, 0, 10), (10, 0, 5), (0, 10, 5), (-10, 0, 5), (0, -10, 5)]
@@ -175,16 +177,6 @@ def two_balls() -> Any:
         [tuple(k + len(places) for k in face) for face in faces[-2:]]
 
 
-def check_same(within: int) -> None:
-    made = []
-    for without in ('', '1'):
-        done = subprocess.run([sys.executable, os.path.join(TOOLS, 'finish.py'), 'in.ply', 'out.ply', 'smooth=2',
-                               f'within={within}', 'pieces=1'], capture_output=True, text=True, env=dict(os.environ, WITHOUT_NUMPY=without))
-        with open('out.ply', 'rb') as file:
-            made.append((done.stdout, file.read()))
-    equal(made[0] == made[1] and 'flipped' in made[0][0], True)
-
-
 class Finish(InFolder):
     def test_triangles_cross_exactly_where_they_have_a_place_in_common(self) -> None:
         draw, met = random.Random(2), 0
@@ -217,25 +209,25 @@ class Finish(InFolder):
     def test_a_flip_that_would_cross_is_not_made(self) -> None:
         places, faces = ball(5, 100000, 0.3)
         flipper, edge = best_edge(places, flat(faces))
-        equal(flipper.cross_nothing([edge]), [edge])
-        middle = [sum(column) // 3 for column in zip(*(places[k] for k in flipper.new_faces(edge)[0]))]
+        equal(flipper.cross_nothing(np.array([edge])).tolist(), [True])
+        middle = [sum(column) // 3 for column in zip(*(places[k] for k in flipper.new_faces(np.array([edge]))[0]))]
         spike = [tuple(x + y for x, y in zip(middle, step)) for step in ((0, 0, 0), (200, 0, 0), (0, 200, 0), (-100, -100, 200))]
         spike[0] = tuple(x - 100 for x in spike[0])
         faces += [tuple(k + len(places) for k in face) for face in TETRAHEDRON]
         places += spike
         equal(crossing_pairs(places, flat(faces)), set())
         flipper, again = best_edge(places, flat(faces))
-        equal((again, flipper.cross_nothing([edge])), (edge, []))
+        equal((again, flipper.cross_nothing(np.array([edge])).tolist()), (edge, [False]))
         equal(check_flips(places, faces) > 20, True)
 
     def test_sheets_that_touch_are_told_apart(self) -> None:
         one = outward(TOUCHING, [tuple((0, 1, 2, 3)[k] for k in face) for face in TETRAHEDRON])
         other = outward(TOUCHING, [tuple((0, 1, 4, 5)[k] for k in face) for face in TETRAHEDRON])
-        corners = flat(one + other)
-        twins = half_edges.pair_edges(TOUCHING, corners)
-        equal(half_edges.pieces_of(corners, twins), [0] * 4 + [1] * 4)
+        corners = np.array(flat(one + other))
+        twins = half_edges.pair_edges(np.array(TOUCHING), corners)
+        equal(half_edges.pieces_of(twins).tolist(), [0] * 4 + [1] * 4)
         fans, copies = half_edges.fans_of(corners, twins)
-        equal((sorted(copies), fans[:12] == corners[:12], set(fans[12:])), ([0, 1], True, {4, 5, 6, 7}))
+        equal((sorted(copies), (fans[:12] == corners[:12]).all(), set(fans[12:])), ([0, 1], True, {4, 5, 6, 7}))
 
     def test_what_is_written(self) -> None:
         write('in.ply', mesh_text(SCAN_ROWS, [(0, 1, 2), (0, 2, 3), (0, 3, 1), (1, 3, 2)]))
@@ -244,7 +236,7 @@ class Finish(InFolder):
                 (-0.1, 0.1, -0.1, 7, 8, 9, 1), (-0.0996, -0.1, 0.1004, 10, 11, 12, 2)]
         write('scan.ply', head(5, columns) + ''.join(' '.join(map(str, row)) + '\n' for row in rows))
         status, said, error = call('finish', 'in.ply', 'out.ply', 'unit=1000', 'scan=scan.ply', 'origin=5,0,0')
-        equal((status, error, 'brought back red, green, blue, intensity of scan.ply' in said), (0, '', True))
+        equal((status, error, 'brought back red, green, blue, intensity of the scan' in said), (0, '', True))
         with open('out.ply', 'rb') as file:
             text, body = file.read().split(b'end_header\n')
         equal(struct.unpack_from('<dddBBBf', body, 31), (5.1, -0.1, -0.1, 4, 5, 6, 0.25))
@@ -262,6 +254,58 @@ class Finish(InFolder):
         equal(call('finish', 'in.ply', 'out.glb', 'scan=scan.ply')[0], 0)
         with open('out.glb', 'rb') as file:
             equal(bytes((1, 2, 3, 255, 4, 2, 3, 255, 7, 2, 3, 255)) in file.read(), True)
+
+    def test_what_nobody_saw_is_a_mesh_of_its_own(self) -> None:
+        places, faces = ball(10, 1000)
+        write('in.ply', mesh_text(places, faces))
+        status, said, error = call('finish', 'in.ply', 'out.ply', '--seen', '--no-flips')
+        equal((status, error, '0 faces of what no scanner saw' in said, os.path.exists('out-seen.ply')), (0, '', True, True))
+        # a square of small faces, closed below by a fan of long ones
+        side = 24
+        places = [(100 * i, 100 * j, (i * j) % 7) for i in range(side) for j in range(side)]
+        sheet = [face for i in range(side - 1) for j in range(side - 1) for k in [side * i + j]
+                 for face in ((k, k + side, k + 1), (k + 1, k + side, k + side + 1))]
+        ring = [side * i for i in range(side)] + [side * (side - 1) + j for j in range(1, side)]
+        ring += [side * i + side - 1 for i in range(side - 2, -1, -1)] + list(range(side - 2, 0, -1))
+        lid = [(ring[0], two, one) for one, two in zip(ring[1:], ring[2:])]
+        write('in.ply', mesh_text(places, sheet + lid))
+        status, said, error = call('finish', 'in.ply', 'out.ply', '--seen', '--no-flips', '--unit', '10')
+        equal((status, error), (0, ''))
+        with open('out.ply', 'rb') as file:
+            top_of, body = file.read().split(b'end_header\n')
+        marks = [body[24 * len(places) + 14 * k + 13] for k in range(len(sheet + lid))]
+        equal((b'property uchar unseen' in top_of, sum(marks[:len(sheet)]), sum(marks[len(sheet):]) > 60), (True, 0, True))
+        equal(f'; {sum(marks)} faces of what no scanner saw; ' in said, True)
+        with open('out-seen.ply', 'rb') as file:
+            equal(b'element face %d\n' % (len(marks) - sum(marks)) in file.read(), True)
+
+    def test_the_unit_of_the_certificate(self) -> None:
+        write('in.ply', mesh_text(SCAN_ROWS, [(0, 1, 2), (0, 2, 3), (0, 3, 1), (1, 3, 2)]))
+        stamp = f'recon certificate 2\nscan {"0" * 64}\nunit 250\nscanner none\npoints 4\n'
+        write('scan.cert', stamp)
+        for words in ((), ('cert=packed.gz',), ('cert=scan.cert',)):
+            with gzip.open('packed.gz', 'wb') as file:
+                file.write(stamp.encode('ascii'))
+            said = call('finish', 'in.ply', 'out.obj', *words)[1]
+            equal(f'unit=250 by {words[0][5:] if words else "scan.cert"}; ' in said, True)
+            with open('out.obj', encoding='ascii') as lines:
+                equal([line for line in lines if line[0] == 'v'][0], 'v 0.40000000000000002 0.40000000000000002 0.40000000000000002\n')
+        equal('unit=' in call('finish', 'in.ply', 'out.obj', 'unit=1')[1], False)
+        write('other.cert', stamp)
+        equal('unit=' in call('finish', 'in.ply', 'out.obj')[1], False)
+        write('in.txt', 'recon certificate 1\n')
+        refuses('finish', 'states its unit', 'in.ply', 'out.ply', 'cert=in.txt')
+
+    def test_colors_of_points_with_lists_and_as_obj(self) -> None:
+        write('in.ply', mesh_text(SCAN_ROWS, [(0, 1, 2), (0, 2, 3), (0, 3, 1), (1, 3, 2)]))
+        columns = 'float x, float y, float z, uchar red, list uchar int scanner, uchar green, uchar blue'
+        write('scan.ply', head(4, columns) + ''.join(
+            ' '.join(map(str, place)) + f' {k} 2 0 1 51 255\n' for k, place in enumerate(SCAN_ROWS)))
+        status, said, error = call('finish', 'in.ply', 'out.obj', 'scan=scan.ply')
+        equal((status, error, 'brought back red, green, blue of the scan' in said), (0, '', True))
+        with open('out.obj', encoding='ascii') as lines:
+            rows = [line.split() for line in lines]
+        equal((rows[2], rows[-1][0], len(rows)), (['v', '100', '-100', '-100', '0.003922', '0.2', '1'], 'f', 9))
 
     def test_pieces_and_smoothing(self) -> None:
         places, faces = two_balls()
@@ -287,17 +331,13 @@ class Finish(InFolder):
         places, faces = places + inner, faces + [tuple(len(places) + k for k in face[::-1]) for face in faces]
         corners = flat(faces)
         equal(crossing_pairs(places, corners), set())
-        smoother = smoothing.Smoother(places, corners, 300.0)
+        sides = np.array(corners)
+        smoother = smoothing.Smoother(np.array(places), 300.0)
         for _ in range(3):
-            smoother.step(half_edges.pair_edges(places, corners))
-            equal(crossing_pairs(places, corners), set())
+            smoother.step(sides, half_edges.pair_edges(smoother.places, sides))
+            equal(crossing_pairs(smoother.places.tolist(), corners), set())
 
-    def test_crossings_of_far_places_by_numpy(self) -> None:
-        try:
-            import numpy as np
-            from toolbox import fast_mesh
-        except ImportError:
-            return
+    def test_crossings_of_far_places(self) -> None:
         draw = random.Random(4)
         for size in (4, 1000, 4000000):
             places = [tuple(draw.randrange(size) for _ in range(3)) for _ in range(60)]
@@ -306,24 +346,15 @@ class Finish(InFolder):
             pairs = [row for row in pairs
                      if all(any(normal_of(*(places[k] for k in half))) for half in (row[:3], row[3:]))]
             rows = np.array(pairs)
-            got = fast_mesh.crossing(np.array(places), rows[:, :3], rows[:, 3:])
+            got = triangles.crossing(np.array(places), rows[:, :3], rows[:, 3:])
             equal(got.tolist(), [cross(places, row[:3], row[3:]) for row in pairs])
-
-    def test_with_numpy_and_without_it_is_the_same(self) -> None:
-        try:
-            import numpy  # noqa: F401
-        except ImportError:
-            return
-        for size in (3000, 1900000):
-            write('in.ply', mesh_text(*ball(6, size, 0.1)))
-            check_same(size // 15)
 
     @unittest.skipUnless(RECON, 'recon is not built here')
     def test_what_recon_builds_is_finished(self) -> None:
         equal(call('make_scan', 'statue', '600', '1', 'scan.ply')[0], 0)
         subprocess.run([RECON, 'build', 'scan.ply', 'mesh.ply', 'cert'], check=True, capture_output=True)
         status, said, error = call('finish', 'mesh.ply', 'out.ply', 'pieces=1', 'scan=scan.ply', 'manifold=yes')
-        equal((status, error, 'brought back scanner of scan.ply' in said), (0, '', True))
+        equal((status, error, 'brought back scanner of the scan' in said), (0, '', True))
 
     def test_meshes_that_are_not_finished(self) -> None:
         tetrahedron = mesh_text(SCAN_ROWS, [(0, 1, 2), (0, 2, 3), (0, 3, 1), (1, 3, 2)])
@@ -333,7 +364,7 @@ class Finish(InFolder):
                             (('smooth=1', 'within=0'), 'within='), (('pieces=0',), 'pieces='), (('unit=0',), 'unit='),
                             (('scan=scan.ply',), '3 of 4 vertices are no points of scan.ply at unit=1')):
             refuses('finish', part, 'in.ply', 'out.ply', *words)
-        refuses('finish', 'ends in none of .ply, .stl, .glb', 'in.ply', 'out.obj', out='out.obj')
+        refuses('finish', 'ends in none of .ply, .stl, .glb, .obj', 'in.ply', 'out.off', out='out.off')
         spoiled = ((tetrahedron.replace('int x', 'double x'), 'floating point already'), (tetrahedron[:-1], 'it is cut'),
                    (tetrahedron[:-8], 'it has 24 numbers where its header says 28'),
                    (tetrahedron.replace('3 0 1 2', '3 0 1 4'), 'a face is no triangle'),

@@ -8,11 +8,11 @@ import struct
 import zlib
 
 from helpers import Given, InFolder, binary, call, equal, head, holds, read, refuses, says, write
-import scan
+from recon import scan
 from typing import Any, Callable
 from test_all import changed
-from toolbox.e57_file import Column
-from toolbox.ply_text import Refusal
+from recon.toolbox.e57_file import Column
+from recon.toolbox.ply_text import Refusal
 
 PCD = """# .PCD v0.7 - Point Cloud Data file format
 VERSION 0.7
@@ -291,9 +291,9 @@ class OtherFiles(InFolder):
             write('in.bin', data[:draw.randrange(len(data))] if draw.random() < 0.2 else data)
             try:
                 if whole is IMAGES_BIN:
-                    scan.main(('in.ply', 'out'), Given(images='in.bin'))
+                    scan.work(('in.ply', 'out'), Given(images='in.bin'))
                 else:
-                    scan.main(('in.bin', 'out'), Given())
+                    scan.work(('in.bin', 'out'), Given())
                 taken += 1
             except (Refusal, ArithmeticError):
                 equal(os.path.exists('out.part'), False)

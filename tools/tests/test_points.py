@@ -5,7 +5,7 @@ import re
 import struct
 
 from helpers import POINTS, SCAN, InFolder, binary, call, equal, head, holds, read, refuses, says, write
-from toolbox.sieve import Cubes
+from recon.toolbox.sieve import Cubes
 
 PRINTED = '0.10000000149011612 -2.5 1.0000000116860974e-07 255\n100000.0 16777216.0 -0.75 0\n'
 

@@ -6,7 +6,7 @@ import random
 from decimal import Decimal
 
 from helpers import SCAN, InFolder, binary, call, equal, head, holds, read, refuses, says, write
-from toolbox.exact import Pose
+from recon.toolbox.exact import Pose
 
 FIRST_STATION = """2
 2

@@ -11,10 +11,11 @@ import unittest
 from typing import Any, Sequence
 
 from helpers import RECON, ROOT, SCAN, InFolder, call, equal, head, read, refuses, says, write
-from toolbox import tile_boxes, tile_split
-from toolbox.exact import differences
-from toolbox.ply_text import Refusal
-from toolbox.tile_gaps import Gaps
+from recon.toolbox.tile_jobs import cksum
+from recon.toolbox import tile_boxes, tile_split
+from recon.toolbox.exact import differences
+from recon.toolbox.ply_text import Refusal
+from recon.toolbox.tile_gaps import Gaps
 from test_stations import PTX
 
 PLACES = [(0, 0, 900), (900, 0, 0), (0, 900, 5), (5, 5, 5)]
@@ -88,7 +89,7 @@ def listed(folder: str, tile: dict[Any, Any]) -> list[Any]:
 def refuses_split(part: str, *words: str) -> None:
     """The split is refused with a line that has this part, and no folder is left."""
     status, said, error = call('tiles', 'split', *words)
-    equal((status, said, part in error or error, error.startswith('tiles.py: refused: ')), (1, '', True, True))
+    equal((status, said, part in error or error, error.startswith('recon-tiles: refused: ')), (1, '', True, True))
     equal((os.path.exists('none'), os.path.exists('none.part')), (False, False))
 
 
@@ -166,6 +167,11 @@ def shell(line: str, **more) -> Any:
     return done.returncode, done.stderr
 
 
+def sign(name: str) -> None:
+    """Makes a tile's `done` file that of the scan and the surface that are there."""
+    write(f'tiles/{name}.done', 'points\nyes\n' + ''.join(cksum(f'tiles/{name}{end}') + '\n' for end in ('.ply', '.mesh.ply')))
+
+
 def names() -> list[str]:
     return [tile['name'] for tile in tiles_of('tiles')[1]]
 
@@ -240,7 +246,7 @@ class Tiles(InFolder):
         rows = drawn(1000)
         write('in.ply', scan_of(rows))
         status, said, error = call('tiles', 'split', 'in.ply', 'out', 'points=400', 'overlap=20', 'unit=2', 'vote=9')
-        equal((status, error, said[:66]), (0, '', 'tiles.py: read 1000 points of in.ply; left out nothing; wrote 4 ti'))
+        equal((status, error, said[:69]), (0, '', 'recon-tiles: read 1000 points of in.ply; left out nothing; wrote 4 ti'))
         tiles = are_tiles('out', rows, 400)
         wanted = ['000.ply', '001.ply', '002.ply', '003.ply', 'Makefile', 'handed.txt', 'jobs.txt', 'tiles.json']
         equal((len(tiles), sorted(os.listdir('out'))), (4, wanted))
@@ -368,7 +374,8 @@ class Tiles(InFolder):
         known()
         equal((shell('make -s -j2'), calls()), ((0, ''), ['build 001', 'check 001']))
         equal((shell('make -s -j2'), shell('sh jobs.txt'), calls()), ((0, ''), (0, ''), []))
-        equal(read('tiles/001.done'), 'points\nyes\n')
+        equal(read('tiles/001.done')[:11], 'points\nyes\n')
+        equal([line.split()[2] for line in read('tiles/001.done').splitlines()[2:]], ['001.ply', '001.mesh.ply'])
 
     def test_tiles_that_agree_are_joined_to_the_whole(self) -> None:
         prepared()
@@ -450,11 +457,30 @@ class Tiles(InFolder):
         for spoiled in (mesh[:-1], mesh[:-8], mesh + '3 0 1 2\n', '\n4'.join(mesh.rsplit('\n3', 1)), mesh + 'x',
                         mesh[:-6] + '99999\n', 'ply\n'):
             write('tiles/001.mesh.ply', spoiled)
+            sign('001')
             status, said, error = call('tiles', 'join', 'tiles', 'out.ply')
             equal((status, said, read('out.ply') == 'before'), (1, '', True))
         write('tiles/001.mesh.ply', mesh)
-        write('tiles/tiles.json', '{}')
-        refuses('tiles', 'not what split wrote', 'join', 'tiles', 'out.ply')
+        sign('001')
+        equal(call('tiles', 'join', 'tiles', 'out.ply')[0], 0)
+        about = read('tiles/tiles.json')
+        spoils = ['{}', '[' * 100000, about.replace('"unit": 1', '"unit": 1e400'), about.replace('"000"', '"../000"'),
+                  about.replace('"000"', '7'), re.sub(r'"low": \[\s*null,', '"low": [', about), about.replace('null', 'NaN', 1)]
+        for text in spoils:
+            equal(text != about, True)
+            write('tiles/tiles.json', text)
+            refuses('tiles', 'not what split wrote', 'join', 'tiles', 'out.ply')
+
+    def test_tiles_that_changed_since_they_were_done_are_refused(self) -> None:
+        prepared()
+        equal(shell('make -s')[0], 0)
+        for name in ('000.ply', '002.mesh.ply', '001.done'):
+            text = read('tiles/' + name)
+            for spoiled in (text[:-9], '', text.replace('1', '2', 1)):
+                write('tiles/' + name, spoiled)
+                refuses('tiles', f'run the jobs again: {name[:3]}', 'join', 'tiles', 'out.ply')
+            write('tiles/' + name, text)
+        equal(call('tiles', 'join', 'tiles', 'out.ply')[0], 0)
 
     @unittest.skipUnless(RECON, 'recon is not built here')
     def test_a_small_scan_through_split_jobs_and_join(self) -> None:
@@ -477,7 +503,7 @@ class Tiles(InFolder):
 
     def test_help_and_words(self) -> None:
         status, said, error = call('tiles', '--help')
-        equal((status, error, 'tiles.py split FILE .. FOLDER' in said), (0, '', True))
+        equal((status, error, 'recon-tiles split FILE .. FOLDER' in said), (0, '', True))
         for words in ((), ('split',), ('split', 'a'), ('split', 'a', 'b', 'points=1', 'points=2'), ('join', 'a', 'b', 'c')):
             equal(call('tiles', *words)[0], 2)
 
@@ -486,7 +512,7 @@ class Tiles(InFolder):
         lines = []
         for page in ('large.md', 'using.md'):
             with open(os.path.join(ROOT, 'docs', page), encoding='utf-8') as file:
-                lines += re.findall(r'python3 tools/tiles\.py ([^`\n]+)', file.read())
+                lines += re.findall(r'recon-tiles ((?:split|join) [^`\n]+)', file.read())
         equal(len(lines) > 3, True)
         for words in lines:
             status, _, error = call('tiles', *words.split())

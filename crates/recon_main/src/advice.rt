@@ -48,7 +48,7 @@ const CURES: [(&[&str], &str); 31] = [
     ),
     (
         &["2 bad_line"],
-        "a misspelled word, a type that PLY has not (int64), a name with a space, a version other than 1.0, a property before the first element: mend the line. A name with a letter beyond ASCII: scan.py makes it plain",
+        "a misspelled word, a type that PLY has not (int64), a name with a space, a version other than 1.0, a property before the first element: mend the line. A name with a letter beyond ASCII: recon-scan makes it plain",
     ),
     (
         &["3 long_line", "4 long_header"],
@@ -56,7 +56,7 @@ const CURES: [(&[&str], &str); 31] = [
     ),
     (
         &["5 twice"],
-        "two properties or elements of one name: scan.py renames the second property of its element",
+        "two properties or elements of one name: recon-scan renames the second property of its element",
     ),
     (
         &["6 head_cut", "17 cut"],
@@ -69,11 +69,11 @@ const CURES: [(&[&str], &str); 31] = [
             "7 missing vertex_y",
             "7 missing vertex_z",
         ],
-        "the points or their coordinates have other names in this file: rename them. scan.py takes X, Y, Z for them",
+        "the points or their coordinates have other names in this file: rename them. recon-scan takes X, Y, Z for them",
     ),
     (
         &["7 missing vertex_scanner"],
-        "name the scanner of each point (scan.py with index=), or hand in one place by scanner=; points with normals get scanners by normals=yes",
+        "name the scanner of each point (recon-scan with index=), or hand in one place by scanner=; points with normals get scanners by normals=yes",
     ),
     (
         &[
@@ -82,7 +82,7 @@ const CURES: [(&[&str], &str); 31] = [
             "7 missing scanner_y",
             "7 missing scanner_z",
         ],
-        "the file numbers its scanners and has no positions: scan.py with positions=",
+        "the file numbers its scanners and has no positions: recon-scan with positions=",
     ),
     (
         &["8 list_property"],
@@ -90,11 +90,11 @@ const CURES: [(&[&str], &str); 31] = [
     ),
     (
         &["9 binary_float"],
-        "the program reads no binary floating point: scan.py",
+        "the program reads no binary floating point: recon-scan",
     ),
     (
         &["10 too_many vertex"],
-        "at most 1,048,576 points: scan.py with side= or with from= and to=, or tiles.py",
+        "at most 1,048,576 points: recon-scan with side= or with from= and to=, or recon-tiles",
     ),
     (
         &["10 too_many scanner"],
@@ -106,7 +106,7 @@ const CURES: [(&[&str], &str); 31] = [
     ),
     (
         &["12 bad_token"],
-        "a word is no number: nan and inf, a scanner's number with decimals (both: scan.py), a weight with decimals, or a decimal comma",
+        "a word is no number: nan and inf, a scanner's number with decimals (both: recon-scan), a weight with decimals, or a decimal comma",
     ),
     (
         &["13 long_number"],
@@ -114,7 +114,7 @@ const CURES: [(&[&str], &str); 31] = [
     ),
     (
         &["14 out_of_range"],
-        "farther out than 2,097,151: a smaller unit, or an origin near the object (origin= of scan.py)",
+        "farther out than 2,097,151: a smaller unit, or an origin near the object (origin= of recon-scan)",
     ),
     (
         &["15 no_such_scanner"],
@@ -130,7 +130,7 @@ const CURES: [(&[&str], &str); 31] = [
     ),
     (
         &["19 too_long scan"],
-        "over 4 GiB: fewer points, by scan.py with side= or with from= and to=",
+        "over 4 GiB: fewer points, by recon-scan with side= or with from= and to=",
     ),
     (
         &["21 bad_weight"],

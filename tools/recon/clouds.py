@@ -1,0 +1,133 @@
+"""What points say of themselves: how far they are apart, how noisy they are, and which origin and unit fit them.
+
+Names: spacing (distance and noise) · frame (origin and unit) · lone_points · surrounding (how much of the directions around a
+scanner has points) · thinning_side, thinned (one point a cube).
+"""
+from __future__ import annotations
+
+from typing import NamedTuple
+
+import numpy as np
+from scipy.spatial import cKDTree
+
+from recon.program import Invalid
+
+LIMIT = 2_097_151
+MOST_UNIT = 1_000_000
+SAMPLE = 4000
+NEAR = 6
+AROUND = 24
+DIRECTIONS = 200
+
+
+class Spacing(NamedTuple):
+    """The median distance of a point to its six nearest, and the noise: the median deviation of 24 neighbors from a surface of
+    second degree through them. Both in the points' own units."""
+    distance: float
+    noise: float
+
+
+class Frame(NamedTuple):
+    """An origin (3,) and a unit: a coordinate x becomes the whole number nearest to (x - origin) * unit."""
+    origin: np.ndarray
+    unit: int
+
+
+def spacing(points: np.ndarray) -> Spacing:
+    """Returns how far the points (n, 3) are apart and how noisy they are, from a sample of 4,000 of them. Detail as small as the
+    spacing counts as noise. Both are 0 for fewer than two different points; the noise is 0 for fewer than 12."""
+    points = np.asarray(points, float)
+    if len(points) < 2:
+        return Spacing(0.0, 0.0)
+    some = points[np.random.default_rng(1).permutation(len(points))[:SAMPLE]]
+    apart, near = cKDTree(points).query(some, min(AROUND + 1, len(points)))
+    width = apart[:, 1:NEAR + 1].mean(axis=1)
+    if near.shape[1] < 12 or not np.median(width):
+        return Spacing(float(np.median(width)), 0.0)
+    return Spacing(float(np.median(width)), float(np.median(deviations(points[near], width))))
+
+
+def deviations(blocks: np.ndarray, width: np.ndarray) -> np.ndarray:
+    """The deviation of each block of points (n, k, 3) from the surface of second degree through it. Deviations from a plane would
+    count curvature as noise."""
+    block = (blocks - blocks.mean(axis=1, keepdims=True)) / np.maximum(width, 1e-300)[:, None, None]
+    turned = np.einsum('nki,nij->nkj', block, np.linalg.eigh(np.einsum('nki,nkj->nij', block, block))[1])
+    z, x, y = (turned[:, :, k] for k in range(3))
+    terms = np.stack([np.ones_like(x), x, y, x * x, x * y, y * y], axis=2)
+    left = z - np.einsum('nki,ni->nk', terms, np.einsum('nij,nj->ni', np.linalg.pinv(terms), z))
+    return np.sqrt((left ** 2).sum(axis=1) / (blocks.shape[1] - 6)) * width
+
+
+def frame(points: np.ndarray, scanners: np.ndarray, apart: float | None = None) -> Frame:
+    """Returns an origin, 0 if all fits without, and a unit: the power of ten that puts 100 to 1000 units between points, or the
+    largest below it at which points and scanners fit. `apart` is the spacing, if it is known. Raises `Invalid` if they are more than
+    4,194,302 units of 1 across."""
+    both = np.concatenate([np.asarray(points, float), np.asarray(scanners, float).reshape(-1, 3)])
+    if not len(both):
+        return Frame(np.zeros(3), 1)
+    apart = spacing(points).distance if apart is None else apart
+    low, high = both.min(axis=0), both.max(axis=0)
+    size = max(float((high - low).max()), apart)
+    unit = 10 ** int(np.clip(np.floor(np.log10(1000 / apart)) if apart > 0 else 0, 0, 6))
+    while unit > 1 and size / 2 * unit * 1.05 > LIMIT:
+        unit //= 10
+    if np.abs(both).max() * unit * 1.01 <= LIMIT:
+        return Frame(np.zeros(3), unit)
+    return Frame(origin_for(low, high, unit), unit)
+
+
+def origin_for(low: np.ndarray, high: np.ndarray, unit: int) -> np.ndarray:
+    """The middle of a box, rounded as coarsely as all still fits."""
+    middle, size = (low + high) / 2, float((high - low).max())
+    coarse = 10.0 ** np.floor(np.log10(size / 2)) if size else 1.0
+    for origin in (np.round(middle / coarse) * coarse, np.round(middle), middle):
+        if max(np.abs(low - origin).max(), np.abs(high - origin).max()) * unit <= LIMIT:
+            return np.asarray(origin, float)
+    raise Invalid(f'the scan is {size:.4g} across, and {2 * LIMIT:,} units is the most', hint='divide its coordinates first (--divide)')
+
+
+def lone_points(points: np.ndarray, factor: float = 4.0) -> np.ndarray:
+    """Returns which points are more than `factor` times as far from their six nearest as the neighborhoods of their twelve nearest
+    are wide on the median."""
+    apart, near = cKDTree(points).query(points, min(13, len(points)))
+    wide = apart[:, 1:NEAR + 1].mean(axis=1)
+    return np.asarray(wide > factor * np.median(wide[near[:, 1:]], axis=1))
+
+
+def surrounding(points: np.ndarray, scanner: np.ndarray) -> float:
+    """Returns in which part of 200 directions around a scanner there are points: about 1 in a room, under 0.6 outdoors."""
+    way = points - scanner
+    long = np.linalg.norm(way, axis=1)
+    is_usual = (long > 0) & (long < 1e150)
+    way = way[is_usual] / long[is_usual][:, None]
+    if not len(way):
+        return 0.0
+    k = np.arange(DIRECTIONS) + 0.5
+    z, turn = 1 - 2 * k / DIRECTIONS, np.pi * (1 + 5 ** 0.5) * k
+    ball = np.stack([np.cos(turn) * np.sqrt(1 - z * z), np.sin(turn) * np.sqrt(1 - z * z), z], axis=1)
+    some = way[np.random.default_rng(1).permutation(len(way))[:50_000]]
+    return len(np.unique(cKDTree(ball).query(some)[1])) / DIRECTIONS
+
+
+def cubes_of(points: np.ndarray, side: float) -> np.ndarray:
+    """A number for the cube of each point."""
+    cube = np.floor(points / side).astype(np.int64)
+    cube -= cube.min(axis=0)
+    return np.asarray((cube[:, 0] << 42) + (cube[:, 1] << 21) + cube[:, 2])
+
+
+def thinned(points: np.ndarray, side: float) -> np.ndarray:
+    """Returns the rows of the first point in each cube of this side, ascending."""
+    return np.sort(np.unique(cubes_of(points, side), return_index=True)[1])
+
+
+def thinning_side(points: np.ndarray, most: int, apart: float) -> float:
+    """Returns the side of the cubes that leave at most `most` points, nearly as many, rounded up to three digits."""
+    low, high = apart / 4, apart * 4
+    while len(np.unique(cubes_of(points, high))) > most:
+        high *= 2
+    for _ in range(12):
+        side = (low * high) ** 0.5
+        low, high = (low, side) if len(np.unique(cubes_of(points, side))) <= most else (side, high)
+    digit = 10.0 ** (np.floor(np.log10(high)) - 2)
+    return float(f'{np.ceil(high / digit) * digit:.3g}')

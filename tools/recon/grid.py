@@ -1,0 +1,106 @@
+"""How much of a box is inside of a surface: a grid of points for `recon ask`, and the volume by its answers.
+
+  recon-grid points OUT from=X,Y,Z to=X,Y,Z side=S
+  recon-grid volume ANSWERS side=S
+
+`points` writes the middles of the cubes of a given side that fill a box, in rows along x, rows in layers along y, and layers one
+behind another along z.
+
+  from=X,Y,Z         the corner of the box with the least coordinates, in the numbers of the scan
+  to=X,Y,Z           the corner with the greatest. The last cubes may reach over it
+  side=S             the side of a cube. There may be 1,048,576 cubes at most
+
+`volume` counts each cube whose middle is inside whole. The error falls with the side of a cube, and comes from the cubes that the
+surface goes through.
+"""
+from __future__ import annotations
+
+import re
+from decimal import Decimal, ROUND_CEILING
+from typing import Any, Sequence
+
+from recon.toolbox.exact import WIDE, text
+from recon.toolbox.ply_text import Refusal, whole_file
+from recon.toolbox.sieve import length_of
+from recon.toolbox.text_lines import Lines
+from recon.toolbox.tool import NotUnderstood, number_of, run, three
+
+LIMIT = 1048576
+HALF = Decimal('0.5')
+IS_HEAD = re.compile(r'answers ([0-9]{1,10})').fullmatch
+ANSWERS = {'inside': 1, 'outside': 0}
+
+
+def middles(low: Decimal, high: Decimal, side: Decimal) -> list[str]:
+    """The middles of the cubes from one coordinate to another, as words."""
+    if high <= low:
+        raise Refusal('a coordinate of from= is not below that of to=')
+    count = WIDE.divide(WIDE.subtract(high, low), side).to_integral_value(ROUND_CEILING)
+    if count > LIMIT:
+        raise Refusal('there are over 1,048,576 cubes: take a larger side')
+    return [text(WIDE.add(low, WIDE.multiply(side, k + HALF))) for k in range(int(count))]
+
+
+def write_points(out: str, start: str | None, end: str | None, side: Decimal) -> str:
+    """Writes the points, and answers the line to be said."""
+    if start is None or end is None:
+        raise Refusal('from= and to= are the two corners of the box')
+    corners = zip(three(start, 'from'), three(end, 'to'))
+    xs, ys, zs = [middles(Decimal(low), Decimal(high), side) for low, high in corners]
+    count = len(xs) * len(ys) * len(zs)
+    if count > LIMIT:
+        raise Refusal('there are over 1,048,576 cubes: take a larger side')
+    with whole_file(out) as file:
+        for z in zs:
+            for y in ys:
+                file.writelines(f'{x} {y} {z}\n' for x in xs)
+    return f'wrote {number_of(count, "point")} to {out}, {len(xs)} by {len(ys)} by {len(zs)}'
+
+
+def answer_of(lines: Lines) -> int:
+    """1 or 0, by the next line."""
+    line = lines.next_line()
+    if line is None:
+        raise Refusal(f'cut: an answer is missing behind line {lines.number}')
+    if line not in ANSWERS:
+        raise Refusal(f'line {lines.number} is not `inside` or `outside`')
+    return ANSWERS[line]
+
+
+def read_answers(path: str) -> tuple[int, int]:
+    """How many answers there are, and how many of them are `inside`."""
+    lines = Lines(path)
+    try:
+        head = IS_HEAD(lines.next_line() or '')
+        if not head:
+            raise Refusal('line 1 is not `answers N`: the file is no answer of recon ask')
+        count = int(head.group(1))
+        inside = sum(answer_of(lines) for _ in range(count))
+        if lines.next_line() is not None:
+            raise Refusal(f'line {lines.number} stands behind the last answer')
+        return count, inside
+    finally:
+        lines.close()
+
+
+def work(names: Sequence[str], options: Any) -> str:
+    command, path = names
+    if command not in ('points', 'volume'):
+        raise NotUnderstood
+    length_of(options.side or '', 'side', 'the side of a cube')
+    side = Decimal(options.side)
+    if command == 'points':
+        return write_points(path, options.from_, options.to, side)
+    if options.from_ is not None or options.to is not None:
+        raise Refusal('from= and to= are no options of volume')
+    count, inside = read_answers(path)
+    volume = text(WIDE.multiply(Decimal(inside), WIDE.power(side, 3)))
+    return f'read {number_of(count, "answer")} of {path}; inside {inside}, volume {volume}'
+
+
+def main() -> None:
+    run(work, __doc__, 2, ('from', 'to', 'side'))
+
+
+if __name__ == '__main__':
+    main()

@@ -1,0 +1,67 @@
+"""A mesh of `recon` in the numbers of the file that was scanned, for programs that want them so: MeshLab, for one, reads no
+PLY with whole-number coordinates. Coordinates are divided by the unit, and the origin that was taken off is added.
+
+  recon-mesh-to-floats IN OUT [unit=U] [origin=X,Y,Z]
+
+  unit=U             the unit that the mesh was built with. Without it 1
+  origin=X,Y,Z       the place that was taken off the scan. Without it 0,0,0
+
+Coordinates are exact decimals, rounded only where they have over 30 digits. The faces stay as they are.
+"""
+from __future__ import annotations
+
+from decimal import Decimal
+from typing import Any, Sequence, TextIO
+
+from recon.toolbox.exact import quotients
+from recon.toolbox.ply_text import ARE_THREE, Element, Property, Reader, Refusal, plain_names, whole_file
+from recon.toolbox.tool import number_of, run, three, whole
+
+
+def head(vertex: Element, face: Element) -> str:
+    columns = [Property(axis, 'double').line() for axis in 'xyz']
+    return '\n'.join(['ply', 'format ascii 1.0', 'comment made by mesh_to_floats', f'element vertex {vertex.count}', *columns,
+                      f'element face {face.count}', plain_names(face.properties)[0].line(), 'end_header', ''])
+
+
+def pass_mesh(reader: Reader, file: TextIO, unit: Decimal, origin: list[Decimal]) -> tuple[Element, Element]:
+    """Writes the mesh, and answers its two elements."""
+    vertex, face = reader.element('vertex'), reader.element('face')
+    if (vertex is None or face is None or reader.elements != [vertex, face] or vertex.has_lists() or len(face.properties) != 1
+            or not face.has_lists()):
+        raise Refusal('this is no mesh of recon: vertices and then faces, each with a list')
+    x, y, z = vertex.point_columns()
+    if any(vertex.properties[k].kind.startswith(('float', 'double')) for k in (x, y, z)):
+        raise Refusal('its coordinates are floating point already: it is no mesh as recon wrote it')
+    file.write(head(vertex, face))
+    for row, words in enumerate(reader.rows(vertex)):
+        point = [words[x], words[y], words[z]]
+        if not ARE_THREE(' '.join(point)):
+            raise Refusal(f'vertex row {row}: {" ".join(point)[:80]} is no place')
+        file.write(' '.join(quotients(point, unit, origin)) + '\n')
+    for words in reader.rows(face):
+        file.write(' '.join(words) + '\n')
+    reader.finish()
+    return vertex, face
+
+
+def work(names: Sequence[str], options: Any) -> str:
+    unit = Decimal(whole(options.unit or '1', 'unit', 1, 1000000))
+    origin = [Decimal(word) for word in three(options.origin or '0,0,0', 'origin')]
+    reader = Reader(names[0])
+    try:
+        with whole_file(names[1]) as file:
+            vertex, face = pass_mesh(reader, file, unit, origin)
+    finally:
+        reader.close()
+    counts = f'{vertex.count} vertices and {number_of(face.count, "face")}'
+    line = f'read {counts} of {names[0]}; left out nothing; wrote as many to {names[1]}'
+    return line if options.unit else line + ', at unit=1, since none is named'
+
+
+def main() -> None:
+    run(work, __doc__, 2, ('unit', 'origin'))
+
+
+if __name__ == '__main__':
+    main()

@@ -1,0 +1,91 @@
+"""Meshes as arrays: vertices (n, 3) and faces (m, 3), rows of vertices, counterclockwise seen from outside.
+
+Names: Mesh · unseen_faces (faces that span space that no scanner saw) · areas · pieces (which faces hang together).
+"""
+from __future__ import annotations
+
+from dataclasses import dataclass
+from typing import Any
+
+import numpy as np
+from scipy.sparse import coo_matrix
+from scipy.sparse.csgraph import connected_components
+from scipy.spatial import cKDTree
+
+NEAR = 6
+FACTOR = 8.0
+LEAST_PIECE = 20
+
+
+@dataclass
+class Mesh:
+    """Vertices (n, 3) in the scan's numbers, and faces (m, 3) as rows of vertices. `source` (n,) is the row of the scan that each
+    vertex is, where the vertices are points of a scan."""
+    vertices: np.ndarray
+    faces: np.ndarray
+    source: np.ndarray | None = None
+
+    def unseen(self) -> np.ndarray:
+        """Returns which faces (m,) span space that no scanner saw; see `unseen_faces`."""
+        return unseen_faces(self.vertices, self.faces)
+
+    def seen(self) -> Mesh:
+        """Returns the open mesh without the faces that span unseen space, and without pieces under 20 faces that are left of it. All
+        vertices stay."""
+        faces = self.faces[~self.unseen()]
+        part = pieces(faces, len(self.vertices))
+        return Mesh(self.vertices, faces[np.bincount(part)[part] >= LEAST_PIECE] if len(faces) else faces, self.source)
+
+    def to_open3d(self) -> Any:
+        """Returns an `open3d.geometry.TriangleMesh`."""
+        import open3d
+        return open3d.geometry.TriangleMesh(open3d.utility.Vector3dVector(self.vertices), open3d.utility.Vector3iVector(self.faces))
+
+    def to_trimesh(self) -> Any:
+        """Returns a `trimesh.Trimesh` with the same vertices and faces."""
+        import trimesh
+        return trimesh.Trimesh(self.vertices, self.faces, process=False)
+
+    def to_meshio(self) -> Any:
+        """Returns a `meshio.Mesh`, with `source` as a column of its points."""
+        import meshio
+        data = {} if self.source is None else {'source': self.source}
+        return meshio.Mesh(self.vertices, [('triangle', self.faces)], point_data=data)
+
+
+def longest_edges(vertices: np.ndarray, faces: np.ndarray) -> np.ndarray:
+    """The length of the longest edge of each face."""
+    corners = vertices[faces]
+    return np.asarray(np.linalg.norm(corners - np.roll(corners, 1, axis=1), axis=2).max(axis=1, initial=0))
+
+
+def unseen_faces(vertices: np.ndarray, faces: np.ndarray, factor: float = FACTOR) -> np.ndarray:
+    """Returns which faces have an edge over `factor` times the spacing around their corners: the mean distance of a vertex to its six
+    nearest, at least half the median. Points are nowhere so far apart where a scanner saw a surface, so such faces close the surface
+    over what no scanner saw."""
+    if not len(faces):
+        return np.zeros(0, bool)
+    used = np.unique(faces)
+    distances = cKDTree(vertices[used]).query(vertices[used], min(NEAR + 1, len(used)))[0]
+    near = np.zeros(len(vertices))
+    near[used] = distances[:, 1:].mean(axis=1)
+    near = np.maximum(near, np.median(near[used]) / 2)
+    return np.asarray(longest_edges(vertices, faces) > factor * near[faces].mean(axis=1))
+
+
+def areas(vertices: np.ndarray, faces: np.ndarray) -> np.ndarray:
+    """Returns the area of each face."""
+    a, b, c = (vertices[faces[:, k]] for k in range(3))
+    return np.asarray(np.linalg.norm(np.cross(b - a, c - a), axis=1) / 2)
+
+
+def pieces(faces: np.ndarray, count: int) -> np.ndarray:
+    """Returns the number of its piece for each face. Faces with an edge in common, of `count` vertices, are of one piece; the mesh may be
+    open."""
+    edges = np.sort(np.concatenate([faces[:, [0, 1]], faces[:, [1, 2]], faces[:, [2, 0]]]), axis=1)
+    keys, face = edges[:, 0] * count + edges[:, 1], np.tile(np.arange(len(faces)), 3)
+    order = np.argsort(keys, kind='stable')
+    same = np.flatnonzero(np.diff(keys[order]) == 0)
+    one, other = face[order][same], face[order][same + 1]
+    joins = coo_matrix((np.ones(len(one), np.int8), (one, other)), (len(faces), len(faces)))
+    return np.asarray(connected_components(joins, directed=False)[1])

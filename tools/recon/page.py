@@ -1,0 +1,210 @@
+"""A page to look at surfaces: one HTML file with the meshes in it, which a browser shows without a network.
+
+The page draws by WebGL 2 (`viewer/`), and unpacks the meshes by `DecompressionStream`: Chrome 80, Firefox 113, Safari 16.4 or
+later. A mesh takes about five bytes a face, and up to two more with colors: its vertices are rounded to 65,536 steps along the
+longest side of all meshes, sorted along a curve through cubes, and written as differences, deflated, in base64.
+
+Names: PageMesh · write_page · page_text (the page as text).
+"""
+from __future__ import annotations
+
+import base64
+import hashlib
+import html
+import json
+import os
+import re
+import zlib
+from dataclasses import dataclass
+from string import Template
+from typing import Any, Sequence
+
+import numpy as np
+
+VIEWER = os.path.join(os.path.dirname(os.path.abspath(__file__)), 'viewer')
+SCRIPTS = ('decode.js', 'camera.js', 'scene.js', 'controls.js')
+STEPS = 65535
+CURVE_BITS = 10
+SPOTS = 500
+SIGHTS = 2000
+
+
+@dataclass
+class PageMesh:
+    """A mesh of the page: its name beside the slider, vertices (n, 3), faces (m, 3) as rows of vertices, and, if known, colors
+    (n, 3) as uint8 and whether each face spans space that no scanner saw (m,)."""
+    name: str
+    vertices: np.ndarray
+    faces: np.ndarray
+    colors: np.ndarray | None = None
+    unseen: np.ndarray | None = None
+
+    def __post_init__(self) -> None:
+        self.vertices = rows_of(self.vertices, (3,), float, f'vertices of {self.name}')
+        self.faces = rows_of(self.faces, (3,), np.int64, f'faces of {self.name}')
+        if self.faces.size and not 0 <= self.faces.min() <= self.faces.max() < len(self.vertices):
+            raise ValueError(f'a face of {self.name} names a vertex that is not there')
+        if self.colors is not None:
+            self.colors = rows_of(self.colors, (3,), np.uint8, f'colors of {self.name}', len(self.vertices))
+        if self.unseen is not None:
+            self.unseen = rows_of(self.unseen, (), bool, f'unseen faces of {self.name}', len(self.faces))
+
+
+def rows_of(values: Any, shape: tuple[int, ...], kind: Any, what: str, count: int | None = None) -> np.ndarray:
+    """Returns the values as an array of rows of this shape. Raises ValueError if they are none, or not finite."""
+    rows = np.asarray(values)
+    if rows.size == 0 and count in (None, 0):
+        rows = rows.reshape((0, *shape))
+    if rows.shape[1:] != shape or rows.ndim != len(shape) + 1 or count is not None and len(rows) != count:
+        wanted = ('n' if count is None else count, *shape)
+        raise ValueError(f'{what} have the shape {rows.shape}, not ({", ".join(map(str, wanted))})')
+    if rows.dtype.kind == 'f' and not np.isfinite(rows).all():
+        raise ValueError(f'{what} are not finite')
+    return rows.astype(kind)
+
+
+@dataclass
+class Frame:
+    """The box of all meshes: its least corner, its size along each axis, and its longest side, which the page takes as 1."""
+    low: np.ndarray
+    box: np.ndarray
+    side: float
+
+    @classmethod
+    def of(cls, meshes: Sequence[PageMesh]) -> Frame:
+        filled = [mesh.vertices for mesh in meshes if len(mesh.vertices)] or [np.zeros((1, 3))]
+        low = np.min([rows.min(0) for rows in filled], axis=0)
+        box = np.max([rows.max(0) for rows in filled], axis=0) - low
+        return cls(low, box, float(box.max()) or 1.0)
+
+    def near(self, places: np.ndarray) -> list[float]:
+        """Returns coordinates in the page's numbers, one after another."""
+        return [float(x) for x in np.round((places - self.low) / self.side, 6).ravel()]
+
+
+def planes(differences: np.ndarray) -> bytes:
+    """Returns whole numbers, their sign in the lowest bit, as four planes of bytes: like bytes side by side pack well."""
+    numbers = differences.astype(np.int64).ravel()
+    folded = ((numbers << 1) ^ (numbers >> 63)).astype('<u4')
+    return np.ascontiguousarray(folded.view(np.uint8).reshape(-1, 4).T).tobytes()
+
+
+def curve_order(grid: np.ndarray) -> np.ndarray:
+    """Returns the order of places on the grid along Morton's curve through cubes of 64 steps."""
+    cubes, key = grid >> (STEPS.bit_length() - CURVE_BITS), np.zeros(len(grid), np.int64)
+    for bit in range(CURVE_BITS):
+        for axis in range(3):
+            key |= (cubes[:, axis] >> bit & 1) << (3 * bit + axis)
+    return np.argsort(key, kind='stable')
+
+
+def sorted_faces(faces: np.ndarray, unseen: np.ndarray | None) -> np.ndarray:
+    """Returns the faces, each turned so that its least vertex is the first, in ascending order, those that were seen first."""
+    turn = faces.argmin(axis=1)[:, None]
+    turned = np.take_along_axis(faces, (np.arange(3) + turn) % 3, axis=1)
+    keys = (turned[:, 1], turned[:, 0]) if unseen is None else (turned[:, 1], turned[:, 0], unseen)
+    return turned[np.lexsort(keys)]
+
+
+def packed(mesh: PageMesh, frame: Frame) -> tuple[dict[str, Any], str]:
+    """Returns what the page has to know of a mesh, and its text, as viewer/decode.js reads it."""
+    grid = np.rint((mesh.vertices - frame.low) / frame.side * STEPS).astype(np.int64)
+    order = curve_order(grid)
+    place = np.empty(len(order), np.int64)
+    place[order] = np.arange(len(order))
+    faces = sorted_faces(place[mesh.faces], mesh.unseen)
+    first = np.diff(faces[:, 0], prepend=0)
+    data = planes(np.diff(grid[order], axis=0, prepend=0))
+    data += planes(np.concatenate([first, faces[:, 1] - faces[:, 0], faces[:, 2] - faces[:, 0]]))
+    if mesh.colors is not None:
+        data += np.diff(mesh.colors[order], axis=0, prepend=np.uint8(0)).T.tobytes()
+    unseen = 0 if mesh.unseen is None else int(mesh.unseen.sum())
+    head = {'name': mesh.name, 'vertices': len(grid), 'faces': len(faces), 'seen': len(faces) - unseen,
+            'colored': mesh.colors is not None}
+    return head, base64.b64encode(zlib.compress(data, 6)).decode('ascii')
+
+
+def sampled(rows: np.ndarray, most: int) -> np.ndarray:
+    """Returns the rows, or as many of them as are told, evenly spread."""
+    return rows if len(rows) <= most else rows[np.linspace(0, len(rows) - 1, most).astype(int)]
+
+
+def escaped(text: object) -> str:
+    """Returns text for HTML. Characters that HTML does not have become U+FFFD."""
+    return html.escape(re.sub('[\x00-\x08\x0b\x0c\x0e-\x1f\x7f-\x9f\ud800-\udfff]', '\ufffd', str(text)))
+
+
+def script_json(tree: Any) -> str:
+    """Returns JSON that no browser takes for the end of a script: of ASCII, without <, > and &. Raises ValueError for nan."""
+    text = json.dumps(tree, allow_nan=False, separators=(',', ':'))
+    return re.sub('[<>&]', lambda found: f'\\u{ord(found[0]):04x}', text)
+
+
+def table(rows: Sequence[Sequence[object]]) -> str:
+    """Returns rows as a table whose first column is a heading."""
+    lines = (f'<tr><th>{escaped(first)}' + ''.join(f'<td>{escaped(cell)}' for cell in rest) for first, *rest in rows)
+    return '<table>\n' + '\n'.join(lines) + '\n</table>\n'
+
+
+def verification_of(digests: dict[str, str], commands: Sequence[str]) -> str:
+    """Returns the SHA-256 of the files, and the commands that verify them again."""
+    parts = []
+    if digests:
+        lines = (f'<tr><th>{escaped(name)}<td><code>{escaped(digest)}</code>' for name, digest in digests.items())
+        parts.append('<h2>SHA-256</h2>\n<table>\n' + '\n'.join(lines) + '\n</table>\n')
+    if commands:
+        parts.append('<h2>Verify again</h2>\n<pre>' + escaped('\n'.join(commands)) + '</pre>\n')
+    return ''.join(parts)
+
+
+def viewer_file(name: str) -> str:
+    with open(os.path.join(VIEWER, name), encoding='utf-8', newline='\n') as file:
+        return file.read()
+
+
+def source_of(text: str) -> str:
+    """Returns how a policy of contents names a text of the page: by its SHA-256."""
+    return "'sha256-" + base64.b64encode(hashlib.sha256(text.encode('utf-8')).digest()).decode('ascii') + "'"
+
+
+def page_text(meshes: Sequence[PageMesh], scanners: np.ndarray, sights: np.ndarray, figures: Sequence[tuple[str, str]],
+              choices: Sequence[tuple[str, str, str]], digests: dict[str, str], commands: Sequence[str], title: str) -> str:
+    """Returns the page that write_page writes."""
+    if not meshes:
+        raise ValueError('a page needs a mesh')
+    frame = Frame.of(meshes)
+    heads, texts = zip(*(packed(mesh, frame) for mesh in meshes))
+    spots = sampled(rows_of(scanners, (3,), float, 'scanners'), SPOTS)
+    segments = sampled(rows_of(sights, (2, 3), float, 'lines of sight'), SIGHTS)
+    scene = {'meshes': heads, 'box': [float(x) for x in frame.box / frame.side], 'scanners': frame.near(spots),
+             'sights': frame.near(segments)}
+    style, script = viewer_file('viewer.css'), "'use strict';\n" + ''.join(map(viewer_file, SCRIPTS))
+    policy = f"default-src 'none'; script-src {source_of(script)}; style-src {source_of(style)}; base-uri 'none'; form-action 'none'"
+    return Template(viewer_file('viewer.html')).substitute(
+        policy=policy, title=escaped(title), style=style, script=script, scene=script_json(scene),
+        figures='<h2>Run</h2>\n' + table(figures) if figures else '',
+        choices='<h2>Choices</h2>\n' + table(choices) if choices else '',
+        verification=verification_of(digests, commands),
+        meshes=''.join(f'<script type="text/plain" id="mesh-{k}">{text}</script>\n' for k, text in enumerate(texts)))
+
+
+def write_page(path: str, *, meshes: list[PageMesh], scanners: np.ndarray, sights: np.ndarray, figures: list[tuple[str, str]],
+               choices: list[tuple[str, str, str]], digests: dict[str, str], commands: list[str], title: str) -> None:
+    """Writes a page that shows the meshes, of which the first is seen at once and the others by a slider.
+
+    `scanners` (n, 3) and `sights` (m, 2, 3), a sample of lines of sight from scanner to point, are in the coordinates of the
+    vertices; at most 500 and 2,000 of them, evenly spread, go into the page. `figures` are names and values of the run,
+    `choices` names, values and reasons, `digests` the SHA-256 of files by name, `commands` the lines that verify them again.
+    All texts are escaped. What stood at the path is replaced when the page is whole. Raises ValueError if an array has a wrong
+    shape or numbers that are not finite, or a face names a vertex that is not there, and OSError if the file cannot be written.
+    """
+    data = page_text(meshes, scanners, sights, figures, choices, digests, commands, title).encode('utf-8')
+    part = path + '.part'
+    with open(part, 'wb') as file:
+        try:
+            file.write(data)
+        except BaseException:
+            file.close()
+            os.unlink(part)
+            raise
+    os.replace(part, path)

@@ -1,0 +1,65 @@
+"""The program `recon`: where it is, how it is run, and its errors as exceptions.
+
+Names: program_path · run (runs a command, and returns the numbers of its line) · Refused (the program's error) · Invalid (an error
+found before the program runs).
+"""
+from __future__ import annotations
+
+import os
+import re
+import shutil
+import subprocess
+from typing import Sequence
+
+HERE = os.path.dirname(os.path.abspath(__file__))
+BESIDE = ('../../recon', '../../crates/recon_main/out/recon_main', '../../../bin/recon')
+MEANINGS = {1: 'the check failed', 2: 'invalid arguments', 3: 'invalid file', 4: 'a file could not be read or written',
+            5: 'out of memory'}
+NUMBER = re.compile(r'([a-z_]+) (-?[0-9]+)')
+
+
+class Invalid(ValueError):
+    """Arrays that make no scan: `row` is the first row at fault, from 0, or None; `hint` says what to do."""
+
+    def __init__(self, why: str, row: int | None = None, hint: str = '') -> None:
+        super().__init__(why + (f': {hint}' if hint else ''))
+        self.row, self.hint = row, hint
+
+
+class Refused(RuntimeError):
+    """The program ended without an answer, or its check failed. `status` is the exit status (1 check failed, 2 invalid arguments, 3
+    invalid file, 4 input or output, 5 out of memory, negative for a signal), `line` what it printed, and `hint` how to fix it, as it
+    said on standard error."""
+
+    def __init__(self, status: int, line: str, hint: str) -> None:
+        self.status, self.line, self.hint = status, line, hint
+        meaning = MEANINGS.get(status, f'ended by signal {-status}' if status < 0 else f'status {status}')
+        super().__init__(f'{meaning}: {line or "(nothing was printed)"}' + (f' ({hint})' if hint else ''))
+
+
+def program_path(path: str | None = None) -> str:
+    """Returns the path of the program: `path`, else what the variable RECON names, else the one that was built or installed beside
+    this package, else `recon` on the PATH. Raises FileNotFoundError if there is none."""
+    named = path or os.environ.get('RECON')
+    if named:
+        return named
+    for place in BESIDE:
+        beside = os.path.normpath(os.path.join(HERE, place))
+        if os.path.isfile(beside) and os.access(beside, os.X_OK):
+            return beside
+    found = shutil.which('recon')
+    if found is None:
+        raise FileNotFoundError('the program `recon` was not found: put it on the PATH, or name it in the variable RECON')
+    return found
+
+
+def run(words: Sequence[object], program: str | None = None, is_shown: bool = False) -> dict[str, int]:
+    """Runs the program with these arguments, and returns the numbers of the line that it prints, by their keys: `points 4 faces 4`
+    is {'points': 4, 'faces': 4}. Raises `Refused` if it ends with another status than 0. With `is_shown` its progress goes to
+    standard error."""
+    done = subprocess.run([program_path(program), *map(str, words)], stdout=subprocess.PIPE,
+                          stderr=None if is_shown else subprocess.PIPE, text=True, errors='replace')
+    if done.returncode:
+        said = [line[7:] if line.startswith('recon: ') else line for line in (done.stderr or '').splitlines()]
+        raise Refused(done.returncode, done.stdout.strip(), '; '.join(said))
+    return {key: int(number) for key, number in NUMBER.findall(done.stdout)}

@@ -1,0 +1,372 @@
+"""One command from a scan to a closed mesh, verified, with a page to look at it.
+
+It chooses from the data how lines of sight are known, origin, unit, thinning, smoothing and finishing; each choice has an option that
+overrides it. It runs `recon build` and `recon check`, and leaves beside the mesh MESH.ply:
+
+  MESH-seen.ply    the mesh without the faces that span space that no scanner saw, which is open
+  MESH.html        a page that shows both in a browser, without a network
+  MESH.recon/      scan.ply, mesh.ply and scan.cert, which `recon check` takes; report.json with choices, reasons and figures; again.sh,
+                   which repeats the run from the original files
+
+Status: 0 done, 1 error, 2 invalid arguments, 3 no surface is left, 4 done, but positions or normals look wrong: over 0.25 votes against the
+surface for each line of sight (--force ends with 0).
+"""
+from __future__ import annotations
+
+import argparse
+import os
+import sys
+from dataclasses import dataclass
+from pathlib import Path
+from typing import Any, Sequence
+
+import numpy as np
+
+from recon.choices import Choices
+from recon.clouds import Spacing, frame, lone_points, spacing, surrounding, thinned, thinning_side
+from recon.finish import Wishes, finished, seen_path
+from recon.inputs import Cloud, Inputs, read_cloud
+from recon.library import Surface, build
+from recon.meshes import pieces
+from recon.outputs import Made, write_outputs
+from recon.program import Invalid, Refused, program_path
+from recon.toolbox.mesh_files import Column, Finished, form_of
+from recon.toolbox.ply_text import IS_NUMBER, Refusal
+
+MOST = 1_000_000
+LOOK, WRONG = 0.1, 0.25
+FLIPS_A_SECOND = 8000
+ROOM = 0.8
+
+
+class NoSurface(Exception):
+    """There is no surface of the scan, or no point."""
+
+
+@dataclass
+class Scan:
+    """A cloud ready for `build`: with its spacing and noise, origin and unit."""
+    cloud: Cloud
+    texture: Spacing
+    origin: np.ndarray
+    unit: int
+    read: int
+    surround: float
+
+
+def divided(cloud: Cloud, args: Any, choices: Choices) -> Cloud:
+    """The cloud with its coordinates divided, where that is asked for."""
+    if args.divide:
+        cloud.points, cloud.scanners = cloud.points / args.divide, cloud.scanners / args.divide
+        choices.choose('divide', f'{args.divide:g}', 'given')
+    return cloud
+
+
+def cleaned(cloud: Cloud, args: Any, choices: Choices) -> Cloud:
+    """The cloud without lone points."""
+    points = cloud.points
+    middle = np.median(points, axis=0)
+    away = np.abs(points - middle).max(axis=1)
+    far = int((away > 50 * max(float(np.percentile(away, 99)), 1e-300)).sum())
+    if far:
+        choices.warn(f'{far} points lie over fifty times as far out as nearly all others: recon-scan with from= and to= leaves them out')
+    if args.no_clean or cloud.is_made_up or len(points) <= 100:
+        return cloud
+    lone = lone_points(points)
+    if not lone.any():
+        return cloud
+    choices.choose('lone points', int(lone.sum()), f'{lone.mean():.2%} are four times as far from others as those are, and left out (--no-clean)')
+    return cloud.take(np.flatnonzero(~lone))
+
+
+def thin(cloud: Cloud, texture: Spacing, args: Any, choices: Choices) -> Cloud:
+    """The cloud with one point a cube, where there are too many points or they err more than they are apart."""
+    side, apart = args.side, texture.distance
+    if side is None and len(cloud.points) > args.max_points:
+        side = thinning_side(cloud.points, args.max_points, apart)
+        choices.choose('side', f'{side:g}', f'{len(cloud.points):,} points are over {args.max_points:,}; recon-tiles keeps all')
+    elif side is None and texture.noise > 0.8 * apart and not cloud.is_made_up:
+        side = float(f'{1.5 * texture.noise:.3g}')
+        choices.choose('side', f'{side:g}', 'points are nearer to each other than they err')
+    elif side:
+        choices.choose('side', f'{side:g}', 'given')
+    if not side:
+        return cloud
+    cloud = cloud.take(thinned(cloud.points, side))
+    choices.tell(f'{len(cloud.points):,} points are left, one in each cube of {side:g}')
+    return cloud
+
+
+def closed_around(cloud: Cloud, texture: Spacing, args: Any, choices: Choices) -> tuple[Cloud, float]:
+    """The cloud with eight points around it, where it was scanned from inside."""
+    first = cloud.first_scanners()
+    seen = first[first >= 0]
+    part = 0.0
+    if len(seen) and len(cloud.scanners) <= 500 and not cloud.is_made_up:
+        busiest = np.bincount(seen).argmax()
+        part = surrounding(cloud.points[first == busiest], cloud.scanners[busiest])
+    off = args.surround
+    if off is None:
+        size = float(np.ptp(cloud.points, axis=0).max())
+        off = float(f'{max(10 * texture.distance, 0.02 * size):.3g}') if part > ROOM else 0.0
+        where = 'walls all around' if off else 'not from inside'
+        choices.choose('surround', f'{off:g}', f'{where}: points in {part:.0%} of the directions around a scanner')
+    else:
+        choices.choose('surround', f'{off:g}', 'given')
+        if off and part <= ROOM:
+            choices.warn(f'--surround is for rooms, and points are in {part:.0%} of the directions around a scanner: fins to the made-up '
+                         'corners may show')
+    return (cloud.with_corners(off) if off else cloud), off
+
+
+def prepared(inputs: Inputs) -> Scan:
+    """Reads the files, and chooses all that makes the scan."""
+    args, choices = inputs.args, inputs.choices
+    cloud = divided(read_cloud(inputs), args, choices)
+    read = len(cloud.points)
+    choices.timed('read')
+    if not read:
+        raise NoSurface('no point is left')
+    texture = spacing(cloud.points)
+    if not texture.distance:
+        raise NoSurface('most points stand at one place')
+    choices.tell(f'{read:,} points, {len(cloud.scanners):,} positions; {texture.distance:.4g} apart, noise about {texture.noise:.2g}, '
+                 f'{np.ptp(cloud.points, axis=0).max():.4g} across')
+    cloud = thin(cleaned(cloud, args, choices), texture, args, choices)
+    cloud, off = closed_around(cloud, texture, args, choices)
+    origin, unit = framed(cloud, texture, args, choices)
+    choices.timed('choose')
+    return Scan(cloud, texture, origin, unit, read, off)
+
+
+def framed(cloud: Cloud, texture: Spacing, args: Any, choices: Choices) -> tuple[np.ndarray, int]:
+    """The origin and the unit."""
+    given = None if args.origin is None else np.array([float(word) for word in args.origin.split(',')])
+    shift = np.zeros(3) if given is None else given
+    fitting = frame(cloud.points - shift, cloud.scanners - shift, texture.distance)
+    origin, unit = fitting.origin if given is None else given, args.unit or fitting.unit
+    choices.choose('origin', ','.join(map(plain, origin)), 'given' if given is not None else 'all fits' if not origin.any() else 'far from 0')
+    gap = texture.distance * unit
+    choices.choose('unit', unit, 'given' if args.unit else f'points are {gap:.0f} units apart')
+    if gap < 20:
+        choices.warn(f'points are {gap:.1f} units apart, so rounding shows: recon-tiles cuts such a scan, each tile with an origin of its own')
+    return origin, unit
+
+
+def plain(value: float) -> str:
+    """A number without an exponent."""
+    text = f'{value:.12f}'.rstrip('0').rstrip('.')
+    return '0' if text in ('', '-0') else text
+
+
+def built(scan: Scan, args: Any, folder: Path, choices: Choices) -> Surface:
+    """Builds the surface, with a smaller area weight where it vanishes, and checks it."""
+    cloud = scan.cloud
+    usual = 1 if cloud.is_made_up else 3
+    tried = [args.smooth] if args.smooth is not None else list(dict.fromkeys([usual, 1]))
+    for smooth in tried:
+        choices.tell(f'building at smooth={smooth}')
+        surface = build(cloud.points, cloud.scanners, lists_of(cloud), weights=cloud.weights, smooth=smooth, vote=args.vote, unit=scan.unit,
+                        origin=scan.origin, folder=folder, program=args.program, is_shown=sys.stderr.isatty() and not args.quiet)
+        if 2 * surface.counts['faces'] >= surface.counts['points']:
+            break
+        choices.warn(f'at smooth={smooth} there are only {surface.counts["faces"]:,} faces for {surface.counts["points"]:,} points')
+    why = ('given' if args.smooth is not None else 'at 3 it vanishes' if surface.smooth != usual else
+           'sights along normals are short' if cloud.is_made_up else 'positions are known')
+    choices.choose('smooth', surface.smooth, why)
+    choices.timed('build')
+    if not surface.counts['faces']:
+        raise NoSurface('the surface is empty: the points lie in a plane, or --smooth is too large')
+    if not args.no_check:
+        surface.check()
+        choices.tell('check: yes, mesh and certificate are those of the scan')
+    choices.timed('check')
+    against = surface.votes_against_per_sight
+    choices.tell(f'{against:.3f} votes against the surface for each line of sight')
+    if against > LOOK:
+        choices.warn(f'{against:.2f} votes against the surface for each line of sight, over {LOOK}: look at '
+                     + ('the normals' if cloud.is_made_up else 'the positions of the scanners'))
+    return surface
+
+
+def lists_of(cloud: Cloud) -> Any:
+    """Who saw each point, as `build` takes it."""
+    if (cloud.sights.counts == 1).all():
+        return cloud.sights.scanners
+    rows = np.empty(len(cloud.points), object)
+    rows[:] = np.split(cloud.sights.scanners, np.cumsum(cloud.sights.counts)[:-1])
+    return rows
+
+
+def wishes_for(surface: Surface, scan: Scan, args: Any, choices: Choices) -> Wishes:
+    """How the mesh is finished: pieces, flips and steps of smoothing."""
+    part = pieces(surface.faces, len(surface.vertices))
+    sizes = np.sort(np.bincount(part))[::-1]
+    least = max(50.0, 0.01 * sizes[0], 100.0 if scan.surround else 0.0)
+    kept = args.pieces or max(1, int((sizes >= least).sum()))
+    choices.choose('pieces', kept, 'given' if args.pieces else f'of {len(sizes)}, those of {least:.0f} faces or more')
+    apart, noise = scan.texture
+    within = args.within if args.within is not None else float(f'{2 * noise:.2g}') if noise > 0.05 * apart else 0.0
+    steps = args.steps if args.steps is not None else 6 if noise > 0.3 * apart else 3
+    flipping = len(surface.faces) / FLIPS_A_SECOND
+    flips = not args.no_flips and (args.steps is not None or flipping <= args.patience)
+    steps = steps if within else 0
+    if args.steps is None and steps and flipping * (1 + 0.65 * steps) > args.patience:
+        choices.warn(f'not smoothed, which would take some {flipping * (1 + 0.65 * steps) / 60:.0f} minutes (--patience SECONDS)')
+        steps = 0
+    choices.choose('flips', 'yes' if flips else 'no', 'given' if args.no_flips else 'edges lie better' if flips else
+                   f'they would take some {flipping / 60:.0f} minutes (--patience SECONDS)')
+    if steps:
+        choices.choose('steps', steps, 'given' if args.steps is not None else f'noise of {noise:.2g} at {apart:.2g} apart')
+        choices.choose('within', f'{within:g}', 'given' if args.within is not None else 'twice the noise')
+    else:
+        choices.choose('steps', 0, 'given' if args.steps == 0 else 'patience' if within else f'noise {noise:.2g} is small beside {apart:.2g}')
+    return Wishes(scan.unit, scan.origin.tolist(), kept, flips=flips, steps=steps, within=within if steps else 0.0, seen=True)
+
+
+def colored(mesh: Finished, surface: Surface, cloud: Cloud) -> np.ndarray | None:
+    """Colors of the vertices, by the points that they are; they go into the columns of the mesh."""
+    if cloud.colors is None:
+        return None
+    colors = cloud.colors[surface.source[mesh.vertex_of]]
+    columns: list[Column] = [(name, 'uchar', colors[:, k]) for k, name in enumerate(('red', 'green', 'blue'))]
+    mesh.columns.extend(columns)
+    return np.asarray(colors)
+
+
+def refuse_own_inputs(args: Any) -> None:
+    """Stops before a file that is read would be written over."""
+    out = os.fspath(args.output)
+    written = {os.path.realpath(path) for path in (out, seen_path(out), os.path.splitext(out)[0] + '.html')}
+    for name in args.input:
+        path = name if os.path.exists(name) else name.rpartition('=')[0]
+        if os.path.realpath(path) in written:
+            raise Refusal(f'{path} is read, and would be written over: choose another name for -o')
+
+
+def made(args: Any, choices: Choices) -> Made:
+    """The whole run."""
+    out = Path(args.output)
+    form_of(args.output)
+    refuse_own_inputs(args)
+    args.program = program_path(args.program)
+    folder = Path(args.keep or out.with_suffix('.recon'))
+    folder.mkdir(parents=True, exist_ok=True)
+    scan = prepared(Inputs(args, folder, choices))
+    surface = built(scan, args, folder, choices)
+    wishes = wishes_for(surface, scan, args, choices)
+    choices.tell(f'finishing {len(surface.faces):,} faces')
+    mesh, report = finished(os.fspath(surface.mesh), wishes)
+    colors = colored(mesh, surface, scan.cloud)
+    choices.timed('finish')
+    sweep = surface.sweep(0, 1, args.sweep) if args.sweep else []
+    choices.timed('sweep')
+    return Made(args, out, folder, scan.cloud, scan.read, scan.texture, surface, mesh, colors, report, sweep, choices)
+
+
+def parser() -> argparse.ArgumentParser:
+    shape = argparse.RawDescriptionHelpFormatter
+    top = argparse.ArgumentParser(prog='recon-surface', description=__doc__, formatter_class=shape)
+    top.add_argument('input', nargs='+', help='a scan; FILE=X,Y,Z for each station; or a workspace of COLMAP')
+    top.add_argument('-o', '--output', required=True, metavar='MESH', help='the mesh, as .ply, .stl, .glb or .obj')
+    group = top.add_argument_group('who saw the points')
+    group.add_argument('--scanner', type=triple, metavar='X,Y,Z', help='one position that all points were seen from')
+    group.add_argument('--normals', action='store_true', help='scanners along the normals of the points')
+    group.add_argument('--above', action='store_true', help='one position far above, as of airborne scans')
+    group.add_argument('--estimate-normals', action='store_true', help='scanners along estimated normals')
+    group.add_argument('--far', type=length, metavar='D', help='how far off the points scanners along normals stand (default: one spacing)')
+    for name, what in (('positions', 'a table of scanner positions'), ('index', 'the property that numbers the scanners'),
+                       ('table', 'a table of stations and their files'), ('images', "COLMAP's images.bin or .txt"),
+                       ('position', 'header or matrix: which position of a PTX counts'),
+                       ('flight', 'a table of times and positions of an airborne scan')):
+        group.add_argument('--' + name, help=what + ', as for recon-scan')
+    group = top.add_argument_group('what is chosen from the data otherwise')
+    group.add_argument('--divide', type=length, metavar='N', help='divide all coordinates by N first, as 1000 for micrometers')
+    group.add_argument('--origin', type=triple, metavar='X,Y,Z', help='the place that is taken off all coordinates')
+    group.add_argument('--unit', type=within(1, 1_000_000), metavar='U', help='coordinates are rounded to 1/U')
+    group.add_argument('--side', type=length, metavar='S', help='keep one point in each cube of this side')
+    group.add_argument('--max-points', type=within(4, 1_048_576), default=MOST, metavar='N', help='thin above N points (default: %(default)s)')
+    group.add_argument('--no-clean', action='store_true', help='keep lone points')
+    group.add_argument('--surround', type=lambda word: 0.0 if word == '0' else length(word), metavar='D',
+                       help='put eight points D outside of a scan from inside; 0 for none')
+    group.add_argument('--smooth', type=within(0, 65535), metavar='L', help='area weight of a face')
+    group.add_argument('--vote', type=within(1, 65535), default=8, metavar='V', help='weight of a sight (default: %(default)s)')
+    group.add_argument('--pieces', type=within(1, 10 ** 9), metavar='N', help='keep the N largest pieces')
+    group.add_argument('--no-flips', action='store_true', help='leave edges as they are')
+    group.add_argument('--steps', type=within(0, 1000), metavar='N', help='steps of smoothing')
+    group.add_argument('--within', type=length, metavar='D', help='how far a vertex may go by smoothing')
+    group.add_argument('--patience', type=length, default=120.0, metavar='SECONDS', help='how long finishing may take (default: %(default)g)')
+    group = top.add_argument_group('the run')
+    group.add_argument('--sweep', type=within(2, 64), metavar='N', help='the page gets a slider over smooth=0 to N-1')
+    group.add_argument('--no-check', action='store_true', help='do not run recon check')
+    group.add_argument('--force', action='store_true', help='end with 0 where positions look wrong')
+    group.add_argument('--keep', metavar='FOLDER', help='where scan, mesh and certificate go (default: MESH.recon)')
+    group.add_argument('--program', metavar='PATH', help='the program recon')
+    group.add_argument('-q', '--quiet', action='store_true', help='no progress')
+    return top
+
+
+def triple(word: str) -> str:
+    if len(word.split(',')) != 3 or not all(map(IS_NUMBER, word.split(','))):
+        raise argparse.ArgumentTypeError(f'{word} is not X,Y,Z')
+    return word
+
+
+def length(word: str) -> float:
+    if not IS_NUMBER(word) or not 0 < float(word) < 1e30:
+        raise argparse.ArgumentTypeError(f'{word} is not a number over 0')
+    return float(word)
+
+
+def within(least: int, most: int) -> Any:
+    """The type of a whole number in a range."""
+    def whole(word: str) -> int:
+        if not word.isdecimal() or not least <= int(word) <= most:
+            raise argparse.ArgumentTypeError(f'{word} is not a whole number from {least} to {most:,}')
+        return int(word)
+    return whole
+
+
+def arguments(words: Sequence[str]) -> list[str]:
+    """The words, with a value that begins with a minus joined to its option, as in --scanner -1,2,3."""
+    joined: list[str] = []
+    for word in words:
+        if joined and joined[-1].startswith('--') and '=' not in joined[-1] and word[:1] == '-' and word[1:2].isdigit():
+            joined[-1] += '=' + word
+        else:
+            joined.append(word)
+    return joined
+
+
+def failed(status: int, text: object) -> int:
+    print(f'recon-surface: {text}', file=sys.stderr)
+    return status
+
+
+def run(words: Sequence[str]) -> int:
+    """Runs the program, and returns its status."""
+    args = parser().parse_args(arguments(words))
+    choices = Choices(args.quiet)
+    try:
+        result = made(args, choices)
+        write_outputs(result)
+    except NoSurface as error:
+        return failed(3, error)
+    except (Refusal, Invalid, Refused) as error:
+        return failed(1, f'error: {error}')
+    except ArithmeticError:
+        return failed(1, 'error: a number is far out of range')
+    except OSError as error:
+        return failed(1, f'error: {error.strerror}: {error.filename or "writing"}' if error.strerror else f'error: {error}')
+    against = result.surface.votes_against_per_sight
+    if against > WRONG and not args.force:
+        return failed(4, f'{against:.2f} votes against the surface for each line of sight: positions or normals look wrong (--force)')
+    return 0
+
+
+def main() -> None:
+    sys.exit(run(sys.argv[1:]))
+
+
+if __name__ == '__main__':
+    main()

@@ -1,0 +1,84 @@
+"""A scan of any size cut into tiles that `recon` takes, and the tiles' surfaces put together.
+
+  recon-tiles split FILE .. FOLDER [points=N] [overlap=D | spacings=K] [through=N] [unit=U] [vote=V] [smooth=L] [how it is read]
+  recon-tiles join FOLDER OUT [fill=yes] [report=FILE]
+
+`split` halves space by planes along the axes until each box, its tile's *core*, has at most so many points in it and within
+the overlap around it. It writes a new FOLDER: a scan for each tile, with the scanners that its points name; `tiles.json`, which
+says what each is; and jobs that build and check each tile's surface, as `jobs.txt`, a command a line, and as `Makefile`.
+
+  points=N           the most points of a tile. Without it 800000, and at most 1048576
+  overlap=D          how far a tile reaches beyond its core, in the file's own numbers
+  spacings=K         the same in mean spacings of the points, which a sample tells. Without either 20
+  through=N          how many points from outside a tile are handed in to it at most, whose sights enter its box. Without it a
+                     tenth of points=
+  unit=, vote=, smooth=   options of `recon` for the jobs
+  index=, positions=, position=, table=, images=, normals=, far=, above=, origin=, open_end=   how the scan is read, with the meaning
+                     that they have for recon-scan
+
+FILE .. is all that recon-scan reads, in the same words. What `recon` does not read is left out.
+
+`join` takes, when all jobs are done, of each tile's surface the faces whose middle lies in its core, and makes one vertex of
+what is one scanned point. It says of each two tiles that meet how many edges at their seam are not there one way as often as the
+other: open ones, of one face or two, and crowded ones, where three or more meet. `recon check` knows nothing of what it writes.
+
+  fill=yes           fill the gaps by triangles that no tile has, so that the surface is closed: each directed edge is met by
+                     its reverse equally often
+  report=FILE        a text of a line for each such edge: the two tiles, `open` or `crowded`, and the edge's two ends
+"""
+from __future__ import annotations
+
+from typing import Any, Sequence
+
+from recon.toolbox.ply_text import IS_NUMBER, Refusal
+from recon.toolbox.scan_feeds import KEYS
+from recon.toolbox.tile_join import join
+from recon.toolbox.tile_split import Wanted, split
+from recon.toolbox.tool import NotUnderstood, run, whole, yes
+
+SPLIT = ('points', 'overlap', 'spacings', 'through', 'unit', 'vote', 'smooth') + KEYS
+JOIN = ('fill', 'report')
+
+
+def length(text: str, key: str) -> float:
+    if not IS_NUMBER(text) or not 0 <= float(text) < 1e30:
+        raise Refusal(f'{key}= is a number, 0 or more')
+    return float(text)
+
+
+def refuse_others(options: Any, mine: tuple[str, ...], others: tuple[str, ...], command: str) -> None:
+    for key in others:
+        if key not in mine and getattr(options, key) is not None:
+            raise Refusal(f'{key}= is no option of {command}')
+
+
+def wanted_of(options: Any) -> tuple[Wanted, list[str]]:
+    """What a split is asked for, and the options of `recon` for its jobs."""
+    limits = {'unit': (1, 1000000), 'vote': (1, 65535), 'smooth': (0, 65535)}
+    handed = {key: whole(getattr(options, key), key, *ends) for key, ends in limits.items() if getattr(options, key) is not None}
+    if options.overlap is not None and options.spacings is not None:
+        raise Refusal('overlap= and spacings= say the same thing: give one of them')
+    points = whole(options.points or '800000', 'points', 20, 1048576)
+    through = points // 10 if options.through is None else whole(options.through, 'through', 0, points // 2)
+    overlap = None if options.overlap is None else length(options.overlap, 'overlap')
+    wanted = Wanted(points, through, overlap, length(options.spacings or '20', 'spacings'), handed.get('unit', 1), options)
+    return wanted, [f'{key}={value}' for key, value in handed.items()]
+
+
+def work(names: Sequence[str], options: Any) -> str:
+    command, *others = names or ['']
+    if command == 'split' and len(others) > (options.table is None):
+        refuse_others(options, SPLIT, JOIN, command)
+        return split(others[:-1], others[-1], *wanted_of(options))
+    if command == 'join' and len(others) == 2:
+        refuse_others(options, JOIN, SPLIT, command)
+        return join(others[0], others[1], yes(options.fill, 'fill'), options.report)
+    raise NotUnderstood
+
+
+def main() -> None:
+    run(work, __doc__, None, SPLIT + JOIN)
+
+
+if __name__ == '__main__':
+    main()

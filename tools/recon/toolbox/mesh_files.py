@@ -1,0 +1,191 @@
+"""Meshes read as `recon build` wrote them, and written as PLY, STL, GLB or OBJ.
+
+Names: read_mesh · Finished (a mesh to be written: coordinates, corners, and columns of values of vertices and faces) ·
+write_mesh (by the ending of the name).
+"""
+from __future__ import annotations
+
+import contextlib
+import json
+import os
+import re
+import struct
+import warnings
+from dataclasses import dataclass, field
+from typing import Any, BinaryIO, Callable, Iterator, List, NoReturn, Tuple
+
+import numpy as np
+
+from recon.toolbox.ply_text import FORMATS, Refusal
+from recon.toolbox.vectors import axes, normal
+
+HEAD = re.compile(rb'ply\nformat ascii 1\.0\nelement vertex ([0-9]{1,10})\nproperty int x\nproperty int y\nproperty int z\n'
+                  rb'element face ([0-9]{1,10})\nproperty list uchar int vertex_indices\nend_header\n')
+WHOLE = ('char', 'uchar', 'short', 'ushort', 'int', 'uint', 'int8', 'uint8', 'int16', 'uint16', 'int32', 'uint32')
+NOT_OURS = 'this is no mesh as `recon build` wrote it: '
+LIMIT = 2097151
+COLORS = ('red', 'green', 'blue')
+Column = Tuple[str, str, np.ndarray]
+
+
+def read_mesh(path: str) -> tuple[np.ndarray, np.ndarray]:
+    """The places of the vertices, (n, 3) whole numbers, and the corners of all faces one after another."""
+    with open(path, 'rb') as file:
+        data = file.read()
+    head = HEAD.match(data)
+    if not head:
+        floats = re.search(rb'property (float|double)', data[:2000]) or not data.startswith(b'ply\nformat ascii')
+        raise Refusal(NOT_OURS + ('its coordinates are floating point already, or it is another file' if floats
+                                  else 'its header is another'))
+    count, faces = int(head[1]), int(head[2])
+    values = numbers_of(data[head.end():], 3 * count + 4 * faces)
+    places, rows = values[:3 * count].reshape(-1, 3), values[3 * count:].reshape(-1, 4)
+    corners = rows[:, 1:].ravel().copy()
+    if (rows[:, 0] != 3).any() or (corners < 0).any() or (corners >= count).any():
+        refuse('a face is no triangle of its vertices')
+    if (np.abs(places) > LIMIT).any():
+        refuse(f'a coordinate is over {LIMIT:,}')
+    return places, corners
+
+
+def refuse(why: str) -> NoReturn:
+    raise Refusal(NOT_OURS + why)
+
+
+def numbers_of(data: bytes, count: int) -> np.ndarray:
+    """The whole numbers of a text."""
+    if re.search(rb'[^-0-9 \n]', data) or data and not data.endswith(b'\n'):
+        refuse('it is cut or has words that are no whole numbers')
+    if re.search(rb'[0-9]-|-[^0-9]|[0-9]{18}', data):
+        refuse('a word is no whole number')
+    with warnings.catch_warnings():
+        warnings.simplefilter('ignore')
+        values = np.fromstring(data.decode('ascii'), np.int64, sep=' ') if data.strip() else np.zeros(0, np.int64)
+    if len(values) != count:
+        refuse(f'it has {len(values)} numbers where its header says {count}')
+    return values
+
+
+@dataclass
+class Finished:
+    """A mesh to be written: (n, 3) coordinates, (m, 3) corners, and columns of the vertices and of the faces: a name, a type of
+    PLY and the values, one each. `vertex_of` (n,) is the vertex of the mesh that was read that each vertex is."""
+    places: np.ndarray
+    faces: np.ndarray
+    columns: List[Column]
+    face_columns: List[Column] = field(default_factory=list)
+    vertex_of: np.ndarray = field(default_factory=lambda: np.zeros(0, np.int64))
+
+    def colors(self) -> np.ndarray | None:
+        """Red, green and blue of each vertex as bytes, where it has them as whole numbers. Of 16 bits the upper eight are taken."""
+        named = {name: (kind, values) for name, kind, values in self.columns}
+        if not all(name in named and named[name][0] in WHOLE for name in COLORS):
+            return None
+        values = np.stack([named[name][1] for name in COLORS], axis=1).astype(np.int64)
+        shift = 8 if values.max(initial=0) > 255 else 0
+        return np.clip(values >> shift, 0, 255).astype(np.uint8)
+
+
+@contextlib.contextmanager
+def whole_bytes(path: str) -> Iterator[BinaryIO]:
+    """A binary file that is written beside its place and moved there when it is whole."""
+    part = path + '.part'
+    with open(part, 'wb') as file:
+        try:
+            yield file
+        except BaseException:
+            file.close()
+            os.unlink(part)
+            raise
+    os.replace(part, path)
+
+
+def table_of(parts: list[tuple[str, str, Any]]) -> np.ndarray:
+    """Rows of fields side by side, of columns with their names and types of numpy."""
+    rows = np.zeros(len(parts[0][2]), [(name, kind) + value.shape[1:] for name, kind, value in parts])
+    for name, _, value in parts:
+        rows[name] = value
+    return rows
+
+
+def column_parts(columns: list[Column]) -> list[tuple[str, str, np.ndarray]]:
+    return [(f'column {k}', '<' + FORMATS[kind], values) for k, (_, kind, values) in enumerate(columns)]
+
+
+def ply_parts(mesh: Finished) -> Iterator[bytes]:
+    """A binary PLY, in pieces."""
+    lines = ['ply', 'format binary_little_endian 1.0', 'comment made by finish', f'element vertex {len(mesh.places)}']
+    lines += [f'property double {axis}' for axis in 'xyz'] + [f'property {kind} {name}' for name, kind, _ in mesh.columns]
+    lines += [f'element face {len(mesh.faces)}', 'property list uchar int vertex_indices']
+    lines += [f'property {kind} {name}' for name, kind, _ in mesh.face_columns] + ['end_header', '']
+    yield '\n'.join(lines).encode('ascii')
+    yield table_of([('place', '<f8', mesh.places), *column_parts(mesh.columns)]).tobytes()
+    threes = np.full(len(mesh.faces), 3, np.uint8)
+    yield table_of([('count', 'u1', threes), ('corners', '<i4', mesh.faces), *column_parts(mesh.face_columns)]).tobytes()
+
+
+def stl_parts(mesh: Finished) -> Iterator[bytes]:
+    """A binary STL, in pieces."""
+    yield b'made by finish'.ljust(80) + struct.pack('<I', len(mesh.faces))
+    away = np.stack(normal(*(axes(mesh.places, mesh.faces[:, k]) for k in range(3))), axis=1)
+    corners = mesh.places[mesh.faces].reshape(-1, 9)
+    yield table_of([('normal', '<f4', away), ('corners', '<f4', corners), ('zero', '<u2', np.zeros(len(away)))]).tobytes()
+
+
+def glb_parts(mesh: Finished) -> Iterator[bytes]:
+    """A binary glTF, in pieces: the mesh with its colors, if it has any."""
+    places, colors = mesh.places.astype('<f4'), mesh.colors()
+    data = [mesh.faces.astype('<u4').tobytes(), places.tobytes()]
+    accessors: list[dict[str, Any]] = [
+        {'bufferView': 0, 'componentType': 5125, 'count': 3 * len(mesh.faces), 'type': 'SCALAR'},
+        {'bufferView': 1, 'componentType': 5126, 'count': len(places), 'type': 'VEC3',
+         'min': places.min(axis=0).astype(float).tolist(), 'max': places.max(axis=0).astype(float).tolist()}]
+    attributes = {'POSITION': 1}
+    if colors is not None:
+        data.append(np.c_[colors, np.full(len(colors), 255, np.uint8)].tobytes())
+        accessors.append({'bufferView': 2, 'componentType': 5121, 'normalized': True, 'count': len(places), 'type': 'VEC4'})
+        attributes['COLOR_0'] = 2
+    views, at = [], 0
+    for number, part in enumerate(data):
+        views.append({'buffer': 0, 'byteOffset': at, 'byteLength': len(part), 'target': 34962 if number else 34963})
+        at += len(part)
+    scene = {'asset': {'version': '2.0', 'generator': 'recon-finish'}, 'scene': 0, 'scenes': [{'nodes': [0]}],
+             'nodes': [{'mesh': 0}], 'meshes': [{'primitives': [{'attributes': attributes, 'indices': 0}]}],
+             'buffers': [{'byteLength': at}], 'bufferViews': views, 'accessors': accessors}
+    text = json.dumps(scene).encode('ascii')
+    text += b' ' * (-len(text) % 4)
+    yield b'glTF' + struct.pack('<II', 2, 28 + len(text) + at) + struct.pack('<I4s', len(text), b'JSON') + text
+    yield struct.pack('<I4s', at, b'BIN\0')
+    yield from data
+
+
+def obj_parts(mesh: Finished) -> Iterator[bytes]:
+    """A Wavefront OBJ, in pieces. Colors stand behind the coordinates, from 0 to 1, as MeshLab, Blender and CloudCompare read
+    them."""
+    yield b'# made by finish\n'
+    colors = mesh.colors()
+    rows: list[list[float]] = mesh.places.tolist() if colors is None else np.c_[mesh.places, colors / 255].tolist()
+    form = 'v %.17g %.17g %.17g' + ('' if colors is None else ' %.4g %.4g %.4g') + '\n'
+    for start in range(0, len(rows), 10000):
+        yield ''.join(form % tuple(row) for row in rows[start:start + 10000]).encode('ascii')
+    faces: list[list[int]] = (mesh.faces + 1).tolist()
+    for start in range(0, len(faces), 10000):
+        yield ''.join('f %d %d %d\n' % tuple(face) for face in faces[start:start + 10000]).encode('ascii')
+
+
+FORMS = {'.ply': ply_parts, '.stl': stl_parts, '.glb': glb_parts, '.obj': obj_parts}
+
+
+def form_of(path: str) -> Callable[[Finished], Iterator[bytes]]:
+    """The form that the name's ending says."""
+    ending = os.path.splitext(path)[1].lower()
+    if ending not in FORMS:
+        raise Refusal(f'{path} ends in none of {", ".join(FORMS)}, which say the form')
+    return FORMS[ending]
+
+
+def write_mesh(path: str, mesh: Finished) -> None:
+    parts = form_of(path)(mesh)
+    with whole_bytes(path) as file:
+        for part in parts:
+            file.write(part)

@@ -1,0 +1,165 @@
+"""Points with normals, of which nobody knows from where they were seen: each is seen by a scanner of its own that stands a little
+way off along its normal.
+
+The normals are believed: a wrong one is a wrong sight. A scanner that stands too far off is behind another part of the object,
+and a wrong sight too: one spacing is right. A scan has at most 65,536 scanners. Where there are more points, those whose scanners
+would stand in one cube and whose normals point the same way share one (recon.sights).
+"""
+from __future__ import annotations
+
+from array import array
+from math import isfinite
+from typing import Any, Iterator, Sequence
+
+import numpy as np
+
+from recon.clouds import spacing
+from recon.sights import along_normals
+from recon.toolbox.ply_text import IS_NOT_FINITE, IS_NUMBER, Property, Refusal
+from recon.toolbox.point_files import has_rows, open_points
+from recon.toolbox.sieve import Mover, Passage, length_of
+from recon.toolbox.sources import Source, refuse_others
+from recon.toolbox.text_lines import Lines
+from recon.toolbox.tool import number_of, yes
+
+RANGE = 2000000
+
+
+class NumberList:
+    """A text of lines X Y Z NX NY NZ, as an element of six columns or more."""
+
+    def __init__(self, path: str, open_end: bool) -> None:
+        self.path, self.open_end = path, open_end
+        lines = Lines(path, open_end)
+        try:
+            self.width = len(lines.next_words() or ())
+        finally:
+            lines.close()
+        if self.width < 6:
+            raise Refusal('the first line has under six values, and a point with its normal has X Y Z NX NY NZ')
+        names = ['x', 'y', 'z', 'nx', 'ny', 'nz'] + [f'value_{k}' for k in range(7, self.width + 1)]
+        self.properties = [Property(name, 'double') for name in names]
+        self.columns = list(range(6))
+
+    def rows(self) -> Iterator[list[str]]:
+        lines = Lines(self.path, self.open_end)
+        try:
+            words = lines.next_words()
+            while words is not None:
+                if len(words) != self.width:
+                    raise Refusal(f'line {lines.number} has {number_of(len(words), "value")} where the first has {self.width}')
+                yield words
+                words = lines.next_words()
+        finally:
+            lines.close()
+
+
+class Points:
+    """A file of rows, as PLY or PCD, whose points have normals."""
+
+    def __init__(self, path: str, open_end: bool) -> None:
+        self.path, self.open_end = path, open_end
+        reader = open_points(path, open_end)
+        reader.close()
+        vertex = reader.element('vertex')
+        if vertex is None or vertex.has_lists():
+            raise Refusal('there is no element vertex' if vertex is None else 'a property of vertex is a list')
+        normal = next(([vertex.column(start + axis) for axis in 'xyz'] for start in ('n', 'normal_')
+                       if vertex.column(start + 'x') is not None), [None])
+        self.columns = vertex.point_columns() + normal
+        if None in self.columns:
+            raise Refusal('the points have no normals: vertex has no properties nx, ny and nz')
+        self.properties = [Property('scanner_before' if p.name == 'scanner' else p.name, p.kind) for p in vertex.properties]
+        for place, name in zip(self.columns, 'xyz'):
+            self.properties[place].name = name
+
+    def rows(self) -> Iterator[list[str]]:
+        reader = open_points(self.path, self.open_end)
+        try:
+            for element in reader.elements:
+                for words in reader.rows(element):
+                    if element.name == 'vertex':
+                        yield words
+            reader.finish()
+        finally:
+            reader.close()
+
+
+def numbers_of(row: int, words: Sequence[str]) -> list[float] | None:
+    """The six numbers of a row, or None where one is not finite."""
+    for word in words:
+        if not IS_NUMBER(word):
+            if IS_NOT_FINITE(word):
+                return None
+            raise Refusal(f'point {row}: {word[:40]} is no number')
+    values = list(map(float, words))
+    return values if all(map(isfinite, values)) else None
+
+
+class Cloud:
+    """The points that have a normal: their places, and their directions at length 1."""
+
+    def __init__(self, source: NumberList | Points, mover: Mover) -> None:
+        self.places, self.directions = [array('d') for _ in range(3)], [array('d') for _ in range(3)]
+        self.is_kept, self.counts = bytearray(), {'not finite': 0, 'without a normal': 0}
+        for row, words in enumerate(source.rows()):
+            self.add(numbers_of(row, [words[k] for k in source.columns]), mover)
+
+    def add(self, values: list[float] | None, mover: Mover) -> None:
+        long = 0.0 if values is None else sum(x * x for x in values[3:]) ** 0.5
+        if values is None or not long:
+            self.counts['not finite' if values is None else 'without a normal'] += 1
+            self.is_kept.append(0)
+            return
+        self.is_kept.append(mover.takes(*values[:3]))
+        if not self.is_kept[-1]:
+            return
+        for column, value in zip(self.places, values):
+            column.append(value)
+        for column, value in zip(self.directions, values[3:]):
+            column.append(value / long)
+
+    def scanners(self, word: str | None) -> tuple[float, np.ndarray, np.ndarray]:
+        """How far off scanners stand, where, and the number of the scanner of each point."""
+        points, ways = (np.stack([np.frombuffer(column) for column in columns], axis=1) for columns in (self.places, self.directions))
+        far = length_of(word, 'far', 'how far off scanners stand') if word else spacing(points).distance or spacing(np.unique(points, axis=0)).distance
+        if not far:
+            raise Refusal('there are too few points to tell how far apart they are: say far=')
+        return (far, *along_normals(points, ways, far))
+
+
+class Normals(Source):
+    """A PLY, a PCD or a text of lines X Y Z NX NY NZ. All properties are kept."""
+
+    def __init__(self, path: str, options: Any) -> None:
+        refuse_others(options, ('normals', 'far', 'open_end'), 'normals')
+        open_end = yes(options.open_end, 'open_end')
+        self.file: NumberList | Points = Points(path, open_end) if has_rows(path) else NumberList(path, open_end)
+        super().__init__(self.file.properties + [Property('scanner', 'int')], path)
+        self.point, self.scanner, self.word = self.file.columns[:3], len(self.file.properties), options.far
+        self.far, self.unit = 0.0, 1
+
+    def run(self, receiver: Passage) -> None:
+        cloud = Cloud(self.file, receiver.mover)
+        self.count, self.counts = len(cloud.is_kept), cloud.counts
+        if not cloud.places[0]:
+            raise Refusal('no point has a normal')
+        self.far, scanners, numbers = cloud.scanners(self.word)
+        indices = iter(numbers.tolist())
+        for words, kept in zip(self.file.rows(), cloud.is_kept):
+            if kept:
+                receiver.put(words + [str(next(indices))])
+        self.positions = [list(map(repr, scanner)) for scanner in scanners.tolist()]
+        self.unit = self.unit_for(np.concatenate([np.stack(list(map(np.frombuffer, cloud.places)), axis=1), scanners]), receiver.mover)
+
+    def unit_for(self, places: np.ndarray, mover: Mover) -> int:
+        """The power of ten with 100 to 1000 units to the way of a scanner, less where all would be out of range."""
+        origin = np.array([float(word) for word in mover.origin or (0, 0, 0)])
+        most, unit = float(np.abs(places - origin).max()), 1000000
+        while unit > 1 and (most * unit > RANGE or self.far * unit > 1000):
+            unit //= 10
+        return unit
+
+    def remark(self) -> str:
+        return (f'; scanners stand {self.far:.4g} off; normals are believed, and the cost tells wrong ones (--help); '
+                f'unit={self.unit} fits; smooth=1 is right for short sights')

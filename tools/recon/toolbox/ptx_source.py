@@ -1,0 +1,121 @@
+"""Points of Leica's PTX: each station's points, brought to where they are by its matrix, with the number of the station; and each
+station's position. Returns that are empty (0 0 0) are left out, and so are intensity and colors.
+
+Coordinates are exact: digits as they stand where a matrix changes nothing, and else the whole sum of products, rounded only
+where it has over 30 digits, the most that `recon` reads.
+"""
+from __future__ import annotations
+
+from decimal import Decimal
+from typing import Any, Sequence
+
+from recon.toolbox.exact import Pose
+from recon.toolbox.ply_text import IS_NUMBER, SCANNER_LIMIT, Refusal, decimals
+from recon.toolbox.sieve import Passage
+from recon.toolbox.sources import Source, refuse_others, scan_columns
+from recon.toolbox.text_lines import Lines
+from recon.toolbox.tool import number_of, yes
+
+UNCHANGED = [[Decimal(int(row == column)) for column in range(3)] for row in range(4)]
+
+
+class Station:
+    """A station's header: how many rows it has, its position in the header, and its matrix."""
+
+    def __init__(self, count: int, place: Sequence[str], matrix: list[list[str]]) -> None:
+        self.count, self.place, self.matrix = count, place, [list(map(Decimal, row)) for row in matrix]
+        self.origin = matrix[3]
+
+    def position(self, number: int, choice: str | None) -> Sequence[Any]:
+        """Where it stood, as words."""
+        if choice == 'header':
+            return self.place
+        place, origin = list(map(float, self.place)), list(map(float, self.origin))
+        if choice == 'matrix' or not any(place) or max(abs(a - b) for a, b in zip(place, origin)) <= 0.001:
+            return self.origin
+        if not any(origin):
+            return self.place
+        raise Refusal(f'station {number} has the position {" ".join(self.place)} in its header and {" ".join(self.origin)} in '
+                      'its matrix: choose one by position=header or position=matrix')
+
+
+def read_count(lines: Lines, words: Sequence[str] | None) -> int:
+    if words is None:
+        raise Refusal(f'cut: the file ends within the header of a station, after line {lines.number}')
+    if len(words) != 1 or not words[0].isdecimal():
+        raise Refusal(f'line {lines.number} is not the number of columns or rows of a station')
+    return int(words[0])
+
+
+def read_numbers(lines: Lines, width: int) -> list[str]:
+    words = lines.next_words()
+    if words is None:
+        raise Refusal(f'cut: the file ends within the header of a station, after line {lines.number}')
+    if len(words) != width or not all(map(IS_NUMBER, words)):
+        raise Refusal(f'line {lines.number} is not {width} numbers')
+    return words
+
+
+def read_station(lines: Lines) -> Station | None:
+    """The next station's header, or None at the end of the file."""
+    words = lines.next_words()
+    if words is None:
+        return None
+    columns = read_count(lines, words)
+    rows = read_count(lines, lines.next_words())
+    place = read_numbers(lines, 3)
+    for _ in range(3):
+        read_numbers(lines, 3)
+    matrix = [read_numbers(lines, 4) for _ in range(4)]
+    if [float(row[3]) for row in matrix] != [0, 0, 0, 1]:
+        raise Refusal(f'the matrix that ends in line {lines.number} has not 0 0 0 1 as its last column')
+    return Station(columns * rows, place, [row[:3] for row in matrix])
+
+
+class Ptx(Source):
+    """A PTX file."""
+
+    def __init__(self, path: str, options: Any) -> None:
+        refuse_others(options, ('position', 'open_end'), 'a PTX')
+        super().__init__(scan_columns(), path)
+        self.choice, self.lines = options.position, Lines(path, yes(options.open_end, 'open_end'))
+        self.counts = {'empty': 0, 'not finite': 0}
+        if self.choice not in (None, 'header', 'matrix'):
+            raise Refusal('position= is header or matrix')
+
+    def read(self) -> str:
+        return f'read {number_of(len(self.positions), "station")} with {number_of(self.count, "row")} of {self.what}'
+
+    def pass_points(self, station: Station, index: str, receiver: Passage) -> None:
+        lines, pose = self.lines, Pose(station.matrix) if station.matrix != UNCHANGED else None
+
+        def place() -> str:
+            return f'line {lines.number}'
+
+        for row in range(station.count):
+            words = lines.next_words()
+            if words is None:
+                raise Refusal(f'cut: the file ends in row {row} of the {station.count} of station {index}')
+            if len(words) < 3:
+                raise Refusal(f'line {lines.number} is not a row X Y Z ...')
+            point = words[:3]
+            if not decimals(point[0], point[1], point[2], place):
+                self.counts['not finite'] += 1
+            elif float(point[0]) == 0 and float(point[1]) == 0 and float(point[2]) == 0:
+                self.counts['empty'] += 1
+            else:
+                receiver.row([*(pose.transform(point) if pose else point), index])
+        self.count += station.count
+
+    def run(self, receiver: Passage) -> None:
+        try:
+            station = read_station(self.lines)
+            while station is not None:
+                if len(self.positions) == SCANNER_LIMIT:
+                    raise Refusal(f'there are over {SCANNER_LIMIT} stations')
+                position = station.position(len(self.positions), self.choice)
+                self.positions.append(list(map(str, position)))
+                self.pass_points(station, str(len(self.positions) - 1), receiver)
+                station = read_station(self.lines)
+        finally:
+            self.lines.close()

@@ -1,0 +1,219 @@
+"""Points of a file of rows (PLY, PCD, LAS, E57) with all their properties, or with lists of scanners.
+
+Names: Rows · Listed · checked_index (the number of a scanner that is there).
+"""
+from __future__ import annotations
+
+from typing import Any, Callable, Sequence
+
+from recon.toolbox.flight import TIMES, Above, Flight
+from recon.toolbox.ply_text import (ARE_THREE, FORMATS, SCANNER_LIMIT, Element, Property, Refusal, decimals, index_text,
+                              read_positions)
+from recon.toolbox.sieve import Passage
+from recon.toolbox.sources import Source, refuse_others
+
+
+def index_column(vertex: Element, name: str | None) -> int | None:
+    """The place of the column that numbers the scanner, or None."""
+    if name is not None:
+        place = vertex.column(name)
+        if place is None:
+            raise Refusal(f'vertex has no property {name}; it has ' + ', '.join(p.name for p in vertex.properties))
+    else:
+        place = vertex.column('scanner')
+        if place is None:
+            place = vertex.column('scalar_scanner')
+    return place
+
+
+def weight_column(vertex: Element) -> int | None:
+    """The place of the weight that `recon` reads, or None."""
+    for place, p in enumerate(vertex.properties):
+        if p.name == 'weight' and p.count_kind is None and FORMATS[p.kind] not in 'fd':
+            return place
+    return None
+
+
+def checked_index(word: str, limit: int | None, place: Callable[[], str]) -> str | None:
+    """The number of a scanner that is there, or None where it is not finite."""
+    number = index_text(word, place)
+    if number is not None and not 0 <= int(number) < (2 ** 31 if limit is None else limit):
+        raise Refusal(f'{place()}: there is no scanner {number}' + ('' if limit is None else f' among {limit}'))
+    return number
+
+
+class OfReader(Source):
+    """What both kinds of rows have in common: a reader, and its elements one after another."""
+
+    def __init__(self, reader: Any, path: str, columns: list[Property]) -> None:
+        super().__init__(columns, path)
+        self.reader = reader
+        self.vertex, self.scanners = reader.element('vertex'), reader.element('scanner')
+        self.count = self.vertex.count
+        self.places = self.vertex.point_columns()
+        if self.scanners and self.scanners.count > SCANNER_LIMIT:
+            raise Refusal(f'there are over {SCANNER_LIMIT} scanners')
+
+    def run(self, receiver: Passage) -> None:
+        try:
+            for element in self.reader.elements:
+                if element is self.vertex:
+                    self.pass_vertices(receiver)
+                elif element is self.scanners:
+                    self.read_scanners()
+                else:
+                    for _ in self.reader.rows(element):
+                        pass
+                    self.counts[f'rows of {element.name}'] = element.count
+            self.reader.finish()
+        finally:
+            self.reader.close()
+
+    def pass_vertices(self, receiver: Passage) -> None:
+        raise NotImplementedError
+
+    def read_scanners(self) -> None:
+        """Takes the rows of the file's own element `scanner`."""
+        x, y, z = self.scanners.point_columns()
+        for row, words in enumerate(self.reader.rows(self.scanners)):
+            position = [words[x], words[y], words[z]]
+            if not ARE_THREE(' '.join(position)):
+                raise Refusal(f'scanner row {row}: {" ".join(position)[:80]} is no place')
+            self.positions.append(position)
+
+
+class Rows(OfReader):
+    """Points whose properties are no lists. All are kept."""
+
+    def __init__(self, reader: Any, path: str, options: Any) -> None:
+        refuse_others(options, ('index', 'positions', 'open_end'), 'a file of rows')
+        super().__init__(reader, path, [Property(p.name, p.kind) for p in reader.element('vertex').properties])
+        self.counts['without scanner'] = 0
+        self.point, self.index = self.places, index_column(self.vertex, options.index)
+        if options.positions:
+            if self.scanners:
+                raise Refusal('the file has an element scanner, so positions= is one too many')
+            self.positions = [words for words, _ in read_positions(options.positions)]
+        self.has_scanners = self.scanners is not None or bool(options.positions)
+        self.limit = self.scanners.count if self.scanners else len(self.positions) if options.positions else None
+        self.is_one = self.index is None and not self.scanners and self.limit == 1
+        if self.has_scanners and self.index is None and not self.is_one:
+            raise Refusal('vertex has no property scanner: name the one that numbers the scanners by index=')
+        self.scanner, self.weight = len(self.columns) if self.is_one else self.index, weight_column(self.vertex)
+        self.name_columns()
+
+    def name_columns(self) -> None:
+        """Gives the columns the names that they are written under."""
+        for place, axis in zip(self.point, 'xyz'):
+            self.columns[place].name = axis
+        if self.index is not None:
+            for p in self.columns:
+                p.name = 'scanner_before' if p.name == 'scanner' else p.name
+            self.columns[self.index] = Property('scanner', 'int')
+        elif self.is_one:
+            self.columns.append(Property('scanner', 'int'))
+
+    def pass_vertices(self, receiver: Passage) -> None:
+        x, y, z = self.point
+        index, limit, is_one, row = self.index, self.limit, self.is_one, 0
+        known: dict[str, str | None] = {}
+
+        def place() -> str:
+            return f'vertex row {row}'
+
+        for row, words in enumerate(self.reader.rows(self.vertex)):
+            if not decimals(words[x], words[y], words[z], place):
+                self.counts['not finite'] += 1
+                continue
+            if index is not None:
+                word = words[index]
+                if word not in known:
+                    known[word] = checked_index(word, limit, place)
+                words[index] = known[word]
+                if words[index] is None:
+                    self.counts['without scanner'] += 1
+                    continue
+            receiver.row(words + ['0'] if is_one else words)
+
+
+class Listed(OfReader):
+    """Points that name a list of scanners each. All their properties but other lists are kept."""
+    has_lists = True
+
+    def __init__(self, reader: Any, path: str, options: Any) -> None:
+        refuse_others(options, ('open_end',), 'lists of scanners')
+        vertex = reader.element('vertex')
+        self.named, self.weighed = vertex.column('scanner'), weight_column(vertex)
+        if self.named is None or vertex.properties[self.named].count_kind is None or reader.element('scanner') is None:
+            raise Refusal('a property of vertex is a list, and not that of the scanners')
+        self.kept = [k for k, p in enumerate(vertex.properties) if p.count_kind is None]
+        columns = [Property(vertex.properties[k].name, vertex.properties[k].kind) for k in self.kept]
+        super().__init__(reader, path, [*columns, Property('scanner', 'int', 'uint')])
+        self.point, self.scanner = [self.kept.index(k) for k in self.places], len(columns)
+        self.weight = None if self.weighed is None else self.kept.index(self.weighed)
+        for column, axis in zip(self.point, 'xyz'):
+            columns[column].name = axis
+
+    def pass_vertices(self, receiver: Passage) -> None:
+        row = 0
+
+        def place() -> str:
+            return f'vertex row {row}'
+
+        for row, words in enumerate(self.reader.rows(self.vertex)):
+            values = self.vertex.values(words)
+            point = [values[k][0] for k in self.places]
+            if not decimals(point[0], point[1], point[2], place):
+                self.counts['not finite'] += 1
+                continue
+            named = [checked_index(word, self.scanners.count, place) for word in values[self.named]]
+            numbers = [number for number in named if number is not None]
+            if len(numbers) < len(named):
+                raise Refusal(f'{place()}: a number of a scanner is not finite')
+            receiver.row([values[k][0] for k in self.kept] + [' '.join([str(len(numbers)), *numbers])])
+
+
+class Airborne(OfReader):
+    """Points that were seen from a flight, or from far above, and do not say from where. All properties are kept."""
+
+    def __init__(self, reader: Any, path: str, options: Any) -> None:
+        refuse_others(options, ('above', 'flight', 'open_end'), 'an airborne scan')
+        vertex = reader.element('vertex')
+        if vertex.has_lists() or reader.element('scanner') is not None:
+            raise Refusal('the file says itself where its points were seen from')
+        columns = [Property('scanner_before' if p.name == 'scanner' else p.name, p.kind) for p in vertex.properties]
+        super().__init__(reader, path, [*columns, Property('scanner', 'int')])
+        self.point, self.scanner, self.weight = self.places, len(columns), weight_column(vertex)
+        for place, axis in zip(self.point, 'xyz'):
+            self.columns[place].name = axis
+        self.above = Above()
+        self.flight = Flight(options.flight) if options.flight is not None else None
+        self.time = next((place for place in map(vertex.column, TIMES) if place is not None), None)
+        if self.flight and self.time is None:
+            raise Refusal('the points have no times: vertex has no property gpstime')
+
+    def pass_vertices(self, receiver: Passage) -> None:
+        x, y, z = self.point
+        row, number, unknown = 0, '0', 0
+
+        def place() -> str:
+            return f'vertex row {row}'
+
+        for row, words in enumerate(self.reader.rows(self.vertex)):
+            if not decimals(words[x], words[y], words[z], place):
+                self.counts['not finite'] += 1
+                continue
+            if self.flight:
+                found = self.flight.number(words[self.time or 0])
+                if found is None:
+                    unknown += 1
+                    continue
+                number = found
+            else:
+                self.above.box.show(float(words[x]), float(words[y]), float(words[z]))
+            receiver.row([*words, number])
+        self.positions = list(self.flight.positions) if self.flight else [self.above.position()]
+        self.counts['before or after the flight'] = unknown
+
+    def remark(self) -> str:
+        return '' if self.flight else self.above.remark()

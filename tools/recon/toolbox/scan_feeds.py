@@ -1,0 +1,51 @@
+"""Scans of every kind that recon-scan reads, handed on row by row without an output file.
+
+A row is the words of a point, x, y and z, of the number of its scanner (or of several, parted by spaces, where the file has a
+list of them), and of its weight where the file has one.
+
+Names: Fed (what a scan was found to be) · feed (hands on the rows of a scan, and answers a Fed).
+"""
+from __future__ import annotations
+
+from operator import itemgetter
+from typing import Any, Callable, Sequence
+
+from recon.toolbox.ply_text import Refusal
+from recon.toolbox.scan_source import source_of
+from recon.toolbox.sieve import Mover, Passage
+from recon.toolbox.sources import READING, Source
+
+KEYS = READING + ('origin',)
+Receive = Callable[[Sequence[str]], None]
+
+
+class Fed:
+    """Where the scanners stood, what was read in words, what was left out, and whether points have weights, and lists of
+    scanners."""
+
+    def __init__(self, positions: list[list[str]], source: Source) -> None:
+        self.positions, self.read, self.left_out = positions, source.read(), source.counts
+        self.has_weights, self.has_lists = source.weight is not None, source.has_lists
+
+
+def picker(source: Source, receive: Receive) -> Callable[[list[str]], None]:
+    """Keeps of each row only the words that are told of above, and hands them on."""
+    places = [*source.point, source.scanner] + ([] if source.weight is None else [source.weight])
+    pick = itemgetter(*places)
+    if not source.has_lists:
+        return lambda words: receive(pick(words))
+
+    def row(words: list[str]) -> None:
+        x, y, z, named, *weight = pick(words)
+        receive((x, y, z, named.partition(' ')[2], *weight))
+
+    return row
+
+
+def feed(names: Sequence[str], options: Any, receive: Receive) -> Fed:
+    """Hands the rows of a scan on, and answers what it is."""
+    source, mover = source_of(names, options), Mover(options.origin)
+    if not source.has_scanners:
+        raise Refusal('the file names no scanners: give their positions by positions=')
+    source.run(Passage(source, mover, picker(source, receive)))
+    return Fed([mover.moved(position) for position in source.positions], source)

@@ -1,0 +1,57 @@
+"""Points on their way out of files, whatever these are: what all sources of points have in common.
+
+A source hands rows of words to a receiver (sieve.Passage), one a point. Names: Source · scan_columns (those of points that have a
+place and a scanner alone) · READING (the options that say how files are read) · refuse_others.
+"""
+from __future__ import annotations
+
+from typing import TYPE_CHECKING, Any, Sequence
+
+from recon.toolbox.ply_text import Property, Refusal
+from recon.toolbox.tool import number_of
+
+if TYPE_CHECKING:
+    from recon.toolbox.sieve import Passage
+
+READING = ('table', 'index', 'positions', 'position', 'images', 'normals', 'far', 'above', 'flight', 'open_end')
+
+
+def scan_columns() -> list[Property]:
+    """The columns of points that have a place and a scanner alone."""
+    return [Property(axis, 'double') for axis in 'xyz'] + [Property('scanner', 'int')]
+
+
+class Source:
+    """Points of files. `columns` are those of its rows, `point` the places of x, y and z among them, `scanner` that of the
+    number of the scanner, or None, and `weight` that of the weight, or None. When all points have gone, `positions` are the
+    places of the scanners, `count` is how many points the files have, and `counts` is what was left out."""
+    has_scanners = True
+    has_lists = False
+
+    def __init__(self, columns: list[Property], what: str) -> None:
+        self.columns, self.what = columns, what
+        self.point: Sequence[int] = (0, 1, 2)
+        self.scanner: int | None = 3
+        self.weight: int | None = None
+        self.positions: list[Sequence[str]] = []
+        self.count = 0
+        self.counts: dict[str, int] = {'not finite': 0}
+
+    def run(self, receiver: Passage) -> None:
+        """Hands on all rows."""
+        raise NotImplementedError
+
+    def read(self) -> str:
+        """What was read, in words."""
+        return f'read {number_of(self.count, "point")} of {self.what}'
+
+    def remark(self) -> str:
+        """What else is to be said at the end."""
+        return ''
+
+
+def refuse_others(options: Any, mine: Sequence[str], what: str) -> None:
+    """Refuses options that say how other files are read."""
+    for key in READING:
+        if key not in mine and getattr(options, key) is not None:
+            raise Refusal(f'{key}= does not go with {what}')

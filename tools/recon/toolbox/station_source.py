@@ -1,0 +1,243 @@
+"""Points of files that are one a station, each with its scanner's position. Of points that stand in rows the coordinates are
+taken alone, digits as they stand.
+
+A file is a PLY of any kind, a PCD, a LAS or an E57; a PTS (the number of its rows, and then the rows); or a list of numbers with
+X, Y and Z first in each line, parted by spaces, tabs, commas or semicolons, perhaps with one heading, and with lines of remarks
+that begin with `#` or `//`.
+"""
+from __future__ import annotations
+
+import os
+from typing import Any, Callable, Iterator, List, Optional, Sequence, Tuple
+
+from recon.toolbox.flight import Above
+from recon.toolbox.ply_text import IS_NOT_FINITE, IS_NUMBER, SCANNER_LIMIT, Refusal, decimals, read_positions
+from recon.toolbox.point_files import PcdReader, has_rows, open_points
+from recon.toolbox.sieve import Passage
+from recon.toolbox.sources import Source, refuse_others, scan_columns
+from recon.toolbox.text_lines import DECIMAL_COMMAS, Lines
+from recon.toolbox.tool import number_of, three, yes
+
+Point = Tuple[List[str], Tuple[str, int]]
+Station = Tuple[str, Optional[Sequence[str]]]
+
+
+def row_points(path: str, open_end: bool) -> Iterator[Point]:
+    """The points of a file of rows, each with a word for its place."""
+    reader = open_points(path, open_end)
+    try:
+        vertex = reader.element('vertex')
+        if vertex is None:
+            raise Refusal('there is no element vertex')
+        if vertex.has_lists():
+            raise Refusal('a property of vertex is a list')
+        x, y, z = vertex.point_columns()
+        for element in reader.elements:
+            for row, words in enumerate(reader.rows(element)):
+                if element is vertex:
+                    yield [words[x], words[y], words[z]], ('vertex row', row)
+        reader.finish()
+    finally:
+        reader.close()
+
+
+def is_count(words: Sequence[str]) -> bool:
+    return len(words) == 1 and words[0].isdecimal()
+
+
+def pts_points(lines: Lines) -> Iterator[Point]:
+    """The points of a PTS file: blocks of a count and as many rows."""
+    words = lines.next_words()
+    while words is not None:
+        if not is_count(words):
+            raise Refusal(f'line {lines.number} stands where the number of the next rows should')
+        count = int(words[0])
+        for row in range(count):
+            words = lines.next_words()
+            if words is None:
+                raise Refusal(f'cut: the file ends in row {row} of {count}')
+            if row == 0 and is_count(words):
+                raise Refusal('this is a PTX, which says itself where its stations stood: name it alone, without a position')
+            if len(words) < 3:
+                raise Refusal(f'line {lines.number} is not a row X Y Z ...')
+            yield words[:3], ('line', lines.number)
+        words = lines.next_words()
+
+
+def is_value(word: str) -> bool:
+    return bool(IS_NUMBER(word) or IS_NOT_FINITE(word))
+
+
+def list_points(lines: Lines, counts: dict[str, int]) -> Iterator[Point]:
+    """The points of a list of numbers. The first row decides what parts the numbers and how many there are."""
+    sign, width, first = None, None, 0
+    line = lines.next_line()
+    while line is not None:
+        text = line.strip()
+        if text and not text.startswith(('#', '//')):
+            if DECIMAL_COMMAS(text):
+                raise Refusal(f'line {lines.number} has decimal commas: {text[:40]}; write its numbers with points')
+            if sign is None:
+                sign = ';' if ';' in text else ',' if ',' in text else ''
+            words = [word.strip() for word in text.split(sign)] if sign else text.split()
+            if width is None and first == 0 and not is_value(words[0]):
+                first, sign = lines.number, None
+                counts['heading'] = counts.get('heading', 0) + 1
+            else:
+                width = width or len(words)
+                if len(words) != width or width < 3:
+                    raise Refusal(f'line {lines.number} has {number_of(len(words), "value")}'
+                                  + (f' where the first row has {width}' if width >= 3 else ', and a point has three'))
+                yield words[:3], ('line', lines.number)
+        line = lines.next_line()
+
+
+def points_of(path: str, open_end: bool, counts: dict[str, int]) -> Iterator[Point]:
+    """The points of a file of any of the three kinds."""
+    with open(path, 'rb') as file:
+        start = file.readline(100)
+    if not start:
+        raise Refusal('the file is empty')
+    if has_rows(path):
+        yield from row_points(path, open_end)
+        return
+    lines = Lines(path, open_end)
+    try:
+        yield from pts_points(lines) if start.strip().isdigit() else list_points(lines, counts)
+    finally:
+        lines.close()
+
+
+def station_of(name: str) -> Station:
+    """A file and its position: that of the words, or of the file itself; None where each point says it."""
+    path, equals, position = name.rpartition('=')
+    if equals and path and not os.path.exists(name):
+        if ',' not in position and not os.path.exists(path):
+            raise Refusal(f'{name} is no option, and no file with its position, FILE=X,Y,Z')
+        return path, three(position, f'the position of {path}')
+    if not has_rows(name):
+        raise Refusal(f'{name} does not say where its scanner stood: {name}=X,Y,Z does')
+    reader = open_points(name)
+    try:
+        if isinstance(reader, PcdReader) and reader.view:
+            return name, None
+        scanner = reader.element('scanner')
+        if scanner is None or scanner.count != 1 or not hasattr(reader, 'position'):
+            raise Refusal(f'{name} does not say where its scanner stood: {name}=X,Y,Z does')
+        return name, reader.position()
+    finally:
+        reader.close()
+
+
+def refuse_unknown(found: Sequence[Station], names: Sequence[str]) -> None:
+    """Refuses several files that all say themselves that they were seen from 0 0 0."""
+    own = [position for (path, position), name in zip(found, names) if path == name and position is not None]
+    if len(own) > 1 and not any(float(word) for position in own for word in position if IS_NUMBER(word)):
+        raise Refusal(f'the position of the scanner is 0 0 0 in all {len(own)} files, which PCL writes as VIEWPOINT where it knows '
+                      f'none: name the positions, as {names[0]}=X,Y,Z')
+
+
+def stations(names: Sequence[str], table: str | None) -> list[Station]:
+    """The files and their positions."""
+    found: list[Station]
+    if table is not None:
+        if names:
+            raise Refusal('the stations stand in the table or in the words, and not in both')
+        folder = os.path.dirname(table)
+        rows = read_positions(table)
+        if any(name is None for _, name in rows):
+            raise Refusal(f'a line of {table} names no file')
+        found = [(os.path.join(folder, name or ''), position) for position, name in rows]
+    else:
+        found = [station_of(name) for name in names]
+        refuse_unknown(found, names)
+    if not found or len(found) > SCANNER_LIMIT:
+        raise Refusal('there is no station' if not found else f'there are over {SCANNER_LIMIT} stations')
+    return found
+
+
+class Stations(Source):
+    """Files of stations."""
+
+    def __init__(self, names: Sequence[str], options: Any) -> None:
+        refuse_others(options, ('table', 'open_end'), 'files of stations')
+        self.files, self.open_end = stations(names, options.table), yes(options.open_end, 'open_end')
+        super().__init__(scan_columns(), self.files[0][0] if len(self.files) == 1 else number_of(len(self.files), 'file'))
+        self.numbers: dict[tuple[str, ...], str] = {}
+
+    def run(self, receiver: Passage) -> None:
+        for path, position in self.files:
+            try:
+                if position is None:
+                    self.pass_viewed(path, receiver)
+                else:
+                    self.positions.append(position)
+                    self.pass_file(path, str(len(self.positions) - 1), receiver.row)
+            except Refusal as refusal:
+                raise Refusal(f'{path}: {refusal}') from None
+
+    def number_of_view(self, place: Sequence[str]) -> str:
+        """The number of a place that points of any file were seen from."""
+        number = self.numbers.setdefault(tuple(place), str(len(self.positions)))
+        if int(number) == len(self.positions):
+            self.positions.append(place)
+        if len(self.positions) > SCANNER_LIMIT:
+            raise Refusal(f'the points were seen from over {SCANNER_LIMIT} places')
+        return number
+
+    def pass_viewed(self, path: str, receiver: Passage) -> None:
+        """Passes on the points of a PCD each of which says where it was seen from."""
+        reader = PcdReader(path, self.open_end)
+        try:
+            vertex, row = reader.elements[0], 0
+            x, y, z = vertex.point_columns()
+            for row, words in enumerate(reader.rows(vertex)):
+                self.count += 1
+                if not decimals(words[x], words[y], words[z], lambda: f'vertex row {row}'):
+                    self.counts['not finite'] += 1
+                elif words[-1] == 'nan':
+                    self.counts['without scanner'] = self.counts.get('without scanner', 0) + 1
+                else:
+                    place = reader.places[int(words[-1])]
+                    receiver.row([words[x], words[y], words[z], self.number_of_view(place)])
+        finally:
+            reader.close()
+
+    def pass_file(self, path: str, index: str, row: Callable[[list[str]], None]) -> None:
+        at = ('', 0)
+
+        def place() -> str:
+            return f'{at[0]} {at[1]}'
+
+        for point, at in points_of(path, self.open_end, self.counts):
+            self.count += 1
+            if decimals(point[0], point[1], point[2], place):
+                point.append(index)
+                row(point)
+            else:
+                self.counts['not finite'] += 1
+
+
+class Overhead(Stations):
+    """Files of points that were all seen from far above, from one position that is made up."""
+
+    def __init__(self, names: Sequence[str], options: Any) -> None:
+        refuse_others(options, ('above', 'open_end'), 'files of an airborne scan')
+        self.files, self.open_end = [(name, ('0', '0', '0')) for name in names], yes(options.open_end, 'open_end')
+        Source.__init__(self, scan_columns(), names[0] if len(names) == 1 else number_of(len(names), 'file'))
+        self.above = Above()
+
+    def run(self, receiver: Passage) -> None:
+        def row(words: list[str]) -> None:
+            self.above.box.show(float(words[0]), float(words[1]), float(words[2]))
+            receiver.row(words)
+
+        for path, _ in self.files:
+            try:
+                self.pass_file(path, '0', row)
+            except Refusal as refusal:
+                raise Refusal(f'{path}: {refusal}') from None
+        self.positions = [self.above.position()]
+
+    def remark(self) -> str:
+        return self.above.remark()

@@ -1,0 +1,303 @@
+"""A scan of any size cut into tiles, row by row, so that only a sample and some rows of each tile are held.
+
+The scan is read twice: for a sample, and to hand out its rows. A tile that has more points than the sample let expect is cut
+again by its own file.
+
+Names: Wanted (what a split is asked for) · split (cuts a scan into a folder's files) · Tile (a tile that was written).
+"""
+from __future__ import annotations
+
+import contextlib
+import json
+import os
+import shutil
+from itertools import chain, islice
+from math import inf, isinf
+from operator import gt
+from typing import Any, Callable, Iterator, Sequence
+
+from recon.toolbox import tile_jobs
+from recon.toolbox.ply_text import SCANNER_LIMIT, Property, Refusal, Writer
+from recon.toolbox.scan_feeds import Fed, feed
+from recon.toolbox.tile_boxes import Core, Cut, Place, Row, Sample, cores_of, divide, mean_spacing
+from recon.toolbox.tool import left_out, number_of
+
+ROWS_HELD = 400000
+SCALED_LIMIT = 2097151
+
+
+class LateFile:
+    """What a `Writer` writes into: text that is held for some rows, and then put behind what stands in the file. So there may
+    be more files than a process may have open."""
+
+    def __init__(self, path: str, rows_held: int) -> None:
+        self.path, self.rows_held, self.is_over = path, rows_held, False
+        self.texts: list[str] = []
+        with open(path, 'wb'):
+            pass
+
+    def write(self, text: str) -> None:
+        if self.is_over:
+            self.write_over(text)
+            return
+        self.texts.append(text)
+        if len(self.texts) > self.rows_held:
+            self.flush()
+
+    def flush(self) -> None:
+        with open(self.path, 'ab') as file:
+            file.write(''.join(self.texts).encode('ascii'))
+        self.texts = []
+
+    def seek(self, _: int) -> None:
+        """Writes all, so that what comes next may go over the beginning."""
+        self.flush()
+        self.is_over = True
+
+    def write_over(self, text: str) -> None:
+        with open(self.path, 'r+b') as file:
+            file.write(text.encode('ascii'))
+
+
+class Wanted:
+    """What a split is asked for: the most points of a tile and how many of them are handed in, the overlap (or None, and as
+    many mean spacings), the unit, and how the scan is read."""
+
+    def __init__(self, points: int, through: int, overlap: float | None, spacings: float, unit: int, reading: Any) -> None:
+        self.points, self.through, self.given, self.spacings = points, through, overlap, spacings
+        self.overlap = overlap or 0.0
+        self.unit, self.reading = unit, reading
+
+
+class Look:
+    """What the first reading tells: a sample of the rows, the eight that lie farthest out towards the corners of a cube, and
+    how far coordinates reach."""
+
+    def __init__(self) -> None:
+        self.sample, self.far, self.where = Sample(), 0.0, ''
+        self.sums = [-inf] * 8
+        self.ends: list[Row | None] = [None] * 8
+
+    def row(self, words: Sequence[str]) -> None:
+        x, y, z = point = float(words[0]), float(words[1]), float(words[2])
+        self.sample.add((point, words))
+        far = max(x, y, z, -x, -y, -z)
+        if not far <= self.far:
+            self.far, self.where = far, ' '.join(words[:3])
+        a, b = x + y, x - y
+        sums = (a + z, a - z, b + z, b - z, z - b, -b - z, z - a, -a - z)
+        if any(map(gt, sums, self.sums)):
+            for k, value in enumerate(sums):
+                if value > self.sums[k]:
+                    self.sums[k], self.ends[k] = value, (point, words)
+
+    def refuse_far(self, positions: list[list[str]], unit: int) -> None:
+        """Refuses what `recon` would refuse as out of range, points and scanners."""
+        for position in positions:
+            far = max(abs(float(word)) for word in position)
+            if far > self.far:
+                self.far, self.where = far, ' '.join(position)
+        if not self.far * unit <= SCALED_LIMIT:
+            raise Refusal(f'{self.where} times the unit {unit} is beyond {SCALED_LIMIT}: take a smaller unit=, or an origin= '
+                          'near the scan')
+
+    def shuffle(self) -> None:
+        """Puts the sample into an order of its own, so that any of its beginnings is a sample too."""
+        self.sample.draw.shuffle(self.sample.rows)
+
+
+class Tile:
+    """A tile's scan while it is written: its core, how many rows are its own and how many of these lie in the core, and the
+    numbers that its scanners had."""
+
+    def __init__(self, core: Core, path: str, rows_held: int, fed: Fed) -> None:
+        self.core, self.path, self.own, self.inside = core, path, 0, 0
+        self.scanners: dict[Any, Any] = {}
+        self.has_lists = fed.has_lists
+        columns = [Property(axis, 'double') for axis in 'xyz'] + [Property('scanner', 'int', 'uint' if fed.has_lists else None)]
+        self.writer = Writer(LateFile(path, rows_held), columns + [Property('weight', 'int')] * fed.has_weights, 'tiles')
+        self.writer.begin(True)
+
+    def row(self, words: Sequence[str]) -> None:
+        named = [str(self.scanners.setdefault(int(word), len(self.scanners))) for word in words[3].split()]
+        self.writer.row([*words[:3], *([str(len(named))] if self.has_lists else []), *named, *words[4:]])
+
+    def own_row(self, words: Sequence[str], is_inside: bool) -> None:
+        self.own += 1
+        self.inside += is_inside
+        self.row(words)
+
+    def feed(self, receive: Callable[[Sequence[str]], None]) -> None:
+        """Hands on the tile's own rows again, as they came."""
+        scanners, left = list(self.scanners), self.own
+
+        def row(words: Sequence[str]) -> None:
+            nonlocal left
+            if left > 0:
+                left -= 1
+                receive((*words[:3], ' '.join(str(scanners[int(word)]) for word in words[3].split()), *words[4:]))
+
+        feed([self.path], AsItStands(), row)
+
+    def finish(self, positions: list[list[str]]) -> None:
+        if len(self.scanners) > SCANNER_LIMIT:
+            raise Refusal(f'a tile has points of over {SCANNER_LIMIT} scanners: take a smaller points=')
+        self.writer.finish([positions[index] for index in self.scanners])
+
+
+class AsItStands:
+    """How a tile's own file is read: without options."""
+
+    def __getattr__(self, key: str) -> None:
+        return None
+
+
+class Splitter:
+    """A scan that was looked at, and is cut. `handed` are the rows that were handed in to some tile from outside."""
+
+    def __init__(self, wanted: Wanted, fed: Fed, look: Look) -> None:
+        self.wanted, self.fed, self.look = wanted, fed, look
+        self.places = [tuple(map(float, position)) for position in fed.positions]
+        self.handed: dict[Any, Any] = {}
+
+    def divide(self, core: Core, sample: Any) -> Core | Cut:
+        limit = self.wanted.points - self.wanted.through - len(self.look.ends)
+        return divide(core, [point for point, _ in sample.rows], sample.share(), self.wanted.overlap, limit)
+
+    def from_outside(self, core: Core) -> dict[Row, None]:
+        """The rows from outside a tile's box that it gets: those farthest out, and those of the sample whose sights enter the
+        box round its points."""
+        near: list[Row] = []
+        outside: list[Row] = []
+        for row in self.look.sample.rows:
+            (near if core.reaches(row[0], self.wanted.overlap) else outside).append(row)
+        box = [(min(values), max(values)) for values in zip(*(point for point, _ in near))]
+        entering = (row for row in outside if box and self.enters(box, row))
+        ends = (row for row in self.look.ends if row and not core.reaches(row[0], self.wanted.overlap))
+        return dict.fromkeys(chain(ends, islice(entering, self.wanted.through)))
+
+    def enters(self, box: list[tuple[float, float]], row: Row) -> bool:
+        """Whether a sight of a row meets a box."""
+        point, words = row
+        return any(is_met(box, point, self.places[int(word)]) for word in words[3].split())
+
+    def finished(self, tile: Tile) -> Tile:
+        """The tile, whose file ends with what it gets from outside and its scanners."""
+        for row in self.from_outside(tile.core):
+            self.handed[row] = True
+            tile.row(row[1])
+        tile.finish(self.fed.positions)
+        return tile
+
+    def hand_out(self, division: Core | Cut, feed_rows: Callable[[Callable[[Sequence[str]], None]], Any], name: str) -> list[Tile]:
+        """Writes a file for each core of a division, and answers the tiles."""
+        cores = cores_of(division)
+        rows_held = max(16, ROWS_HELD // len(cores))
+        tiles = {core: Tile(core, f'{name}.{number:05}', rows_held, self.fed) for number, core in enumerate(cores)}
+
+        def row(words: Sequence[str]) -> None:
+            point = float(words[0]), float(words[1]), float(words[2])
+            for core in division.near(point):
+                tiles[core].own_row(words, core.holds(point))
+
+        feed_rows(row)
+        return [self.finished(tile) for tile in tiles.values()]
+
+    def parted(self, tile: Tile) -> list[Tile]:
+        """The tiles that a tile is cut into which has too many points, or the tile itself."""
+        if tile.writer.count <= self.wanted.points:
+            return [tile]
+        sample = Sample()
+        tile.feed(lambda words: sample.add((tuple(map(float, words[:3])), words)))
+        tiles = self.hand_out(self.divide(tile.core, sample), tile.feed, tile.path)
+        os.unlink(tile.path)
+        return [part for each in tiles for part in self.parted(each)]
+
+    def tiles(self, feed_rows: Callable[[Callable[[Sequence[str]], None]], Any], name: str) -> list[Tile]:
+        """Writes all tiles."""
+        division = self.divide(Core(), self.look.sample)
+        return [part for tile in self.hand_out(division, feed_rows, name) for part in self.parted(tile)]
+
+
+def is_met(box: list[tuple[float, float]], a: Sequence[float], b: Sequence[float]) -> bool:
+    """Whether the line from a to b meets a box."""
+    first, last = 0.0, 1.0
+    for (low, high), start, end in zip(box, a, b):
+        along = end - start
+        if along == 0:
+            if not low <= start <= high:
+                return False
+            continue
+        one, two = (low - start) / along, (high - start) / along
+        first, last = max(first, min(one, two)), min(last, max(one, two))
+    return first <= last
+
+
+def named(tiles: list[Tile], folder: str) -> list[dict[str, Any]]:
+    """Gives the tiles' files their names in the order of the cores, and answers what `tiles.json` says of each."""
+    width, found = max(3, len(str(len(tiles) - 1))), []
+    for number, tile in enumerate(tiles):
+        name = str(number).zfill(width)
+        os.rename(tile.path, os.path.join(folder, name + '.ply'))
+        low, high = ([None if isinf(end) else end for end in ends] for ends in (tile.core.low, tile.core.high))
+        found.append({'name': name, 'low': low, 'high': high, 'points': tile.writer.count,
+                      'own': tile.own, 'in_core': tile.inside, 'scanners': len(tile.scanners)})
+    return found
+
+
+def looked_at(scan: list[str], wanted: Wanted) -> tuple[Fed, Look]:
+    """Reads a scan for the first time."""
+    look = Look()
+    fed = feed(scan, wanted.reading, look.row)
+    if not look.sample.count:
+        raise Refusal('there is no point')
+    look.refuse_far(fed.positions, wanted.unit)
+    look.shuffle()
+    return fed, look
+
+
+def write_folder(scan: list[str], folder: str, wanted: Wanted, options: Any) -> tuple[Fed, dict[str, Any]]:
+    """Writes the tiles of a scan, `tiles.json`, the points handed in, and the jobs into a folder, and answers what was read
+    and what `tiles.json` says."""
+    fed, look = looked_at(scan, wanted)
+    spacing = mean_spacing([point for point, _ in look.sample.rows], look.sample.share())
+    if wanted.given is None:
+        wanted.overlap = float(f'{wanted.spacings * spacing:.4g}')
+    splitter = Splitter(wanted, fed, look)
+    tiles = splitter.tiles(lambda receive: feed(scan, wanted.reading, receive), os.path.join(folder, 'part'))
+    about = {'scan': ' '.join(map(os.path.basename, scan)), 'points': look.sample.count, 'unit': wanted.unit, 'options': options,
+             'spacing': float(f'{spacing:.4g}'), 'overlap': wanted.overlap, 'tiles': named(tiles, folder)}
+    with open(os.path.join(folder, 'tiles.json'), 'w', encoding='ascii') as file:
+        json.dump(about, file, indent=1)
+        file.write('\n')
+    with open(os.path.join(folder, 'handed.txt'), 'w', encoding='ascii') as file:
+        file.writelines(' '.join(words[:3]) + '\n' for _, words in splitter.handed)
+    tile_jobs.write(folder, [tile['name'] for tile in about['tiles']], options)
+    return fed, about
+
+
+@contextlib.contextmanager
+def whole_folder(path: str) -> Iterator[str]:
+    """A folder that is filled beside its place and moved there when it is whole; one that is there is refused."""
+    path = path.rstrip('/')
+    if os.path.lexists(path):
+        raise Refusal(f'{path} is there already: tiles of two splits do not mix')
+    part = path + '.part'
+    os.mkdir(part)
+    try:
+        yield part
+        os.rename(part, path)
+    except BaseException:
+        shutil.rmtree(part)
+        raise
+
+
+def split(scan: list[str], folder: str, wanted: Wanted, options: Any) -> str:
+    """Cuts the scan of these names into tiles, and answers the line to be said."""
+    with whole_folder(folder) as part:
+        fed, about = write_folder(scan, part, wanted, options)
+    tiles = about['tiles']
+    most, handed = max(tile['points'] for tile in tiles), sum(tile['points'] for tile in tiles)
+    return (f'{fed.read}; left out {left_out(fed.left_out)}; wrote '
+            f'{number_of(len(tiles), "tile")} of at most {number_of(most, "point")}, {handed} in all, to {folder}; overlap '
+            f'{about["overlap"]:.4g}, mean spacing {about["spacing"]:.4g}')

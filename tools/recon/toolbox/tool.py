@@ -1,0 +1,162 @@
+"""What the programs of tools/ share on the command line.
+
+The words are names first and then options `key=value`, as those of `recon`; --help prints the head of the program's file.
+A program says one line and ends with 0 (3 where it wrote no point), or says on standard error why not and ends with 1 (2 where
+the words are wrong).
+"""
+from __future__ import annotations
+
+import os
+import sys
+from decimal import Decimal
+from typing import Any, Callable, Iterator, Sequence
+
+from recon.toolbox.ply_text import IS_NUMBER, Refusal, Writer, count_in
+
+SWITCHES = ('above', 'outside', 'open_end', 'normals', 'flips', 'manifold', 'seen', 'fill')
+FARTHEST = 300
+PACKAGE = os.path.dirname(os.path.dirname(os.path.abspath(__file__)))
+
+
+def field(key: str) -> str:
+    """The name under which an option is kept; `from` is a word of the language."""
+    return 'from_' if key == 'from' else key
+
+
+class NotUnderstood(Exception):
+    """The words are none of the program's."""
+
+
+class NoPoint(str):
+    """The line of a run that wrote a scan without a point."""
+
+
+def said_of(writer: Writer, line: str) -> str:
+    """The line of a run that wrote points, or that of one that wrote none."""
+    return line if writer.count else NoPoint(line + ': no point is left')
+
+
+class Options:
+    """The values of the options by key, or None."""
+
+    def __init__(self, keys: tuple[str, ...]) -> None:
+        for key in keys:
+            setattr(self, field(key), None)
+
+
+def with_equals(words: Sequence[str], keys: tuple[str, ...]) -> Iterator[tuple[str, bool]]:
+    """The words, with `--unit 1000`, `--unit=1000`, `--seen` and `--no-flips` as unit=1000, seen=yes and flips=no, and whether each was
+    written so."""
+    rest = iter(words)
+    for word in rest:
+        key, equals, value = word[2:].partition('=')
+        key = key.replace('-', '_')
+        if not word.startswith('--'):
+            yield word, False
+        elif key in keys and equals:
+            yield f'{key}={value}', True
+        elif key in SWITCHES and key in keys:
+            yield f'{key}=yes', True
+        elif key[3:] in SWITCHES and key[3:] in keys and key.startswith('no_'):
+            yield f'{key[3:]}=no', True
+        elif key in keys:
+            yield f'{key}={next(rest, "")}', True
+        else:
+            raise NotUnderstood
+
+
+def read_words(words: list[str], name_count: int | None, keys: tuple[str, ...]) -> tuple[list[str], Options]:
+    """The names, and the options behind them. Without a count all words that are no option are names."""
+    names: list[str] = []
+    options = Options(keys)
+    for word, is_option in with_equals(words, keys):
+        key, equals, value = word.partition('=')
+        if name_count is not None and len(names) < name_count and not is_option:
+            names.append(word)
+        elif equals and key in keys:
+            if getattr(options, field(key)) is not None or not value:
+                raise NotUnderstood
+            setattr(options, field(key), value)
+        elif name_count is None:
+            names.append(word)
+        else:
+            raise NotUnderstood
+    if '' in names or name_count is not None and len(names) != name_count:
+        raise NotUnderstood
+    return names, options
+
+
+def program_name() -> str:
+    """The name of the program that runs: `recon-scan` for the module `recon.scan`, however it was started."""
+    folder, base = os.path.split(os.path.abspath(sys.argv[0]))
+    stem, ending = os.path.splitext(base)
+    return 'recon-' + stem.replace('_', '-') if folder == PACKAGE and ending == '.py' else base
+
+
+def run(main: Callable[..., Any], doc: str, name_count: int | None, keys: tuple[str, ...]) -> None:
+    """Runs `main(names, options)`, which answers the line to be said."""
+    words = sys.argv[1:]
+    name = program_name()
+    try:
+        if '--help' in words or '-h' in words:
+            print(doc.strip(), flush=True)
+            return
+        line = main(*read_words(words, name_count, keys))
+        print(f'{name}: {line}', flush=True)
+        sys.exit(3 if isinstance(line, NoPoint) else 0)
+    except NotUnderstood:
+        sys.exit(told(2, f'{name}: the words are not understood; {name} --help says which are'))
+    except Refusal as refusal:
+        sys.exit(told(1, f'{name}: refused: {refusal}'))
+    except ArithmeticError:
+        sys.exit(told(1, f'{name}: refused: a number is far out of range'))
+    except MemoryError:
+        sys.exit(told(1, f'{name}: refused: out of memory'))
+    except BrokenPipeError:
+        os.dup2(os.open(os.devnull, os.O_WRONLY), sys.stdout.fileno())
+        sys.exit(0 if '--help' in words or '-h' in words else 1)
+    except OSError as error:
+        sys.exit(told(1, f'{name}: refused: {error.strerror}: {error.filename or "writing"}'))
+
+
+def told(status: int, line: str) -> int:
+    """Says a line on standard error, and answers the status."""
+    print(line, file=sys.stderr)
+    return status
+
+
+def three(text: str, what: str) -> list[str]:
+    """The three numbers of `X,Y,Z`, as words. One of over 300 digits before its point, or of as many zeros after it, raises
+    ArithmeticError."""
+    words = text.split(',')
+    if len(words) != 3 or not all(map(IS_NUMBER, words)):
+        raise Refusal(f'{what} is not X,Y,Z: {text[:80]}')
+    if any(number and abs(number.adjusted()) > FARTHEST for number in map(Decimal, words)):
+        raise ArithmeticError
+    return words
+
+
+def whole(text: str, key: str, least: int, most: int) -> int:
+    """The value of an option, a whole number."""
+    value = count_in(text, most)
+    if value is None or value < least:
+        raise Refusal(f'{key}= is a whole number from {least} to {most:,}')
+    return value
+
+
+def yes(value: str | None, key: str) -> bool:
+    """Whether a switch is on."""
+    if value not in (None, 'yes', 'no'):
+        raise Refusal(f'{key} is yes or no')
+    return value == 'yes'
+
+
+def left_out(counts: dict[str, int]) -> str:
+    """What was left out, in words."""
+    parts = [f'{count} {what}' for what, count in counts.items() if count]
+    return ', '.join(parts) or 'nothing'
+
+
+def number_of(count: int, what: str) -> str:
+    """`1 point`, `2 points`."""
+    return f'{count} {what}' + ('' if count == 1 else 's')

@@ -1,0 +1,161 @@
+"""Damaged and hostile files: each is an error in one line, and costs little time and memory beside the bytes that are there."""
+from __future__ import annotations
+
+import os
+import resource
+import struct
+import subprocess
+from typing import Any
+
+from helpers import MESH, InFolder, call, command, equal, read, spoken, write
+from test_other_files import COLUMNS, PCD, las, e57, packet, paged, physical, station_xml
+
+MEMORY = 1 << 30
+SECONDS = 20
+XML = '<e57Root type="Structure" xmlns="http://www.astm.org/COMMIT/E57/2010-e57-v1.0"><data3D type="Vector">{}</data3D></e57Root>'
+
+
+def limit() -> None:
+    """What a run may use at most."""
+    resource.setrlimit(resource.RLIMIT_AS, (MEMORY, MEMORY))
+    resource.setrlimit(resource.RLIMIT_CPU, (SECONDS, SECONDS))
+
+
+def error_of(program: str, *words: str) -> str:
+    """The line that a program ends with; nothing else is said, and no file is written."""
+    before = {name: os.stat(name).st_mtime_ns for name in os.listdir()}
+    environment = {**os.environ, 'OPENBLAS_NUM_THREADS': '1'}
+    done = subprocess.run([*command(program), *words], capture_output=True, text=True, preexec_fn=limit, env=environment)
+    start = f'{spoken(program)}: refused: '
+    if done.returncode != 1 or done.stdout or done.stderr.count('\n') != 1 or not done.stderr.startswith(start):
+        raise AssertionError(f'{program} {words}: {done.returncode} {done.stdout!r} {done.stderr[-600:]!r}')
+    equal({name: os.stat(name).st_mtime_ns for name in os.listdir()}, before)
+    return done.stderr[len(start):]
+
+
+def is_error(part: str, program: str, *words: str) -> None:
+    error = error_of(program, *words)
+    equal((part in error, error), (True, error))
+
+
+def e57_of(columns: str, parts: list[bytes], stated: int, xml: str = XML) -> bytes:
+    """An E57 of one station of these columns."""
+    packets = packet(parts)
+    section = struct.pack('<B7xQQQ', 1, 32 + len(packets), physical(80), 0) + packets
+    text = xml.format(station_xml(physical(48), stated, columns=columns)).encode('ascii')
+    at = 48 + len(section)
+    length = len(paged(b'\0' * (at + len(text))))
+    return paged(struct.pack('<8sII4Q', b'ASTM-E57', 1, 0, length, physical(at), len(text), 1024) + section + text)
+
+
+def flat(bits: int) -> str:
+    """Three columns whose values have so many bits."""
+    return ''.join(f'<cartesian{axis} type="Integer" minimum="0" maximum="{2 ** bits - 1}"/>' for axis in 'XYZ')
+
+
+class Hostile(InFolder):
+    def test_a_pcd_of_many_columns(self) -> None:
+        small = 'VERSION 0.7\nFIELDS x\nSIZE 4\nTYPE F\nCOUNT {}\nPOINTS 1\nDATA ascii\n'
+        for count in ('1000000000', '20000000', '4097', '9' * 5000):
+            write('in.pcd', small.format(count))
+            is_error('of the PCD', 'scan', 'in.pcd', 'out.ply')
+        write('in.pcd', PCD.replace('POINTS 3', 'POINTS ' + '9' * 5000))
+        is_error('the line POINTS of the PCD is no count', 'scan', 'in.pcd', 'out.ply')
+        write('in.pcd', PCD.replace('rgb normal', 'rgb ' + 'n' * 70000))
+        is_error('the header of the PCD is too long', 'scan', 'in.pcd', 'out.ply')
+        write('in.pcd', PCD.replace('HEIGHT', '# a remark\n' * 2000 + 'HEIGHT'))
+        is_error('the header of the PCD is too long', 'scan', 'in.pcd', 'out.ply')
+
+    def test_a_compressed_pcd_that_states_more_than_it_has(self) -> None:
+        head = 'VERSION 0.7\nFIELDS x y z\nSIZE 4 4 4\nTYPE F F F\nCOUNT 1 1 1\nPOINTS {}\nDATA binary_compressed\n'
+        many = (1 << 32) // 12 - 1
+        for count, packed, body in ((many, 100, b'\0' * 100), (10, 0xFFFFFFFF, b''), (many, 0xFFFFFFFF, b'\0' * 100)):
+            write('in.pcd', head.format(count).encode('ascii') + struct.pack('<II', packed, 12 * count) + body)
+            is_error('compressed body of a PCD', 'scan', 'in.pcd', 'out.ply')
+        write('in.pcd', head.format(1).encode('ascii') + struct.pack('<II', 3000, 12) + b'\xe0\xff\0' * 1000)
+        is_error('compressed body of the PCD', 'scan', 'in.pcd', 'out.ply')
+
+    def test_an_e57_whose_columns_take_no_bytes(self) -> None:
+        for stated in (2, 10 ** 6, 10 ** 9):
+            write('in.e57', e57_of(flat(0), [b''] * 3, stated))
+            is_error(f'states {stated} points whose values take no bytes', 'scan', 'in.e57', 'out.ply')
+        for stated in (10 ** 18, -1):
+            write('in.e57', e57_of(flat(0), [b''] * 3, stated))
+            is_error(f'a station of the E57 has {stated} points', 'scan', 'in.e57', 'out.ply')
+        write('in.e57', e57_of(flat(1), [b'\1'] * 3, 10 ** 9))
+        is_error('cut', 'scan', 'in.e57', 'out.ply')
+        write('in.e57', e57_of(flat(0), [b''] * 3, 1))
+        equal(call('scan', 'in.e57', 'one.ply')[0], 0)
+
+    def test_a_description_of_an_e57_that_grows(self) -> None:
+        laughs = '<!DOCTYPE a [<!ENTITY a "ha">' + ''.join(f'<!ENTITY {b} "{f"&{a};" * 10}">' for a, b in zip('abcdefg', 'bcdefgh')) + ']>'
+        write('in.e57', e57_of(COLUMNS, [b''] * 5, 1, laughs + XML.replace('{}', '&h;{}')))
+        is_error('DOCTYPE', 'scan', 'in.e57', 'out.ply')
+        write('in.e57', e57_of(flat(65), [b'\0' * 9] * 3, 1))
+        is_error('over 64 bits', 'scan', 'in.e57', 'out.ply')
+        write('in.e57', e57(6, lambda text: text.replace('maximum="1000"', f'maximum="{"9" * 5000}"')))
+        is_error('the description in the E57 is not understood', 'scan', 'in.e57', 'out.ply')
+
+    def test_an_origin_that_is_far_out(self) -> None:
+        write('slice', 'loops 1\nloop 3\n0 1 2 3\n1 4 5 6\n2 7 8 9\n')
+        write('mesh.ply', MESH)
+        for far in ('1e9999999', '1e99999', '-1e301', '1e-9999999', '1e' + '9' * 50):
+            is_error('far out of range', 'contours', 'slice', 'out.csv', f'origin={far},0,0')
+            is_error('far out of range', 'finish', 'mesh.ply', 'out.ply', f'origin=0,{far},0')
+            is_error('far out of range', 'mesh_to_floats', 'mesh.ply', 'out.ply', f'origin=0,0,{far}')
+
+    def test_positions_that_are_not_finite(self) -> None:
+        write('fused.ply', 'ply\nformat ascii 1.0\nelement vertex 1\nproperty float x\nproperty float y\nproperty float z\nend_header\n1 2 3\n')
+        write('fused.ply.vis', struct.pack('<QII', 1, 1, 0))
+        for place in ('0 0 -1e999', '1.7e308 1.7e308 0', '1e999 0 0'):
+            write('images.txt', f'4 1 0 0 0.4142 {place} 1 b.jpg\n\n')
+            is_error('is not finite', 'scan', 'fused.ply', 'out.ply', 'images=images.txt')
+        pose = struct.pack('<I7dI', 4, 1, 0, 0, 0, 0, float('nan'), 0, 1)
+        write('images.bin', struct.pack('<Q', 1) + pose + b'a\0' + struct.pack('<Q', 0))
+        is_error('is not finite', 'scan', 'fused.ply', 'out.ply', 'images=images.bin')
+
+    def test_a_las_whose_scale_is_not_finite(self) -> None:
+        good = las(2, 0, [struct.pack('<iiiHBBbBH', 1, 2, 3, 4, 5, 6, 7, 8, 9)])
+        for at in (131, 155, 171):
+            for value in ('nan', 'inf', '-inf'):
+                write('in.las', good[:at] + struct.pack('<d', float(value)) + good[at + 8:])
+                is_error('of the LAS is not finite', 'scan', 'in.las=1,1,1', 'out.ply')
+
+    def test_values_that_do_not_fit_their_type(self) -> None:
+        head = 'ply\nformat ascii 1.0\nelement vertex 4\nproperty double x\nproperty double y\nproperty double z\nproperty {} value\nend_header\n'
+        rows = ['100 100 100', '100 -100 -100', '-100 100 -100', '-100 -100 100']
+        write('mesh.ply', MESH)
+        for kind, value in (('uchar', '300'), ('uchar', '-1'), ('uchar', 'x'), ('int', '1e99'), ('short', 'nan'), ('ushort', 'inf'),
+                            ('float', '1e300'), ('double', '1' * 5000 + 'x')):
+            write('scan.ply', head.format(kind) + ''.join(f'{row} {value}\n' for row in rows))
+            for out in ('out.ply', 'out.glb', 'out.stl'):
+                is_error(f'in a row of the scan, which is no {kind}', 'finish', 'mesh.ply', out, 'scan=scan.ply')
+        for word in ('1' * 5000, '1e900000', '0.' + '1' * 5000):
+            write('scan.ply', head.format('uchar') + ''.join(f'{row} 7\n' for row in [f'{word} 0 0', *rows[1:]]))
+            is_error('are no points of scan.ply', 'finish', 'mesh.ply', 'out.ply', 'scan=scan.ply')
+        write('scan.ply', head.format('uchar') + ''.join(f'{row} 7\n' for row in rows))
+        equal(call('finish', 'mesh.ply', 'mesh.glb', 'scan=scan.ply')[0], 0)
+
+    def test_a_slice_without_points(self) -> None:
+        write('slice', 'loops 1\nloop 0\n')
+        is_error('has no points', 'contours', 'slice', 'out.svg')
+        write('slice', 'loops 0\n')
+        is_error('has no loops', 'contours', 'slice', 'out.svg')
+        write('slice', 'loops 2\nloop 0\nloop 3\n0 1 2 3\n1 4 5 6\n2 7 8 9\n')
+        equal(call('contours', 'slice', 'some.svg')[0], 0)
+
+    def test_a_byte_0_in_a_table(self) -> None:
+        write('table', '1 2 3 a\0b\n')
+        is_error('line 1 of table has a byte 0', 'scan', 'out.ply', 'table=table')
+
+    def test_words_of_many_digits(self) -> None:
+        write('mesh.ply', MESH)
+        write('slice', 'loops 0\n')
+        long = '9' * 5000
+        runs: list[tuple[Any, ...]] = [('unit', 'finish', 'mesh.ply', 'out.ply'), ('pieces', 'finish', 'mesh.ply', 'out.ply'),
+                                       ('smooth', 'finish', 'mesh.ply', 'out.ply'), ('unit', 'contours', 'slice', 'out.csv'),
+                                       ('unit', 'mesh_to_floats', 'mesh.ply', 'out.ply'), ('through', 'tiles', 'split', 'mesh.ply', 'tiles'),
+                                       ('points', 'tiles', 'split', 'mesh.ply', 'tiles'), ('vote', 'tiles', 'split', 'mesh.ply', 'tiles')]
+        for key, *words in runs:
+            is_error(f'{key}= is a whole number', *words, f'{key}={long}')
+        equal(read('mesh.ply'), MESH)

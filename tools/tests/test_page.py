@@ -1,0 +1,246 @@
+"""The page to look at surfaces: what is written, and, where Chromium is installed, what it shows."""
+from __future__ import annotations
+
+import os
+import re
+import unittest
+from typing import Any
+
+from helpers import InFolder, equal
+from browser import CHROMIUM, Browser
+
+try:
+    import numpy as np
+    from recon import page
+except ImportError:
+    np = None
+
+BACKGROUND = (245, 247, 250)
+HOSTILE = '</script></title><script>hit = 1</script><img src=x onerror="hit = 1">&amp;\'"\u2028'
+
+
+def cube(side: float = 1.0) -> tuple[Any, Any]:
+    """A cube with its least corner at 0, each face outward."""
+    corners = np.array([[k & 1, k >> 1 & 1, k >> 2] for k in range(8)], float) * side
+    squares = ((0, 2, 3, 1), (4, 5, 7, 6), (0, 1, 5, 4), (2, 6, 7, 3), (0, 4, 6, 2), (1, 3, 7, 5))
+    return corners, np.array([(a, b, c) for a, b, c, d in squares for a, b, c in ((a, b, c), (a, c, d))])
+
+
+def ground(width: int) -> tuple[Any, Any]:
+    """Rough ground of width * width vertices."""
+    draw = np.random.default_rng(7)
+    x, y = (part.ravel() for part in np.mgrid[:width, :width])
+    spread = draw.uniform(-0.4, 0.4, (3, width * width))
+    k = (np.arange(width - 1)[:, None] * width + np.arange(width - 1)).ravel()
+    faces = np.concatenate([np.stack([k, k + width, k + 1], 1), np.stack([k + 1, k + width, k + width + 1], 1)])
+    return np.stack([x, y, 5 * np.sin(x / 20) * np.cos(y / 30)], 1) + spread.T, draw.permutation(faces)
+
+
+def written(path: str = 'mesh.html', **changed: Any) -> str:
+    """A page of a red cube whose upper half is unseen, and of a smaller cube without colors."""
+    vertices, faces = cube()
+    small, _ = cube(0.5)
+    red = np.full((8, 3), (255, 0, 0), np.uint8)
+    unseen = vertices[faces][:, :, 2].min(axis=1) == 1
+    given = dict(meshes=[page.PageMesh('smooth=1', vertices, faces, red, unseen), page.PageMesh('smooth=3', small, faces)],
+                 scanners=np.array([[1.4, 0.8, 1.1]]), sights=np.array([[[1.4, 0.8, 1.1], [1, 1, 1]], [[1.4, 0.8, 1.1], [1, 0, 1]]]),
+                 figures=[('points', '8'), ('votes against', '0.01: the positions look right')],
+                 choices=[('unit', '1000', '100 to 1000 units a spacing')], digests={'mesh.ply': 'ab' * 32},
+                 commands=['recon check scan.ply mesh.ply mesh.cert'], title='cube')
+    page.write_page(path, **{**given, **changed})
+    with open(path, encoding='utf-8') as file:
+        return file.read()
+
+
+def share(picture: Any, test: Any) -> float:
+    """The part of the pixels that pass."""
+    return sum(test(*pixel) for row in picture for pixel in row) / sum(map(len, picture))
+
+
+def is_red(red: int, green: int, blue: int) -> bool:
+    return red > 60 and green < 10 and blue < 10
+
+
+def is_gray(red: int, green: int, blue: int) -> bool:
+    return red < 240 and max(red, green, blue) - min(red, green, blue) < 12
+
+
+def is_sand(red: int, green: int, blue: int) -> bool:
+    return red < 252 and abs(green / max(red, 1) - 0.85 / 0.98) < 0.03 and abs(blue / max(red, 1) - 0.68 / 0.98) < 0.03
+
+
+@unittest.skipUnless(np is not None, 'numpy is not installed')
+class Written(InFolder):
+    def test_texts_are_escaped(self) -> None:
+        vertices, faces = cube()
+        text = written(title=HOSTILE, figures=[(HOSTILE, HOSTILE)], choices=[(HOSTILE,) * 3], digests={HOSTILE: HOSTILE},
+                       commands=[HOSTILE, 'a\0b \udc80'], meshes=[page.PageMesh(HOSTILE, vertices, faces)])
+        equal((text.count('<script'), text.count('</script>'), text.count('<img'), 'a\ufffdb \ufffd' in text), (3, 3, 0, True))
+        equal(bool(re.search('https?://|src=[^x]|@import|url\\(', text)), False)
+
+    def test_wrong_arrays_are_errors(self) -> None:
+        vertices, faces = cube()
+        written()
+        with open('mesh.html', 'rb') as file:
+            before = file.read()
+        for part, make in (('names a vertex', lambda: page.PageMesh('a', vertices, faces + 1)),
+                           ('names a vertex', lambda: page.PageMesh('a', np.zeros((0, 3)), faces)),
+                           ('not finite', lambda: page.PageMesh('a', vertices * np.nan, faces)),
+                           ('shape (8, 3), not (8)', lambda: page.PageMesh('a', vertices, faces[:8], None, vertices > 0)),
+                           ('shape (7, 3), not (8, 3)', lambda: page.PageMesh('a', vertices, faces, vertices[:7])),
+                           ('a page needs a mesh', lambda: written(meshes=[])),
+                           ('scanners have the shape (3,)', lambda: written(scanners=np.zeros(3))),
+                           ('lines of sight are not finite', lambda: written(sights=np.full((1, 2, 3), np.inf)))):
+            with self.assertRaisesRegex(ValueError, re.escape(part)):
+                make()
+        with open('mesh.html', 'rb') as file:
+            equal((file.read() == before, os.listdir()), (True, ['mesh.html']))
+
+    def test_a_megabyte_holds_200000_faces(self) -> None:
+        vertices, faces = ground(317)
+        written(meshes=[page.PageMesh('ground', vertices, faces)], scanners=[], sights=[])
+        equal((len(faces), os.path.getsize('mesh.html') < 5.0 * len(faces) + 40_000), (199712, True))
+
+    def test_no_face_and_no_text(self) -> None:
+        empty = page.PageMesh('nothing', np.zeros((0, 3)), np.zeros((0, 3), int))
+        text = written(meshes=[empty], scanners=[], sights=[], figures=[], choices=[], digests={}, commands=[])
+        equal(('<h2>' in text, '"faces":0' in text), (False, True))
+
+
+@unittest.skipUnless(np is not None and CHROMIUM, 'numpy or Chromium is not installed (Debian: python3-numpy, chromium)')
+class Shown(InFolder):
+    browser: Browser
+
+    @classmethod
+    def setUpClass(cls) -> None:
+        cls.browser = Browser()
+        cls.addClassCleanup(cls.browser.close)
+
+    def setUp(self) -> None:
+        super().setUp()
+        self.browser.errors.clear()
+        self.browser.resize(640, 400)
+        written()
+
+    def tearDown(self) -> None:
+        equal(self.browser.errors, [])
+
+    def test_a_known_mesh_is_drawn(self) -> None:
+        self.browser.show('mesh.html')
+        picture = self.browser.picture()
+        middle = picture[len(picture) // 2][len(picture[0]) // 2]
+        equal((picture[2][2], is_red(*middle)), (BACKGROUND, True))
+        equal([0.02 < share(picture, test) < 0.5 for test in (is_red, is_gray)], [True, True])
+        equal(self.browser.ask('document.getElementById("status").textContent'), '12 faces, 8 vertices')
+        equal(self.browser.ask('performance.getEntriesByType("resource").length'), 0)
+
+    def test_numbers_come_back(self) -> None:
+        vertices, faces = ground(40)
+        colors = np.random.default_rng(1).integers(0, 256, (1600, 3)).astype(np.uint8)
+        unseen = np.arange(len(faces)) % 3 == 0
+        written(meshes=[page.PageMesh('ground', vertices, faces, colors, unseen)])
+        self.browser.show('mesh.html')
+        told = self.browser.ask('decoded(0, JSON.parse(document.getElementById("scene").textContent).meshes[0]).then(m => '
+                                '[m.positions, m.corners, m.colors].map(a => Array.from(a)))')
+        places, corners, painted = (np.array(part) for part in told)
+        frame = page.Frame.of([page.PageMesh('', vertices, faces)])
+        known = {(*row, *color): k for k, (row, color) in enumerate(zip(
+            np.rint((vertices - frame.low) / frame.side * 65535).astype(int).tolist(), colors.tolist()))}
+        rows = [known[(*place[:3], *color[:3])] for place, color in zip(places.reshape(-1, 4).tolist(), painted.reshape(-1, 4).tolist())]
+        got = [tuple(np.roll(face, -face.argmin())) for face in np.array(rows)[corners].reshape(-1, 3)]
+        wanted = [tuple(np.roll(face, -face.argmin())) for face in faces]
+        seen = len(faces) - unseen.sum()
+        equal(sorted(got[:seen]), sorted(face for face, hidden in zip(wanted, unseen) if not hidden))
+        equal(sorted(got[seen:]), sorted(face for face, hidden in zip(wanted, unseen) if hidden))
+
+    def test_switches_change_the_picture(self) -> None:
+        self.browser.show('mesh.html')
+        first = self.browser.picture()
+        for name, test, grows in (('unseen', is_gray, False), ('colors', is_sand, True), ('scanners', lambda red, green, blue: red > 180 and 15 < green < 40, True),
+                                  ('sights', lambda red, green, blue: blue > red + 40, True), ('flat', None, True)):
+            before = self.browser.picture()
+            self.browser.click(name)
+            after = self.browser.picture()
+            equal((name, before != after), (name, True))
+            if test:
+                equal((name, share(after, test) > share(before, test)), (name, grows))
+        for name in ('unseen', 'colors', 'scanners', 'sights', 'flat'):
+            self.browser.click(name)
+        equal(self.browser.picture() == first, True)
+
+    def test_back_sides_and_up(self) -> None:
+        vertices, faces = cube()
+        written(meshes=[page.PageMesh('inside out', vertices, faces[:, ::-1])])
+        self.browser.show('mesh.html')
+        equal(share(self.browser.picture(), lambda red, green, blue: blue > red + 20) > 0.05, True)
+        self.browser.click('back')
+        before = self.browser.picture()
+        self.browser.ask('document.getElementById("up").value = "y"; document.getElementById("up").dispatchEvent(new Event("change"))')
+        equal((share(before, lambda red, green, blue: blue > red + 20) < 0.01, self.browser.picture() != before), (True, True))
+
+    def test_the_slider_shows_another_mesh(self) -> None:
+        self.browser.show('mesh.html')
+        before = self.browser.picture()
+        self.browser.ask('document.getElementById("mesh").focus()')
+        self.browser.key('ArrowRight')
+        self.browser.until('document.getElementById("view").dataset.mesh === "1"')
+        after = self.browser.picture()
+        equal((self.browser.ask('document.getElementById("name").textContent'), before != after), ('smooth=3', True))
+        equal((share(after, is_red), share(after, is_sand) > 0.01), (0, True))
+        self.browser.show('mesh.html', '#mesh=1')
+        equal(self.browser.picture() == after, True)
+
+    def test_keys(self) -> None:
+        self.browser.show('mesh.html')
+        pictures = [self.browser.picture()]
+        self.browser.ask('document.getElementById("reset").focus()')
+        self.browser.key('Tab')
+        equal(self.browser.ask('document.activeElement.id'), 'view')
+        for key, modifiers in (('ArrowLeft', 0), ('ArrowUp', 0), ('ArrowRight', 8), ('ArrowDown', 8), ('+', 0), ('-', 0)):
+            self.browser.key(key, modifiers)
+            pictures.append(self.browser.picture())
+        equal(all(one != other for one, other in zip(pictures, pictures[1:])), True)
+        self.browser.key('Home')
+        self.browser.ask('document.activeElement.blur()')
+        equal(self.browser.picture() == pictures[0], True)
+
+    def test_mouse(self) -> None:
+        self.browser.show('mesh.html')
+        pictures = [self.browser.picture()]
+        self.browser.drag('view', (0.5, 0.5), (0.6, 0.4))
+        pictures.append(self.browser.picture())
+        self.browser.drag('view', (0.5, 0.5), (0.6, 0.6), 'right')
+        pictures.append(self.browser.picture())
+        self.browser.mouse('mouseWheel', self.browser.spot('view'), deltaX=0, deltaY=-300)
+        pictures.append(self.browser.picture())
+        equal(all(one != other for one, other in zip(pictures, pictures[1:])), True)
+        self.browser.click('reset')
+        equal(self.browser.picture() == pictures[0], True)
+
+    def test_a_phone(self) -> None:
+        self.browser.resize(360, 720, phone=True)
+        self.browser.show('mesh.html')
+        width, inner, height = self.browser.ask('[document.documentElement.scrollWidth, innerWidth, document.getElementById("view").clientHeight]')
+        equal((width <= inner == 360, height >= 360), (True, True))
+        pictures = [self.browser.picture()]
+        self.browser.touch('view', [(0.5, 0.5)], [(0.6, 0.5)], [(0.7, 0.4)])
+        pictures.append(self.browser.picture())
+        self.browser.touch('view', [(0.4, 0.5), (0.6, 0.5)], [(0.3, 0.5), (0.7, 0.5)], [(0.2, 0.5), (0.8, 0.5)])
+        pictures.append(self.browser.picture())
+        equal(all(one != other for one, other in zip(pictures, pictures[1:])), True)
+        inside = [share(picture, lambda *pixel: pixel != BACKGROUND) for picture in pictures]
+        equal(inside[2] > 1.3 * inside[1], True)
+
+    def test_hostile_texts_are_shown_as_they_stand(self) -> None:
+        vertices, faces = cube()
+        written(title=HOSTILE, figures=[(HOSTILE, HOSTILE)], commands=[HOSTILE],
+                meshes=[page.PageMesh(HOSTILE, vertices, faces), page.PageMesh('b', vertices, faces)])
+        self.browser.show('mesh.html')
+        equal(self.browser.ask('typeof hit'), 'undefined')
+        told = self.browser.ask('["h1", "pre", "th", "#name"].map(name => document.querySelector(name).textContent)')
+        equal(told, [HOSTILE] * 4)
+
+    def test_an_empty_mesh_is_shown(self) -> None:
+        written(meshes=[page.PageMesh('nothing', np.zeros((0, 3)), np.zeros((0, 3), int))])
+        self.browser.show('mesh.html')
+        equal(self.browser.ask('document.getElementById("status").textContent'), '0 faces, 0 vertices')

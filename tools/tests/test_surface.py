@@ -1,0 +1,166 @@
+"""recon-surface: what it chooses of scans of all kinds, what it writes, and how it ends."""
+from __future__ import annotations
+
+import json
+import os
+import pathlib
+import re
+import subprocess
+import unittest
+from typing import Any
+
+import numpy as np
+
+from helpers import RECON, InFolder, binary, call, equal, head, write
+from recon.inputs import load_scan
+from recon.surface import arguments, parser, plain
+from test_library import SCANNERS, nearest, sphere
+
+
+def listed(name: str, rows: np.ndarray) -> None:
+    """A list of numbers."""
+    write(name, ''.join(' '.join(map(plain, row)) + '\n' for row in rows.tolist()))
+
+
+def scan_text(points: np.ndarray, scanners: np.ndarray, seen_by: np.ndarray) -> str:
+    """A scan with colors, as `recon-scan` writes it."""
+    text = head(len(points), 'double x, double y, double z, uchar red, uchar green, uchar blue, int scanner', len(scanners))
+    rows = [' '.join(map(plain, point)) + f' {k % 256} 7 9 {seen}\n' for k, (point, seen) in enumerate(zip(points.tolist(), seen_by))]
+    return text + ''.join(rows) + ''.join(' '.join(map(plain, place)) + '\n' for place in scanners.tolist())
+
+
+def made(*words: str, status: int = 0, out: str = 'mesh.ply') -> Any:
+    """The report of a run that ends with this status."""
+    got, said, error = call('surface', *words, '-o', out, '--program', RECON)
+    equal((got, said, 'Traceback' in error), (status, '', False))
+    return json.loads(pathlib.Path(os.path.splitext(out)[0] + '.recon', 'report.json').read_text())
+
+
+def chosen(report: Any, *names: str) -> list[str]:
+    return [report['choices'][name]['value'] for name in names]
+
+
+def refused(part: str, *words: str, status: int = 1) -> None:
+    got, said, error = call('surface', *words, '-q', '--program', RECON or 'recon')
+    equal((got, said, part in error.splitlines()[-1], error.splitlines()[-1][:14]), (status, '', True, 'recon-surface:'))
+
+
+@unittest.skipUnless(RECON, 'recon is not built here')
+class Surfaces(InFolder):
+    def test_a_scan_with_positions_and_colors(self) -> None:
+        points = sphere(300)
+        write('in.ply', scan_text(points, SCANNERS, nearest(points)))
+        report = made('in.ply')
+        equal(chosen(report, 'sights', 'origin', 'unit', 'smooth', 'pieces', 'surround'), ['as the file says', '0,0,0', '1000', '3', '1', '0'])
+        equal((report['votes_against_per_sight'], report['figures']['checked'], report['unseen_area']), (0.0, 'yes', 0.0))
+        equal(sorted(os.listdir()), ['in.ply', 'mesh-seen.ply', 'mesh.html', 'mesh.ply', 'mesh.recon'])
+        equal(sorted(os.listdir('mesh.recon')), ['again.sh', 'mesh.ply', 'report.json', 'scan.cert', 'scan.ply'])
+        top, body = pathlib.Path('mesh.ply').read_bytes().split(b'end_header\n')
+        equal((b'property uchar red' in top, b'property uchar unseen' in top, len(body)), (True, True, 300 * 27 + 596 * 14))
+        first = np.frombuffer(body, [('place', '<f8', 3), ('color', 'u1', 3)], 300)
+        row = int(np.linalg.norm(points - first['place'][5], axis=1).argmin())
+        equal((first['color'][5].tolist(), os.path.getsize('mesh.html') > 10000), ([row % 256, 7, 9], True))
+        command = report['commands'][0].split()
+        equal(subprocess.run([RECON, *command[1:]], capture_output=True, text=True).stdout[:4], 'yes ')
+
+    def test_the_run_is_repeated_from_the_files(self) -> None:
+        points = sphere(600) * 0.5 + [600000, 5000000, 0]
+        points = points[points[:, 0] > 600000]
+        listed('my points.xyz', points)
+        report = made('my points.xyz=600003,5000000,1', '--force', out='out.glb')
+        equal(chosen(report, 'origin', 'sights'), ['600002,5000000,0', 'as given'])
+        os.mkdir('elsewhere')
+        done = subprocess.run(['sh', '../out.recon/again.sh', 'again'], cwd='elsewhere', capture_output=True, text=True,
+                              env={**os.environ, 'RECON': RECON, 'PATH': '/usr/bin:/bin'})
+        equal((done.returncode, done.stdout), (0, 'scan.ply: OK\nmesh.ply: OK\nscan.cert: OK\n'))
+        same = [pathlib.Path(name).read_bytes() for name in ('out.glb', 'elsewhere/again/mesh.glb')]
+        equal(same[0] == same[1], True)
+
+    def test_how_lines_of_sight_are_known(self) -> None:
+        points = sphere(200)
+        listed('list.xyz', points)
+        listed('normals.xyz', np.c_[points, points])
+        write('bare.ply', binary('<', '\n', points.tolist(), 'fff', 'x y z'))
+        write('normals.ply', binary('<', '\n', np.c_[points, points].tolist(), 'ffffff', 'x y z nx ny nz'))
+        cases = (('list.xyz --scanner -3,0,0', 'one position', '1'), ('bare.ply --scanner 3,0,0', 'one position', '1'),
+                 ('list.xyz', 'along estimated normals', '1'), ('bare.ply', 'along estimated normals', '1'),
+                 ('normals.xyz', 'along normals', '1'), ('normals.ply', 'along normals', '1'), ('normals.ply --above', 'from above', '1'),
+                 ('normals.xyz --estimate-normals', 'along estimated normals', '1'))
+        for words, sights, smooth in cases:
+            report = made(*words.split(), '--force', '--no-check')
+            equal((words, *chosen(report, 'sights', 'smooth')), (words, sights, smooth))
+        equal(any('normals are estimated' in text for text in made('list.xyz')['warnings']), True)
+
+    def test_airborne_scans_are_seen_from_above(self) -> None:
+        ground = np.random.default_rng(1).uniform(size=(600, 3)) * [100, 100, 0.5] + [548900, 4177000, 30]
+        write('air.ply', binary('<', '\n', ground.tolist(), 'ddd', 'x y z'))
+        report = made('air.ply', '--no-check')
+        equal(chosen(report, 'sights', 'smooth'), ['from above', '3'])
+        equal(report['origin'][:2] != [0, 0], True)
+
+    def test_rooms_are_closed_from_outside(self) -> None:
+        draw = np.random.default_rng(3)
+        walls = draw.uniform(-1, 1, (800, 3)) * [2, 3, 1.2]
+        axis = draw.integers(0, 3, 800)
+        walls[np.arange(800), axis] = np.sign(walls[np.arange(800), axis]) * np.array([2, 3, 1.2])[axis]
+        listed('room.xyz', walls)
+        report = made('room.xyz=0,0,0', '--no-check')
+        equal((float(chosen(report, 'surround')[0]) > 0, report['counts']['scanners'], report['counts']['points']), (True, 9, 808))
+
+    def test_points_are_left_out(self) -> None:
+        points = np.r_[sphere(400), [[0, 0, 2.5]]]
+        write('in.ply', scan_text(points, SCANNERS, nearest(points)))
+        equal(chosen(made('in.ply', '--no-check'), 'lone points'), ['1'])
+        report = made('in.ply', '--no-check', '--max-points', '150', '--no-clean')
+        equal((100 < report['counts']['points'] <= 150, 'lone points' in report['choices']), (True, False))
+        report = made('in.ply', '--no-check', '--divide', '1000', '--smooth', '1', '--no-flips', '--steps', '0')
+        equal(chosen(report, 'divide', 'unit', 'smooth', 'flips', 'steps'), ['1000', '1000000', '1', 'no', '0'])
+
+    def test_wrong_positions_have_a_status(self) -> None:
+        points = sphere(400)
+        write('in.ply', scan_text(points, SCANNERS, 5 - nearest(points)))
+        report = made('in.ply', status=4)
+        equal((report['votes_against_per_sight'] > 0.25, any('look at the positions' in text for text in report['warnings'])), (True, True))
+        made('in.ply', '--force')
+
+    def test_errors(self) -> None:
+        write('in.ply', scan_text(sphere(50), SCANNERS[:1], np.zeros(50, int)))
+        refused('is read, and would be written over', 'in.ply', '-o', 'in.ply')
+        refused('ends in none of', 'in.ply', '-o', 'mesh.off')
+        refused('No such file or directory: none.ply', 'none.ply', '-o', 'mesh.ply')
+        listed('flat.xyz', np.random.default_rng(1).uniform(size=(200, 3)) * [1, 1, 0])
+        refused('the surface is empty', 'flat.xyz=0.5,0.5,0', '-o', 'mesh.ply', status=3)
+        write('empty.xyz', 'X Y Z\n')
+        refused('error:', 'empty.xyz', '-o', 'mesh.ply')
+        refused('--scanner goes with one file', 'in.ply', 'flat.xyz', '--scanner', '1,2,3', '-o', 'mesh.ply')
+        refused('is not X,Y,Z', 'in.ply', '-o', 'mesh.ply', '--scanner', '1,2', status=2)
+        refused('a whole number from 1', 'in.ply', '-o', 'mesh.ply', '--unit', '0', status=2)
+        equal([name for name in os.listdir() if name.startswith('mesh') and not name.endswith('.recon')], [])
+        write('fails', '#!/bin/sh\necho refused 5 twice line 3\necho "recon: rename one" >&2\nexit 3\n')
+        os.chmod('fails', 0o755)
+        got, _, error = call('surface', 'in.ply', '-o', 'mesh.ply', '-q', '--program', './fails')
+        equal((got, error), (1, 'recon-surface: error: invalid file: refused 5 twice line 3 (rename one)\n'))
+
+
+class Words(InFolder):
+    def test_words(self) -> None:
+        equal(arguments(['a', '--scanner', '-1,2,3', '-o', 'x', '-q']), ['a', '--scanner=-1,2,3', '-o', 'x', '-q'])
+        status, said, error = call('surface', '--help')
+        equal((status, error, all(word in said for word in ('--scanner', '--force', 'Status:'))), (0, '', True))
+        options = {word for action in parser()._actions for word in action.option_strings}
+        with open(os.path.join(os.path.dirname(os.path.abspath(__file__)), '..', '..', 'docs', 'using.md'), encoding='utf-8') as file:
+            told = set(re.findall('`(--[a-z-]+)', file.read()))
+        equal(sorted(told & {'--scanner', '--force', '--sweep'} | {word for word in told if word.startswith('--') and word in options}),
+              sorted(word for word in told if word in options))
+
+    def test_scans_are_loaded_as_they_were_written(self) -> None:
+        write('a.ply', head(2, 'double x, double y, double z, ushort red, ushort green, ushort blue, int scanner', 1)
+              + '1 2 3 0 257 65535 0\n4 5 -6e1 0 0 0 0\n7 8 9\n')
+        table = load_scan('a.ply')
+        colors = table.colors()
+        assert table.sights is not None and table.scanners is not None and colors is not None
+        equal((table.points().tolist(), table.scanners.tolist(), colors.tolist()), ([[1, 2, 3], [4, 5, -60]], [[7, 8, 9]], [[0, 1, 255], [0, 0, 0]]))
+        write('b.ply', head(2, 'double x, double y, double z, list uchar int scanner, uchar weight', 2) + '1 2 3 2 0 1 9\n4 5 6 0 1\n0 0 0\n1 1 1\n')
+        table = load_scan('b.ply')
+        assert table.sights is not None
+        equal(([part.tolist() for part in table.sights], table.columns['weight'].tolist()), ([[2, 0], [0, 1]], [9, 1]))
