@@ -97,7 +97,11 @@ def lone_points(points: np.ndarray, factor: float = 4.0) -> np.ndarray:
 def surrounding(points: np.ndarray, scanner: np.ndarray) -> float:
     """Returns in which part of 200 directions around a scanner there are points: about 1 in a room, under 0.6 outdoors."""
     way = points - scanner
-    way = way / np.maximum(np.linalg.norm(way, axis=1), 1e-300)[:, None]
+    long = np.linalg.norm(way, axis=1)
+    is_usual = (long > 0) & (long < 1e150)
+    way = way[is_usual] / long[is_usual][:, None]
+    if not len(way):
+        return 0.0
     k = np.arange(DIRECTIONS) + 0.5
     z, turn = 1 - 2 * k / DIRECTIONS, np.pi * (1 + 5 ** 0.5) * k
     ball = np.stack([np.cos(turn) * np.sqrt(1 - z * z), np.sin(turn) * np.sqrt(1 - z * z), z], axis=1)

@@ -71,16 +71,7 @@ class Progress:
             print('\r' + ' ' * 78 + '\r', end='', file=sys.stderr, flush=True)
 
 
-<<<<<<< HEAD
-def whole(word: str, key: str, least: int, most: int) -> int:
-    if not word.isdecimal() or not least <= int(word) <= most:
-        raise Refusal(f'{key}= is a whole number from {least} to {most:,}')
-    return int(word)
-
-
 @dataclass
-=======
->>>>>>> 45b262abca05811b69ba91904708c1dc17baaf27
 class Wishes:
     """What is asked for, in the words of the options; `unit` and `origin` are those of the scan, `within` a length of it. Of `scan`
     the properties are brought back."""

@@ -256,7 +256,7 @@ def guessed(inputs: Inputs, table: Table) -> Cloud:
         raise Refusal('there are fewer than four points')
     flat = lies_flat(points, spacing(points).distance)
     if args.above or (flat > 0.7 and not args.estimate_normals):
-        place = np.round(above(points), 4)
+        place = above(points)
         why = 'given' if args.above else f'no scanner, no normals; {flat:.0%} of the columns have one height'
         inputs.choices.choose('sights', 'from above', why)
         inputs.choices.warn('nobody stated who saw the points: one position far above is assumed (--scanner X,Y,Z if it is known)')

@@ -9,7 +9,7 @@ from.
   recon-scan FUSED OUT images=IMAGES                        COLMAP's fused.ply with fused.ply.vis beside it, and images.bin or .txt
   recon-scan MODEL OUT [images=IMAGES]                      COLMAP's sparse points: points3D.bin or .txt, or the folder that has it
   recon-scan FILE OUT flight=TABLE                          an airborne LAS, by a table of lines TIME X Y Z
-  recon-scan FILE .. OUT above=yes                          airborne scans of which no position is known
+  recon-scan FILE .. OUT above=yes                          points that were seen from far above, of which nobody knows from where
 
 Files are told by their first bytes. A FILE with a place may also be a PTS or a list of numbers, X, Y and Z first in each line.
 With each of these:
@@ -18,6 +18,7 @@ With each of these:
   side=S                keep one point in each cube of this side, the first. No point may be over 1,048,575 sides from the
                         first one on an axis
   origin=X,Y,Z          take this place off every point and every scanner. The other options are in numbers as they were before
+  divide=N              divide all coordinates by N, a power of ten, as 1000 for micrometers: after the origin was taken off
   surround=D            put eight points around a scan that was made from inside, as of a room, so that its walls become solid:
                         the corners of a box that stands so far off the points, each seen by a scanner as far off the box
   open_end=yes          take a text file whose last line has no end (else it counts as cut)
@@ -37,13 +38,14 @@ matrix have to agree within 0.001, or one of them be 0 0 0; else position= choos
 
   normals=yes           nx, ny and nz (of a PCD normal_x and so on), or the fourth to sixth number of a list, point out of the
                         solid: each point is seen by a scanner of its own a little way off along its normal
-  far=D                 how far off. Without it two spacings: twice the median distance of a point to its six nearest (three or
-                        four where scanners would be too many)
+  far=D                 how far off. Without it one spacing: the median distance of a point to its six nearest. Over 65,536
+                        points share positions, those near each other whose normals point the same way
+
+  above=yes             all points were seen from one place over the middle, three times as high over them as they are wide: as of
+                        airborne scans. The place is made up. Of several files and of lists coordinates alone are kept
 
   flight=TABLE          where the scanner was at which time, in the numbers of the points' gpstime, times ascending. Between two
                         lines it flew straight. Points before and after the flight are left out
-  above=yes             all points are seen from one position that is made up: three widths above their middle. Roofs and ground
-                        become right, walls that no pulse met are made up too
 
 LAZ is read where the Python packages laspy and lazrs are installed, and E57 of spherical coordinates where pye57 is.
 
@@ -57,16 +59,20 @@ all elements of a PLY but `vertex` and `scanner`. Names of properties that are n
 from __future__ import annotations
 
 from math import isfinite
-from typing import Any, Sequence
+from typing import Any, Callable, Sequence
 
+import numpy as np
+
+from recon.clouds import surrounding
 from recon.toolbox.ply_text import SCANNER_LIMIT, Refusal, Writer, whole_file
 from recon.toolbox.scan_source import source_of
 from recon.toolbox.sieve import SIEVING, Passage, Sieve
 from recon.toolbox.sources import READING, Source
 from recon.toolbox.tool import NotUnderstood, left_out, number_of, run, said_of
 
-KEYS = READING + SIEVING + ('origin',)
-FEW = 20
+KEYS = READING + SIEVING + ('origin', 'divide')
+FEW, MANY = 20, 1000
+ROOM = 0.8
 
 
 def add_corners(source: Source, sieve: Sieve, writer: Writer, positions: list[Sequence[str]]) -> None:
@@ -86,12 +92,41 @@ def add_corners(source: Source, sieve: Sieve, writer: Writer, positions: list[Se
         positions.append(sieve.moved(sieve.box.corner(number, 2 * sieve.off)))
 
 
-def remark_of(sieve: Sieve) -> str:
-    """What is to be said of walls that become thin."""
-    if not sieve.off or sieve.box.count < FEW or sieve.off >= sieve.box.spacing():
-        return ''
-    return (f'; surround={sieve.off:.4g} is less than the points are apart, about {sieve.box.spacing():.3g}: the walls become that '
-            'thin')
+class Sample:
+    """Some of the rows that were written, evenly spread: every `step`-th one, at most 2 * `MOST`."""
+    MOST = 20000
+
+    def __init__(self, write: Callable[[list[str]], None]) -> None:
+        self.write, self.step, self.count = write, 1, 0
+        self.rows: list[list[str]] = []
+
+    def row(self, words: list[str]) -> None:
+        if self.count % self.step == 0:
+            self.rows.append(list(words))
+            if len(self.rows) == 2 * self.MOST:
+                self.rows, self.step = self.rows[::2], 2 * self.step
+        self.count += 1
+        self.write(words)
+
+    def surrounded(self, source: Source, positions: Sequence[Sequence[str]]) -> float:
+        """In which part of the directions around the scanner with the most points there are points."""
+        assert source.scanner is not None
+        seen_by = [words[source.scanner].split()[-1] for words in self.rows]
+        busiest = max(set(seen_by), key=seen_by.count) if len(set(seen_by)) < 1000 else seen_by[0]
+        points = [[float(words[k]) for k in source.point] for words, number in zip(self.rows, seen_by) if number == busiest]
+        return surrounding(np.array(points), np.array(list(map(float, positions[int(busiest)])))) if int(busiest) < len(positions) else 0.0
+
+
+def remark_of(sieve: Sieve, part: float) -> str:
+    """What is to be said of walls that become thin, and of scans that were not made from inside."""
+    said = ''
+    if sieve.off and sieve.box.count >= FEW and sieve.off < sieve.box.spacing():
+        said += (f'; surround={sieve.off:.4g} is less than the points are apart, about {sieve.box.spacing():.3g}: the walls become that '
+                 'thin')
+    if sieve.off and sieve.box.count >= MANY and part <= ROOM:
+        said += (f'; surround= is for rooms, and there are points in {part:.0%} of the directions around a scanner: fins to the eight '
+                 'points may show')
+    return said
 
 
 def work(names: Sequence[str], options: Any) -> str:
@@ -101,14 +136,16 @@ def work(names: Sequence[str], options: Any) -> str:
     with whole_file(names[-1]) as file:
         writer = Writer(file, source.columns, 'scan')
         writer.begin(source.has_scanners)
-        source.run(Passage(source, sieve, writer.row))
+        sample, part = Sample(writer.row), 0.0
+        source.run(Passage(source, sieve, sample.row if sieve.off else writer.row))
         positions: list[Sequence[str]] = [sieve.moved(position) for position in source.positions]
         if sieve.off:
+            part = sample.surrounded(source, positions) if sample.rows and source.scanner is not None else 0.0
             add_corners(source, sieve, writer, positions)
         writer.finish(positions)
     wrote = number_of(writer.count, 'point') + (f' and {number_of(len(positions), "scanner")}' if source.has_scanners else '')
     return said_of(writer, f'{source.read()}; left out {left_out({**source.counts, **sieve.counts})}; wrote {wrote} to {names[-1]}'
-                   f'{source.remark()}{remark_of(sieve)}')
+                   f'{source.remark()}{remark_of(sieve, part)}')
 
 
 def main() -> None:

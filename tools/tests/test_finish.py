@@ -1,8 +1,10 @@
 """Meshes that are finished: crossings, flips, smoothing, pieces, splits, colors and forms, on small meshes."""
 from __future__ import annotations
 
+import gzip
 import itertools
 import json
+import os
 import random
 import struct
 import subprocess
@@ -252,6 +254,58 @@ class Finish(InFolder):
         equal(call('finish', 'in.ply', 'out.glb', 'scan=scan.ply')[0], 0)
         with open('out.glb', 'rb') as file:
             equal(bytes((1, 2, 3, 255, 4, 2, 3, 255, 7, 2, 3, 255)) in file.read(), True)
+
+    def test_what_nobody_saw_is_a_mesh_of_its_own(self) -> None:
+        places, faces = ball(10, 1000)
+        write('in.ply', mesh_text(places, faces))
+        status, said, error = call('finish', 'in.ply', 'out.ply', '--seen', '--no-flips')
+        equal((status, error, '0 faces of what no scanner saw' in said, os.path.exists('out-seen.ply')), (0, '', True, True))
+        # a square of small faces, closed below by a fan of long ones
+        side = 24
+        places = [(100 * i, 100 * j, (i * j) % 7) for i in range(side) for j in range(side)]
+        sheet = [face for i in range(side - 1) for j in range(side - 1) for k in [side * i + j]
+                 for face in ((k, k + side, k + 1), (k + 1, k + side, k + side + 1))]
+        ring = [side * i for i in range(side)] + [side * (side - 1) + j for j in range(1, side)]
+        ring += [side * i + side - 1 for i in range(side - 2, -1, -1)] + list(range(side - 2, 0, -1))
+        lid = [(ring[0], two, one) for one, two in zip(ring[1:], ring[2:])]
+        write('in.ply', mesh_text(places, sheet + lid))
+        status, said, error = call('finish', 'in.ply', 'out.ply', '--seen', '--no-flips', '--unit', '10')
+        equal((status, error), (0, ''))
+        with open('out.ply', 'rb') as file:
+            top_of, body = file.read().split(b'end_header\n')
+        marks = [body[24 * len(places) + 14 * k + 13] for k in range(len(sheet + lid))]
+        equal((b'property uchar unseen' in top_of, sum(marks[:len(sheet)]), sum(marks[len(sheet):]) > 60), (True, 0, True))
+        equal(f'; {sum(marks)} faces of what no scanner saw; ' in said, True)
+        with open('out-seen.ply', 'rb') as file:
+            equal(b'element face %d\n' % (len(marks) - sum(marks)) in file.read(), True)
+
+    def test_the_unit_of_the_certificate(self) -> None:
+        write('in.ply', mesh_text(SCAN_ROWS, [(0, 1, 2), (0, 2, 3), (0, 3, 1), (1, 3, 2)]))
+        stamp = f'recon certificate 2\nscan {"0" * 64}\nunit 250\nscanner none\npoints 4\n'
+        write('scan.cert', stamp)
+        for words in ((), ('cert=packed.gz',), ('cert=scan.cert',)):
+            with gzip.open('packed.gz', 'wb') as file:
+                file.write(stamp.encode('ascii'))
+            said = call('finish', 'in.ply', 'out.obj', *words)[1]
+            equal(f'unit=250 by {words[0][5:] if words else "scan.cert"}; ' in said, True)
+            with open('out.obj', encoding='ascii') as lines:
+                equal([line for line in lines if line[0] == 'v'][0], 'v 0.40000000000000002 0.40000000000000002 0.40000000000000002\n')
+        equal('unit=' in call('finish', 'in.ply', 'out.obj', 'unit=1')[1], False)
+        write('other.cert', stamp)
+        equal('unit=' in call('finish', 'in.ply', 'out.obj')[1], False)
+        write('in.txt', 'recon certificate 1\n')
+        refuses('finish', 'states its unit', 'in.ply', 'out.ply', 'cert=in.txt')
+
+    def test_colors_of_points_with_lists_and_as_obj(self) -> None:
+        write('in.ply', mesh_text(SCAN_ROWS, [(0, 1, 2), (0, 2, 3), (0, 3, 1), (1, 3, 2)]))
+        columns = 'float x, float y, float z, uchar red, list uchar int scanner, uchar green, uchar blue'
+        write('scan.ply', head(4, columns) + ''.join(
+            ' '.join(map(str, place)) + f' {k} 2 0 1 51 255\n' for k, place in enumerate(SCAN_ROWS)))
+        status, said, error = call('finish', 'in.ply', 'out.obj', 'scan=scan.ply')
+        equal((status, error, 'brought back red, green, blue of the scan' in said), (0, '', True))
+        with open('out.obj', encoding='ascii') as lines:
+            rows = [line.split() for line in lines]
+        equal((rows[2], rows[-1][0], len(rows)), (['v', '100', '-100', '-100', '0.003922', '0.2', '1'], 'f', 9))
 
     def test_pieces_and_smoothing(self) -> None:
         places, faces = two_balls()

@@ -44,19 +44,24 @@ class Normals(InFolder):
         equal(call('scan', 'in.pcd', 'out.ply', 'normals=yes', 'far=0.5')[0], 0)
         equal(scanners_of('out.ply'), ([['1', '2', '3', '0', '0', '2', '0', '0']], [(1, 2, 3.5)]))
 
-    def test_two_spacings_off_and_scanners_that_are_shared(self) -> None:
+    def test_one_spacing_off_and_scanners_that_are_shared(self) -> None:
         write('in.xyz', grid_text(12, 2))
         equal(call('scan', 'in.xyz', 'out.ply', 'normals=yes')[0], 0)
         high = scanners_of('out.ply')[1][0][2]
         # four neighbors at 2 and two at 2 * 2 ** 0.5
-        equal(abs(high - 2 * (4 * 2 + 2 * 8 ** 0.5) / 6) < 1e-6, True)
+        equal(abs(high - (4 * 2 + 2 * 8 ** 0.5) / 6) < 1e-6, True)
         write('in.xyz', grid_text(270, 1))
         said = call('scan', 'in.xyz', 'out.ply', 'normals=yes', 'far=4')[1]
         rows, scanners = scanners_of('out.ply')
         equal((len(rows), len(scanners), said.count('wrote 72900 points and 18225 scanners to out.ply; scanners stand 4 off')), (72900, 18225, 1))
         far = [abs(float(row[k]) - scanners[int(row[6])][k]) for row in rows for k in (0, 1)]
-        equal((max(far), {scanner[2] for scanner in scanners}), (1.0, {5.0}))
-        refuses('scan', '72900 scanners would be left', 'in.xyz', 'out.ply', 'normals=yes', 'far=0.25')
+        equal((max(far), {scanner[2] for scanner in scanners}), (0.5, {4.0}))
+        # near scanners are shared too
+        equal(call('scan', 'in.xyz', 'out.ply', 'normals=yes', 'far=0.25')[0], 0)
+        rows, scanners = scanners_of('out.ply')
+        equal((30000 < len(scanners) <= 65536, {scanner[2] for scanner in scanners}), (True, {0.25}))
+        far = [abs(float(row[k]) - scanners[int(row[6])][k]) for row in rows for k in (0, 1)]
+        equal(max(far) <= 0.5, True)
 
     def test_what_has_no_normals(self) -> None:
         write('in.ply', head(1, 'float x, float y, float z') + '1 2 3\n')
@@ -87,3 +92,31 @@ class Normals(InFolder):
         done = subprocess.run([RECON, 'build', 'out.ply', 'mesh', 'cert', 'unit=1000'], capture_output=True, text=True)
         # 400 points on a closed surface without a handle have 796 faces, and no sight is against them
         equal(done.stdout.split('faces ')[1], '796 cost 796\n')
+
+
+class FromAbove(InFolder):
+    def test_one_position_far_above(self) -> None:
+        write('in.ply', head(2, 'double x, double y, double z, uchar red') + '0 0 1 9\n10 20 3 8\n')
+        status, said, error = call('scan', 'in.ply', 'out.ply', 'above=yes')
+        equal((status, error, 'the position of the scanner, 5.0,10.0,63.0001, is made up' in said), (0, '', True))
+        equal(scanners_of('out.ply'), ([['0', '0', '1', '9', '0'], ['10', '20', '3', '8', '0']], [(5, 10, 63.0001)]))
+        write('in.xyz', 'X Y Z I\n0 0 1 5\n10 20 3 7\n')
+        equal(call('scan', 'in.xyz', 'out.ply', '--above', '--origin', '5,10,0')[0], 0)
+        equal(scanners_of('out.ply'), ([['-5', '-10', '1', '0'], ['5', '10', '3', '0']], [(0, 0, 63.0001)]))
+        refuses('scan', 'above=yes goes with no option', 'in.xyz', 'out.ply', 'above=yes', 'normals=yes')
+        write('seen.ply', head(1, 'double x, double y, double z, int scanner', 1) + '0 0 1 0\n4 5 6\n')
+        refuses('scan', 'says who saw its points', 'seen.ply', 'out.ply', 'above=yes')
+
+    def test_coordinates_are_divided_exactly(self) -> None:
+        write('in.xyz', '123456789 -5 1e3\n0 0 7.25\n')
+        equal(call('scan', 'in.xyz=1000,0,0', 'out.ply', 'divide=1000', 'origin=1000,0,0')[0], 0)
+        equal(scanners_of('out.ply'), ([['123455.789', '-0.005', '1', '0'], ['-1', '0', '0.00725', '0']], [(0, 0, 0)]))
+        refuses('scan', 'divide= is a power of ten', 'in.xyz=1,2,3', 'out.ply', 'divide=3')
+
+    def test_surround_outdoors_warns(self) -> None:
+        write('in.xyz', grid_text(40, 1).replace(' 0 0 1\n', '\n'))
+        equal('surround= is for rooms, and there are points in' in call('scan', 'in.xyz=20,20,9', 'out.ply', 'surround=3')[1], True)
+        draw = __import__('random').Random(1)
+        rows = [[draw.gauss(0, 1) for _ in range(3)] for _ in range(3000)]
+        write('in.xyz', ''.join(' '.join(f'{x / sum(y * y for y in row) ** 0.5:.5f}' for x in row) + '\n' for row in rows))
+        equal('surround= is for rooms' in call('scan', 'in.xyz=0,0,0', 'out.ply', 'surround=3')[1], False)

@@ -2,25 +2,26 @@
 way off along its normal.
 
 The normals are believed: a wrong one is a wrong sight. A scanner that stands too far off is behind another part of the object,
-and a wrong sight too: one to four spacings are right. A scan has at most 65,536 scanners. Where there are more points, those
-whose scanners would stand in one cube of half that way share one in its middle.
+and a wrong sight too: one spacing is right. A scan has at most 65,536 scanners. Where there are more points, those whose scanners
+would stand in one cube and whose normals point the same way share one (recon.sights).
 """
 from __future__ import annotations
 
 from array import array
-from heapq import heappush, heapreplace
-from math import floor, isfinite
+from math import isfinite
 from typing import Any, Iterator, Sequence
 
-from recon.toolbox.ply_text import IS_NOT_FINITE, IS_NUMBER, SCANNER_LIMIT, Property, Refusal
+import numpy as np
+
+from recon.clouds import spacing
+from recon.sights import along_normals
+from recon.toolbox.ply_text import IS_NOT_FINITE, IS_NUMBER, Property, Refusal
 from recon.toolbox.point_files import has_rows, open_points
 from recon.toolbox.sieve import Mover, Passage, length_of
 from recon.toolbox.sources import Source, refuse_others
 from recon.toolbox.text_lines import Lines
 from recon.toolbox.tool import number_of, yes
 
-NEIGHBORS = 6
-SAMPLES = 200
 RANGE = 2000000
 
 
@@ -118,58 +119,13 @@ class Cloud:
         for column, value in zip(self.directions, values[3:]):
             column.append(value / long)
 
-    def spacing(self) -> float:
-        """The median distance of a point to its six nearest, of some points."""
-        order = sorted(range(len(self.places[0])), key=self.places[0].__getitem__)
-        step = max(1, len(order) // SAMPLES)
-        found = sorted(filter(None, (self.mean_near(order, at) for at in range(step // 2, len(order), step))))
-        if not found:
+    def scanners(self, word: str | None) -> tuple[float, np.ndarray, np.ndarray]:
+        """How far off scanners stand, where, and the number of the scanner of each point."""
+        points, ways = (np.stack([np.frombuffer(column) for column in columns], axis=1) for columns in (self.places, self.directions))
+        far = length_of(word, 'far', 'how far off scanners stand') if word else spacing(points).distance or spacing(np.unique(points, axis=0)).distance
+        if not far:
             raise Refusal('there are too few points to tell how far apart they are: say far=')
-        return found[len(found) // 2]
-
-    def mean_near(self, order: Sequence[int], at: int) -> float | None:
-        """The mean distance of a point to its nearest at other places, or None where there are too few."""
-        near: list[float] = []
-        for step in (-1, 1):
-            other = at + step
-            while 0 <= other < len(order) and not self.is_beyond(order[at], order[other], near):
-                self.take(near, sum((x[order[at]] - x[order[other]]) ** 2 for x in self.places) ** 0.5)
-                other += step
-        return -sum(near) / NEIGHBORS if len(near) == NEIGHBORS else None
-
-    def is_beyond(self, one: int, other: int, near: list[float]) -> bool:
-        return len(near) == NEIGHBORS and abs(self.places[0][one] - self.places[0][other]) > -near[0]
-
-    @staticmethod
-    def take(near: list[float], far: float) -> None:
-        """Keeps the least distances, as a heap of their negatives."""
-        if far and len(near) < NEIGHBORS:
-            heappush(near, -far)
-        elif far and far < -near[0]:
-            heapreplace(near, -far)
-
-    def scanners(self, far: float) -> tuple[list[tuple[float, ...]], Sequence[int]]:
-        """Where scanners stand, and the number of the scanner of each point."""
-        spots = zip(*(array('d', (p + d * far for p, d in zip(places, directions)))
-                      for places, directions in zip(self.places, self.directions)))
-        if len(self.places[0]) <= SCANNER_LIMIT:
-            return list(spots), range(len(self.places[0]))
-        side, indices = far / 2, array('l')
-        numbers: dict[tuple[int, ...], int] = {}
-        for spot in spots:
-            indices.append(numbers.setdefault(tuple(floor(x / side) for x in spot), len(numbers)))
-        return [tuple((k + 0.5) * side for k in cube) for cube in numbers], indices
-
-
-def placed_scanners(cloud: Cloud, word: str | None) -> tuple[float, list[tuple[float, ...]], Sequence[int]]:
-    """How far off the scanners stand, where, and which is whose."""
-    tried = [length_of(word, 'far', 'how far off scanners stand')] if word else [cloud.spacing() * k for k in (2, 3, 4)]
-    for far in tried:
-        scanners, indices = cloud.scanners(far)
-        if len(scanners) <= SCANNER_LIMIT:
-            return far, scanners, indices
-    raise Refusal(f'{len(scanners)} scanners would be left, and a scan has at most {SCANNER_LIMIT}: take fewer points '
-                  '(side=) or a larger far=')
+        return (far, *along_normals(points, ways, far))
 
 
 class Normals(Source):
@@ -188,24 +144,22 @@ class Normals(Source):
         self.count, self.counts = len(cloud.is_kept), cloud.counts
         if not cloud.places[0]:
             raise Refusal('no point has a normal')
-        self.far, scanners, numbers = placed_scanners(cloud, self.word)
-        indices = iter(numbers)
+        self.far, scanners, numbers = cloud.scanners(self.word)
+        indices = iter(numbers.tolist())
         for words, kept in zip(self.file.rows(), cloud.is_kept):
             if kept:
                 receiver.put(words + [str(next(indices))])
-        self.positions = [list(map(repr, scanner)) for scanner in scanners]
-        self.unit = self.unit_for([*cloud.places, *zip(*scanners)], receiver.mover)
+        self.positions = [list(map(repr, scanner)) for scanner in scanners.tolist()]
+        self.unit = self.unit_for(np.concatenate([np.stack(list(map(np.frombuffer, cloud.places)), axis=1), scanners]), receiver.mover)
 
-    @staticmethod
-    def unit_for(columns: list[Sequence[float]], mover: Mover) -> int:
-        """The largest power of ten up to a million that keeps all in range."""
-        origin = list(map(float, mover.origin or (0, 0, 0)))
-        most = max(max(abs(end - origin[k % 3]) for end in (min(column), max(column))) for k, column in enumerate(columns))
-        unit = 1000000
-        while unit > 1 and most * unit > RANGE:
+    def unit_for(self, places: np.ndarray, mover: Mover) -> int:
+        """The power of ten with 100 to 1000 units to the way of a scanner, less where all would be out of range."""
+        origin = np.array([float(word) for word in mover.origin or (0, 0, 0)])
+        most, unit = float(np.abs(places - origin).max()), 1000000
+        while unit > 1 and (most * unit > RANGE or self.far * unit > 1000):
             unit //= 10
         return unit
 
     def remark(self) -> str:
         return (f'; scanners stand {self.far:.4g} off; normals are believed, and the cost tells wrong ones (--help); '
-                f'unit={self.unit} keeps the most digits')
+                f'unit={self.unit} fits; smooth=1 is right for short sights')

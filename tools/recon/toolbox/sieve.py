@@ -10,12 +10,13 @@ from decimal import Decimal
 from math import floor, isfinite
 from typing import Any, Callable, Sequence
 
-from recon.toolbox.exact import differences
+from recon.toolbox.exact import WIDE, differences, text
 from recon.toolbox.ply_text import IS_NUMBER, Refusal
 from recon.toolbox.sources import Source
 from recon.toolbox.tool import three, yes
 
 HALF = 1 << 20
+POWERS = [str(10 ** k) for k in range(10)]
 SPREAD = 0x9E3779B97F4A7C15
 MASK = (1 << 64) - 1
 SIEVING = ('from', 'to', 'outside', 'side', 'surround')
@@ -117,16 +118,28 @@ def in_box(start: str | None, end: str | None, outside: bool) -> Callable[[float
     return choose
 
 
-class Mover:
-    """Takes an origin off places, where there is one."""
+def places_of(divide: str | None) -> int:
+    """By how many decimal places the option shifts coordinates."""
+    if divide is None:
+        return 0
+    if divide not in POWERS:
+        raise Refusal('divide= is a power of ten, from 10 to 1000000000')
+    return POWERS.index(divide)
 
-    def __init__(self, origin: str | None) -> None:
+
+class Mover:
+    """Takes an origin off places, where there is one, and then divides them by a power of ten."""
+
+    def __init__(self, origin: str | None, divide: str | None = None) -> None:
         self.origin = [Decimal(word) for word in three(origin, 'origin')] if origin else None
+        self.places = places_of(divide)
+        self.moves = self.origin is not None or self.places > 0
         self.tests: list[tuple[Callable[[float, float, float], bool], str]] = []
         self.counts: dict[str, int] = {}
 
     def moved(self, words: Sequence[str]) -> list[str]:
-        return list(words) if self.origin is None else differences(words, self.origin)
+        moved = list(words) if self.origin is None else differences(words, self.origin)
+        return [text(WIDE.scaleb(Decimal(word), -self.places)) for word in moved] if self.places else moved
 
     def takes(self, x: float, y: float, z: float) -> bool:
         """Whether a point is kept. What is left out is counted."""
@@ -141,7 +154,7 @@ class Sieve(Mover):
     """The options that leave points out, and the box around those that are left, where one is asked for."""
 
     def __init__(self, options: Any) -> None:
-        super().__init__(options.origin)
+        super().__init__(options.origin, options.divide)
         if options.from_ or options.to or options.outside:
             outside = yes(options.outside, 'outside')
             self.test(in_box(options.from_, options.to, outside), 'inside the box' if outside else 'outside the box')
@@ -163,7 +176,7 @@ class Passage:
 
     def __init__(self, source: Source, mover: Mover, write: Callable[[list[str]], None]) -> None:
         self.point, self.mover, self.write = source.point, mover, write
-        self.put: Callable[[list[str]], None] = self.put_moved if mover.origin else write
+        self.put: Callable[[list[str]], None] = self.put_moved if mover.moves else write
         self.row: Callable[[list[str]], None] = self.sift if mover.tests else self.put
 
     def takes(self, words: Sequence[str]) -> bool:

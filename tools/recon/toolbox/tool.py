@@ -44,22 +44,23 @@ class Options:
             setattr(self, field(key), None)
 
 
-def with_equals(words: Sequence[str], keys: tuple[str, ...]) -> Iterator[str]:
-    """The words, with `--unit 1000`, `--unit=1000`, `--seen` and `--no-flips` as unit=1000, seen=yes and flips=no."""
+def with_equals(words: Sequence[str], keys: tuple[str, ...]) -> Iterator[tuple[str, bool]]:
+    """The words, with `--unit 1000`, `--unit=1000`, `--seen` and `--no-flips` as unit=1000, seen=yes and flips=no, and whether each was
+    written so."""
     rest = iter(words)
     for word in rest:
         key, equals, value = word[2:].partition('=')
         key = key.replace('-', '_')
         if not word.startswith('--'):
-            yield word
+            yield word, False
         elif key in keys and equals:
-            yield f'{key}={value}'
+            yield f'{key}={value}', True
         elif key in SWITCHES and key in keys:
-            yield f'{key}=yes'
+            yield f'{key}=yes', True
         elif key[3:] in SWITCHES and key[3:] in keys and key.startswith('no_'):
-            yield f'{key[3:]}=no'
+            yield f'{key[3:]}=no', True
         elif key in keys:
-            yield f'{key}={next(rest, "")}'
+            yield f'{key}={next(rest, "")}', True
         else:
             raise NotUnderstood
 
@@ -68,9 +69,9 @@ def read_words(words: list[str], name_count: int | None, keys: tuple[str, ...]) 
     """The names, and the options behind them. Without a count all words that are no option are names."""
     names: list[str] = []
     options = Options(keys)
-    for word in with_equals(words, keys):
+    for word, is_option in with_equals(words, keys):
         key, equals, value = word.partition('=')
-        if name_count is not None and len(names) < name_count:
+        if name_count is not None and len(names) < name_count and not is_option:
             names.append(word)
         elif equals and key in keys:
             if getattr(options, field(key)) is not None or not value:
