@@ -2,11 +2,26 @@
 from __future__ import annotations
 
 import importlib
+import importlib.util
 import os
+import subprocess
 import sys
 
 HERE = os.path.dirname(os.path.abspath(__file__))
 PROGRAMS = ('contours', 'finish', 'grid', 'make-scan', 'mesh-to-floats', 'scan', 'surface', 'tiles')
+
+
+def use_fitting_python() -> None:
+    """Goes on in an interpreter that has numpy and scipy, where this one does not."""
+    if importlib.util.find_spec('numpy') and importlib.util.find_spec('scipy'):
+        return
+    finder = next(filter(os.path.exists, (os.path.join(HERE, place) for place in ('../../dev/python', '../python'))), None)
+    if finder is None:
+        sys.exit('recon: this Python has no numpy or no scipy (Debian: python3-numpy, python3-scipy)')
+    found = subprocess.run(['sh', finder], stdout=subprocess.PIPE, text=True).stdout.strip()
+    if not found:
+        sys.exit(1)
+    os.execv(found, [found, HERE, *sys.argv[1:]])
 
 
 def main() -> None:
@@ -16,6 +31,7 @@ def main() -> None:
     if name not in PROGRAMS:
         print(f'recon: the programs are {", ".join(PROGRAMS)}', file=sys.stderr)
         sys.exit(2)
+    use_fitting_python()
     sys.argv[:2] = ['recon-' + name]
     importlib.import_module('recon.' + name.replace('-', '_')).main()
 

@@ -277,7 +277,8 @@ def stamped_unit(mesh: str, named: str | None) -> tuple[str, str] | None:
     if len(found) != 1:
         return None
     try:
-        with (gzip.open if found[0].endswith('.gz') else open)(found[0], 'rb') as file:
+        opened: Any = gzip.open if found[0].endswith('.gz') else open
+        with opened(found[0], 'rb') as file:
             stamp = STAMP.match(file.read(200))
     except (EOFError, gzip.BadGzipFile):
         stamp = None

@@ -146,7 +146,7 @@ class Inputs:
 
     def reading(self) -> dict[str, str]:
         """The options of `recon-scan` that were given."""
-        keys = ('positions', 'index', 'table', 'images', 'position')
+        keys = ('positions', 'index', 'table', 'images', 'position', 'flight')
         return {key: getattr(self.args, key) for key in keys if getattr(self.args, key) is not None}
 
     def placed(self) -> tuple[Sequence[str], dict[str, str]]:

@@ -133,10 +133,10 @@ def again_words(made: Made) -> list[str]:
     """The words that repeat the run, with all choices stated."""
     args, chosen = made.args, made.choices.chosen
     words = [absolute(name) for name in map(os.fspath, args.input)]
-    for key in ('scanner', 'positions', 'index', 'table', 'images', 'position'):
+    for key in ('scanner', 'positions', 'index', 'table', 'images', 'position', 'flight'):
         value = getattr(args, key)
         if value is not None:
-            words.append(f'--{key}={os.path.abspath(value) if key in ("positions", "table", "images") else value}')
+            words.append(f'--{key}={os.path.abspath(value) if key in ("positions", "table", "images", "flight") else value}')
     for key in ('normals', 'above', 'estimate_normals', 'no_clean', 'no_check'):
         words += ['--' + key.replace('_', '-')] if getattr(args, key) else []
     for key in ('divide', 'far', 'origin', 'unit', 'side', 'surround', 'smooth', 'pieces', 'steps', 'within'):

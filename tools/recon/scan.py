@@ -9,7 +9,7 @@ from.
   recon-scan FUSED OUT images=IMAGES                        COLMAP's fused.ply with fused.ply.vis beside it, and images.bin or .txt
   recon-scan MODEL OUT [images=IMAGES]                      COLMAP's sparse points: points3D.bin or .txt, or the folder that has it
   recon-scan FILE OUT flight=TABLE                          an airborne LAS, by a table of lines TIME X Y Z
-  recon-scan FILE .. OUT above=yes                          points that were seen from far above, of which nobody knows from where
+  recon-scan FILE .. OUT above=yes                          airborne scans of which no position is known
 
 Files are told by their first bytes. A FILE with a place may also be a PTS or a list of numbers, X, Y and Z first in each line.
 With each of these:
@@ -33,19 +33,18 @@ A PLY, PCD, LAS or E57 that is named without a place keeps all its properties:
 
 Of a PLY whose points name lists of scanners all properties but other lists are kept. Of stations coordinates alone are kept; a PCD
 says by its VIEWPOINT, or by vp_x, vp_y and vp_z of each point, where its scanner stood, and an E57 of one station by its pose: then
-FILE alone will do. FILE in a table is sought from the table's folder on, and `#` begins a comment. Of a PTX the position in a station's header and the last row of its
-matrix have to agree within 0.001, or one of them be 0 0 0; else position= chooses.
+FILE alone will do. FILE in a table is sought from the table's folder on, and `#` begins a comment. Of a PTX the position in a
+station's header and the last row of its matrix have to agree within 0.001, or one of them be 0 0 0; else position= chooses.
 
   normals=yes           nx, ny and nz (of a PCD normal_x and so on), or the fourth to sixth number of a list, point out of the
                         solid: each point is seen by a scanner of its own a little way off along its normal
   far=D                 how far off. Without it one spacing: the median distance of a point to its six nearest. Over 65,536
                         points share positions, those near each other whose normals point the same way
 
-  above=yes             all points were seen from one place over the middle, three times as high over them as they are wide: as of
-                        airborne scans. The place is made up. Of several files and of lists coordinates alone are kept
-
   flight=TABLE          where the scanner was at which time, in the numbers of the points' gpstime, times ascending. Between two
                         lines it flew straight. Points before and after the flight are left out
+  above=yes             all points are seen from one position that is made up: three widths above their middle. Roofs and ground
+                        become right, walls that no pulse met are made up too
 
 LAZ is read where the Python packages laspy and lazrs are installed, and E57 of spherical coordinates where pye57 is.
 

@@ -4,8 +4,6 @@ Names: along_normals (one spacing off, at most 65,536 positions) · lies_flat, a
 """
 from __future__ import annotations
 
-from typing import Sequence
-
 import numpy as np
 from scipy.sparse import coo_matrix
 from scipy.sparse.csgraph import breadth_first_order, connected_components, minimum_spanning_tree
@@ -61,13 +59,9 @@ def lies_flat(points: np.ndarray, apart: float) -> float:
 
 def above(points: np.ndarray) -> np.ndarray:
     """Returns a position (3,) over the middle of the points, three times as high over them as they are wide."""
-    return np.array(place_above(points.min(axis=0).tolist(), points.max(axis=0).tolist()))
-
-
-def place_above(low: Sequence[float], high: Sequence[float]) -> list[float]:
-    """The same over a box, rounded to four digits behind the point."""
+    low, high = points.min(axis=0), points.max(axis=0)
     size = max(high[0] - low[0], high[1] - low[1])
-    return [round((low[0] + high[0]) / 2, 4), round((low[1] + high[1]) / 2, 4), round(high[2] + 3 * size + 1e-4, 4)]
+    return np.round([(low[0] + high[0]) / 2, (low[1] + high[1]) / 2, high[2] + 3 * size + 1e-4], 4)
 
 
 def estimated_normals(points: np.ndarray, around: int = 16) -> np.ndarray:

@@ -277,7 +277,8 @@ def parser() -> argparse.ArgumentParser:
     group.add_argument('--far', type=length, metavar='D', help='how far off the points scanners along normals stand (default: one spacing)')
     for name, what in (('positions', 'a table of scanner positions'), ('index', 'the property that numbers the scanners'),
                        ('table', 'a table of stations and their files'), ('images', "COLMAP's images.bin or .txt"),
-                       ('position', 'header or matrix: which position of a PTX counts')):
+                       ('position', 'header or matrix: which position of a PTX counts'),
+                       ('flight', 'a table of times and positions of an airborne scan')):
         group.add_argument('--' + name, help=what + ', as for recon-scan')
     group = top.add_argument_group('what is chosen from the data otherwise')
     group.add_argument('--divide', type=length, metavar='N', help='divide all coordinates by N first, as 1000 for micrometers')

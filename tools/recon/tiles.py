@@ -13,8 +13,8 @@ says what each is; and jobs that build and check each tile's surface, as `jobs.t
   through=N          how many points from outside a tile are handed in to it at most, whose sights enter its box. Without it a
                      tenth of points=
   unit=, vote=, smooth=   options of `recon` for the jobs
-  index=, positions=, position=, table=, images=, normals=, far=, above=, flight=, origin=, open_end=   how the scan is read, with
-                     the meaning that they have for recon-scan
+  index=, positions=, position=, table=, images=, normals=, far=, above=, origin=, open_end=   how the scan is read, with the meaning
+                     that they have for recon-scan
 
 FILE .. is all that recon-scan reads, in the same words. What `recon` does not read is left out.
 

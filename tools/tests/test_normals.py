@@ -94,19 +94,7 @@ class Normals(InFolder):
         equal(done.stdout.split('faces ')[1], '796 cost 796\n')
 
 
-class FromAbove(InFolder):
-    def test_one_position_far_above(self) -> None:
-        write('in.ply', head(2, 'double x, double y, double z, uchar red') + '0 0 1 9\n10 20 3 8\n')
-        status, said, error = call('scan', 'in.ply', 'out.ply', 'above=yes')
-        equal((status, error, 'the position of the scanner, 5.0,10.0,63.0001, is made up' in said), (0, '', True))
-        equal(scanners_of('out.ply'), ([['0', '0', '1', '9', '0'], ['10', '20', '3', '8', '0']], [(5, 10, 63.0001)]))
-        write('in.xyz', 'X Y Z I\n0 0 1 5\n10 20 3 7\n')
-        equal(call('scan', 'in.xyz', 'out.ply', '--above', '--origin', '5,10,0')[0], 0)
-        equal(scanners_of('out.ply'), ([['-5', '-10', '1', '0'], ['5', '10', '3', '0']], [(0, 0, 63.0001)]))
-        refuses('scan', 'above=yes goes with no option', 'in.xyz', 'out.ply', 'above=yes', 'normals=yes')
-        write('seen.ply', head(1, 'double x, double y, double z, int scanner', 1) + '0 0 1 0\n4 5 6\n')
-        refuses('scan', 'says who saw its points', 'seen.ply', 'out.ply', 'above=yes')
-
+class Moved(InFolder):
     def test_coordinates_are_divided_exactly(self) -> None:
         write('in.xyz', '123456789 -5 1e3\n0 0 7.25\n')
         equal(call('scan', 'in.xyz=1000,0,0', 'out.ply', 'divide=1000', 'origin=1000,0,0')[0], 0)

@@ -243,20 +243,18 @@ class Flights(InFolder):
 
     def test_a_position_above_the_points(self) -> None:
         self.airborne()
-        says('scan', 'read 5 points of in.las; left out nothing; wrote 5 points and 1 scanner to out.ply; the position of the scanner, '
-             '500002.0,4000001.5,9.0001, is made up', 'in.las', 'out.ply', 'above=yes')
+        said = ('read 5 points of in.las; left out nothing; wrote 5 points and 1 scanner to out.ply; the position of the scanner is made up: 3 '
+                'widths above the middle of the points')
+        says('scan', said, 'in.las', 'out.ply', 'above=yes')
         lines = read('out.ply').splitlines()
-        equal(lines[-1], '500002.0 4000001.5 9.0001')
+        equal(lines[-1], '500002 4000001.5 9')
         equal((lines[-2].split()[:3], lines[-2].split()[-1]), (['500004', '4000000.5', '-3'], '0'))
         write('a.xyz', '0 0 0\n10 0 1\n')
         write('b.xyz', '0 20 2\n')
-        equal(call('scan', 'a.xyz', 'b.xyz', 'out.ply', 'above=yes')[0], 0)
-        holds('out.ply', head(3, 'double x, double y, double z, int scanner', 1) + '0 0 0 0\n10 0 1 0\n0 20 2 0\n5.0 10.0 62.0001\n')
-        write('in.ply', head(1, 'double x, double y, double z, int scanner') + '1 2 3 7\n')
-        equal(call('scan', 'in.ply', 'out.ply', 'above=yes')[0], 0)
-        holds('out.ply', head(1, 'double x, double y, double z, int scanner_before, int scanner', 1) + '1 2 3 7 0\n1.0 2.0 3.0001\n')
-        write('far.xyz', '0 0 0\n1e308 -1e308 1e308\n')
-        refuses('scan', 'far out of range', 'far.xyz', 'out.ply', 'above=yes')
+        says('scan', said.replace('5 points of in.las', '3 points of 2 files').replace('5', '3'), 'a.xyz', 'b.xyz', 'out.ply', 'above=yes')
+        holds('out.ply', head(3, 'double x, double y, double z, int scanner', 1) + '0 0 0 0\n10 0 1 0\n0 20 2 0\n5 10 62\n')
+        says('scan', said.replace('5 points of in.las', '2 points of a.xyz').replace('5', '2'), 'a.xyz', 'out.ply', 'above=yes', 'origin=1,1,1')
+        holds('out.ply', head(2, 'double x, double y, double z, int scanner', 1) + '-1 -1 -1 0\n9 -1 0 0\n4 -1 30\n')
 
     def test_positions_along_a_flight(self) -> None:
         self.airborne()
@@ -285,11 +283,11 @@ class Flights(InFolder):
             refuses('scan', part, 'in.las', 'out.ply', 'flight=flight.txt')
         write('flight.txt', '1 2 3 4\n2 3 4 5\n')
         refuses('scan', 'above is yes or no', 'in.las', 'out.ply', 'above=5')
-        refuses('scan', 'above=yes goes with no option', 'in.las', 'out.ply', 'above=yes', 'flight=flight.txt')
+        refuses('scan', 'give one of them', 'in.las', 'out.ply', 'above=yes', 'flight=flight.txt')
         refuses('scan', 'flight= goes with one LAS or PLY', 'a.xyz', 'out.ply', 'flight=flight.txt')
         refuses('scan', 'flight= goes with one LAS or PLY', 'in.las', 'in.las', 'out.ply', 'flight=flight.txt')
-        refuses('scan', 'index= does not go with', 'in.las', 'out.ply', 'flight=flight.txt', 'index=scanner')
-        refuses('scan', 'the file says itself', 'scanned.ply', 'out.ply', 'flight=flight.txt')
+        refuses('scan', 'index= does not go with', 'in.las', 'out.ply', 'above=yes', 'index=scanner')
+        refuses('scan', 'the file says itself', 'scanned.ply', 'out.ply', 'above=yes')
         write('plain.ply', head(1, 'double x, double y, double z') + '1 2 3\n')
         refuses('scan', 'the points have no times', 'plain.ply', 'out.ply', 'flight=flight.txt')
         write('late.txt', '100 2 3 4\n200 3 4 5\n')

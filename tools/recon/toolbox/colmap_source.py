@@ -153,7 +153,7 @@ Track = Tuple[List[str], List[int]]
 def sparse_model(name: str) -> str | None:
     """The points of a sparse model that a name is, or that stand in the folder that it is; else None."""
     if os.path.isdir(name):
-        return next(filter(os.path.exists, (os.path.join(name, model) for model in MODEL)), None)
+        return next((path for path in (os.path.join(name, model) for model in MODEL) if os.path.exists(path)), None)
     return name if os.path.basename(name).endswith(MODEL) else None
 
 

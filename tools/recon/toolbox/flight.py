@@ -1,13 +1,19 @@
-"""Positions along a flight, of which times and places are known: airborne LAS has times alone."""
+"""Positions of airborne scans, of which LAS and lists of points have none: along a flight of which times and positions are known,
+or made up, far above the points.
+
+Names: Flight (a table of times and positions) · Above (the made-up position).
+"""
 from __future__ import annotations
 
 from bisect import bisect_right
 from math import isfinite
 
 from recon.toolbox.ply_text import IS_NUMBER, SCANNER_LIMIT, Refusal
+from recon.toolbox.sieve import Box
 
 TIMES = ('gpstime', 'gps_time', 'scalar_gpstime', 'scalar_gps_time', 'time')
 FINEST = 64
+WIDTHS = 3
 
 
 class Flight:
@@ -54,3 +60,22 @@ class Flight:
             ends = zip(self.places[row], self.places[row + 1])
             self.positions.append([repr(round(start + share * (end - start), 6)) for start, end in ends])
         return self.numbers[key]
+
+
+class Above:
+    """A position three widths above the middle of all points."""
+
+    def __init__(self) -> None:
+        self.box = Box()
+
+    def position(self) -> list[str]:
+        """The position, once all points were shown to the box."""
+        low, high = self.box.low, self.box.high
+        wide = max(high[0] - low[0], high[1] - low[1])
+        place = [(low[0] + high[0]) / 2, (low[1] + high[1]) / 2, high[2] + WIDTHS * wide] if self.box.count else [0.0] * 3
+        if not all(map(isfinite, place)):
+            raise Refusal('a coordinate is far out of range')
+        return [format(x, '.12g') for x in place]
+
+    def remark(self) -> str:
+        return '; the position of the scanner is made up: 3 widths above the middle of the points'

@@ -123,7 +123,8 @@ def head_lines(file: BinaryIO) -> Iterator[tuple[int, list[str]]]:
 
 def read_head(file: BinaryIO) -> tuple[str, list[Element]]:
     """The kind of the body and the elements, in their order."""
-    kind, elements = None, []
+    kind = None
+    elements: list[Element] = []
     for number, words in head_lines(file):
         bad = Refusal(f'line {number} of the header is not understood: {" ".join(words)[:80]}')
         if number == 1:
@@ -159,7 +160,8 @@ class TextBody:
 
     def __init__(self, file: BinaryIO, open_end: bool) -> None:
         self.file, self.open_end = file, open_end
-        self.words, self.at, self.tail = [], 0, b''
+        self.words: list[str] = []
+        self.at, self.tail = 0, b''
 
     def fill(self) -> bool:
         """Reads more words behind those that are not used yet; False at the end of the file."""

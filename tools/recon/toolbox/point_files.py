@@ -57,7 +57,8 @@ class FileReader:
     """What readers share: the file, and elements by name."""
 
     def __init__(self, path: str) -> None:
-        self.path, self.file, self.elements = path, open(path, 'rb'), []
+        self.path, self.file = path, open(path, 'rb')
+        self.elements: list[Element] = []
         try:
             self.begin()
         except BaseException:

@@ -6,7 +6,7 @@ from __future__ import annotations
 
 from typing import Any, Callable, Sequence
 
-from recon.toolbox.flight import TIMES, Flight
+from recon.toolbox.flight import TIMES, Above, Flight
 from recon.toolbox.ply_text import (ARE_THREE, FORMATS, SCANNER_LIMIT, Element, Property, Refusal, decimals, index_text,
                               read_positions)
 from recon.toolbox.sieve import Passage
@@ -173,11 +173,11 @@ class Listed(OfReader):
             receiver.row([values[k][0] for k in self.kept] + [' '.join([str(len(numbers)), *numbers])])
 
 
-class Flown(OfReader):
-    """Points with times, seen along a flight of which times and positions are known. All properties are kept."""
+class Airborne(OfReader):
+    """Points that were seen from a flight, or from far above, and do not say from where. All properties are kept."""
 
     def __init__(self, reader: Any, path: str, options: Any) -> None:
-        refuse_others(options, ('flight', 'open_end'), 'an airborne scan')
+        refuse_others(options, ('above', 'flight', 'open_end'), 'an airborne scan')
         vertex = reader.element('vertex')
         if vertex.has_lists() or reader.element('scanner') is not None:
             raise Refusal('the file says itself where its points were seen from')
@@ -186,14 +186,15 @@ class Flown(OfReader):
         self.point, self.scanner, self.weight = self.places, len(columns), weight_column(vertex)
         for place, axis in zip(self.point, 'xyz'):
             self.columns[place].name = axis
-        times = [place for place in map(vertex.column, TIMES) if place is not None]
-        if not times:
+        self.above = Above()
+        self.flight = Flight(options.flight) if options.flight is not None else None
+        self.time = next((place for place in map(vertex.column, TIMES) if place is not None), None)
+        if self.flight and self.time is None:
             raise Refusal('the points have no times: vertex has no property gpstime')
-        self.time, self.flight = times[0], Flight(options.flight)
 
     def pass_vertices(self, receiver: Passage) -> None:
         x, y, z = self.point
-        row, unknown = 0, 0
+        row, number, unknown = 0, '0', 0
 
         def place() -> str:
             return f'vertex row {row}'
@@ -202,9 +203,17 @@ class Flown(OfReader):
             if not decimals(words[x], words[y], words[z], place):
                 self.counts['not finite'] += 1
                 continue
-            number = self.flight.number(words[self.time])
-            if number is None:
-                unknown += 1
+            if self.flight:
+                found = self.flight.number(words[self.time or 0])
+                if found is None:
+                    unknown += 1
+                    continue
+                number = found
             else:
-                receiver.row([*words, number])
-        self.positions, self.counts['before or after the flight'] = list(self.flight.positions), unknown
+                self.above.box.show(float(words[x]), float(words[y]), float(words[z]))
+            receiver.row([*words, number])
+        self.positions = list(self.flight.positions) if self.flight else [self.above.position()]
+        self.counts['before or after the flight'] = unknown
+
+    def remark(self) -> str:
+        return '' if self.flight else self.above.remark()

@@ -22,8 +22,8 @@ def scaled(word: str, unit: int) -> int:
     if plain is None or len(word) > LONG:
         if not IS_NUMBER(word):
             raise Refusal(f'{word[:40]} is no number')
-        value = Decimal(word) * unit
-        return OUTSIDE if value.adjusted() > LONG else int(value.to_integral_value(ROUND_HALF_UP))
+        product = Decimal(word) * unit
+        return OUTSIDE if product.adjusted() > LONG else int(product.to_integral_value(ROUND_HALF_UP))
     sign, before, behind = plain.groups()
     one = 10 ** len(behind or '')
     value = (int(before + (behind or '')) * unit * 2 + one) // (2 * one)
@@ -43,7 +43,7 @@ def value_of(word: str, name: str, kind: str) -> float:
 def columns_of(path: str, unit: int, array: np.ndarray) -> list[Column]:
     """The columns of a scan beside x, y and z that are no lists, each as a name, a type and the values at these places: those of
     the first row at each. Refused where a place is that of no row."""
-    places: list[tuple[int, int, int]] = list(map(tuple, array.tolist()))
+    places: list[tuple[int, int, int]] = [(x, y, z) for x, y, z in array.tolist()]
     reader = Reader(path, True)
     try:
         vertex = reader.element('vertex')

@@ -8,8 +8,9 @@ that begin with `#` or `//`.
 from __future__ import annotations
 
 import os
-from typing import Any, Iterator, List, Optional, Sequence, Tuple
+from typing import Any, Callable, Iterator, List, Optional, Sequence, Tuple
 
+from recon.toolbox.flight import Above
 from recon.toolbox.ply_text import IS_NOT_FINITE, IS_NUMBER, SCANNER_LIMIT, Refusal, decimals, read_positions
 from recon.toolbox.point_files import PcdReader, has_rows, open_points
 from recon.toolbox.sieve import Passage
@@ -171,7 +172,7 @@ class Stations(Source):
                     self.pass_viewed(path, receiver)
                 else:
                     self.positions.append(position)
-                    self.pass_file(path, str(len(self.positions) - 1), receiver)
+                    self.pass_file(path, str(len(self.positions) - 1), receiver.row)
             except Refusal as refusal:
                 raise Refusal(f'{path}: {refusal}') from None
 
@@ -202,7 +203,7 @@ class Stations(Source):
         finally:
             reader.close()
 
-    def pass_file(self, path: str, index: str, receiver: Passage) -> None:
+    def pass_file(self, path: str, index: str, row: Callable[[list[str]], None]) -> None:
         at = ('', 0)
 
         def place() -> str:
@@ -212,6 +213,31 @@ class Stations(Source):
             self.count += 1
             if decimals(point[0], point[1], point[2], place):
                 point.append(index)
-                receiver.row(point)
+                row(point)
             else:
                 self.counts['not finite'] += 1
+
+
+class Overhead(Stations):
+    """Files of points that were all seen from far above, from one position that is made up."""
+
+    def __init__(self, names: Sequence[str], options: Any) -> None:
+        refuse_others(options, ('above', 'open_end'), 'files of an airborne scan')
+        self.files, self.open_end = [(name, ('0', '0', '0')) for name in names], yes(options.open_end, 'open_end')
+        Source.__init__(self, scan_columns(), names[0] if len(names) == 1 else number_of(len(names), 'file'))
+        self.above = Above()
+
+    def run(self, receiver: Passage) -> None:
+        def row(words: list[str]) -> None:
+            self.above.box.show(float(words[0]), float(words[1]), float(words[2]))
+            receiver.row(words)
+
+        for path, _ in self.files:
+            try:
+                self.pass_file(path, '0', row)
+            except Refusal as refusal:
+                raise Refusal(f'{path}: {refusal}') from None
+        self.positions = [self.above.position()]
+
+    def remark(self) -> str:
+        return self.above.remark()

@@ -11,7 +11,7 @@ from __future__ import annotations
 
 import math
 import random
-from typing import Sequence, Tuple
+from typing import Any, Sequence, Tuple
 
 from recon.toolbox.ply_text import Refusal
 
@@ -27,7 +27,8 @@ class Sample:
     """Some rows of a stream, each as likely to be among them as any other. The same stream gives the same rows."""
 
     def __init__(self, size: int = SAMPLE_SIZE) -> None:
-        self.size, self.rows, self.count, self.draw = size, [], 0, random.Random(1)
+        self.size, self.count, self.draw = size, 0, random.Random(1)
+        self.rows: list[Any] = []
         self.level, self.next = 1.0, size - 1
         self.skip()
 
@@ -53,7 +54,8 @@ class Grid:
     """Points by the cubes, of one side, that they lie in."""
 
     def __init__(self, points: list[Place], side: float) -> None:
-        self.side, self.cubes = side, {}
+        self.side = side
+        self.cubes: dict[Any, Any] = {}
         for p in points:
             self.cubes.setdefault(self.cube(p), []).append(p)
 

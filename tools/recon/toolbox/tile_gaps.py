@@ -8,7 +8,7 @@ Names: Gaps (missing edges, and the triangles that fill them).
 """
 from __future__ import annotations
 
-from typing import Iterator
+from typing import Any, Iterator
 
 from recon.toolbox.ply_text import Refusal
 
@@ -17,7 +17,9 @@ class Gaps:
     """The directed edges that are missing, by the vertex that they leave, and where the vertices are."""
 
     def __init__(self) -> None:
-        self.ends, self.places, self.longest = {}, {}, 0
+        self.ends: dict[Any, Any] = {}
+        self.places: dict[Any, Any] = {}
+        self.longest = 0
 
     def add(self, start: int, end: int, places: tuple[tuple[int, int, int], tuple[int, int, int]], count: int) -> None:
         """Takes in an edge between two vertices that is missing so many times."""

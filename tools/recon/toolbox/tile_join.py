@@ -59,7 +59,7 @@ class Tile:
         far = math.ceil(Fraction(repr(overlap)) * unit) + 1
         self.inner = [(math.ceil(a) + far, math.floor(b) - far) for a, b in zip(low, high)]
         self.reach = [(math.floor(a) - far, math.ceil(b) + far) for a, b in zip(low, high)]
-        self.others = []
+        self.others: list[Any] = []
 
     def meets(self, other: Tile) -> bool:
         return all(a <= d and c <= b for (a, b), (c, d) in zip(self.reach, other.reach))
@@ -202,8 +202,9 @@ class Seams:
     not there one way as often as the other, for each two tiles: open ones, of one face or two, and crowded ones, of more."""
 
     def __init__(self, tiles: list[Tile], report: TextIO | None) -> None:
-        self.tiles, self.report, self.edges = tiles, report, {}
-        self.counts, self.gaps = {}, Gaps()
+        self.tiles, self.report, self.gaps = tiles, report, Gaps()
+        self.edges: dict[Any, Any] = {}
+        self.counts: dict[Any, Any] = {}
 
     def add(self, last: int, tile: Tile, start: int, end: int) -> None:
         """Takes in the directed edge of a face between two places, which no tile behind `last` has."""
@@ -254,7 +255,8 @@ class Joined:
 
     def __init__(self, vertices: TextIO, faces: TextIO, seams: Seams, handed: set[int]) -> None:
         self.vertices, self.faces, self.seams, self.handed = vertices, faces, seams, handed
-        self.numbers, self.vertex_count, self.face_count, self.filled = {}, 0, 0, 0
+        self.numbers: dict[Any, Any] = {}
+        self.vertex_count = self.face_count = self.filled = 0
 
     def number(self, place: int, last: int) -> tuple[int, bool]:
         """The number of a vertex that several tiles may have, and whether it is new."""

@@ -111,7 +111,8 @@ class Tile:
     numbers that its scanners had."""
 
     def __init__(self, core: Core, path: str, rows_held: int, fed: Fed) -> None:
-        self.core, self.path, self.own, self.inside, self.scanners = core, path, 0, 0, {}
+        self.core, self.path, self.own, self.inside = core, path, 0, 0
+        self.scanners: dict[Any, Any] = {}
         self.has_lists = fed.has_lists
         columns = [Property(axis, 'double') for axis in 'xyz'] + [Property('scanner', 'int', 'uint' if fed.has_lists else None)]
         self.writer = Writer(LateFile(path, rows_held), columns + [Property('weight', 'int')] * fed.has_weights, 'tiles')
@@ -157,7 +158,7 @@ class Splitter:
     def __init__(self, wanted: Wanted, fed: Fed, look: Look) -> None:
         self.wanted, self.fed, self.look = wanted, fed, look
         self.places = [tuple(map(float, position)) for position in fed.positions]
-        self.handed = {}
+        self.handed: dict[Any, Any] = {}
 
     def divide(self, core: Core, sample: Any) -> Core | Cut:
         limit = self.wanted.points - self.wanted.through - len(self.look.ends)
