@@ -77,7 +77,10 @@ class Frame:
     def of(cls, meshes: Sequence[PageMesh]) -> Frame:
         filled = [mesh.vertices for mesh in meshes if len(mesh.vertices)] or [np.zeros((1, 3))]
         low = np.min([rows.min(0) for rows in filled], axis=0)
-        box = np.max([rows.max(0) for rows in filled], axis=0) - low
+        with np.errstate(over='ignore'):
+            box = np.max([rows.max(0) for rows in filled], axis=0) - low
+        if not np.isfinite(box).all():
+            raise ValueError('coordinates of the meshes are far out of range')
         return cls(low, box, float(box.max()) or 1.0)
 
     def near(self, places: np.ndarray) -> list[float]:

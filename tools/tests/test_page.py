@@ -89,6 +89,7 @@ class Written(InFolder):
                            ('shape (8, 3), not (8)', lambda: page.PageMesh('a', vertices, faces[:8], None, vertices > 0)),
                            ('shape (7, 3), not (8, 3)', lambda: page.PageMesh('a', vertices, faces, vertices[:7])),
                            ('a page needs a mesh', lambda: written(meshes=[])),
+                           ('far out of range', lambda: written(meshes=[page.PageMesh('a', (vertices - 0.5) * 1.7e308 * 2, faces)])),
                            ('scanners have the shape (3,)', lambda: written(scanners=np.zeros(3))),
                            ('lines of sight are not finite', lambda: written(sights=np.full((1, 2, 3), np.inf)))):
             with self.assertRaisesRegex(ValueError, re.escape(part)):
