@@ -6,14 +6,11 @@ import re
 import unittest
 from typing import Any
 
-from helpers import InFolder, equal
-from browser import CHROMIUM, Browser
+import numpy as np
 
-try:
-    import numpy as np
-    from recon import page
-except ImportError:
-    np = None
+from browser import CHROMIUM, Browser
+from helpers import InFolder, equal
+from recon import page
 
 BACKGROUND = (245, 247, 250)
 HOSTILE = '</script></title><script>hit = 1</script><img src=x onerror="hit = 1">&amp;\'"\u2028'
@@ -69,7 +66,6 @@ def is_sand(red: int, green: int, blue: int) -> bool:
     return red < 252 and abs(green / max(red, 1) - 0.85 / 0.98) < 0.03 and abs(blue / max(red, 1) - 0.68 / 0.98) < 0.03
 
 
-@unittest.skipUnless(np is not None, 'numpy is not installed')
 class Written(InFolder):
     def test_texts_are_escaped(self) -> None:
         vertices, faces = cube()
@@ -124,7 +120,7 @@ class Written(InFolder):
         equal(('<h2>' in text, '"faces":0' in text), (False, True))
 
 
-@unittest.skipUnless(np is not None and CHROMIUM, 'numpy or Chromium is not installed (Debian: python3-numpy, chromium)')
+@unittest.skipUnless(CHROMIUM, 'Chromium is not installed (Debian: chromium), so no page was looked at')
 class Shown(InFolder):
     browser: Browser
 
