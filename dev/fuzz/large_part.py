@@ -69,11 +69,10 @@ class Beside:
             self.fail('mesh or line beside the reference', build, f'{ours}; reference: {theirs}; meshes equal: {files.get("m") == others.get("m")}')
         if ours.status != 0 or theirs.status != 0:
             return
-        self.cells()
-        self.checks(files, others, ours.out)
-        self.sweep(files['m'])
-        self.labels(files['c'])
-        self.meshes(files['m'])
+        for step in (self.cells, lambda: self.checks(files, others, ours.out), lambda: self.sweep(files['m']), lambda: self.labels(files['c']),
+                     lambda: self.meshes(files['m'])):
+            if not self.context.is_over():
+                step()
 
     def cells(self) -> None:
         words = ['cells', 'in', 'o', *self.place]
@@ -164,7 +163,8 @@ def run(context: Context, tally: Tally) -> None:
         if context.seconds > 60 and tried % 30 == 29:
             Beside(context, tally, folder, draw.choice([30000, 60000, 100000]), draw.choice(LARGE)).all()
         else:
-            Beside(context, tally, folder, int(math.exp(draw.uniform(math.log(30), math.log(FEW)))), None).all()
+            most = FEW if context.seconds > 60 else FEW // 4
+            Beside(context, tally, folder, int(math.exp(draw.uniform(math.log(30), math.log(most)))), None).all()
         tried += 1
     tally.note(f'{tried} scans')
     folder.close()

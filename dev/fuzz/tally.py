@@ -2,7 +2,6 @@
 from __future__ import annotations
 
 import hashlib
-import json
 import os
 import random
 import shlex
@@ -58,22 +57,22 @@ class Tally:
         return f'{self.part:<13}{self.runs:>9,} runs {self.failures:>5} failures {seconds:>6.0f} s{notes}'
 
     def kept(self, folder: str) -> list[str]:
-        """Keeps each case in a folder of its own; returns what is printed of them, the smallest first."""
+        """Keeps the smallest case of each kind in a folder of its own; returns what is printed: the smallest of all with its command."""
         said = []
         for kind, case in sorted(self.cases.items(), key=lambda item: item[1].size()):
             place = os.path.join(folder, f'{self.part}-{hashlib.sha256(kind.encode()).hexdigest()[:8]}')
             shutil.rmtree(place, ignore_errors=True)
-            os.makedirs(place)
-            for name, data in case.files.items():
-                os.makedirs(os.path.dirname(os.path.join(place, name)), exist_ok=True)
-                with open(os.path.join(place, name), 'wb') as file:
+            for name, data in {**case.files, 'what_is_wrong': case.wrong.encode('utf-8', 'backslashreplace')}.items():
+                path = os.path.join(place, name)
+                os.makedirs(os.path.dirname(path), exist_ok=True)
+                with open(path, 'wb') as file:
                     file.write(data)
-            with open(place + '.json', 'w', encoding='utf-8') as file:
-                json.dump({'kind': kind, 'command': list(case.command), 'wrong': case.wrong}, file, indent=1)
             command = ' '.join(shlex.quote(word) for word in case.command)
-            said.append(f'FAILURE {self.part}, {kind}: {case.wrong[:600]}\n  cd {shlex.quote(place)} && {command}'
-                        .encode('utf-8', 'backslashreplace').decode())
-        return said
+            with open(os.path.join(place, 'command'), 'wb') as file:
+                file.write(os.fsencode(command) + b'\n')
+            said.append(f'  {kind}: {case.wrong[:500]}\n  cd {shlex.quote(place)} && {command}'.encode('utf-8', 'backslashreplace').decode())
+        others = [f'  {len(said) - 1} more kinds of failures: {folder}/{self.part}-*/command'] if len(said) > 1 else []
+        return said[:1] + others
 
 
 class Context:
