@@ -1,0 +1,1 @@
+"""Tries to make the built program or the Python tools fail: see README.md in this folder."""
