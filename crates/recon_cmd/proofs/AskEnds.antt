@@ -39,8 +39,9 @@ labels_one output options scan points answer other a b =
     a.is ∙ (ap (ask_done output (length (points_of scan))) labels ∙ sym b.is)
 
 asked_one : (output : List ℕ) (options : Options) (scan : Shown) (bytes : List ℕ) (answer other : Answer)
-    → FileTooLong 2 too_long_points_line bytes answer ⊎ IsAsked output options scan bytes answer
-    → FileTooLong 2 too_long_points_line bytes other ⊎ IsAsked output options scan bytes other → answer ≡ other
+    → FileTooLong file_limit 2 too_long_points_line bytes answer ⊎ IsAsked file_limit output options scan bytes answer
+    → FileTooLong file_limit 2 too_long_points_line bytes other ⊎ IsAsked file_limit output options scan bytes other
+    → answer ≡ other
 asked_one output options scan bytes answer other (inl a) (inl b) = a.is ∙ sym b.is
 asked_one output options scan bytes answer other (inl a) (inr (inl b)) = absurd (omega (arith, a.longer, b.within))
 asked_one output options scan bytes answer other (inl a) (inr (inr b)) = absurd (omega (arith, a.longer, b.within))
@@ -58,45 +59,49 @@ asked_one output options scan bytes answer other (inr (inr a)) (inr (inr b)) =
     (subst (λ (list : List Point). WritesLabels output options scan list other) points b.answers)
 
 points_one : (names : QueryNames) (options : Options) (files : Files) (scan : Shown) (answer other : Answer)
-    → AskAnswer names options files scan answer → AskAnswer names options files scan other → answer ≡ other
+    → AskAnswer file_limit names options files scan answer → AskAnswer file_limit names options files scan other → answer ≡ other
 points_one names options files scan answer other a b =
     let bytes : b.bytes ≡ a.bytes = cc (a.there, b.there) in
     asked_one names.output options scan a.bytes answer other a.answers
     (subst (λ (l : List ℕ).
-    FileTooLong 2 too_long_points_line l other ⊎ IsAsked names.output options scan l other) bytes b.answers)
+    FileTooLong file_limit 2 too_long_points_line l other ⊎ IsAsked file_limit names.output options scan l other) bytes b.answers)
 
 pub ask_answer_is_one : AskAnswerIsOne
 ask_answer_is_one = λ names options files answer other a b.
-    files_one names.input options (λ _. AskAnswer names options files) (λ x y. x ≡ y) files answer other (λ e. e)
+    files_one names.input options (λ _. AskAnswer file_limit names options files) (λ x y. x ≡ y) files answer other (λ e. e)
     (λ bytes scan h k. points_one names options files scan answer other h k) a b
 
 -- ---- how it ends
 -- the answer to these files
 ended : (names : QueryNames) (options : Options) (bytes : List ℕ) (told new : Told) (status : Status)
     → told.files names.input ≡ Some bytes → EndsWith (Some (ask names options)) status told new
-    → (answer : Answer) × ScanAnswer options (λ _. AskAnswer names options told.files) bytes answer × (answer.status ≡ status)
+    → (answer : Answer) × ScanAnswer file_limit options (λ _. AskAnswer file_limit names options told.files) bytes answer
+    × (answer.status ≡ status)
 ended names options bytes told new status has ends = with_answer ends.answers
   where
     with_answer : (other : List ℕ) × (told.files names.input ≡ Some other)
-        × ScanAnswer options (λ _. AskAnswer names options told.files) other ends.answer
-        → (answer : Answer) × ScanAnswer options (λ _. AskAnswer names options told.files) bytes answer
+        × ScanAnswer file_limit options (λ _. AskAnswer file_limit names options told.files) other ends.answer
+        → (answer : Answer) × ScanAnswer file_limit options (λ _. AskAnswer file_limit names options told.files) bytes answer
         × (answer.status ≡ status)
     with_answer (other, there, answers) =
         let same : other ≡ bytes = cc (there, has) in (
           ends.answer,
-          subst (λ (b : List ℕ). ScanAnswer options (λ _. AskAnswer names options told.files) b ends.answer) same answers,
+          subst (λ (b : List ℕ). ScanAnswer file_limit options (λ _. AskAnswer file_limit names options told.files) b ends.answer)
+              same answers,
           ends.status_is,
         )
 
 -- accepted points are not refused, and refused ones are not done
 points_not_refused : (names : QueryNames) (options : Options) (files : Files) (scan : Shown) (queries : List ℕ)
     (points : List Point) (answer : Answer) → files names.points ≡ Some queries → length queries ≤ file_limit
-    → points_in queries options.unit ≡ Ok points → answer.status ≡ Refused → AskAnswer names options files scan answer → ⊥
+    → points_in queries options.unit ≡ Ok points → answer.status ≡ Refused → AskAnswer file_limit names options files scan answer
+    → ⊥
 points_not_refused names options files scan queries points answer has within read is answers =
     by (cc (answers.there, has)) answers.answers
   where
     by : answers.bytes ≡ queries
-        → FileTooLong 2 too_long_points_line answers.bytes answer ⊎ IsAsked names.output options scan answers.bytes answer → ⊥
+        → FileTooLong file_limit 2 too_long_points_line answers.bytes answer ⊎ IsAsked file_limit names.output options scan
+        answers.bytes answer → ⊥
     by same (inl long) = absurd (omega (arith, long.longer, within, ap length same))
     by same (inr (inl refused)) =
         let again : points_in answers.bytes options.unit ≡ Ok points =
@@ -108,7 +113,7 @@ points_not_refused names options files scan queries points answer has within rea
 
 points_not_done : (names : QueryNames) (options : Options) (files : Files) (scan : Shown) (queries : List ℕ)
     (answer : Answer) → files names.points ≡ Some queries → RefusesPoints options queries → answer.status ≡ Done
-    → AskAnswer names options files scan answer → ⊥
+    → AskAnswer file_limit names options files scan answer → ⊥
 points_not_done names options files scan queries answer has why is answers = by (cc (answers.there, has)) answers.answers
   where
     refused_not : (bytes : List ℕ) → bytes ≡ queries → length bytes ≤ file_limit → (points : List Point)
@@ -120,7 +125,8 @@ points_not_done names options files scan queries answer has why is answers = by 
         cc (again, read)
 
     by : answers.bytes ≡ queries
-        → FileTooLong 2 too_long_points_line answers.bytes answer ⊎ IsAsked names.output options scan answers.bytes answer → ⊥
+        → FileTooLong file_limit 2 too_long_points_line answers.bytes answer ⊎ IsAsked file_limit names.output options scan
+        answers.bytes answer → ⊥
     by same (inl long) = let status : answer.status ≡ Refused = ap (λ (a : Answer). a.status) long.is in cc
     by same (inr (inl refused)) = let status : answer.status ≡ Refused = ap (λ (a : Answer). a.status) refused.is in cc
     by same (inr (inr answered)) =
@@ -147,7 +153,8 @@ accepted_is_asked = λ names options bytes queries scan points status before aft
     by_status names options bytes queries scan points Refused before after within read told has there few queried none fits
         faults (new, tells) = from_answer (ended names options bytes told new Refused has tells)
       where
-        from_answer : (answer : Answer) × ScanAnswer options (λ _. AskAnswer names options told.files) bytes answer
+        from_answer : (answer : Answer)
+            × ScanAnswer file_limit options (λ _. AskAnswer file_limit names options told.files) bytes answer
             × (answer.status ≡ Refused) → (Refused ≡ Done) ⊎ (Refused ≡ NoMemory)
         from_answer (answer, inl unread, is) =
             absurd (not_unread options bytes scan within read (why_unread options bytes answer unread))
@@ -174,7 +181,8 @@ refused_is_not_asked = λ names options bytes status before after runs why.
     by_status names options bytes Done before after told has none fits faults (new, tells) why =
         from_answer (ended names options bytes told new Done has tells) why
       where
-        from_answer : (answer : Answer) × ScanAnswer options (λ _. AskAnswer names options told.files) bytes answer
+        from_answer : (answer : Answer)
+            × ScanAnswer file_limit options (λ _. AskAnswer file_limit names options told.files) bytes answer
             × (answer.status ≡ Done)
             → WhyUnread options bytes
             ⊎ ((queries : List ℕ) × (told.files names.points ≡ Some queries) × RefusesPoints options queries)

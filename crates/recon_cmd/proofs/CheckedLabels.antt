@@ -17,7 +17,7 @@ use Rattle.scan.specs.Shown.{Shown}
 use Rattle.solid_query.proofs.Unique.{labels_are_certified_law}
 use Rattle.solid_query.specs.Labels.{AreLabels}
 use Rattle.solid_query.specs.Laws.{HasPoint}
-use Rattle.recon_cmd.specs.Answers.{Answer, FileTooLong, ScanAnswer, read_as}
+use Rattle.recon_cmd.specs.Answers.{Answer, FileTooLong, ScanAnswer, read_as, file_limit}
 use Rattle.recon_cmd.specs.Ask.{AskAnswer, IsAsked, PointsAnswered, WritesLabels, too_long_points_line, labels_text, QueryNames}
 use Rattle.recon_cmd.specs.CheckLaws.{CheckEnds, IsSolvedAt, AreReadOff, CheckedIsAsked, ReadOffIsOne}
 use Rattle.recon_cmd.specs.Options.{Options}
@@ -35,7 +35,7 @@ record Answered (names : QueryNames) (options : Options) (bytes queries : List �
   scan : Shown
   read : read_as options bytes ≡ Ok scan
   answer : Answer
-  labelled : PointsAnswered names.output options scan queries answer
+  labelled : PointsAnswered file_limit names.output options scan queries answer
   file : new.files names.output ≡ Some (labels_text labelled.answers.labels)
 
 -- the file has the text of the answer
@@ -49,16 +49,17 @@ written output options scan points answer told new labels files =
 
 -- an answer that is done is no refusal of the points
 points_answered : (names : QueryNames) (options : Options) (files : Files) (scan : Shown) (queries : List ℕ) (answer : Answer)
-    → files names.points ≡ Some queries → answer.status ≡ Done → AskAnswer names options files scan answer
-    → PointsAnswered names.output options scan queries answer
+    → files names.points ≡ Some queries → answer.status ≡ Done → AskAnswer file_limit names options files scan answer
+    → PointsAnswered file_limit names.output options scan queries answer
 points_answered names options files scan queries answer has is answers = by answers.answers
   where
-    by : FileTooLong 2 too_long_points_line answers.bytes answer ⊎ IsAsked names.output options scan answers.bytes answer
-        → PointsAnswered names.output options scan queries answer
+    by : FileTooLong file_limit 2 too_long_points_line answers.bytes answer
+        ⊎ IsAsked file_limit names.output options scan answers.bytes answer
+        → PointsAnswered file_limit names.output options scan queries answer
     by (inl long) = let status : answer.status ≡ Refused = ap (λ (a : Answer). a.status) long.is in absurd (cc)
     by (inr (inl refused)) = let status : answer.status ≡ Refused = ap (λ (a : Answer). a.status) refused.is in absurd (cc)
     by (inr (inr answered)) =
-        subst (λ (b : List ℕ). PointsAnswered names.output options scan b answer) (cc (answers.there, has)) answered
+        subst (λ (b : List ℕ). PointsAnswered file_limit names.output options scan b answer) (cc (answers.there, has)) answered
 
 answered : (names : QueryNames) (options : Options) (bytes queries : List ℕ) (told new : Told)
     → told.files names.input ≡ Some bytes → told.files names.points ≡ Some queries
@@ -66,7 +67,8 @@ answered : (names : QueryNames) (options : Options) (bytes queries : List ℕ) (
 answered names options bytes queries told new has there ends = with_answer ends.answers
   where
     with_answer : (found : List ℕ) × (told.files names.input ≡ Some found)
-        × ScanAnswer options (λ _. AskAnswer names options told.files) found ends.answer → Answered names options bytes queries new
+        × ScanAnswer file_limit options (λ _. AskAnswer file_limit names options told.files) found ends.answer → Answered names
+        options bytes queries new
     with_answer (found, here, inl unread) = absurd (unread_not_done options found ends.answer ends.status_is unread)
     with_answer (found, here, inr done) =
         let same : found ≡ bytes = cc (here, has) in
@@ -85,7 +87,8 @@ answered names options bytes queries told new has there ends = with_answer ends.
 -- ---- the labels are those of the certificate
 read_off : (options : Options) (bytes mesh queries output : List ℕ) (stamp : StampView) (claim : Claim) (scan : Shown)
     (answer : Answer) → read_as options bytes ≡ Ok scan → IsWellFormed claim
-    → IsSolvedAt options stamp scan mesh (cert_text claim) → (labelled : PointsAnswered output options scan queries answer)
+    → IsSolvedAt options stamp scan mesh (cert_text claim)
+    → (labelled : PointsAnswered file_limit output options scan queries answer)
     → AreReadOff options bytes claim queries labelled.answers.labels
 read_off options bytes mesh queries output stamp claim scan answer read formed solved labelled =
     let accepted = solved.accepted in

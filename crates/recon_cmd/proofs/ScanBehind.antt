@@ -12,7 +12,7 @@ use Rattle.host.specs.Whole.{OnlyReads, apart_from_left}
 use Rattle.scan.specs.Shown.{Shown}
 use Rattle.scan.specs.Views.{shown_of}
 use Rattle.scan.specs.declared.scan.Scan.{Scan}
-use Rattle.recon_cmd.specs.Answers.{Answer, FileTooLong, IsUnread, ScanAnswer, file_limit, refusal, Task, MayEnd}
+use Rattle.recon_cmd.specs.Answers.{Answer, FileTooLong, IsUnread, ScanAnswer, refusal, Task, MayEnd}
 use Rattle.recon_cmd.specs.Steps.{IsReplyOf, ReadsOn, Bytes, IsAnswered, IsReading, IsReplied, ReadsFor}
 use Rattle.recon_cmd.specs.Options.{Options}
 use Rattle.recon_cmd.specs.Replies.{answer_of, line_bytes}
@@ -56,25 +56,25 @@ result_behind task A B (Err e) before mid only each is = tt
 result_behind task A B (Ok reply) before mid only each is = reply_behind task A B reply before mid only each is
 
 -- a file behind the scan is longer than the limit
-pub too_long : (task : Task) (A : Answers) (name line : List ℕ) (reads : ℕ) (reply : Reply) (before : State)
+pub too_long : (limit : ℕ) (task : Task) (A : Answers) (name line : List ℕ) (reads : ℕ) (reply : Reply) (before : State)
     → MayEnd task Refused → answer_of reads reply ≡ refusal reads line
-    → IfSome before.told (λ told. file_limit < length (file_bytes told.files name))
-    → ((files : Files) (bytes : List ℕ) → files name ≡ Some bytes → FileTooLong reads line bytes (answer_of reads reply)
+    → IfSome before.told (λ told. limit < length (file_bytes told.files name))
+    → ((files : Files) (bytes : List ℕ) → files name ≡ Some bytes → FileTooLong limit reads line bytes (answer_of reads reply)
     → A files (answer_of reads reply))
     → IsReplyOf task A reply before
-too_long task A name line reads reply before may is longer each =
+too_long limit task A name line reads reply before may is longer each =
     record {
       fits = subst (λ (s : Status). MayEnd task s) (sym (ap (λ (a : Answer). a.status) is)) may;
       answered = subst IsAnswered (sym (ap (λ (a : Answer). a.status) is)) tt;
       answers = by_cases before.told longer;
     }
   where
-    with_bytes : (files : Files) (found : Option (List ℕ)) → files name ≡ found → file_limit < length (unwrap_or found [])
+    with_bytes : (files : Files) (found : Option (List ℕ)) → files name ≡ found → limit < length (unwrap_or found [])
         → A files (answer_of reads reply)
     with_bytes files None has more = absurd (omega arith)
     with_bytes files (Some bytes) has more = each files bytes has (record { longer = more; is = is })
 
-    by_cases : (o : Option Told) → IfSome o (λ told. file_limit < length (file_bytes told.files name))
+    by_cases : (o : Option Told) → IfSome o (λ told. limit < length (file_bytes told.files name))
         → IfSome o (λ told. (reads : ℕ) × A told.files (answer_of reads reply))
     by_cases None more = tt
     by_cases (Some told) more = (reads, with_bytes told.files (told.files name) refl more)
@@ -84,22 +84,22 @@ abbrev pub Others : Type 1
 Others = Files → (bytes : List ℕ) → Shown → Answer → Type 0
 
 -- a command that reads a scan first
-pub record ReadsScanFirst (task : Task) (input : List ℕ) (options : Options) (A : Others) : Type 0 where
-  pub unpack : (files : Files) (answer : Answer) → task.Answers files answer
-      → (bytes : List ℕ) × (files input ≡ Some bytes) × ScanAnswer options (A files) bytes answer
+pub record ReadsScanFirst (limit : ℕ) (task : Task) (input : List ℕ) (options : Options) (A : Others) : Type 0 where
+  pub unpack : (files : Files) (answer : Answer) → task.Answers limit files answer
+      → (bytes : List ℕ) × (files input ≡ Some bytes) × ScanAnswer limit options (A files) bytes answer
   pub pack : (files : Files) (answer : Answer)
-      → (bytes : List ℕ) × (files input ≡ Some bytes) × ScanAnswer options (A files) bytes answer
-      → task.Answers files answer
+      → (bytes : List ℕ) × (files input ≡ Some bytes) × ScanAnswer limit options (A files) bytes answer
+      → task.Answers limit files answer
   pub may_refuse : MayEnd task Refused
 
-module _ (task : Task) (input : List ℕ) (options : Options) (A : Others)
-    (first : ReadsScanFirst task input options A) where
+module _ (limit : ℕ) (task : Task) (input : List ℕ) (options : Options) (A : Others)
+    (first : ReadsScanFirst limit task input options A) where
   -- what is answered where the bytes of the scan's file are these
   abbrev pub Behind : Scan → Bytes → Answers
   Behind scan held files answer = A files held.items (shown_of scan) answer
 
   others_to_scan : (scan : Scan) (held : Bytes) (o : Option Told)
-      → IfSome o (IsReading input options (readings.Scan scan held)) → Within (Behind scan held) task.Answers o
+      → IfSome o (IsReading limit input options (readings.Scan scan held)) → Within (Behind scan held) (task.Answers limit) o
   others_to_scan scan held None reading = tt
   others_to_scan scan held (Some told) (bytes, there, (same, within, read)) = λ answer is.
       first.pack told.files answer (
@@ -115,14 +115,14 @@ module _ (task : Task) (input : List ℕ) (options : Options) (A : Others)
 
   -- where the scan is there and understood, the others decide
   scan_to_others : (scan : Scan) (held : Bytes) (o : Option Told)
-      → IfSome o (IsReading input options (readings.Scan scan held)) → Within task.Answers (Behind scan held) o
+      → IfSome o (IsReading limit input options (readings.Scan scan held)) → Within (task.Answers limit) (Behind scan held) o
   scan_to_others scan held None reading = tt
   scan_to_others scan held (Some told) (bytes, there, (same, within, read)) = λ answer answers.
       let z = first.unpack told.files answer answers in
       subst (λ (b : List ℕ). A told.files b (shown_of scan) answer) (sym same)
       (by_cases answer z.0 (cc (z.1, there)) z.2)
     where
-      by_cases : (answer : Answer) (others : List ℕ) → others ≡ bytes → ScanAnswer options (A told.files) others answer
+      by_cases : (answer : Answer) (others : List ℕ) → others ≡ bytes → ScanAnswer limit options (A told.files) others answer
           → A told.files bytes (shown_of scan) answer
       by_cases answer others same (inl (inl long)) = absurd (omega (arith, long.longer, within, ap length same))
       by_cases answer others same (inl (inr refused)) = absurd (cc (refused.refused, read, same))
@@ -133,8 +133,8 @@ module _ (task : Task) (input : List ℕ) (options : Options) (A : Others)
 
   -- the scan was read, and then the others
   pub reads_behind : (scan : Scan) (held : Bytes) (most : ℕ) (before mid after : State) → most + 1 ≤ task.most
-      → OnlyReads before mid → IfSome before.told (IsReading input options (readings.Scan scan held))
-      → ReadsOn 1 most (Behind scan held) mid after → ReadsFor task before after
+      → OnlyReads before mid → IfSome before.told (IsReading limit input options (readings.Scan scan held))
+      → ReadsOn 1 most (Behind scan held) mid after → ReadsFor limit task before after
   reads_behind scan held most before mid after few only reading reads =
       record {
         told = reads.told ∙ only.told;
@@ -145,10 +145,10 @@ module _ (task : Task) (input : List ℕ) (options : Options) (A : Others)
       }
     where
       by_cases : (b m : Option Told) → apart_from_left m ≡ apart_from_left b
-          → Within task.Answers (Behind scan held) b
+          → Within (task.Answers limit) (Behind scan held) b
           → IfSome m (λ told. (answer : Answer) → Behind scan held told.files answer → after.opens + 1 ≤ mid.opens + answer.reads)
           → IfSome b
-          (λ told. (answer : Answer) → task.Answers told.files answer → after.opens ≤ before.opens + answer.reads)
+          (λ told. (answer : Answer) → task.Answers limit told.files answer → after.opens ≤ before.opens + answer.reads)
       by_cases None m same within no_more = tt
       by_cases (Some old) None same within no_more = cc
       by_cases (Some old) (Some now) same within no_more = λ answer answers.
@@ -159,19 +159,19 @@ module _ (task : Task) (input : List ℕ) (options : Options) (A : Others)
 
   -- and the whole reply
   pub replied_behind : {E : Type 0} (scan : Scan) (held : Bytes) (result : Result Reply E) (before mid : State)
-      → OnlyReads before mid → IfSome before.told (IsReading input options (readings.Scan scan held))
+      → OnlyReads before mid → IfSome before.told (IsReading limit input options (readings.Scan scan held))
       → IfOk result (λ reply. IsReplyOf task (Behind scan held) reply mid)
-      → IfOk result (λ reply. IsReplied task reply before)
+      → IfOk result (λ reply. IsReplied limit task reply before)
   replied_behind scan held (Err e) before mid only reading is = tt
   replied_behind scan held (Ok reply) before mid only reading is =
       let whole =
-      reply_behind task (Behind scan held) task.Answers reply before mid only
+      reply_behind task (Behind scan held) (task.Answers limit) reply before mid only
       (others_to_scan scan held before.told reading) is in
       record { fits = whole.fits; answered = whole.answered; answers = whole.answers }
 
   -- the scan's file is refused
   pub refused_first : (line : Line) (reply : Reply) (before : State) → answer_of 1 reply ≡ refusal 1 (line_bytes line)
-      → IfSome before.told (IsReading input options (readings.Refused line)) → IsReplied task reply before
+      → IfSome before.told (IsReading limit input options (readings.Refused line)) → IsReplied limit task reply before
   refused_first line reply before is read =
       record {
         fits = subst (λ (s : Status). MayEnd task s) (sym (ap (λ (a : Answer). a.status) is)) first.may_refuse;
@@ -179,11 +179,11 @@ module _ (task : Task) (input : List ℕ) (options : Options) (A : Others)
         answers = by_cases before.told read;
       }
     where
-      by_cases : (o : Option Told) → IfSome o (IsReading input options (readings.Refused line))
-          → IfSome o (λ told. (reads : ℕ) × task.Answers told.files (answer_of reads reply))
+      by_cases : (o : Option Told) → IfSome o (IsReading limit input options (readings.Refused line))
+          → IfSome o (λ told. (reads : ℕ) × task.Answers limit told.files (answer_of reads reply))
       by_cases None reading = tt
       by_cases (Some told) (bytes, there, unread) = (
         1,
         first.pack told.files (answer_of 1 reply)
-            (bytes, there, inl (subst (λ (a : Answer). IsUnread options bytes a) (sym is) unread)),
+            (bytes, there, inl (subst (λ (a : Answer). IsUnread limit options bytes a) (sym is) unread)),
       )

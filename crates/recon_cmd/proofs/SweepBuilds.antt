@@ -79,8 +79,8 @@ written_one asked makes forms others scan answer other size a b =
 
 answers_one : (asked : SweepAsked) (makes : List (Received → List ℕ)) (forms others : List Received) (bytes : List ℕ)
     (answer other : Answer) → length forms ≡ length others
-    → ScanAnswer asked.options (λ _. WritesSweep asked forms (texts_by makes forms)) bytes answer
-    → ScanAnswer asked.options (λ _. WritesSweep asked others (texts_by makes others)) bytes other → answer ≡ other
+    → ScanAnswer file_limit asked.options (λ _. WritesSweep asked forms (texts_by makes forms)) bytes answer
+    → ScanAnswer file_limit asked.options (λ _. WritesSweep asked others (texts_by makes others)) bytes other → answer ≡ other
 answers_one asked makes forms others bytes answer other size (inl a) (inl b) =
     unread_one asked.options bytes answer other a b
 answers_one asked makes forms others bytes answer other size (inl a) (inr b) =
@@ -96,7 +96,8 @@ pub sweep_answer_is_one : SweepAnswerIsOne
 sweep_answer_is_one = λ asked makes forms others files answer other size (bytes, has, a) (found, there, b).
     (let same : found ≡ bytes = cc (has, there) in
     answers_one asked makes forms others bytes answer other size a
-    (subst (λ (l : List ℕ). ScanAnswer asked.options (λ _. WritesSweep asked others (texts_by makes others)) l other) same b))
+    (subst (λ (l : List ℕ). ScanAnswer file_limit asked.options (λ _. WritesSweep asked others (texts_by makes others)) l other)
+    same b))
 
 -- ---- what `build` writes
 module _ (asked : SweepAsked) (names : SurfaceNames) (scan : Shown) (bytes : List ℕ) (built : Answer) (k : ℕ)
@@ -141,7 +142,7 @@ writes_of : (asked : SweepAsked) (k : ℕ) (names : SurfaceNames) (files : Files
     → WritesSurface names (entry_options asked k) bytes scan built
 writes_of asked k names files built bytes scan has within read builds = by_answer builds.answers
   where
-    by_scan : ScanAnswer (entry_options asked k) (WritesSurface names (entry_options asked k)) bytes built
+    by_scan : ScanAnswer file_limit (entry_options asked k) (WritesSurface names (entry_options asked k)) bytes built
         → WritesSurface names (entry_options asked k) bytes scan built
     by_scan (inl unread) =
         absurd (not_unread (entry_options asked k) bytes scan within read
@@ -150,12 +151,12 @@ writes_of asked k names files built bytes scan has within read builds = by_answe
         let same : answered.scan ≡ scan = cc (answered.read, read) in
         subst (λ (s : Shown). WritesSurface names (entry_options asked k) bytes s built) same answered.answers
 
-    by_answer : ToScan names.input (entry_options asked k) (WritesSurface names (entry_options asked k)) files built
+    by_answer : ToScan file_limit names.input (entry_options asked k) (WritesSurface names (entry_options asked k)) files built
         → WritesSurface names (entry_options asked k) bytes scan built
     by_answer (found, there, answers) =
         let same : found ≡ bytes = cc (there, has, ap files builds.input) in
         by_scan (subst (λ (l : List ℕ).
-        ScanAnswer (entry_options asked k) (WritesSurface names (entry_options asked k)) l built) same answers)
+        ScanAnswer file_limit (entry_options asked k) (WritesSurface names (entry_options asked k)) l built) same answers)
 
 pub entries_are_built : EntriesAreBuilt
 entries_are_built = λ asked forms texts files answer (bytes, has, answers) done.
@@ -163,7 +164,7 @@ entries_are_built = λ asked forms texts files answer (bytes, has, answers) done
   where
     by_answer : (asked : SweepAsked) (forms : List Received) (texts : List (List ℕ)) (files : Files) (answer : Answer)
         (bytes : List ℕ) → files asked.input ≡ Some bytes → answer.status ≡ Done
-        → ScanAnswer asked.options (λ _. WritesSweep asked forms texts) bytes answer → AreBuilt asked forms files answer
+        → ScanAnswer file_limit asked.options (λ _. WritesSweep asked forms texts) bytes answer → AreBuilt asked forms files answer
     by_answer asked forms texts files answer bytes has done (inl unread) =
         absurd (unread_not_done asked.options bytes answer done unread)
     by_answer asked forms texts files answer bytes has done (inr a) =

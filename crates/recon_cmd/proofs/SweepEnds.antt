@@ -15,18 +15,20 @@ use Rattle.recon_cmd.proofs.Completeness.{WhyUnread, not_unread, told_where, unr
 -- the answer to these bytes, with this status
 abbrev EndsOn : SweepAsked → (forms : List Received) → (texts : List (List ℕ)) → (bytes : List ℕ) → Status → Type 0
 EndsOn asked forms texts bytes status =
-    (answer : Answer) × ScanAnswer asked.options (λ _. WritesSweep asked forms texts) bytes answer × (answer.status ≡ status)
+    (answer : Answer) × ScanAnswer file_limit asked.options (λ _. WritesSweep asked forms texts) bytes answer
+    × (answer.status ≡ status)
 
 ended : (asked : SweepAsked) (forms : List Received) (texts : List (List ℕ)) (bytes : List ℕ) (told new : Told)
-    (status : Status) → told.files asked.input ≡ Some bytes → EndsBy (SweepAnswer asked forms texts) status told new
+    (status : Status) → told.files asked.input ≡ Some bytes → EndsBy (SweepAnswer file_limit asked forms texts) status told new
     → EndsOn asked forms texts bytes status
 ended asked forms texts bytes told new status has ends = with_answer ends.answers
   where
-    with_answer : SweepAnswer asked forms texts told.files ends.answer → EndsOn asked forms texts bytes status
+    with_answer : SweepAnswer file_limit asked forms texts told.files ends.answer → EndsOn asked forms texts bytes status
     with_answer (other, there, answers) =
         let same : other ≡ bytes = cc (there, has) in (
           ends.answer,
-          subst (λ (b : List ℕ). ScanAnswer asked.options (λ _. WritesSweep asked forms texts) b ends.answer) same answers,
+          subst (λ (b : List ℕ). ScanAnswer file_limit asked.options (λ _. WritesSweep asked forms texts) b ends.answer) same
+              answers,
           ends.status_is,
         )
 
@@ -49,13 +51,13 @@ pub accepted_is_swept : AcceptedIsSwept
 accepted_is_swept = λ asked bytes scan status before after old new texts runs within read.
     by_status asked bytes scan status before after new texts within read runs.told runs.file runs.no_failure
     runs.outcome.run.fits runs.outcome.run.faults
-    (told_where (TellsBy (SweepAnswer asked new texts) status) runs.told before after runs.tells runs.outcome.run.tells)
+    (told_where (TellsBy (SweepAnswer file_limit asked new texts) status) runs.told before after runs.tells runs.outcome.run.tells)
   where
     by_status : (asked : SweepAsked) (bytes : List ℕ) (scan : Shown) (status : Status) (before after : State)
         (forms : List Received) (texts : List (List ℕ)) → length bytes ≤ file_limit → read_as asked.options bytes ≡ Ok scan
         → (told : Told) → told.files asked.input ≡ Some bytes → ¬ Rose before.faults after.faults → MayRefuse status
         → FaultsFit status before.faults after.faults
-        → (now : Told) × TellsBy (SweepAnswer asked forms texts) status told now → (status ≡ Done) ⊎ (status ≡ NoMemory)
+        → (now : Told) × TellsBy (SweepAnswer file_limit asked forms texts) status told now → (status ≡ Done) ⊎ (status ≡ NoMemory)
     by_status asked bytes scan Done before after forms texts within read told has none fits faults tells = inl refl
     by_status asked bytes scan No before after forms texts within read told has none fits faults tells = absurd fits
     by_status asked bytes scan BadWords before after forms texts within read told has none fits faults tells = absurd fits
@@ -70,13 +72,14 @@ pub refused_is_not_swept : RefusedIsNotSwept
 refused_is_not_swept = λ asked bytes status before after old new texts runs why.
     by_status asked bytes status before after new texts why runs.told runs.file runs.no_failure
     runs.outcome.run.fits runs.outcome.run.faults
-    (told_where (TellsBy (SweepAnswer asked new texts) status) runs.told before after runs.tells runs.outcome.run.tells)
+    (told_where (TellsBy (SweepAnswer file_limit asked new texts) status) runs.told before after runs.tells runs.outcome.run.tells)
   where
     by_status : (asked : SweepAsked) (bytes : List ℕ) (status : Status) (before after : State)
         (forms : List Received) (texts : List (List ℕ)) → WhyUnread asked.options bytes
         → (told : Told) → told.files asked.input ≡ Some bytes → ¬ Rose before.faults after.faults → MayRefuse status
         → FaultsFit status before.faults after.faults
-        → (now : Told) × TellsBy (SweepAnswer asked forms texts) status told now → (status ≡ Refused) ⊎ (status ≡ NoMemory)
+        → (now : Told) × TellsBy (SweepAnswer file_limit asked forms texts) status told now
+        → (status ≡ Refused) ⊎ (status ≡ NoMemory)
     by_status asked bytes Done before after forms texts why told has none fits faults (now, tells) =
         absurd (not_done asked forms texts bytes why (ended asked forms texts bytes told now Done has tells))
     by_status asked bytes No before after forms texts why told has none fits faults tells = absurd fits

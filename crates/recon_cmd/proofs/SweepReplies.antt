@@ -27,15 +27,15 @@ use Rattle.recon_cmd.specs.declared.status.Status.TheVariants.{Done}
 use Rattle.recon_cmd.proofs.Outcomes.{obeyed_by, starved_by}
 
 -- each answer reads one file
-answer_reads : (asked : SweepAsked) (forms : List Received) (texts : List (List ℕ)) (files : Files) (answer : Answer)
-    → SweepAnswer asked forms texts files answer → answer.reads ≡ 1
-answer_reads asked forms texts files answer (bytes, there, inl (inl long)) = ap (λ (a : Answer). a.reads) long.is
-answer_reads asked forms texts files answer (bytes, there, inl (inr refused)) = ap (λ (a : Answer). a.reads) refused.is
-answer_reads asked forms texts files answer (bytes, there, inr answered) = ap (λ (a : Answer). a.reads) answered.answers.is
+answer_reads : (limit : ℕ) (asked : SweepAsked) (forms : List Received) (texts : List (List ℕ)) (files : Files) (answer : Answer)
+    → SweepAnswer limit asked forms texts files answer → answer.reads ≡ 1
+answer_reads limit asked forms texts files answer (bytes, there, inl (inl long)) = ap (λ (a : Answer). a.reads) long.is
+answer_reads limit asked forms texts files answer (bytes, there, inl (inr refused)) = ap (λ (a : Answer). a.reads) refused.is
+answer_reads limit asked forms texts files answer (bytes, there, inr answered) = ap (λ (a : Answer). a.reads) answered.answers.is
 
-sweep_reads : (asked : SweepAsked) (forms : List Received) (texts : List (List ℕ)) (before after : State)
-    → before.writing ≡ false → OnlyReads before after → ReadsBy 1 (SweepAnswer asked forms texts) before after
-sweep_reads asked forms texts before after closed only =
+sweep_reads : (limit : ℕ) (asked : SweepAsked) (forms : List Received) (texts : List (List ℕ)) (before after : State)
+    → before.writing ≡ false → OnlyReads before after → ReadsBy 1 (SweepAnswer limit asked forms texts) before after
+sweep_reads limit asked forms texts before after closed only =
     record {
       told = only.told;
       writing = only.writing ∙ closed;
@@ -45,32 +45,33 @@ sweep_reads asked forms texts before after closed only =
   where
     by_cases : (o : Option Told)
         → IfSome o
-        (λ told. (answer : Answer) → SweepAnswer asked forms texts told.files answer → after.opens ≤ before.opens + answer.reads)
+        (λ told. (answer : Answer) → SweepAnswer limit asked forms texts told.files answer
+        → after.opens ≤ before.opens + answer.reads)
     by_cases None = tt
-    by_cases (Some told) = λ answer is. omega (arith, only.opens, answer_reads asked forms texts told.files answer is)
+    by_cases (Some told) = λ answer is. omega (arith, only.opens, answer_reads limit asked forms texts told.files answer is)
 
 -- the file is a text of the scan
-file_of : (asked : SweepAsked) (scan : Scan) (held : Bytes) (before : State)
-    → IfSome before.told (IsReading asked.input asked.options (readings.Scan scan held))
+file_of : (limit : ℕ) (asked : SweepAsked) (scan : Scan) (held : Bytes) (before : State)
+    → IfSome before.told (IsReading limit asked.input asked.options (readings.Scan scan held))
     → IsFileOfScan asked.input asked.options (shown_of scan) before
-file_of asked scan held before read = by_cases before.told read
+file_of limit asked scan held before read = by_cases before.told read
   where
-    by_cases : (o : Option Told) → IfSome o (IsReading asked.input asked.options (readings.Scan scan held))
+    by_cases : (o : Option Told) → IfSome o (IsReading limit asked.input asked.options (readings.Scan scan held))
         → IfSome o
         (λ told. (bytes : List ℕ) × (told.files asked.input ≡ Some bytes) × (read_as asked.options bytes ≡ Ok (shown_of scan)))
     by_cases None read = tt
     by_cases (Some told) (bytes, there, (same, within, is)) = (bytes, there, is)
 
 -- the scan is there, and is answered so
-answered_scan : (asked : SweepAsked) (forms : List Received) (texts : List (List ℕ)) (scan : Scan) (held : Bytes)
+answered_scan : (limit : ℕ) (asked : SweepAsked) (forms : List Received) (texts : List (List ℕ)) (scan : Scan) (held : Bytes)
     (answer : Answer) (o : Option Told) → WritesSweep asked forms texts (shown_of scan) answer → answer.reads ≡ 1
-    → IfSome o (IsReading asked.input asked.options (readings.Scan scan held))
+    → IfSome o (IsReading limit asked.input asked.options (readings.Scan scan held))
     → IfSome o
     (λ told. (reads : ℕ)
-    × SweepAnswer asked forms texts told.files
+    × SweepAnswer limit asked forms texts told.files
     (record { status = answer.status; reads = reads; writes = answer.writes; line = answer.line }))
-answered_scan asked forms texts scan held answer None answers one read = tt
-answered_scan asked forms texts scan held answer (Some told) answers one (bytes, there, (same, within, is)) =
+answered_scan limit asked forms texts scan held answer None answers one read = tt
+answered_scan limit asked forms texts scan held answer (Some told) answers one (bytes, there, (same, within, is)) =
     (answer.reads, (bytes, there, inr (record { within = within; scan = shown_of scan; read = is; answers = answers })))
 
 -- ---- forms
@@ -115,29 +116,29 @@ as_long kind received old new same =
 -- ---- outcomes
 
 -- the scan was read, and its surfaces handed to the forms
-pub swept : (asked : SweepAsked) (scan : Scan) (held : Bytes) (result : Status) (before mid after : State)
+pub swept : (limit : ℕ) (asked : SweepAsked) (scan : Scan) (held : Bytes) (result : Status) (before mid after : State)
     (old new : List Received) (texts : List (List ℕ)) → before.writing ≡ false → OnlyReads before mid
-    → mid.faults ≡ before.faults → IfSome before.told (IsReading asked.input asked.options (readings.Scan scan held))
-    → SweepHandOut asked (shown_of scan) result mid after new texts → SweepOutcome asked result before after old new texts
-swept asked scan held result before mid after old new texts closed only same read (inl (is, fronts, still)) =
-    subst (λ (s : Status). SweepOutcome asked s before after old new texts) (sym is) (record {
-      run = starved_by MayRefuse 1 (SweepAnswer asked new texts) before after tt
-          (subst (λ (s : State). ReadsBy 1 (SweepAnswer asked new texts) before s) (sym still)
-          (sweep_reads asked new texts before mid closed only)) (ap (λ (s : State). s.faults) still ∙ same);
-      forms = inr (shown_of scan, file_of asked scan held before read, fronts);
+    → mid.faults ≡ before.faults → IfSome before.told (IsReading limit asked.input asked.options (readings.Scan scan held))
+    → SweepHandOut asked (shown_of scan) result mid after new texts → SweepOutcome limit asked result before after old new texts
+swept limit asked scan held result before mid after old new texts closed only same read (inl (is, fronts, still)) =
+    subst (λ (s : Status). SweepOutcome limit asked s before after old new texts) (sym is) (record {
+      run = starved_by MayRefuse 1 (SweepAnswer limit asked new texts) before after tt
+          (subst (λ (s : State). ReadsBy 1 (SweepAnswer limit asked new texts) before s) (sym still)
+          (sweep_reads limit asked new texts before mid closed only)) (ap (λ (s : State). s.faults) still ∙ same);
+      forms = inr (shown_of scan, file_of limit asked scan held before read, fronts);
     })
-swept asked scan held result before mid after old new texts closed only same read (inr carries) =
+swept limit asked scan held result before mid after old new texts closed only same read (inr carries) =
     record {
-      run = obeyed_by MayRefuse 1 (SweepAnswer asked new texts) Done (zip asked.outputs texts) line result before mid after tt
+      run = obeyed_by MayRefuse 1 (SweepAnswer limit asked new texts) Done (zip asked.outputs texts) line result before mid after tt
           tt tt
-          (answered_scan asked new texts scan held answer before.told
+          (answered_scan limit asked new texts scan held answer before.told
           (record {
             first = carries.first;
             last = carries.last;
             entries = carries.entries;
             is = refl;
           }) refl read)
-          (sweep_reads asked new texts before mid closed only) same carries.carried;
+          (sweep_reads limit asked new texts before mid closed only) same carries.carried;
       forms = by carries.carried;
     }
   where
@@ -150,11 +151,11 @@ swept asked scan held result before mid after old new texts closed only same rea
     by : CarriesOut (zip asked.outputs texts) line Done result mid after → SweepFormsAfter asked result before old new
     by (inl (is, whole)) =
         subst (λ (s : Status). SweepFormsAfter asked s before old new) (sym is)
-        (shown_of scan, file_of asked scan held before read, carries.entries.each)
+        (shown_of scan, file_of limit asked scan held before read, carries.entries.each)
     by (inr (is, stopped)) =
         subst (λ (s : Status). SweepFormsAfter asked s before old new) (sym is)
         (inr (
           shown_of scan,
-          file_of asked scan held before read,
+          file_of limit asked scan held before read,
           fronts_of_entries (given_by (shown_of scan)) asked.options.vote asked.options.smooth asked.step new carries.entries.each,
         ))

@@ -7,14 +7,14 @@
 --   ask_line points asked inside     the line
 --   label_line label                 a label, as a line
 --   labels_text labels               the text of labels
---   PointsRefused options bytes ..   the file of the points that are asked for is no list of points
+--   PointsRefused limit options ..   the file of the points that are asked for is no list of points
 --   ask_done output points labels    the answer that writes labels
 --   WritesLabels output options ..   the labels of the points are written
---   PointsAnswered output options .. the file is a list of points, whose labels are written
---   IsAsked output options ..        one of the two
---   AskAnswer names options ..       the answer to a scan
+--   PointsAnswered limit output ..   the file is a list of points, whose labels are written
+--   IsAsked limit output ..          one of the two
+--   AskAnswer limit names ..         the answer to a scan
 --   ask_task names options           the command
---   IsAskReply names options ..      the reply may end a run of `ask`, and is one of its answers to a scan
+--   IsAskReply limit names ..        the reply may end a run of `ask`, and is one of its answers to a scan
 use Rattle.std.specs.List.{flat_map}
 use Rattle.std.specs.Prelude.{ℕ, List, codes, Option, Some, None, [], ◌∷◌, ◌++◌, Bool, if◌then◌else◌, length, decimal, ◌≡◌, ◌≤◌, Err, ⊤}
 use Rattle.std.specs.Prelude.{count_by, Ok, ◌⊎◌}
@@ -26,7 +26,7 @@ use Rattle.solid_query.specs.Labels.{AreLabels}
 use Rattle.solid_query.specs.Queries.{points_in}
 use Rattle.solid_query.specs.declared.refusal.QueryRefusal.{QueryRefusal}
 use Rattle.solution.specs.Scans.{points_of}
-use Rattle.recon_cmd.specs.Answers.{Answer, refusal, file_limit, FileTooLong, Task, ToScan}
+use Rattle.recon_cmd.specs.Answers.{Answer, refusal, FileTooLong, Task, ToScan}
 use Rattle.recon_cmd.specs.Lines.{labelled}
 use Rattle.recon_cmd.specs.Options.{Options}
 use Rattle.recon_cmd.specs.Refusals.{number_line}
@@ -72,8 +72,8 @@ unfoldable pub labels_text : List Bool → List ℕ
 labels_text labels = codes "answers " ++ (decimal (length labels) ++ (10 ∷ flat_map label_line labels))
 
 -- the bytes are no list of points, and the first reason why is said
-pub record PointsRefused (options : Options) (bytes : List ℕ) (answer : Answer) : Type 0 where
-  pub within : length bytes ≤ file_limit
+pub record PointsRefused (limit : ℕ) (options : Options) (bytes : List ℕ) (answer : Answer) : Type 0 where
+  pub within : length bytes ≤ limit
   pub why : QueryRefusal
   pub refused : points_in bytes options.unit ≡ Err why
   pub line : List ℕ
@@ -100,21 +100,24 @@ pub record WritesLabels (output : List ℕ) (options : Options) (scan : Shown) (
   pub is : answer ≡ ask_done output (length (points_of scan)) labels
 
 -- the bytes are a list of points in the unit of these options, whose labels are written
-pub record PointsAnswered (output : List ℕ) (options : Options) (scan : Shown) (bytes : List ℕ) (answer : Answer) : Type 0 where
-  pub within : length bytes ≤ file_limit
+pub record PointsAnswered (limit : ℕ) (output : List ℕ) (options : Options) (scan : Shown) (bytes : List ℕ)
+    (answer : Answer) : Type 0 where
+  pub within : length bytes ≤ limit
   pub points : List Point
   pub read : points_in bytes options.unit ≡ Ok points
   pub answers : WritesLabels output options scan points answer
 
 -- the bytes of the points' file are refused, or are points whose labels are written
-abbrev pub IsAsked : (output : List ℕ) → Options → Shown → (bytes : List ℕ) → Answer → Type 0
-IsAsked output options scan bytes answer = PointsRefused options bytes answer ⊎ PointsAnswered output options scan bytes answer
+abbrev pub IsAsked : (limit : ℕ) → (output : List ℕ) → Options → Shown → (bytes : List ℕ) → Answer → Type 0
+IsAsked limit output options scan bytes answer =
+    PointsRefused limit options bytes answer ⊎ PointsAnswered limit output options scan bytes answer
 
 -- the file of the points is too long, or decides
-pub record AskAnswer (names : QueryNames) (options : Options) (files : Files) (scan : Shown) (answer : Answer) : Type 0 where
+pub record AskAnswer (limit : ℕ) (names : QueryNames) (options : Options) (files : Files) (scan : Shown)
+    (answer : Answer) : Type 0 where
   pub bytes : List ℕ
   pub there : files names.points ≡ Some bytes
-  pub answers : FileTooLong 2 too_long_points_line bytes answer ⊎ IsAsked names.output options scan bytes answer
+  pub answers : FileTooLong limit 2 too_long_points_line bytes answer ⊎ IsAsked limit names.output options scan bytes answer
 
 -- it reads the scan, then the points where the scan is not refused, and writes their labels or refuses one of the two
 abbrev pub ask_task : QueryNames → Options → Task
@@ -123,9 +126,9 @@ ask_task names options =
       Denies = ⊥;
       Refuses = ⊤;
       most = 2;
-      Answers = λ files. ToScan names.input options (λ _. AskAnswer names options files) files;
+      Answers = λ limit files. ToScan limit names.input options (λ _. AskAnswer limit names options files) files;
     }
 
 -- the reply may end a run of such a command, and is one of its answers to this scan
-abbrev pub IsAskReply : QueryNames → Options → Shown → Reply → State → Type 0
-IsAskReply names options scan = IsReplyOf (ask_task names options) (λ files. AskAnswer names options files scan)
+abbrev pub IsAskReply : (limit : ℕ) → QueryNames → Options → Shown → Reply → State → Type 0
+IsAskReply limit names options scan = IsReplyOf (ask_task names options) (λ files. AskAnswer limit names options files scan)

@@ -64,4 +64,4 @@ pub record WritesSurface (names : SurfaceNames) (options : Options) (bytes : Lis
 -- it reads the scan, and writes its best surface or refuses it
 abbrev pub build_task : SurfaceNames → Options → Task
 build_task names options =
-    record { Denies = ⊥; Refuses = ⊤; most = 1; Answers = ToScan names.input options (WritesSurface names options) }
+    record { Denies = ⊥; Refuses = ⊤; most = 1; Answers = λ limit. ToScan limit names.input options (WritesSurface names options) }

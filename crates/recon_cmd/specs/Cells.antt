@@ -61,5 +61,5 @@ cells_task names options =
       Denies = ⊥;
       Refuses = ⊤;
       most = 1;
-      Answers = ToScan names.input options (λ _. WritesCells names.output);
+      Answers = λ limit. ToScan limit names.input options (λ _. WritesCells names.output);
     }

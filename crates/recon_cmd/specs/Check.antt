@@ -20,8 +20,8 @@
 --   restamped stamp claim              a certificate with this stamp
 --   IsConcluded output ..              what follows from a verdict: it is said, or a certificate is written
 --   HasVerdict output options ..       the verdict on a mesh and a certificate, and what follows from it
---   CertAnswer, MeshAnswer             the answer to the bytes of a certificate, and to those of a mesh
---   CheckAnswer names output ..        the answer to a scan
+--   CertAnswer, MeshAnswer limit ..    the answer to the bytes of a certificate, and to those of a mesh
+--   CheckAnswer limit names ..         the answer to a scan
 --   check_task names output options    the command: `upgrade` where there is a file to write, and `check` where there is none
 --   task_for asked                     the command that the program was asked for
 --   HasVerdictFor asked held ..        the verdict, for what it was asked for and the scan that it holds with its stamp
@@ -48,7 +48,7 @@ use Rattle.recon_check.specs.declared.answer.Which.TheVariants.{Points, Scanners
 use Rattle.scan.specs.PlainForm.{spaced}
 use Rattle.scan.specs.Shown.{Shown}
 use Rattle.scan.specs.Views.{shown_of}
-use Rattle.recon_cmd.specs.Answers.{Answer, file_limit, FileTooLong, Task, ToScan}
+use Rattle.recon_cmd.specs.Answers.{Answer, FileTooLong, Task, ToScan}
 use Rattle.recon_cmd.specs.Lines.{labelled, too_long_mesh_line}
 use Rattle.recon_cmd.specs.OptionViews.{options_view}
 use Rattle.recon_cmd.specs.Options.{Options}
@@ -178,25 +178,26 @@ pub record HasVerdict (output : Option (List ℕ)) (options : Options) (stamp : 
   pub is : IsConcluded output stamp cert verdict answer
 
 -- the file of the certificate is too long, or it decides
-pub record CertAnswer (names : SurfaceNames) (Decides : (cert : List ℕ) → Answer → Type 0) (files : Files)
+pub record CertAnswer (limit : ℕ) (names : SurfaceNames) (Decides : (cert : List ℕ) → Answer → Type 0) (files : Files)
     (answer : Answer) : Type 0 where
   pub cert : List ℕ
   pub there : files names.cert ≡ Some cert
-  pub answers : FileTooLong 3 too_long_cert_line cert answer ⊎ ((length cert ≤ file_limit) × Decides cert answer)
+  pub answers : FileTooLong limit 3 too_long_cert_line cert answer ⊎ ((length cert ≤ limit) × Decides cert answer)
 
 -- the file of the mesh is too long, or it and the certificate decide
-pub record MeshAnswer (names : SurfaceNames) (Decide : (mesh cert : List ℕ) → Answer → Type 0) (files : Files)
+pub record MeshAnswer (limit : ℕ) (names : SurfaceNames) (Decide : (mesh cert : List ℕ) → Answer → Type 0) (files : Files)
     (answer : Answer) : Type 0 where
   pub mesh : List ℕ
   pub there : files names.mesh ≡ Some mesh
-  pub answers : FileTooLong 2 too_long_mesh_line mesh answer
-      ⊎ ((length mesh ≤ file_limit) × CertAnswer names (Decide mesh) files answer)
+  pub answers : FileTooLong limit 2 too_long_mesh_line mesh answer
+      ⊎ ((length mesh ≤ limit) × CertAnswer limit names (Decide mesh) files answer)
 
 -- the mesh and the certificate decide which verdict there is
-abbrev pub CheckAnswer : SurfaceNames → (output : Option (List ℕ)) → Options → Files → (bytes : List ℕ) → Shown → Answer
+abbrev pub CheckAnswer : (limit : ℕ) → SurfaceNames → (output : Option (List ℕ)) → Options → Files → (bytes : List ℕ) → Shown
+    → Answer
     → Type 0
-CheckAnswer names output options files bytes scan =
-    MeshAnswer names (HasVerdict output options (stamp_for options bytes) scan) files
+CheckAnswer limit names output options files bytes scan =
+    MeshAnswer limit names (HasVerdict output options (stamp_for options bytes) scan) files
 
 -- It reads the scan, then the mesh where the scan is not refused, then the certificate where the mesh is not too long. It says yes,
 -- or no, or refuses what is not readable.
@@ -206,7 +207,7 @@ check_task names output options =
       Denies = ⊤;
       Refuses = ⊤;
       most = 3;
-      Answers = λ files. ToScan names.input options (CheckAnswer names output options files) files;
+      Answers = λ limit files. ToScan limit names.input options (CheckAnswer limit names output options files) files;
     }
 
 -- the command that the program was asked for
@@ -221,8 +222,8 @@ HasVerdictFor asked held =
 
 -- the file of the certificate that was asked for is too long, or it decides on this mesh
 abbrev pub CertAnswerFor : CheckAsked → StampedScan → (mesh : List ℕ) → Files → Answer → Type 0
-CertAnswerFor asked held mesh = CertAnswer (check_names asked.names.now) (HasVerdictFor asked held mesh)
+CertAnswerFor asked held mesh = CertAnswer asked.limit (check_names asked.names.now) (HasVerdictFor asked held mesh)
 
 -- the file of the mesh that was asked for is too long, or it and the certificate decide
 abbrev pub MeshAnswerFor : CheckAsked → StampedScan → Files → Answer → Type 0
-MeshAnswerFor asked held = MeshAnswer (check_names asked.names.now) (HasVerdictFor asked held)
+MeshAnswerFor asked held = MeshAnswer asked.limit (check_names asked.names.now) (HasVerdictFor asked held)

@@ -8,11 +8,13 @@
 --   asked command                       what a command of the program is
 --   task_of asked                       what it is beside its words
 --   bad_words_answer                    the answer of words that are no command
---   AnswerOf asked files answer         the answer of a command, or of words that are none, where the files are these
+--   AnswerWithin limit asked ..         the answer of a command, or of words that are none, where a file may have so many bytes
+--   AnswerOf asked files answer         the same with the limit of `run`
 --   most_reads asked                    how many files a command reads at most
 --   StatusFits status asked             the statuses that a command may end with at all
 --   EndsWith, Tells                     what is told after a run of a command
---   Outcome asked status before after   what a run of a command does to its host
+--   OutcomeWithin limit asked ..        what a run of a command does to its host, where a file may have so many bytes
+--   Outcome asked status before after   the same with the limit of `run`
 --   asked_command request               the command that a run is asked for, if it is asked for one
 --   asked_export request                what `export` is asked for, if it is that
 --   asked_sweep request                 what `sweep` is asked for, if it is that
@@ -24,7 +26,7 @@ use Rattle.std.specs.Str.{bytes_eq}
 use Rattle.host.specs.State.{Files, Told, State}
 use Rattle.ply_head.specs.Optional.{◌>>=◌}
 use Rattle.scan.specs.ScanRows.{point_limit}
-use Rattle.recon_cmd.specs.Answers.{Answer, MayEnd, Task}
+use Rattle.recon_cmd.specs.Answers.{Answer, MayEnd, Task, file_limit}
 use Rattle.recon_cmd.specs.Ask.{QueryNames, ask_names, ask_task}
 use Rattle.recon_cmd.specs.Build.{build_names, build_task}
 use Rattle.recon_cmd.specs.Cells.{cells_keys, cells_names, cells_task}
@@ -138,10 +140,15 @@ task_of (demo count seed) = demo_task count seed
 abbrev pub bad_words_answer : Answer
 bad_words_answer = record { status = BadWords; reads = 0; writes = []; line = bad_words_line }
 
--- the answer of a command, or of words that are none, where the files are these
+-- the answer of a command, or of words that are none, where a file that is read may have as many bytes as the limit, and the files
+-- are these
+abbrev pub AnswerWithin : (limit : ℕ) → Option Asked → Files → Answer → Type 0
+AnswerWithin limit None = λ files answer. answer ≡ bad_words_answer
+AnswerWithin limit (Some asked) = (task_of asked).Answers limit
+
+-- the same with the limit of `run`
 abbrev pub AnswerOf : Option Asked → Files → Answer → Type 0
-AnswerOf None files answer = answer ≡ bad_words_answer
-AnswerOf (Some asked) files answer = (task_of asked).Answers files answer
+AnswerOf = AnswerWithin file_limit
 
 -- how many files a command reads at most
 abbrev pub most_reads : Option Asked → ℕ
@@ -166,9 +173,13 @@ StatusFits Refused None = ⊥
 StatusFits Failed None = ⊤
 StatusFits NoMemory None = ⊥
 
--- what a run of a command, or on words that are none, does to its host
+-- what a run of a command, or on words that are none, does to its host, where a file that is read may have as many bytes as the limit
+abbrev pub OutcomeWithin : (limit : ℕ) → Option Asked → Status → State → State → Type 0
+OutcomeWithin limit asked = Run (λ status. StatusFits status asked) (most_reads asked) (AnswerWithin limit asked)
+
+-- the same with the limit of `run`
 abbrev pub Outcome : Option Asked → Status → State → State → Type 0
-Outcome asked = Run (λ status. StatusFits status asked) (most_reads asked) (AnswerOf asked)
+Outcome = OutcomeWithin file_limit
 
 -- the command, if it is one
 abbrev pub asked_command : Option Request → Option Asked

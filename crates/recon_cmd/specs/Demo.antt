@@ -10,7 +10,7 @@ use Rattle.gen_scan.specs.Generated.{generated}
 use Rattle.ply_head.specs.Optional.{◌>>=◌}
 use Rattle.scan.specs.PlainForm.{scan_text}
 use Rattle.scan.specs.Shown.{shown_by}
-use Rattle.recon_cmd.specs.Answers.{Answer, ScanAnswer, Task}
+use Rattle.recon_cmd.specs.Answers.{Answer, ScanAnswer, Task, file_limit}
 use Rattle.recon_cmd.specs.Build.{WritesSurface}
 use Rattle.recon_cmd.specs.Lines.{labelled}
 use Rattle.recon_cmd.specs.Options.{number_of_digits, within, default_options}
@@ -33,10 +33,10 @@ generated_text count seed = scan_text (shown_by (generated count seed))
 pub record Demonstrates (count seed : ℕ) (answer : Answer) : Type 0 where
   pub names : SurfaceNames
   pub built : Answer
-  pub builds : ScanAnswer default_options (WritesSurface names default_options) (generated_text count seed) built
+  pub builds : ScanAnswer file_limit default_options (WritesSurface names default_options) (generated_text count seed) built
   pub done : built.status ≡ Done
   pub is : answer ≡ record { status = Done; reads = 0; writes = []; line = demo_line count seed built.line }
 
 -- it reads nothing, and refuses nothing
 abbrev pub demo_task : (count seed : ℕ) → Task
-demo_task count seed = record { Denies = ⊥; Refuses = ⊥; most = 0; Answers = λ files. Demonstrates count seed }
+demo_task count seed = record { Denies = ⊥; Refuses = ⊥; most = 0; Answers = λ limit files. Demonstrates count seed }

@@ -9,12 +9,12 @@
 --                                    the line
 --   HaveAll, HaveFronts mesh forms   each form has received the whole mesh; a front of it
 --   WritesForms outputs ..           the answer that writes the forms' texts
---   ExportAnswer names ..            a refusal of the mesh, or this answer
+--   ExportAnswer limit names ..      a refusal of the mesh, or this answer
 --   IsFileOf name mesh before        where the host tells its files, the named one is the mesh's text
 --   AreHandedFronts name before ..   the forms are as they were, or have received fronts of the mesh
 --   FormsAfter name status ..        what the forms have received after a run that ended so
 --   FormsHandOut outputs mesh ..     what follows where the mesh was read
---   ExportOutcome names status ..    what a run does to its host and to the forms
+--   ExportOutcome limit names ..     what a run does to its host and to the forms
 use Rattle.std.specs.List.{zip}
 use Rattle.std.specs.Prelude.{ℕ, List, [], ◌∷◌, ◌&&◌, ◌==◌, nat_le, length, Option, Some, None, if◌then◌else◌, codes, map, string_bytes}
 use Rattle.std.specs.Prelude.{◌++◌, All, ◌≡◌, IfSome, ◌⊎◌}
@@ -80,8 +80,8 @@ pub record WritesForms (outputs : List (List ℕ)) (forms : List Received) (text
   }
 
 -- the mesh is refused, or the texts of these forms are written
-abbrev pub ExportAnswer : ExportNames → (forms : List Received) → (texts : List (List ℕ)) → Files → Answer → Type 0
-ExportAnswer names forms texts = ToMesh names.mesh (WritesForms names.outputs forms texts)
+abbrev pub ExportAnswer : (limit : ℕ) → ExportNames → (forms : List Received) → (texts : List (List ℕ)) → Files → Answer → Type 0
+ExportAnswer limit names forms texts = ToMesh limit names.mesh (WritesForms names.outputs forms texts)
 
 -- where the host tells its files, the named one is the mesh's text
 abbrev pub IsFileOf : (name : List ℕ) → Surface → State → Type 0
@@ -110,7 +110,7 @@ FormsHandOut outputs mesh status before after new texts =
     (exported_line (length outputs) (length mesh.points) (length mesh.faces)) Done status before after)
 
 -- what a run of `export` does to its host, and to forms that had received `old`, have received `new` and have these texts
-pub record ExportOutcome (names : ExportNames) (status : Status) (before after : State) (old new : List Received)
+pub record ExportOutcome (limit : ℕ) (names : ExportNames) (status : Status) (before after : State) (old new : List Received)
     (texts : List (List ℕ)) : Type 0 where
-  pub run : Run MayRefuse 1 (ExportAnswer names new texts) status before after
+  pub run : Run MayRefuse 1 (ExportAnswer limit names new texts) status before after
   pub forms : FormsAfter names.mesh status before old new

@@ -1,15 +1,15 @@
--- What a run on words does that is handed forms: the promise of `run_forms`.
+-- What a run on words does that is handed forms: the promise of `run_forms`, and of `run_forms_within` at any limit.
 --
--- `received` and `text_of` say of a form what it has received and what its text is, `code` is the exit status, `before` and `after`
--- are the states of the host, and `old` and `new` are the forms.
+-- `limit` is how many bytes a file that is read may have, `received` and `text_of` say of a form what it has received and what its text
+-- is, `code` is the exit status, `before` and `after` are the states of the host, and `old` and `new` are the forms.
 --
---   Exports received text_of words ..    what it does where the words are `export` into these forms
---   Sweeps received text_of words ..     what it does where they are `sweep` into these forms
---   RunsOtherwise words code ..          what it does on all other words: what `run` does, and the forms are left
+--   Exports limit received text_of ..    what it does where the words are `export` into these forms
+--   Sweeps limit received text_of ..     what it does where they are `sweep` into these forms
+--   RunsOtherwise limit words ..         what it does on all other words: what `run` does, and the forms are left
 use Rattle.std.specs.Prelude.{ℕ, List, ◌≡◌, length, map, IfSome, None}
 use Rattle.host.specs.State.{State}
 use Rattle.mesh_form.specs.Received.{Received}
-use Rattle.recon_cmd.specs.Commands.{Outcome, command_of}
+use Rattle.recon_cmd.specs.Commands.{OutcomeWithin, command_of}
 use Rattle.recon_cmd.specs.Export.{ExportOutcome, export_of}
 use Rattle.recon_cmd.specs.Status.{ExitsWith, code_of}
 use Rattle.recon_cmd.specs.Sweep.{SweepOutcome, sweep_of}
@@ -17,26 +17,29 @@ use Rattle.recon_cmd.specs.declared.status.Status.{Status}
 
 -- where the words are `export` with as many outputs as there are forms, the exit status is one with which the outcome of `export`
 -- holds
-abbrev pub Exports : {Form : Type 0} → (received : Form → Received) → (text_of : Form → List ℕ) → (words : List (List ℕ))
+abbrev pub Exports : {Form : Type 0} → (limit : ℕ) → (received : Form → Received) → (text_of : Form → List ℕ)
+    → (words : List (List ℕ))
     → (code : ℕ) → (before after : State) → (old new : List Form) → Type 0
-Exports received text_of words code before after old new =
+Exports limit received text_of words code before after old new =
     IfSome (export_of (length old) words)
     (λ names. ExitsWith code
-    (λ status. ExportOutcome names status before after (map received old) (map received new) (map text_of new)))
+    (λ status. ExportOutcome limit names status before after (map received old) (map received new) (map text_of new)))
 
 -- where the words are `sweep` with as many outputs as there are forms, the exit status is one with which the outcome of `sweep`
 -- holds
-abbrev pub Sweeps : {Form : Type 0} → (received : Form → Received) → (text_of : Form → List ℕ) → (words : List (List ℕ))
+abbrev pub Sweeps : {Form : Type 0} → (limit : ℕ) → (received : Form → Received) → (text_of : Form → List ℕ)
+    → (words : List (List ℕ))
     → (code : ℕ) → (before after : State) → (old new : List Form) → Type 0
-Sweeps received text_of words code before after old new =
+Sweeps limit received text_of words code before after old new =
     IfSome (sweep_of (length old) words)
     (λ asked. ExitsWith code
-    (λ status. SweepOutcome asked status before after (map received old) (map received new) (map text_of new)))
+    (λ status. SweepOutcome limit asked status before after (map received old) (map received new) (map text_of new)))
 
 -- where the words are neither, the exit status is one with which the outcome of the command that they are holds, or that of words
 -- that are none, and the forms are as they were
-abbrev pub RunsOtherwise : {Form : Type 0} → (words : List (List ℕ)) → (code : ℕ) → (before after : State) → (old new : List Form)
+abbrev pub RunsOtherwise : {Form : Type 0} → (limit : ℕ) → (words : List (List ℕ)) → (code : ℕ) → (before after : State)
+    → (old new : List Form)
     → Type 0
-RunsOtherwise words code before after old new =
+RunsOtherwise limit words code before after old new =
     export_of (length old) words ≡ None → sweep_of (length old) words ≡ None
-    → (status : Status) × (code ≡ code_of status) × Outcome (command_of words) status before after × (new ≡ old)
+    → (status : Status) × (code ≡ code_of status) × OutcomeWithin limit (command_of words) status before after × (new ≡ old)

@@ -82,4 +82,4 @@ SliceAnswer output height mesh answer = RefusesSlice mesh answer ⊎ WritesSlice
 -- it reads the mesh, and writes its loops or refuses it
 abbrev pub slice_task : Names → (height : ℤ) → Task
 slice_task names height =
-    record { Denies = ⊥; Refuses = ⊤; most = 1; Answers = ToMesh names.input (SliceAnswer names.output height) }
+    record { Denies = ⊥; Refuses = ⊤; most = 1; Answers = λ limit. ToMesh limit names.input (SliceAnswer names.output height) }

@@ -13,14 +13,14 @@
 --   FitsForms words forms            as many outputs as forms, and weights within their limit
 --   sweep_line n first last          the line
 --   WritesSweep asked ..             the answer that writes the forms' texts
---   SweepAnswer asked ..             a refusal of the scan, or this answer
+--   SweepAnswer limit asked ..       a refusal of the scan, or this answer
 --   IsFileOfScan name options ..     where the host tells its files, the named one is a text of the scan
 --   AreHandedEntries asked ..        the forms are as they were, or have received fronts of their meshes
 --   SweepFormsAfter asked status ..  what the forms have received after a run that ended so
 --   HaveEntriesOf asked scan ..      each form has received the mesh of its entry, and the costs of the first and last are these
 --   SweepCarries asked scan ..       the meshes have been handed to the forms, and their texts are written
 --   SweepHandOut asked scan ..       what follows where the scan was read
---   SweepOutcome asked status ..     what a run does to its host and to the forms
+--   SweepOutcome limit asked ..      what a run does to its host and to the forms
 use Rattle.std.specs.List.{zip}
 use Rattle.std.specs.Prelude.{ℕ, List, [], ◌∷◌, ◌-◌, nat_le, Option, Some, None, if◌then◌else◌, ◌==◌, codes, unwrap_or, map, string_bytes}
 use Rattle.std.specs.Prelude.{◌≡◌, ◌≤◌, length, ◌++◌, IfSome, Ok, ◌⊎◌}
@@ -138,8 +138,8 @@ pub record WritesSweep (asked : SweepAsked) (forms : List Received) (texts : Lis
   }
 
 -- the scan is refused, or the texts of these forms are written
-abbrev pub SweepAnswer : SweepAsked → (forms : List Received) → (texts : List (List ℕ)) → Files → Answer → Type 0
-SweepAnswer asked forms texts = ToScan asked.input asked.options (λ _. WritesSweep asked forms texts)
+abbrev pub SweepAnswer : (limit : ℕ) → SweepAsked → (forms : List Received) → (texts : List (List ℕ)) → Files → Answer → Type 0
+SweepAnswer limit asked forms texts = ToScan limit asked.input asked.options (λ _. WritesSweep asked forms texts)
 
 -- where the host tells its files, the named one is a text of the scan
 abbrev pub IsFileOfScan : (name : List ℕ) → Options → Shown → State → Type 0
@@ -181,7 +181,7 @@ SweepHandOut asked scan status before after new texts =
     ⊎ SweepCarries asked scan status before after new texts
 
 -- what a run of `sweep` does to its host, and to forms that had received `old`, have received `new` and have these texts
-pub record SweepOutcome (asked : SweepAsked) (status : Status) (before after : State) (old new : List Received)
+pub record SweepOutcome (limit : ℕ) (asked : SweepAsked) (status : Status) (before after : State) (old new : List Received)
     (texts : List (List ℕ)) : Type 0 where
-  pub run : Run MayRefuse 1 (SweepAnswer asked new texts) status before after
+  pub run : Run MayRefuse 1 (SweepAnswer limit asked new texts) status before after
   pub forms : SweepFormsAfter asked status before old new

@@ -36,7 +36,7 @@ pub record SweepsOn (asked : SweepAsked) (bytes : List ℕ) (status : Status) (b
   pub tells : before.told ≡ Some told
   pub file : told.files asked.input ≡ Some bytes
   pub no_failure : ¬ Rose before.faults after.faults
-  pub outcome : SweepOutcome asked status before after old new texts
+  pub outcome : SweepOutcome file_limit asked status before after old new texts
 
 -- the scan is accepted: the texts are written, or there was no memory
 abbrev pub AcceptedIsSwept : Type 0
@@ -58,8 +58,8 @@ RefusedIsNotSwept =
 abbrev pub SweepAnswerIsOne : Type 0
 SweepAnswerIsOne =
     (asked : SweepAsked) (makes : List (Received → List ℕ)) (forms others : List Received) (files : Files)
-    (answer other : Answer) → length forms ≡ length others → SweepAnswer asked forms (texts_by makes forms) files answer
-    → SweepAnswer asked others (texts_by makes others) files other → answer ≡ other
+    (answer other : Answer) → length forms ≡ length others → SweepAnswer file_limit asked forms (texts_by makes forms) files answer
+    → SweepAnswer file_limit asked others (texts_by makes others) files other → answer ≡ other
 
 -- the options of entry k
 abbrev pub entry_options : SweepAsked → (k : ℕ) → Options
@@ -99,4 +99,4 @@ pub record AreBuilt (asked : SweepAsked) (forms : List Received) (files : Files)
 abbrev pub EntriesAreBuilt : Type 0
 EntriesAreBuilt =
     (asked : SweepAsked) (forms : List Received) (texts : List (List ℕ)) (files : Files) (answer : Answer)
-    → SweepAnswer asked forms texts files answer → answer.status ≡ Done → AreBuilt asked forms files answer
+    → SweepAnswer file_limit asked forms texts files answer → answer.status ≡ Done → AreBuilt asked forms files answer

@@ -1,7 +1,6 @@
 //! The commands: what the words of a command line ask for, and what each command answers. The words are understood without taking
 //! memory. Each command stands in a file of its own: its words, its answer in memory, and its lines.
 ghost use Rattle.std.specs.Prelude.{◌≡◌, IfSome, map, string_bytes, false, IfOk};
-ghost use Rattle.recon_cmd.specs.Answers.{file_limit};
 ghost use Rattle.recon_cmd.specs.Commands.{AsksForForms, asked_command, asked_export, asked_sweep, command_of, asked, task_of};
 ghost use Rattle.recon_cmd.specs.Export.{export_of};
 ghost use Rattle.recon_cmd.specs.Steps.{IsReplied, ReadsFor, CountsFaults};
@@ -131,8 +130,8 @@ pub fn reply_to<'a, H: Host, W: Watch>(
     watch: &mut W,
 ) -> Result<Reply<'a>, Stop>
     requires { (H.state host.old).writing ≡ false }
-    ensures replied { limit ≡ file_limit → IfOk result (λ reply. IsReplied (task_of (asked command.now)) reply (H.state host.old)) }
-    ensures reads { limit ≡ file_limit → ReadsFor (task_of (asked command.now)) (H.state host.old) (H.state host.new) }
+    ensures replied { IfOk result (λ reply. IsReplied limit (task_of (asked command.now)) reply (H.state host.old)) }
+    ensures reads { ReadsFor limit (task_of (asked command.now)) (H.state host.old) (H.state host.new) }
     ensures closed { (H.state host.new).writing ≡ false }
     ensures cause { CountsFaults result (H.state host.old).faults (H.state host.new).faults }
 {

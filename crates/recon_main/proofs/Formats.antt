@@ -8,7 +8,7 @@ use Rattle.mesh_form.specs.Received.{Received}
 use Rattle.mesh_form.specs.Texts.{off_text, obj_text}
 use Rattle.mesh_ply.specs.Meshes.{Surface}
 use Rattle.mesh_ply.specs.Texts.{mesh_text}
-use Rattle.recon_cmd.specs.Answers.{Answer, MayRefuse}
+use Rattle.recon_cmd.specs.Answers.{Answer, MayRefuse, file_limit}
 use Rattle.recon_cmd.specs.Export.{ExportAnswer, ExportNames, ExportOutcome, HaveAll, WritesForms, export_of, exported_line}
 use Rattle.recon_cmd.specs.Outcome.{EndsBy, IsUntouched, Run, StopsBy, TellsBy}
 use Rattle.recon_cmd.specs.Commands.{Outcome, command_of}
@@ -66,7 +66,7 @@ written outputs forms texts mesh answer are writes =
     }) same
 
 formats_answer : (names : ExportNames) (forms : List Received) (texts : List (List ℕ)) → AreFormats forms texts
-    → (files : Files) (answer : Answer) → ExportAnswer names forms texts files answer → FormatsAnswer names files answer
+    → (files : Files) (answer : Answer) → ExportAnswer file_limit names forms texts files answer → FormatsAnswer names files answer
 formats_answer names forms texts are files answer (bytes, has, inl unread) = (bytes, has, inl unread)
 formats_answer names forms texts are files answer (bytes, has, inr answered) = (
   bytes,
@@ -81,7 +81,7 @@ formats_answer names forms texts are files answer (bytes, has, inr answered) = (
 )
 
 formats_reads : (names : ExportNames) (files : Files) (answer : Answer) → FormatsAnswer names files answer → answer.reads ≡ 1
-formats_reads names files answer (bytes, has, inl unread) = unread_reads bytes answer unread
+formats_reads names files answer (bytes, has, inl unread) = unread_reads file_limit bytes answer unread
 formats_reads names files answer (bytes, has, inr answered) = ap (λ (a : Answer). a.reads) answered.answers
 
 -- ---- a run with these answers has others that they are among
@@ -136,7 +136,7 @@ pub ran_on : {X : Type 0} (words : List (List ℕ)) (n : ℕ) → n ≡ 3
     → (code : ℕ) (before after : State) (old new : List Received) (texts : List (List ℕ)) → AreFormats new texts
     → entries_of words ≡ None
     → IfSome (export_of n words)
-    (λ names. ExitsWith code (λ status. ExportOutcome names status before after old new texts))
+    (λ names. ExitsWith code (λ status. ExportOutcome file_limit names status before after old new texts))
     → (export_of n words ≡ None → sweep_of n words ≡ None
     → (status : Status) × (code ≡ code_of status) × Outcome (command_of words) status before after × X)
     → RunsOn words code before after
@@ -147,14 +147,15 @@ ran_on {X} words n three code before after old new texts are others exported ran
     (by (export_of n words) exported (λ e. ran e (no_sweep words n others))))
   where
     by : (o : Option ExportNames)
-        → IfSome o (λ names. ExitsWith code (λ status. ExportOutcome names status before after old new texts))
+        → IfSome o (λ names. ExitsWith code (λ status. ExportOutcome file_limit names status before after old new texts))
         → (o ≡ None → (status : Status) × (code ≡ code_of status) × Outcome (command_of words) status before after × X)
         → ExitsWith code (λ status. RunsFor o None words status before after)
     by None exported ran = let found = ran refl in (found.0, found.1, found.2)
     by (Some names) (status, is, outcome) ran = (
       status,
       is,
-      run_among (ExportAnswer names new texts) (FormatsAnswer names) (formats_answer names new texts are) (formats_reads names)
+      run_among (ExportAnswer file_limit names new texts) (FormatsAnswer names) (formats_answer names new texts are)
+          (formats_reads names)
           status before after outcome.run,
     )
 

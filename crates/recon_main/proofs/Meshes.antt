@@ -12,7 +12,7 @@ use Rattle.mesh_ply.specs.Meshes.{Surface}
 use Rattle.mesh_ply.specs.Texts.{mesh_text}
 use Rattle.scan.specs.Shown.{Shown}
 use Rattle.sweep.specs.Entries.{HasEntry, IsSurfaceAt, given_by, smoothing_of}
-use Rattle.recon_cmd.specs.Answers.{Answer}
+use Rattle.recon_cmd.specs.Answers.{Answer, file_limit}
 use Rattle.recon_cmd.specs.Export.{export_of}
 use Rattle.recon_cmd.specs.Commands.{Outcome, command_of}
 use Rattle.recon_cmd.specs.Status.{ExitsWith, code_of}
@@ -129,7 +129,7 @@ written asked forms texts scan answer are writes = record {
         surface points faces = record { points = points; faces = faces }
 
 meshes_answer : (asked : SweepAsked) (forms : List Received) (texts : List (List ℕ)) → texts ≡ map ply_of forms
-    → (files : Files) (answer : Answer) → SweepAnswer asked forms texts files answer → MeshesAnswer asked files answer
+    → (files : Files) (answer : Answer) → SweepAnswer file_limit asked forms texts files answer → MeshesAnswer asked files answer
 meshes_answer asked forms texts are files answer (bytes, has, inl unread) = (bytes, has, inl unread)
 meshes_answer asked forms texts are files answer (bytes, has, inr answered) = (
   bytes,
@@ -151,7 +151,7 @@ meshes_reads asked files answer (bytes, has, inr answered) = ap (λ (a : Answer)
 pub swept_on : {X : Type 0} (words : List (List ℕ)) (n m : ℕ) → entries_of words ≡ Some m → n ≡ m
     → (code : ℕ) (before after : State) (old new : List Received) (texts : List (List ℕ)) → texts ≡ map ply_of new
     → IfSome (sweep_of n words)
-    (λ asked. ExitsWith code (λ status. SweepOutcome asked status before after old new texts))
+    (λ asked. ExitsWith code (λ status. SweepOutcome file_limit asked status before after old new texts))
     → (export_of n words ≡ None → sweep_of n words ≡ None
     → (status : Status) × (code ≡ code_of status) × Outcome (command_of words) status before after × X)
     → RunsOn words code before after
@@ -166,13 +166,14 @@ swept_on {X} words n m has same code before after old new texts are swept ran =
         ap (λ (o : Option ℕ). sweep_of (unwrap_or o 0) words) has ∙ ap (λ (k : ℕ). sweep_of k words) (sym same)
 
     by : (o : Option SweepAsked)
-        → IfSome o (λ asked. ExitsWith code (λ status. SweepOutcome asked status before after old new texts))
+        → IfSome o (λ asked. ExitsWith code (λ status. SweepOutcome file_limit asked status before after old new texts))
         → (o ≡ None → (status : Status) × (code ≡ code_of status) × Outcome (command_of words) status before after × X)
         → ExitsWith code (λ status. RunsFor None o words status before after)
     by None swept ran = let found = ran refl in (found.0, found.1, found.2)
     by (Some asked) (status, is, outcome) ran = (
       status,
       is,
-      run_among (SweepAnswer asked new texts) (MeshesAnswer asked) (meshes_answer asked new texts are) (meshes_reads asked)
+      run_among (SweepAnswer file_limit asked new texts) (MeshesAnswer asked) (meshes_answer asked new texts are)
+          (meshes_reads asked)
           status before after outcome.run,
     )

@@ -22,7 +22,7 @@ use Rattle.mesh_ply.specs.Texts.{mesh_text}
 use Rattle.scan.specs.Shown.{Shown}
 use Rattle.sweep.specs.Entries.{CostsAt, IsSurfaceAt, given_by, smoothing_of}
 use Rattle.real_host.specs.Start.{arguments_of, fresh_state}
-use Rattle.recon_cmd.specs.Answers.{Answer, MeshFileAnswer, ScanAnswer, MayRefuse}
+use Rattle.recon_cmd.specs.Answers.{Answer, MeshFileAnswer, ScanAnswer, MayRefuse, file_limit}
 use Rattle.recon_cmd.specs.Export.{ExportNames, export_of, exported_line}
 use Rattle.recon_cmd.specs.Commands.{Outcome, command_of}
 use Rattle.recon_cmd.specs.Outcome.{Run}
@@ -51,7 +51,7 @@ WritesFormats outputs mesh answer =
 -- the mesh is refused, or written in the three formats
 abbrev pub FormatsAnswer : ExportNames → Files → Answer → Type 0
 FormatsAnswer names files answer =
-    (bytes : List ℕ) × (files names.mesh ≡ Some bytes) × MeshFileAnswer (WritesFormats names.outputs) bytes answer
+    (bytes : List ℕ) × (files names.mesh ≡ Some bytes) × MeshFileAnswer file_limit (WritesFormats names.outputs) bytes answer
 
 -- the mesh of the best surface at each weight is written as PLY, in order, and what the first and the last cost is said
 pub record WritesMeshes (asked : SweepAsked) (scan : Shown) (answer : Answer) : Type 0 where
@@ -74,7 +74,7 @@ pub record WritesMeshes (asked : SweepAsked) (scan : Shown) (answer : Answer) : 
 -- the scan is refused, or its best surfaces are written
 abbrev pub MeshesAnswer : SweepAsked → Files → Answer → Type 0
 MeshesAnswer asked files answer =
-    (bytes : List ℕ) × (files asked.input ≡ Some bytes) × ScanAnswer asked.options (λ _. WritesMeshes asked) bytes answer
+    (bytes : List ℕ) × (files asked.input ≡ Some bytes) × ScanAnswer file_limit asked.options (λ _. WritesMeshes asked) bytes answer
 
 -- what `sweep` asks for with as many outputs as its fifth word says, if the words are `sweep`
 abbrev pub sweep_in : List (List ℕ) → Option SweepAsked

@@ -1,12 +1,11 @@
 //! `ask IN POINTS OUT`, its words, answer and lines: whether points are inside or outside the best surface of a scan. It stands on
 //! `solid_query`, which reads the points and finds their labels, and on `merge`, which finds the distinct points of the scan.
 ghost use Rattle.std.specs.List.{flat_map};
-ghost use Rattle.std.specs.Prelude.{map, string_bytes, ◌≡◌, false, IfOk, ◌≤◌, length, All, count_by, Some, ◌++◌, OnOk};
+ghost use Rattle.std.specs.Prelude.{ℕ, map, string_bytes, ◌≡◌, false, IfOk, ◌≤◌, length, All, count_by, Some, ◌++◌, OnOk};
 ghost use Rattle.geo_sign.specs.Point.{IsWithin};
 ghost use Rattle.geo_sign.specs.declared.point.TheConstants.{DATA_LIMIT};
 ghost use Rattle.scan.specs.Views.{shown_of};
 ghost use Rattle.solution.specs.Scans.{points_of};
-ghost use Rattle.recon_cmd.specs.Answers.{file_limit};
 ghost use Rattle.recon_cmd.specs.Ask.{ask_names, AskAnswer, IsAskReply, IsAsked, WritesLabels, too_long_points_line, query_refusal_line, ask_line, labels_text, label_line, ask_task};
 ghost use Rattle.recon_cmd.specs.Commands.{IsCommand, ask_of, asked_by};
 ghost use Rattle.recon_cmd.specs.OptionViews.{options_view};
@@ -70,8 +69,8 @@ pub fn reply_to_ask<'a, H: Host, W: Watch>(
     watch: &mut W,
 ) -> Result<Reply<'a>, Stop>
     requires { (H.state host.old).writing ≡ false }
-    ensures replied { limit ≡ file_limit → IfOk result (λ reply. IsReplied (ask_task (ask_names names.now) (options_view options.now)) reply (H.state host.old)) }
-    ensures reads { limit ≡ file_limit → ReadsFor (ask_task (ask_names names.now) (options_view options.now)) (H.state host.old) (H.state host.new) }
+    ensures replied { IfOk result (λ reply. IsReplied limit (ask_task (ask_names names.now) (options_view options.now)) reply (H.state host.old)) }
+    ensures reads { ReadsFor limit (ask_task (ask_names names.now) (options_view options.now)) (H.state host.old) (H.state host.new) }
     ensures closed { (H.state host.new).writing ≡ false }
     ensures cause { CountsFaults result (H.state host.old).faults (H.state host.new).faults }
 {
@@ -95,8 +94,8 @@ fn reply_to_scan<'a, H: Host, W: Watch>(
     watch: &mut W,
 ) -> Result<Reply<'a>, Stop>
     requires { (H.state host.old).writing ≡ false }
-    ensures replied { limit ≡ file_limit → IfOk result (λ reply. IsAskReply (ask_names names.now) (options_view options.now) (shown_of scan.now) reply (H.state host.old)) }
-    ensures reads { limit ≡ file_limit → ReadsOn 1 1 (λ files. AskAnswer (ask_names names.now) (options_view options.now) files (shown_of scan.now))
+    ensures replied { IfOk result (λ reply. IsAskReply limit (ask_names names.now) (options_view options.now) (shown_of scan.now) reply (H.state host.old)) }
+    ensures reads { ReadsOn 1 1 (λ files. AskAnswer limit (ask_names names.now) (options_view options.now) files (shown_of scan.now))
         (H.state host.old) (H.state host.new) }
     ensures closed { (H.state host.new).writing ≡ false }
     ensures cause { CountsFaults result (H.state host.old).faults (H.state host.new).faults }
@@ -122,7 +121,7 @@ fn reply_to_points<'a, W: Watch>(
     options: &Options,
     watch: &mut W,
 ) -> Result<Reply<'a>, NoMemory>
-    ensures { length bytes.items ≤ file_limit → IfOk result (λ reply. IsAsked output.now (options_view options.now) (shown_of scan.now) bytes.items (answer_of 2 reply)) }
+    ensures { (limit : ℕ) → length bytes.items ≤ limit → IfOk result (λ reply. IsAsked limit output.now (options_view options.now) (shown_of scan.now) bytes.items (answer_of 2 reply)) }
 {
     match read_queries(alloc, &bytes, options.unit) {
         Ok(points) => {

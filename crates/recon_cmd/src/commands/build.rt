@@ -5,7 +5,6 @@ ghost use Rattle.cert_text.specs.Certificates.{claim_of, IsWellFormed};
 ghost use Rattle.mesh_ply.specs.Meshes.{IsMesh};
 ghost use Rattle.scan.specs.Views.{shown_of};
 ghost use Rattle.solution.specs.Solutions.{surface_of};
-ghost use Rattle.recon_cmd.specs.Answers.{file_limit};
 ghost use Rattle.recon_cmd.specs.Build.{build_names, WritesSurface, Shows, build_line, build_task};
 ghost use Rattle.recon_cmd.specs.Commands.{IsCommand, asked_by, build_of};
 ghost use Rattle.recon_cmd.specs.OptionViews.{options_view};
@@ -69,8 +68,8 @@ pub fn reply_to_build<'a, H: Host, W: Watch>(
     watch: &mut W,
 ) -> Result<Reply<'a>, Stop>
     requires { (H.state host.old).writing ≡ false }
-    ensures replied { limit ≡ file_limit → IfOk result (λ reply. IsReplied (build_task (build_names names.now) (options_view options.now)) reply (H.state host.old)) }
-    ensures reads { ReadsFor (build_task (build_names names.now) (options_view options.now)) (H.state host.old) (H.state host.new) }
+    ensures replied { IfOk result (λ reply. IsReplied limit (build_task (build_names names.now) (options_view options.now)) reply (H.state host.old)) }
+    ensures reads { ReadsFor limit (build_task (build_names names.now) (options_view options.now)) (H.state host.old) (H.state host.new) }
     ensures cause { CountsFaults result (H.state host.old).faults (H.state host.new).faults }
 {
     match read_input(alloc, host, names.input, options, limit)? {

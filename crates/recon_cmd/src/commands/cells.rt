@@ -7,7 +7,6 @@ ghost use Rattle.geo_sign.specs.Vertices.{boxed_vertices};
 ghost use Rattle.scan.specs.Shown.{Shown, IsShown};
 ghost use Rattle.scan.specs.Views.{shown_of};
 ghost use Rattle.solution.specs.Scans.{points_of};
-ghost use Rattle.recon_cmd.specs.Answers.{file_limit};
 ghost use Rattle.recon_cmd.specs.Cells.{cells_keys, cells_names, WritesCells, cells_line, cells_text, row_line, cells_task};
 ghost use Rattle.recon_cmd.specs.Commands.{IsCommand, asked_by, cells_of, cells};
 ghost use Rattle.recon_cmd.specs.OptionViews.{options_view};
@@ -71,8 +70,8 @@ pub fn reply_to_cells<'a, H: Host, W: Watch>(
     watch: &mut W,
 ) -> Result<Reply<'a>, Stop>
     requires { (H.state host.old).writing ≡ false }
-    ensures replied { limit ≡ file_limit → IfOk result (λ reply. IsReplied (cells_task (cells_names names.now) (options_view options.now)) reply (H.state host.old)) }
-    ensures reads { ReadsFor (cells_task (cells_names names.now) (options_view options.now)) (H.state host.old) (H.state host.new) }
+    ensures replied { IfOk result (λ reply. IsReplied limit (cells_task (cells_names names.now) (options_view options.now)) reply (H.state host.old)) }
+    ensures reads { ReadsFor limit (cells_task (cells_names names.now) (options_view options.now)) (H.state host.old) (H.state host.new) }
     ensures cause { CountsFaults result (H.state host.old).faults (H.state host.new).faults }
 {
     match read_input(alloc, host, names.input, options, limit)? {

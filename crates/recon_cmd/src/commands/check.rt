@@ -6,7 +6,6 @@ ghost use Rattle.std.specs.Prelude.{map, string_bytes, ◌≡◌, false, IfOk, �
 ghost use Rattle.cert_text.specs.Certificates.{stamp_view};
 ghost use Rattle.cert_text.specs.Texts.{cert_text};
 ghost use Rattle.recon_check.specs.Answers.{HasCertificate};
-ghost use Rattle.recon_cmd.specs.Answers.{file_limit};
 ghost use Rattle.recon_cmd.specs.Check.{check_names, output_of, HasVerdictFor, MeshAnswerFor, CertAnswerFor, IsConcluded, restamped, too_long_cert_line, upgraded_line, check_task, task_for};
 ghost use Rattle.recon_cmd.specs.Commands.{IsCommand, asked_by, check_of, upgrade_of};
 ghost use Rattle.recon_cmd.specs.OptionViews.{options_view};
@@ -111,8 +110,8 @@ pub fn reply_to_check<'a, H: Host, W: Watch>(
     watch: &mut W,
 ) -> Result<Reply<'a>, Stop>
     requires { (H.state host.old).writing ≡ false }
-    ensures replied { limit ≡ file_limit → IfOk result (λ reply. IsReplied (check_task (check_names names.now) (output_of names.now) (options_view options.now)) reply (H.state host.old)) }
-    ensures reads { limit ≡ file_limit → ReadsFor (check_task (check_names names.now) (output_of names.now) (options_view options.now)) (H.state host.old) (H.state host.new) }
+    ensures replied { IfOk result (λ reply. IsReplied limit (check_task (check_names names.now) (output_of names.now) (options_view options.now)) reply (H.state host.old)) }
+    ensures reads { ReadsFor limit (check_task (check_names names.now) (output_of names.now) (options_view options.now)) (H.state host.old) (H.state host.new) }
     ensures closed { (H.state host.new).writing ≡ false }
     ensures cause { CountsFaults result (H.state host.old).faults (H.state host.new).faults }
 {
@@ -140,8 +139,8 @@ fn reply_to_scan<'a, H: Host, W: Watch>(
     watch: &mut W,
 ) -> Result<Reply<'a>, Stop>
     requires { (H.state host.old).writing ≡ false }
-    ensures replied { asked.now.limit ≡ file_limit → IfOk result (λ reply. IsReplyOf (task_for asked.now) (MeshAnswerFor asked.now scan.now) reply (H.state host.old)) }
-    ensures reads { asked.now.limit ≡ file_limit → ReadsOn 1 2 (MeshAnswerFor asked.now scan.now) (H.state host.old) (H.state host.new) }
+    ensures replied { IfOk result (λ reply. IsReplyOf (task_for asked.now) (MeshAnswerFor asked.now scan.now) reply (H.state host.old)) }
+    ensures reads { ReadsOn 1 2 (MeshAnswerFor asked.now scan.now) (H.state host.old) (H.state host.new) }
     ensures closed { (H.state host.new).writing ≡ false }
     ensures cause { CountsFaults result (H.state host.old).faults (H.state host.new).faults }
 {
@@ -167,8 +166,8 @@ fn reply_to_mesh<'a, H: Host, W: Watch>(
     watch: &mut W,
 ) -> Result<Reply<'a>, Stop>
     requires { (H.state host.old).writing ≡ false }
-    ensures replied { asked.now.limit ≡ file_limit → IfOk result (λ reply. IsReplyOf (task_for asked.now) (CertAnswerFor asked.now scan.now mesh.now) reply (H.state host.old)) }
-    ensures reads { asked.now.limit ≡ file_limit → ReadsOn 2 1 (CertAnswerFor asked.now scan.now mesh.now) (H.state host.old) (H.state host.new) }
+    ensures replied { IfOk result (λ reply. IsReplyOf (task_for asked.now) (CertAnswerFor asked.now scan.now mesh.now) reply (H.state host.old)) }
+    ensures reads { ReadsOn 2 1 (CertAnswerFor asked.now scan.now mesh.now) (H.state host.old) (H.state host.new) }
     ensures closed { (H.state host.new).writing ≡ false }
     ensures cause { CountsFaults result (H.state host.old).faults (H.state host.new).faults }
 {

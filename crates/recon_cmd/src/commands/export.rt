@@ -5,7 +5,6 @@ ghost use Rattle.std.specs.Prelude.{◌≡◌, IfSome, length, map, string_bytes
 ghost use Rattle.mesh_form.specs.Received.{IsFresh};
 ghost use Rattle.mesh_ply.specs.Texts.{IsPrinted};
 ghost use Rattle.solution.specs.Solutions.{surface_of};
-ghost use Rattle.recon_cmd.specs.Answers.{file_limit};
 ghost use Rattle.recon_cmd.specs.Export.{export_behind, export_names, ExportOutcome, FormsHandOut, exported_line};
 ghost use Rattle.recon_cmd.specs.declared.status.Status.TheVariants.{Refused};
 
@@ -59,7 +58,7 @@ pub fn export_mesh<H: Host>(
     requires closed { (H.state host.old).writing ≡ false }
     requires fresh { All IsFresh (map received forms.old) }
     requires as_many { length words.now.outputs.now ≡ length forms.old }
-    ensures outcome { limit ≡ file_limit → ExportOutcome (export_names words.now) result (H.state host.old) (H.state host.new)
+    ensures outcome { ExportOutcome limit (export_names words.now) result (H.state host.old) (H.state host.new)
         (map received forms.old) (map received forms.new) (map text_of forms.new) }
     ensures refused { result ≡ Refused → forms.new ≡ forms.old }
     ensures kinds { map (λ form. form.vtable) forms.new ≡ map (λ form. form.vtable) forms.old }

@@ -6,7 +6,6 @@ ghost use Rattle.mesh_ply.specs.Texts.{IsPrinted};
 ghost use Rattle.num_text.specs.WholeNumbers.{is_minus};
 ghost use Rattle.solid_slice.specs.Slices.{steps_of};
 ghost use Rattle.solution.specs.Solutions.{surface_of};
-ghost use Rattle.recon_cmd.specs.Answers.{file_limit};
 ghost use Rattle.recon_cmd.specs.Commands.{IsCommand, slice_of};
 ghost use Rattle.recon_cmd.specs.Replies.{answer_of};
 ghost use Rattle.recon_cmd.specs.Slice.{height_of, behind_minus, SliceAnswer, slice_done, unbalanced_line, slice_line, slice_task, slice_names};
@@ -83,8 +82,8 @@ pub fn reply_to_slice<'a, H: Host>(
     limit: u64,
 ) -> Result<Reply<'a>, Stop>
     requires { (H.state host.old).writing ≡ false }
-    ensures replied { limit ≡ file_limit → IfOk result (λ reply. IsReplied (slice_task (slice_names words.now) words.now.height) reply (H.state host.old)) }
-    ensures reads { ReadsFor (slice_task (slice_names words.now) words.now.height) (H.state host.old) (H.state host.new) }
+    ensures replied { IfOk result (λ reply. IsReplied limit (slice_task (slice_names words.now) words.now.height) reply (H.state host.old)) }
+    ensures reads { ReadsFor limit (slice_task (slice_names words.now) words.now.height) (H.state host.old) (H.state host.new) }
     ensures cause { CountsFaults result (H.state host.old).faults (H.state host.new).faults }
 {
     match read_mesh_file(alloc, host, words.mesh, limit)? {

@@ -5,7 +5,6 @@ ghost use Rattle.std.specs.Prelude.{◌≡◌, IfSome, map, string_bytes, ◌≤
 ghost use Rattle.flow_net.specs.declared.votes.TheConstants.{WEIGHT_LIMIT};
 ghost use Rattle.mesh_form.specs.Received.{IsFresh};
 ghost use Rattle.scan.specs.Views.{shown_of};
-ghost use Rattle.recon_cmd.specs.Answers.{file_limit};
 ghost use Rattle.recon_cmd.specs.Sweep.{FitsForms, sweep_asked, sweep_words_of, entries_of, sweep_behind, SweepOutcome, SweepHandOut, sweep_line};
 ghost use Rattle.recon_cmd.specs.declared.status.Status.TheVariants.{Refused};
 
@@ -132,7 +131,7 @@ pub fn sweep_scan<H: Host, W: Watch>(
     requires closed { (H.state host.old).writing ≡ false }
     requires fresh { All IsFresh (map received forms.old) }
     requires fits { FitsForms words.now (length forms.old) }
-    ensures outcome { limit ≡ file_limit → SweepOutcome (sweep_asked words.now) result (H.state host.old) (H.state host.new)
+    ensures outcome { SweepOutcome limit (sweep_asked words.now) result (H.state host.old) (H.state host.new)
         (map received forms.old) (map received forms.new) (map text_of forms.new) }
     ensures refused { result ≡ Refused → forms.new ≡ forms.old }
     ensures kinds { map (λ form. form.vtable) forms.new ≡ map (λ form. form.vtable) forms.old }

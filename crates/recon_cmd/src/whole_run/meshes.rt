@@ -1,7 +1,6 @@
 //! The reading of the mesh that a command begins with. It stands on `mesh_ply`, which understands the bytes of a file.
-ghost use Rattle.std.specs.Prelude.{◌≡◌, false, IfOk, IfSome, ◌≤◌, length};
+ghost use Rattle.std.specs.Prelude.{ℕ, ◌≡◌, false, IfOk, IfSome, ◌≤◌, length};
 ghost use Rattle.host.specs.Whole.{OnlyReads};
-ghost use Rattle.recon_cmd.specs.Answers.{file_limit};
 ghost use Rattle.recon_cmd.specs.Steps.{IsMeshReading, IsPrintedIfRead, CountsFaults, IsUnderstoodMesh};
 
 use crate::NoMemory;
@@ -28,7 +27,7 @@ pub fn read_mesh_file<H: Host>(
     limit: u64,
 ) -> Result<MeshReading, Stop>
     requires { (H.state host.old).writing ≡ false }
-    ensures read { limit ≡ file_limit → IfOk result (λ reading. IfSome (H.state host.old).told (IsMeshReading name.now reading)) }
+    ensures read { IfOk result (λ reading. IfSome (H.state host.old).told (IsMeshReading limit name.now reading)) }
     ensures printed { IfOk result IsPrintedIfRead }
     ensures only { OnlyReads (H.state host.old) (H.state host.new) }
     ensures cause { CountsFaults result (H.state host.old).faults (H.state host.new).faults }
@@ -46,7 +45,7 @@ pub fn read_mesh_file<H: Host>(
 
 /// What the bytes of a mesh's file come to.
 fn understand_mesh(alloc: Global, bytes: &[u8]) -> Result<MeshReading, NoMemory>
-    ensures understood { length bytes.now ≤ file_limit → IfOk result (IsUnderstoodMesh bytes.now) }
+    ensures understood { (limit : ℕ) → length bytes.now ≤ limit → IfOk result (IsUnderstoodMesh limit bytes.now) }
     ensures printed { IfOk result IsPrintedIfRead }
 {
     match read_mesh(alloc, bytes) {

@@ -1,7 +1,6 @@
 //! The reading of the scan of a command. It stands on `scan`, which understands the bytes of a file.
-ghost use Rattle.std.specs.Prelude.{◌≡◌, false, IfOk, IfSome, ◌≤◌, length};
+ghost use Rattle.std.specs.Prelude.{ℕ, ◌≡◌, false, IfOk, IfSome, ◌≤◌, length};
 ghost use Rattle.host.specs.Whole.{OnlyReads};
-ghost use Rattle.recon_cmd.specs.Answers.{file_limit};
 ghost use Rattle.recon_cmd.specs.OptionViews.{options_view};
 ghost use Rattle.recon_cmd.specs.Steps.{IsReading, CountsFaults, IsUnderstood};
 
@@ -35,7 +34,7 @@ pub fn read_input<H: Host>(
     limit: u64,
 ) -> Result<Reading, Stop>
     requires { (H.state host.old).writing ≡ false }
-    ensures read { limit ≡ file_limit → IfOk result (λ reading. IfSome (H.state host.old).told (IsReading name.now (options_view options.now) reading)) }
+    ensures read { IfOk result (λ reading. IfSome (H.state host.old).told (IsReading limit name.now (options_view options.now) reading)) }
     ensures only { OnlyReads (H.state host.old) (H.state host.new) }
     ensures cause { CountsFaults result (H.state host.old).faults (H.state host.new).faults }
 {
@@ -52,7 +51,7 @@ pub fn read_input<H: Host>(
 
 /// What the bytes of a scan's file come to.
 fn understand_scan(alloc: Global, bytes: Vec<u8>, options: &Options) -> Result<Reading, NoMemory>
-    ensures { length bytes.items ≤ file_limit → IfOk result (IsUnderstood bytes.items (options_view options.now)) }
+    ensures { (limit : ℕ) → length bytes.items ≤ limit → IfOk result (IsUnderstood limit bytes.items (options_view options.now)) }
 {
     match read_scan(alloc, &bytes, options.unit, options.fixed) {
         Ok(scan) => Ok(Reading::Scan(scan, bytes)),

@@ -25,4 +25,4 @@ returns-clause-ran g c =
     (λ b is. at_kind
     (λ i x. (own-1.entry i).1.text_of x ≡ obj_text ((own-1.entry i).1.received x).points ((own-1.entry i).1.received x).faces) _
     c.into_dyn_box-in_ok-new-3.result.vtable c.into_dyn_box-in_ok-new-3.ensures.0 (λ x. refl) b.vtable b.value is))
-    c.requires.others (c.run_forms_within.ensures.exported refl) (c.run_forms_within.ensures.ran refl)
+    c.requires.others c.run_forms_within.ensures.exported c.run_forms_within.ensures.ran

@@ -59,4 +59,4 @@ returns-clause-ran g c =
     c.run_forms_within.result (g.H.Host.state c.args.host.now) (g.H.Host.state c.run_forms_within.new.host) _ _ _
     (ply_written (λ b. b.vtable) _ _ _ _ c.run_forms_within.new.forms c.deref_mut.ensures.value c.run_forms_within.ensures.kinds
     c.loop-alloc.invariant.ply)
-    (c.run_forms_within.ensures.swept refl) (c.run_forms_within.ensures.ran refl)
+    c.run_forms_within.ensures.swept c.run_forms_within.ensures.ran

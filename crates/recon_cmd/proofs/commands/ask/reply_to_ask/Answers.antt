@@ -9,32 +9,38 @@ use Rattle.recon_cmd.proofs.ScanBehind.{reads_behind, refused_first, replied_beh
 use Rattle.recon_cmd.proofs.commands.ask.reply_to_ask.Goals as goal
 
 pub returns-in-Scan-clause-replied : goal.returns-in-Scan-clause-replied
-returns-in-Scan-clause-replied g c = λ at.
+returns-in-Scan-clause-replied g c =
     let names : QueryNames = ask_names c.args.names.now in
     let options : Options = options_view c.args.options.now in
-    replied_behind (ask_task names options) names.input options (λ files _. AskAnswer names options files) (ask_first names options)
+    replied_behind c.args.limit (ask_task names options) names.input options
+    (λ files _. AskAnswer c.args.limit names options files) (ask_first c.args.limit names options)
     c.in-Scan.scan c.in-Scan.bytes c.reply_to_scan.result (g.H.Host.state c.args.host.now)
     (g.H.Host.state c.read_input.new.host) c.in_ok-scan.ensures.only
-    (subst (λ (reading : Reading). IfSome (g.H.Host.state c.args.host.now).told (IsReading names.input options reading))
-    c.in-Scan.is (c.in_ok-scan.ensures.read at))
-    (c.reply_to_scan.ensures.replied at)
+    (subst (λ (reading : Reading).
+    IfSome (g.H.Host.state c.args.host.now).told (IsReading c.args.limit names.input options reading))
+    c.in-Scan.is c.in_ok-scan.ensures.read)
+    c.reply_to_scan.ensures.replied
 
 pub returns-in-Scan-clause-reads : goal.returns-in-Scan-clause-reads
-returns-in-Scan-clause-reads g c = λ at.
+returns-in-Scan-clause-reads g c =
     let names : QueryNames = ask_names c.args.names.now in
     let options : Options = options_view c.args.options.now in
-    reads_behind (ask_task names options) names.input options (λ files _. AskAnswer names options files) (ask_first names options)
+    reads_behind c.args.limit (ask_task names options) names.input options (λ files _. AskAnswer c.args.limit names options files)
+    (ask_first c.args.limit names options)
     c.in-Scan.scan c.in-Scan.bytes 1 (g.H.Host.state c.args.host.now) (g.H.Host.state c.read_input.new.host)
     (g.H.Host.state c.reply_to_scan.new.host) (omega arith) c.in_ok-scan.ensures.only
-    (subst (λ (reading : Reading). IfSome (g.H.Host.state c.args.host.now).told (IsReading names.input options reading))
-    c.in-Scan.is (c.in_ok-scan.ensures.read at))
-    (c.reply_to_scan.ensures.reads at)
+    (subst (λ (reading : Reading).
+    IfSome (g.H.Host.state c.args.host.now).told (IsReading c.args.limit names.input options reading))
+    c.in-Scan.is c.in_ok-scan.ensures.read)
+    c.reply_to_scan.ensures.reads
 
 pub returns-in-Refused-clause-replied : goal.returns-in-Refused-clause-replied
-returns-in-Refused-clause-replied g c = λ at.
+returns-in-Refused-clause-replied g c =
     let names : QueryNames = ask_names c.args.names.now in
     let options : Options = options_view c.args.options.now in
-    refused_first (ask_task names options) names.input options (λ files _. AskAnswer names options files) (ask_first names options)
+    refused_first c.args.limit (ask_task names options) names.input options (λ files _. AskAnswer c.args.limit names options files)
+    (ask_first c.args.limit names options)
     c.in-Refused.line c.refusal.result (g.H.Host.state c.args.host.now) (c.refusal.ensures 1)
-    (subst (λ (reading : Reading). IfSome (g.H.Host.state c.args.host.now).told (IsReading names.input options reading))
-    c.in-Refused.is (c.in_ok-scan.ensures.read at))
+    (subst (λ (reading : Reading).
+    IfSome (g.H.Host.state c.args.host.now).told (IsReading c.args.limit names.input options reading))
+    c.in-Refused.is c.in_ok-scan.ensures.read)

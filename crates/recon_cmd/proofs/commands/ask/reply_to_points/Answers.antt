@@ -10,13 +10,13 @@ use Rattle.recon_cmd.proofs.AskReplies.{points_refused}
 use Rattle.recon_cmd.proofs.commands.ask.reply_to_points.Goals as goal
 
 pub returns-in-Ok : goal.returns-in-Ok
-returns-in-Ok g c = λ within.
+returns-in-Ok g c = λ limit within.
     let options = options_view c.args.options.now in
     let scan = shown_of c.args.scan.now in
     let bytes = c.args.bytes.items in
     IfOk-weaker c.reply_to_queries.result
     (λ reply. WritesLabels c.args.output.now options scan c.deref-in-Ok.result.now (answer_of 2 reply))
-    (λ reply. IsAsked c.args.output.now options scan bytes (answer_of 2 reply))
+    (λ reply. IsAsked limit c.args.output.now options scan bytes (answer_of 2 reply))
     (λ reply written.
     inr (record {
       within = within;
@@ -29,9 +29,9 @@ returns-in-Ok g c = λ within.
     })) c.reply_to_queries.ensures
 
 pub returns : goal.returns
-returns g c = λ within.
+returns g c = λ limit within.
     let options = options_view c.args.options.now in
-    inl (points_refused options c.args.bytes.items c.in-Err.why c.in_ok-line-in-Err.line.items (answer_of 2 c.refusal.result)
+    inl (points_refused limit options c.args.bytes.items c.in-Err.why c.in_ok-line-in-Err.line.items (answer_of 2 c.refusal.result)
     within
     (subst (λ (b : List ℕ). Fails c.in-Err.why (points_in b options.unit)) c.deref.ensures.value c.in-Err.ensures.read)
     c.in_ok-line-in-Err.ensures (c.refusal.ensures 2))

@@ -9,21 +9,25 @@ use Rattle.recon_cmd.proofs.ScanReplies.{build_scan, refused_reply, scan_reply}
 use Rattle.recon_cmd.proofs.commands.build.reply_to_build.Goals as goal
 
 pub returns-in_ok-reply_to_scan-in-Scan-clause-replied : goal.returns-in_ok-reply_to_scan-in-Scan-clause-replied
-returns-in_ok-reply_to_scan-in-Scan-clause-replied g c = λ at.
+returns-in_ok-reply_to_scan-in-Scan-clause-replied g c =
     let names : SurfaceNames = build_names c.args.names.now in
     let options : Options = options_view c.args.options.now in
-    scan_reply (build_task names options) names.input options (WritesSurface names options) (build_scan names options) c.in-Scan.scan
+    scan_reply c.args.limit (build_task names options) names.input options (WritesSurface names options)
+    (build_scan c.args.limit names options) c.in-Scan.scan
     c.in-Scan.bytes c.in_ok-reply_to_scan-in-Scan.field-0 (g.H.Host.state c.args.host.now)
     c.in_ok-reply_to_scan-in-Scan.ensures
-    (subst (λ (reading : Reading). IfSome (g.H.Host.state c.args.host.now).told (IsReading names.input options reading))
-    c.in-Scan.is (c.in_ok-scan.ensures.read at))
+    (subst (λ (reading : Reading).
+    IfSome (g.H.Host.state c.args.host.now).told (IsReading c.args.limit names.input options reading))
+    c.in-Scan.is c.in_ok-scan.ensures.read)
 
 pub returns-in-Refused-clause-replied : goal.returns-in-Refused-clause-replied
-returns-in-Refused-clause-replied g c = λ at.
+returns-in-Refused-clause-replied g c =
     let names : SurfaceNames = build_names c.args.names.now in
     let options : Options = options_view c.args.options.now in
-    refused_reply (build_task names options) names.input options (WritesSurface names options) (build_scan names options)
+    refused_reply c.args.limit (build_task names options) names.input options (WritesSurface names options)
+    (build_scan c.args.limit names options)
     c.in-Refused.line c.refusal.result (g.H.Host.state c.args.host.now)
     (c.refusal.ensures 1)
-    (subst (λ (reading : Reading). IfSome (g.H.Host.state c.args.host.now).told (IsReading names.input options reading))
-    c.in-Refused.is (c.in_ok-scan.ensures.read at))
+    (subst (λ (reading : Reading).
+    IfSome (g.H.Host.state c.args.host.now).told (IsReading c.args.limit names.input options reading))
+    c.in-Refused.is c.in_ok-scan.ensures.read)

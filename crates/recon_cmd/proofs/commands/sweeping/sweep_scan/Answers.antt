@@ -8,14 +8,15 @@ use Rattle.recon_cmd.proofs.SweepReplies.{swept}
 use Rattle.recon_cmd.proofs.commands.sweeping.sweep_scan.Goals as goal
 
 pub returns-in-Scan-clause-outcome : goal.returns-in-Scan-clause-outcome
-returns-in-Scan-clause-outcome g c = λ at.
-    swept (sweep_asked c.args.words.now) c.in-Scan.scan c.in-Scan.bytes c.hand_out.result (g.H.Host.state c.args.host.now)
+returns-in-Scan-clause-outcome g c =
+    swept c.args.limit (sweep_asked c.args.words.now) c.in-Scan.scan c.in-Scan.bytes c.hand_out.result
+    (g.H.Host.state c.args.host.now)
     (g.H.Host.state c.read_input.new.host) (g.H.Host.state c.hand_out.new.host) _ _ _
     c.requires.closed c.in-Ok.ensures.only c.in-Ok.ensures.cause
     (subst (λ (reading : Reading).
     IfSome (g.H.Host.state c.args.host.now).told
-    (IsReading c.args.words.now.input.now (options_view c.args.words.now.options) reading)) c.in-Scan.is
-    (c.in-Ok.ensures.read at)) c.hand_out.ensures.handed
+    (IsReading c.args.limit c.args.words.now.input.now (options_view c.args.words.now.options) reading)) c.in-Scan.is
+    c.in-Ok.ensures.read) c.hand_out.ensures.handed
 
 pub returns-in-Scan-clause-refused : goal.returns-in-Scan-clause-refused
 returns-in-Scan-clause-refused g c = λ e. absurd (surfaces_not_refused _ _ _ _ _ _ _ c.hand_out.ensures.handed e)

@@ -1,15 +1,18 @@
-use Rattle.std.proofs.Common.{rules, ℕ, ◌<◌, length, subst, IfSome}
-use Rattle.host.specs.State.{file_bytes}
+use Rattle.std.proofs.Common.{rules}
 use Rattle.recon_cmd.specs.OptionViews.{options_view}
 use Rattle.recon_cmd.specs.declared.reply.Line.TheVariants.{Fixed}
-use Rattle.recon_cmd.proofs.Readings.{read_long}
+use Rattle.recon_cmd.proofs.Readings.{read_long, read_whole}
 use Rattle.recon_cmd.proofs.whole_run.reading.read_input.Goals as goal
 
 pub returns-in-Err-TooLong-clause-read : goal.returns-in-Err-TooLong-clause-read
-returns-in-Err-TooLong-clause-read g c = λ at.
-    read_long c.args.name.now (options_view c.args.options.now) (Fixed c.line_of_too_long_scan.result)
+returns-in-Err-TooLong-clause-read g c =
+    read_long c.args.limit c.args.name.now (options_view c.args.options.now) (Fixed c.line_of_too_long_scan.result)
     (g.H.Host.state c.args.host.now).told
     c.line_of_too_long_scan.ensures
-    (subst (λ (limit : ℕ).
-    IfSome (g.H.Host.state c.args.host.now).told (λ told. limit < length (file_bytes told.files c.args.name.now))) at
-    (c.in-Err-TooLong.ensures.longer (search rules)))
+    (c.in-Err-TooLong.ensures.longer (search rules))
+
+pub returns-clause-read : goal.returns-clause-read
+returns-clause-read g c =
+    read_whole c.args.limit c.args.name.now (options_view c.args.options.now) c.in-Ok.bytes.items
+    c.in_ok-understand_scan.field-0 (g.H.Host.state c.args.host.now).told c.in-Ok.ensures.bytes
+    (c.in_ok-understand_scan.ensures c.args.limit c.in-Ok.ensures.within)
