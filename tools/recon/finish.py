@@ -35,7 +35,7 @@ import re
 import sys
 import time
 from dataclasses import dataclass
-from typing import Any, Callable, List, Optional, Sequence
+from typing import Any, Callable, List, Optional, Sequence, Tuple
 
 import numpy as np
 
@@ -46,7 +46,7 @@ from recon.toolbox.mesh_files import Column, Finished, form_of, read_mesh, write
 from recon.toolbox.ply_text import IS_NUMBER, Refusal
 from recon.toolbox.scan_rows import columns_of
 from recon.toolbox.smoothing import Smoother
-from recon.toolbox.tool import number_of, run, three, whole, yes
+from recon.toolbox.tool import Report, number_of, run, three, whole, yes
 from recon.toolbox.vectors import across, angle, axes, dot, normal
 
 LONGEST = 1 << 22
@@ -103,7 +103,7 @@ class Wishes:
 
 
 @dataclass
-class Report:
+class FinishReport(Report):
     """What became of a mesh. Angles are in degrees, lengths in the numbers of the scan; a step that was not asked for is None."""
     name: str
     vertices: int
@@ -125,6 +125,15 @@ class Report:
     columns: Optional[List[str]] = None
     split: Optional[int] = None
     unseen: Optional[int] = None
+    out: str = ''
+    written: Tuple[int, int] = (0, 0)
+    seen_part: int = 0
+
+    def __str__(self) -> str:
+        wrote = f'wrote {self.written[0]} vertices and {number_of(self.written[1], "face")} to {self.out}'
+        if self.seen_part:
+            wrote += f', and the {number_of(self.seen_part, "face")} that were seen to {seen_path(self.out)}, which is open'
+        return '; '.join([*self.sentences(), wrote])
 
     def sentences(self) -> list[str]:
         """The report in words."""
@@ -159,7 +168,7 @@ class Work:
             raise Refusal('the mesh has no faces: there is nothing to finish')
         self.twins = pair_edges(self.places, self.corners)
         self.vertex_of = np.arange(len(self.places))
-        self.report = Report(name, len(self.places), len(self.corners) // 3, unit=wishes.unit)
+        self.report = FinishReport(name, len(self.places), len(self.corners) // 3, unit=wishes.unit)
 
     def keep_pieces(self, most: int) -> None:
         """Keeps the largest pieces."""
@@ -242,7 +251,7 @@ class Work:
         return self.finished()
 
 
-def finished(path: str, wishes: Wishes, tell: Callable[[str], None] = lambda text: None) -> tuple[Finished, Report]:
+def finished(path: str, wishes: Wishes, tell: Callable[[str], None] = lambda text: None) -> tuple[Finished, FinishReport]:
     """Finishes the mesh of a file, and returns it with the report. `tell` gets lines on what is done."""
     work = Work(path, wishes, tell)
     return work.run(), work.report
@@ -287,7 +296,8 @@ def stamped_unit(mesh: str, named: str | None) -> tuple[str, str] | None:
     return (stamp[1].decode('ascii'), os.path.basename(found[0])) if stamp else None
 
 
-def work(names: Sequence[str], options: Any) -> str:
+def work(names: Sequence[str], options: Any) -> FinishReport:
+    """Finishes a mesh, and writes it."""
     form_of(names[1])
     stamp = None if options.unit else stamped_unit(names[0], options.cert)
     if stamp is not None:
@@ -297,13 +307,11 @@ def work(names: Sequence[str], options: Any) -> str:
         mesh, report = finished(names[0], wishes, progress.tell)
         report.stamp = stamp[1] if stamp else None
         write_mesh(names[1], mesh)
-        wrote = f'wrote {len(mesh.places)} vertices and {number_of(len(mesh.faces), "face")} to {names[1]}'
-        if wishes.seen:
-            count = write_seen(names[1], mesh)
-            wrote += f', and the {number_of(count, "face")} that were seen to {seen_path(names[1])}, which is open' if count else ''
+        report.out, report.written = names[1], (len(mesh.places), len(mesh.faces))
+        report.seen_part = write_seen(names[1], mesh) if wishes.seen else 0
     finally:
         progress.end()
-    return '; '.join([*report.sentences(), wrote])
+    return report
 
 
 def main() -> None:

@@ -17,7 +17,7 @@ import numpy as np
 
 from recon.choices import Choices
 from recon.clouds import Spacing
-from recon.finish import Report, seen_path, write_seen
+from recon.finish import FinishReport, seen_path, write_seen
 from recon.inputs import Cloud
 from recon.library import Surface
 from recon.meshes import Mesh, areas
@@ -42,7 +42,7 @@ class Made:
     surface: Surface
     mesh: Finished
     colors: Optional[np.ndarray]
-    finish: Report
+    finish: FinishReport
     sweep: List[Mesh]
     choices: Choices
 
