@@ -58,7 +58,7 @@ class Package(InFolder):
         equal(status == 1 or found == '/usr/bin/python3\n', True)
 
     def test_the_gate_and_make_look_for_it(self) -> None:
-        for path, line in (('.ci/run', 'dev/python install'), ('Makefile', 'sh dev/python install')):
+        for path, line in (('.ci/run', 'dev/python install'), ('Makefile', 'run: python recon'), ('Makefile', 'test: python\n')):
             with open(os.path.join(ROOT, path), encoding='utf-8') as file:
                 equal((path, line in file.read()), (path, True))
 
