@@ -1,8 +1,9 @@
 """A page to look at surfaces: one HTML file with the meshes in it, which a browser shows without a network.
 
 The page draws by WebGL 2 (`viewer/`), and unpacks the meshes by `DecompressionStream`: Chrome 80, Firefox 113, Safari 16.4 or
-later. A mesh takes about five bytes a face, and up to two more with colors: its vertices are rounded to 65,536 steps along the
-longest side of all meshes, sorted along a curve through cubes, and written as differences, deflated, in base64.
+later. A mesh takes some 4.4 bytes a face, and with colors 5.3: its vertices are rounded to 65,536 steps along the longest side of
+all meshes and sorted along a curve through cubes, its faces are fans around their least vertices, colors have 64 steps a channel;
+all are written as differences, deflated, in base64.
 
 Names: PageMesh · write_page · page_text (the page as text).
 """
@@ -25,6 +26,8 @@ VIEWER = os.path.join(os.path.dirname(os.path.abspath(__file__)), 'viewer')
 SCRIPTS = ('decode.js', 'camera.js', 'scene.js', 'controls.js')
 STEPS = 65535
 CURVE_BITS = 10
+FAN = 64
+COLOR_SHIFT = 2
 SPOTS = 500
 SIGHTS = 2000
 
@@ -74,7 +77,10 @@ class Frame:
     def of(cls, meshes: Sequence[PageMesh]) -> Frame:
         filled = [mesh.vertices for mesh in meshes if len(mesh.vertices)] or [np.zeros((1, 3))]
         low = np.min([rows.min(0) for rows in filled], axis=0)
-        box = np.max([rows.max(0) for rows in filled], axis=0) - low
+        with np.errstate(over='ignore'):
+            box = np.max([rows.max(0) for rows in filled], axis=0) - low
+        if not np.isfinite(box).all():
+            raise ValueError('coordinates of the meshes are far out of range')
         return cls(low, box, float(box.max()) or 1.0)
 
     def near(self, places: np.ndarray) -> list[float]:
@@ -98,12 +104,43 @@ def curve_order(grid: np.ndarray) -> np.ndarray:
     return np.argsort(key, kind='stable')
 
 
-def sorted_faces(faces: np.ndarray, unseen: np.ndarray | None) -> np.ndarray:
-    """Returns the faces, each turned so that its least vertex is the first, in ascending order, those that were seen first."""
+def sorted_faces(faces: np.ndarray, unseen: np.ndarray) -> tuple[np.ndarray, np.ndarray]:
+    """Returns the faces, each turned so that its least vertex is the first, in ascending order, those that were seen first; and
+    a number for each that is that of another one where both have that vertex, and were seen or not alike."""
     turn = faces.argmin(axis=1)[:, None]
     turned = np.take_along_axis(faces, (np.arange(3) + turn) % 3, axis=1)
-    keys = (turned[:, 1], turned[:, 0]) if unseen is None else (turned[:, 1], turned[:, 0], unseen)
-    return turned[np.lexsort(keys)]
+    order = np.lexsort((turned[:, 1], turned[:, 0], unseen))
+    turned = turned[order]
+    return turned, unseen[order] * (turned.max(initial=0) + 1) + turned[:, 0]
+
+
+def steps_back(before: np.ndarray) -> tuple[np.ndarray, np.ndarray, np.ndarray]:
+    """Returns for each face the one `FAN` steps before it, or the first of its fan; how many steps that is; and the least on the
+    way. `before` is -1 of first faces."""
+    own = np.arange(len(before))
+    head = np.where(before < 0, own, before)
+    rank, least = (before >= 0).astype(np.int64), np.minimum(head, own)
+    for _ in range(FAN.bit_length() - 1):
+        rank, least, head = rank + rank[head], np.minimum(least, least[head]), head[head]
+    return head, rank, least
+
+
+def fans_of(faces: np.ndarray, first: np.ndarray) -> tuple[np.ndarray, np.ndarray]:
+    """Returns sorted faces in the order of fans around their first vertices, and which of them begin a fan: in a fan the second
+    vertex of a face is the third one of the face before it."""
+    count, size = len(faces), faces.max(initial=0) + 1
+    key, wanted = first * size + faces[:, 1], first * size + faces[:, 2]
+    after = np.minimum(np.searchsorted(key, wanted), max(count - 1, 0))
+    has_next = key[after] == wanted if count else np.zeros(0, bool)
+    before = np.full(count, -1)
+    before[after[has_next]] = np.flatnonzero(has_next)
+    head, _, least = steps_back(before)
+    before[(before[head] >= 0) & (least == np.arange(count))] = -1
+    head, rank, _ = steps_back(before)
+    is_long = before[head] >= 0
+    head, rank = np.where(is_long, np.arange(count), head), np.where(is_long, 0, rank)
+    order = np.lexsort((rank, head))
+    return faces[order], rank[order] == 0
 
 
 def packed(mesh: PageMesh, frame: Frame) -> tuple[dict[str, Any], str]:
@@ -112,15 +149,15 @@ def packed(mesh: PageMesh, frame: Frame) -> tuple[dict[str, Any], str]:
     order = curve_order(grid)
     place = np.empty(len(order), np.int64)
     place[order] = np.arange(len(order))
-    faces = sorted_faces(place[mesh.faces], mesh.unseen)
-    first = np.diff(faces[:, 0], prepend=0)
-    data = planes(np.diff(grid[order], axis=0, prepend=0))
-    data += planes(np.concatenate([first, faces[:, 1] - faces[:, 0], faces[:, 2] - faces[:, 0]]))
+    unseen = np.zeros(len(mesh.faces), bool) if mesh.unseen is None else mesh.unseen
+    faces, begins = fans_of(*sorted_faces(place[mesh.faces], unseen))
+    data = planes(np.diff(grid[order].T, axis=1, prepend=0)) + planes(np.diff(faces[begins, 0], prepend=0))
+    data += planes(faces[begins, 1] - faces[begins, 0]) + planes(faces[:, 2] - faces[:, 0]) + np.packbits(begins).tobytes()
     if mesh.colors is not None:
-        data += np.diff(mesh.colors[order], axis=0, prepend=np.uint8(0)).T.tobytes()
-    unseen = 0 if mesh.unseen is None else int(mesh.unseen.sum())
-    head = {'name': mesh.name, 'vertices': len(grid), 'faces': len(faces), 'seen': len(faces) - unseen,
-            'colored': mesh.colors is not None}
+        red, green, blue = mesh.colors[order].T >> COLOR_SHIFT
+        data += np.diff([green, red - green, blue - green], axis=1, prepend=np.uint8(0)).tobytes()
+    head = {'name': mesh.name, 'vertices': len(grid), 'faces': len(faces), 'fans': int(begins.sum()),
+            'seen': len(faces) - int(unseen.sum()), 'colored': mesh.colors is not None}
     return head, base64.b64encode(zlib.compress(data, 6)).decode('ascii')
 
 

@@ -40,6 +40,8 @@ def main() -> None:
     runner = unittest.TextTestRunner(sys.stdout, resultclass=Counted)
     result = cast(Counted, runner.run(loader.discover(HERE)))
     failed = len(result.failures) + len(result.errors)
+    for reason in sorted({reason for _, reason in result.skipped}):
+        print(f'skipped: {reason}')
     if not RECON:
         print('recon is not built here: what the programs wrote was not read by it, and it was not run itself')
     print(f'tools: {result.passed} passed, {failed} failed')

@@ -96,6 +96,14 @@ class Hostile(InFolder):
         write('in.e57', e57(6, lambda text: text.replace('maximum="1000"', f'maximum="{"9" * 5000}"')))
         is_error('the description in the E57 is not understood', 'scan', 'in.e57', 'out.ply')
 
+    def test_packets_of_an_e57_that_are_too_short(self) -> None:
+        good = e57_of(flat(8), [b'\1\2'] * 3, 2)
+        write('in.e57', good)
+        equal(call('scan', 'in.e57', 'good.ply')[0], 0)
+        for size in (0, 1, 2, 4, 10):
+            write('in.e57', good[:80 + 2] + struct.pack('<H', size) + good[80 + 4:])
+            is_error('a packet of the E57 is shorter than its header', 'scan', 'in.e57', 'out.ply')
+
     def test_an_origin_that_is_far_out(self) -> None:
         write('slice', 'loops 1\nloop 3\n0 1 2 3\n1 4 5 6\n2 7 8 9\n')
         write('mesh.ply', MESH)
@@ -110,6 +118,11 @@ class Hostile(InFolder):
         for place in ('0 0 -1e999', '1.7e308 1.7e308 0', '1e999 0 0'):
             write('images.txt', f'4 1 0 0 0.4142 {place} 1 b.jpg\n\n')
             is_error('is not finite', 'scan', 'fused.ply', 'out.ply', 'images=images.txt')
+        plain = 'VERSION 0.7\nFIELDS x y z\nSIZE 4 4 4\nTYPE F F F\nCOUNT 1 1 1\nVIEWPOINT {} 1 0 0 0\nPOINTS 1\nDATA ascii\n1 2 3\n'
+        for place in ('nan 0 0', '0 inf 0', '1 2 x'):
+            write('a.pcd', plain.format(place))
+            is_error('is no place', 'scan', 'a.pcd', 'out.ply')
+            is_error('as the position of its scanner, which is none', 'scan', 'a.pcd', 'a.pcd', 'out.ply')
         pose = struct.pack('<I7dI', 4, 1, 0, 0, 0, 0, float('nan'), 0, 1)
         write('images.bin', struct.pack('<Q', 1) + pose + b'a\0' + struct.pack('<Q', 0))
         is_error('is not finite', 'scan', 'fused.ply', 'out.ply', 'images=images.bin')

@@ -6,14 +6,11 @@ import re
 import unittest
 from typing import Any
 
-from helpers import InFolder, equal
-from browser import CHROMIUM, Browser
+import numpy as np
 
-try:
-    import numpy as np
-    from recon import page
-except ImportError:
-    np = None
+from browser import CHROMIUM, Browser
+from helpers import InFolder, equal
+from recon import page
 
 BACKGROUND = (245, 247, 250)
 HOSTILE = '</script></title><script>hit = 1</script><img src=x onerror="hit = 1">&amp;\'"\u2028'
@@ -69,7 +66,6 @@ def is_sand(red: int, green: int, blue: int) -> bool:
     return red < 252 and abs(green / max(red, 1) - 0.85 / 0.98) < 0.03 and abs(blue / max(red, 1) - 0.68 / 0.98) < 0.03
 
 
-@unittest.skipUnless(np is not None, 'numpy is not installed')
 class Written(InFolder):
     def test_texts_are_escaped(self) -> None:
         vertices, faces = cube()
@@ -89,6 +85,7 @@ class Written(InFolder):
                            ('shape (8, 3), not (8)', lambda: page.PageMesh('a', vertices, faces[:8], None, vertices > 0)),
                            ('shape (7, 3), not (8, 3)', lambda: page.PageMesh('a', vertices, faces, vertices[:7])),
                            ('a page needs a mesh', lambda: written(meshes=[])),
+                           ('far out of range', lambda: written(meshes=[page.PageMesh('a', (vertices - 0.5) * 1.7e308 * 2, faces)])),
                            ('scanners have the shape (3,)', lambda: written(scanners=np.zeros(3))),
                            ('lines of sight are not finite', lambda: written(sights=np.full((1, 2, 3), np.inf)))):
             with self.assertRaisesRegex(ValueError, re.escape(part)):
@@ -99,7 +96,23 @@ class Written(InFolder):
     def test_a_megabyte_holds_200000_faces(self) -> None:
         vertices, faces = ground(317)
         written(meshes=[page.PageMesh('ground', vertices, faces)], scanners=[], sights=[])
-        equal((len(faces), os.path.getsize('mesh.html') < 5.0 * len(faces) + 40_000), (199712, True))
+        equal((len(faces), os.path.getsize('mesh.html') < 1_000_000), (199712, True))
+
+    def test_fans_of_odd_meshes(self) -> None:
+        draw = np.random.default_rng(3)
+        for count, size in ((0, 3), (1, 3), (40, 5), (300, 12), (3000, 60)):
+            faces = np.array([draw.permutation(size)[:3] for _ in range(count)], int).reshape(-1, 3)
+            faces = np.concatenate([faces, faces[::2], faces[::3, ::-1]])
+            unseen = draw.random(len(faces)) < 0.3
+            turned, first = page.sorted_faces(faces, unseen)
+            fans, begins = page.fans_of(turned, first)
+            equal(sorted(map(tuple, fans[:(~unseen).sum()])), sorted(map(tuple, turned[:(~unseen).sum()])))
+            equal(sorted(map(tuple, fans[(~unseen).sum():])), sorted(map(tuple, turned[(~unseen).sum():])))
+            goes_on = np.flatnonzero(~begins)
+            equal((goes_on.min(initial=1) > 0, (fans[goes_on, 0] == fans[goes_on - 1, 0]).all(), (fans[goes_on, 1] == fans[goes_on - 1, 2]).all()),
+                  (True, True, True))
+        wheel = np.array([(0, k, k % 100 + 1) for k in range(1, 101)])
+        equal(page.fans_of(*page.sorted_faces(wheel, np.zeros(100, bool)))[1].sum() < 40, True)
 
     def test_no_face_and_no_text(self) -> None:
         empty = page.PageMesh('nothing', np.zeros((0, 3)), np.zeros((0, 3), int))
@@ -107,7 +120,7 @@ class Written(InFolder):
         equal(('<h2>' in text, '"faces":0' in text), (False, True))
 
 
-@unittest.skipUnless(np is not None and CHROMIUM, 'numpy or Chromium is not installed (Debian: python3-numpy, chromium)')
+@unittest.skipUnless(CHROMIUM, 'Chromium is not installed (Debian: chromium), so no page was looked at')
 class Shown(InFolder):
     browser: Browser
 
@@ -144,8 +157,8 @@ class Shown(InFolder):
                                 '[m.positions, m.corners, m.colors].map(a => Array.from(a)))')
         places, corners, painted = (np.array(part) for part in told)
         frame = page.Frame.of([page.PageMesh('', vertices, faces)])
-        known = {(*row, *color): k for k, (row, color) in enumerate(zip(
-            np.rint((vertices - frame.low) / frame.side * 65535).astype(int).tolist(), colors.tolist()))}
+        grid = np.rint((vertices - frame.low) / frame.side * 65535).astype(int)
+        known = {(*row, *color): k for k, (row, color) in enumerate(zip(grid.tolist(), (colors & 252 | colors >> 6).tolist()))}
         rows = [known[(*place[:3], *color[:3])] for place, color in zip(places.reshape(-1, 4).tolist(), painted.reshape(-1, 4).tolist())]
         got = [tuple(np.roll(face, -face.argmin())) for face in np.array(rows)[corners].reshape(-1, 3)]
         wanted = [tuple(np.roll(face, -face.argmin())) for face in faces]

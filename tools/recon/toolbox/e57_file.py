@@ -20,6 +20,7 @@ INVALID = 'cartesianInvalidState'
 XML_LIMIT = 1 << 26
 MOST_BITS = 64
 ROWS_AT_ONCE = 4096
+LEAST_PACKET = 4
 
 
 class NotRead(Refusal):
@@ -198,9 +199,13 @@ class E57Reader(FileReader):
             raise Refusal('the points of a station of the E57 are not where they should be')
         while at + 6 <= end:
             kind, size, count = struct.unpack('<BxHH', self.read(at, 6))
+            if size < LEAST_PACKET - 1:
+                raise Refusal('a packet of the E57 is shorter than its header')
             if kind == 1:
                 if count != len(station.nodes):
                     raise Refusal('a packet of the E57 has not as many columns as its station')
+                if size + 1 < 6 + 2 * count:
+                    raise Refusal('a packet of the E57 is shorter than its header')
                 packet = self.read(at, size + 1)
                 sizes = struct.unpack_from(f'<{count}H', packet, 6)
                 starts = [6 + 2 * count + sum(sizes[:k]) for k in range(count)]

@@ -13,6 +13,7 @@ from recon.toolbox.sieve import Box
 
 TIMES = ('gpstime', 'gps_time', 'scalar_gpstime', 'scalar_gps_time', 'time')
 FINEST = 64
+FARTHEST = 1e300
 WIDTHS = 3
 
 
@@ -39,7 +40,7 @@ class Flight:
                 if not words or words[0].startswith('#'):
                     continue
                 values = list(map(float, words[:4])) if all(map(IS_NUMBER, words[:4])) else []
-                if len(values) < 4 or not all(map(isfinite, values)):
+                if len(values) < 4 or not all(abs(value) < FARTHEST for value in values):
                     raise Refusal(f'line {number} of {path} is not TIME X Y Z')
                 if self.times and values[0] <= self.times[-1]:
                     raise Refusal(f'line {number} of {path} is not later than the one before')

@@ -11,7 +11,7 @@ import os
 from typing import Any, Callable, Iterator, List, Optional, Sequence, Tuple
 
 from recon.toolbox.flight import Above
-from recon.toolbox.ply_text import IS_NOT_FINITE, IS_NUMBER, SCANNER_LIMIT, Refusal, decimals, read_positions
+from recon.toolbox.ply_text import ARE_THREE, IS_NOT_FINITE, IS_NUMBER, SCANNER_LIMIT, Refusal, decimals, read_positions
 from recon.toolbox.point_files import PcdReader, has_rows, open_points
 from recon.toolbox.sieve import Passage
 from recon.toolbox.sources import Source, refuse_others, scan_columns
@@ -124,7 +124,10 @@ def station_of(name: str) -> Station:
         scanner = reader.element('scanner')
         if scanner is None or scanner.count != 1 or not hasattr(reader, 'position'):
             raise Refusal(f'{name} does not say where its scanner stood: {name}=X,Y,Z does')
-        return name, reader.position()
+        position = reader.position()
+        if not ARE_THREE(' '.join(position)):
+            raise Refusal(f'{name} has {" ".join(position)[:80]} as the position of its scanner, which is none: {name}=X,Y,Z names it')
+        return name, position
     finally:
         reader.close()
 

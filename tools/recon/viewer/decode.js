@@ -18,28 +18,42 @@ function planes(bytes, start, count) {
 
 /** Returns the positions, four numbers of 16 bits a vertex, of which the last is 0. */
 function positionsOf(step, count) {
-  const positions = new Uint16Array(4 * count), last = [0, 0, 0];
-  for (let k = 0; k < count; k++)
-    for (let axis = 0; axis < 3; axis++) positions[4 * k + axis] = last[axis] += step(3 * k + axis);
+  const positions = new Uint16Array(4 * count);
+  for (let axis = 0; axis < 3; axis++)
+    for (let k = 0, last = 0; k < count; k++) positions[4 * k + axis] = last += step(axis * count + k);
   return positions;
 }
 
-/** Returns three vertices a face. */
-function cornersOf(step, count) {
-  const corners = new Uint32Array(3 * count);
-  for (let k = 0, first = 0; k < count; k++) {
-    corners[3 * k] = first += step(k);
-    corners[3 * k + 1] = first + step(count + k);
-    corners[3 * k + 2] = first + step(2 * count + k);
+/** Returns three vertices a face. In a fan around its first vertex the second one of a face is the third one of the face before. */
+function cornersOf(bytes, start, { faces, fans }) {
+  const first = planes(bytes, start, fans), second = planes(bytes, start + 4 * fans, fans), third = planes(bytes, start + 8 * fans, faces);
+  const bits = start + 8 * fans + 4 * faces, corners = new Uint32Array(3 * faces);
+  for (let k = 0, fan = 0, a = 0, b = 0; k < faces; k++) {
+    if (bytes[bits + (k >> 3)] >> 7 - (k & 7) & 1) {
+      a += first(fan);
+      b = a + second(fan++);
+    }
+    corners[3 * k] = a;
+    corners[3 * k + 1] = b;
+    corners[3 * k + 2] = b = a + third(k);
   }
   return corners;
 }
 
-/** Returns red, green, blue and 255 a vertex. */
+/** Returns a byte of six bits. */
+const widened = (value) => (value & 63) << 2 | (value & 63) >> 4;
+
+/** Returns red, green, blue and 255 a vertex, in 64 steps: what is stored is green, and by how much the others are more. */
 function colorsOf(bytes, start, count) {
   const colors = new Uint8Array(4 * count).fill(255);
-  for (let channel = 0; channel < 3; channel++)
-    for (let k = 0, value = 0; k < count; k++) colors[4 * k + channel] = value = value + bytes[start + channel * count + k] & 255;
+  for (let k = 0, green = 0, red = 0, blue = 0; k < count; k++) {
+    green += bytes[start + k];
+    red += bytes[start + count + k];
+    blue += bytes[start + 2 * count + k];
+    colors[4 * k] = widened(green + red);
+    colors[4 * k + 1] = widened(green);
+    colors[4 * k + 2] = widened(green + blue);
+  }
   return colors;
 }
 
@@ -72,7 +86,8 @@ function normalsOf(positions, corners, faces) {
 async function decoded(k, head) {
   const bytes = await inflated(`mesh-${k}`);
   const positions = positionsOf(planes(bytes, 0, 3 * head.vertices), head.vertices);
-  const corners = cornersOf(planes(bytes, 12 * head.vertices, 3 * head.faces), head.faces);
-  const colors = head.colored ? colorsOf(bytes, 12 * (head.vertices + head.faces), head.vertices) : null;
+  const corners = cornersOf(bytes, 12 * head.vertices, head);
+  const end = 12 * head.vertices + 8 * head.fans + 4 * head.faces + Math.ceil(head.faces / 8);
+  const colors = head.colored ? colorsOf(bytes, end, head.vertices) : null;
   return { positions, corners, colors, normals: normalsOf(positions, corners, head.seen) };
 }
