@@ -161,9 +161,9 @@ class FinishReport(Report):
 class Work:
     """A mesh on its way, and the report of it."""
 
-    def __init__(self, name: str, wishes: Wishes, tell: Callable[[str], None]) -> None:
+    def __init__(self, name: str, wishes: Wishes, tell: Callable[[str], None], mesh: tuple[np.ndarray, np.ndarray] | None) -> None:
         self.wishes, self.tell, self.fine = wishes, tell, 1
-        self.places, self.corners = read_mesh(name)
+        self.places, self.corners = read_mesh(name) if mesh is None else mesh
         if not len(self.corners):
             raise Refusal('the mesh has no faces: there is nothing to finish')
         self.twins = pair_edges(self.places, self.corners)
@@ -251,15 +251,18 @@ class Work:
         return self.finished()
 
 
-def finished(path: str, wishes: Wishes, tell: Callable[[str], None] = lambda text: None) -> tuple[Finished, FinishReport]:
-    """Finishes the mesh of a file, and returns it with the report. `tell` gets lines on what is done."""
-    work = Work(path, wishes, tell)
+def finished(path: str, wishes: Wishes, tell: Callable[[str], None] = lambda text: None,
+             mesh: tuple[np.ndarray, np.ndarray] | None = None) -> tuple[Finished, FinishReport]:
+    """Finishes the mesh of a file, and returns it with the report. `tell` gets lines on what is done; `mesh` is what `read_mesh` gives
+    of the file, if it is known."""
+    work = Work(path, wishes, tell, mesh)
     return work.run(), work.report
 
 
 def seen_part(mesh: Finished) -> Finished:
     """The open mesh without the faces that span unseen space, with the vertices that are left."""
-    seen = Mesh(mesh.places, mesh.faces).seen().faces
+    known = [np.asarray(values, bool) for name, _, values in mesh.face_columns if name == 'unseen']
+    seen = Mesh(mesh.places, mesh.faces).seen(*known).faces
     used, faces = np.unique(seen, return_inverse=True)
     return Finished(mesh.places[used], faces.reshape(-1, 3), [(name, kind, values[used]) for name, kind, values in mesh.columns],
                     vertex_of=mesh.vertex_of[used])

@@ -29,10 +29,10 @@ class Mesh:
         """Returns which faces (m,) span space that no scanner saw; see `unseen_faces`."""
         return unseen_faces(self.vertices, self.faces)
 
-    def seen(self) -> Mesh:
+    def seen(self, unseen: np.ndarray | None = None) -> Mesh:
         """Returns the open mesh without the faces that span unseen space, and without pieces under 20 faces that are left of it. All
-        vertices stay."""
-        faces = self.faces[~self.unseen()]
+        vertices stay. `unseen` is what `unseen` returned, if it is known."""
+        faces = self.faces[~(self.unseen() if unseen is None else unseen)]
         part = pieces(faces, len(self.vertices))
         return Mesh(self.vertices, faces[np.bincount(part)[part] >= LEAST_PIECE] if len(faces) else faces, self.source)
 

@@ -256,7 +256,7 @@ def made(args: Any, choices: Choices) -> Made:
     surface = built(scan, args, folder, choices)
     wishes = wishes_for(surface, scan, args, choices)
     choices.tell(f'finishing {len(surface.faces):,} faces')
-    mesh, report = finished(os.fspath(surface.mesh), wishes)
+    mesh, report = finished(os.fspath(surface.mesh), wishes, mesh=surface.whole())
     colors = colored(mesh, surface, scan.cloud)
     choices.timed('finish')
     sweep = surface.sweep(0, 1, args.sweep) if args.sweep else []
