@@ -148,7 +148,7 @@ class Surfaces(InFolder):
         refused('--scanner goes with one file', 'in.ply', 'flat.xyz', '--scanner', '1,2,3', '-o', 'mesh.ply')
         refused('is not X,Y,Z', 'in.ply', '-o', 'mesh.ply', '--scanner', '1,2', status=2)
         refused('a whole number from 1', 'in.ply', '-o', 'mesh.ply', '--unit', '0', status=2)
-        equal([name for name in os.listdir() if name.startswith('mesh') and not name.endswith('.recon')], [])
+        equal([name for name in os.listdir() if name.startswith(('mesh', '.recon'))], [])
         write('fails', '#!/bin/sh\necho refused 5 twice line 3\necho "recon: rename one" >&2\nexit 3\n')
         os.chmod('fails', 0o755)
         got, _, error = call('surface', 'in.ply', '-o', 'mesh.ply', '-q', '--program', './fails')
