@@ -10,7 +10,8 @@ from typing import Any
 import numpy as np
 from scipy.sparse import coo_matrix
 from scipy.sparse.csgraph import connected_components
-from scipy.spatial import cKDTree
+
+from recon.clouds import neighbors
 
 NEAR = 6
 FACTOR = 8.0
@@ -66,7 +67,7 @@ def unseen_faces(vertices: np.ndarray, faces: np.ndarray, factor: float = FACTOR
     if not len(faces):
         return np.zeros(0, bool)
     used = np.unique(faces)
-    distances = cKDTree(vertices[used]).query(vertices[used], min(NEAR + 1, len(used)))[0]
+    distances = neighbors(vertices[used], min(NEAR + 1, len(used)))[0]
     near = np.zeros(len(vertices))
     near[used] = distances[:, 1:].mean(axis=1)
     near = np.maximum(near, np.median(near[used]) / 2)
