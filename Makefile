@@ -7,19 +7,22 @@ MESH_PROGRAM = crates/mesh_main/out/mesh_main
 PYTHON = $(shell sh dev/python)
 MACHINE = $(shell uname -s | tr A-Z a-z)-$(shell uname -m)
 
-.PHONY: run recon recon-mesh test attack bench bench-short install dist clean
+.PHONY: run recon recon-mesh python test attack bench bench-short install dist clean
 
 # Proves and builds the program (the first time about twenty minutes on four processors, afterwards seconds), leaves it
 # as ./recon and ./recon-mesh and runs them on an example.
-run: recon recon-mesh
-	@sh dev/python install >/dev/null
+run: python recon recon-mesh
 	@echo "recon build: the surface of the tetrahedron in examples/"
 	./recon build examples/tetrahedron.ply tetrahedron_mesh.ply tetrahedron.cert
 	@echo "recon check: whether mesh and certificate are those of the scan"
 	./recon check examples/tetrahedron.ply tetrahedron_mesh.ply tetrahedron.cert
 	@echo "recon-mesh finish: the mesh with its edges flipped where the angles between faces fall"
 	./recon-mesh finish tetrahedron_mesh.ply tetrahedron_finished.ply
-	@echo "tetrahedron_mesh.ply opens in viewers of PLY meshes, in MeshLab after recon-finish or recon-mesh-to-floats"
+	@echo "a scan of your own: python3 tools/recon surface SCAN -o mesh.glb (--help tells more)"
+
+# Numpy and scipy, which the Python programs need: installed where that may be done, else the line to type.
+python:
+	@sh dev/python install >/dev/null
 
 recon:
 	@echo "proving and building the program, a line for each crate; all that rt prints goes to run.log"
@@ -33,9 +36,8 @@ recon-mesh:
 
 # All tests, as the gate runs them: every proof and every test of every crate, the edits that must be refused, the program; then what
 # the documents name, the tests of tools/ and those of the built program. What passed here before and has not changed is not proved again.
-test:
+test: python
 	@echo "every proof, every edit that must be refused, every test, then the tests of tools/; all that they print goes to test.log"
-	@sh dev/python install >/dev/null
 	python3 dev/progress.py test.log bash .ci/run
 
 # The wrong bodies of attack/, which the gate leaves out: all (half an hour on four processors where the gate has passed before, an hour where it

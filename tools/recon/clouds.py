@@ -39,7 +39,7 @@ def spacing(points: np.ndarray) -> Spacing:
     points = np.asarray(points, float)
     if len(points) < 2:
         return Spacing(0.0, 0.0)
-    some = points[np.random.default_rng(1).permutation(len(points))[:SAMPLE]]
+    some = points[np.sort(np.random.default_rng(1).permutation(len(points))[:SAMPLE])]
     apart, near = cKDTree(points).query(some, min(AROUND + 1, len(points)))
     width = apart[:, 1:NEAR + 1].mean(axis=1)
     if near.shape[1] < 12 or not np.median(width):
@@ -86,10 +86,20 @@ def origin_for(low: np.ndarray, high: np.ndarray, unit: int) -> np.ndarray:
     raise Invalid(f'the scan is {size:.4g} across, and {2 * LIMIT:,} units is the most', hint='divide its coordinates first (--divide)')
 
 
+def neighbors(points: np.ndarray, count: int) -> tuple[np.ndarray, np.ndarray]:
+    """Returns the distances (n, count) and rows (n, count) of the nearest points of each point, itself the first. Points are asked for in the
+    order of the tree's leaves, so that near ones are in the cache, on all processors."""
+    tree = cKDTree(points)
+    apart, near = tree.query(points[tree.indices], count, workers=-1)
+    place = np.empty(len(points), np.int64)
+    place[tree.indices] = np.arange(len(points))
+    return apart[place], near[place]
+
+
 def lone_points(points: np.ndarray, factor: float = 4.0) -> np.ndarray:
     """Returns which points are more than `factor` times as far from their six nearest as the neighborhoods of their twelve nearest
     are wide on the median."""
-    apart, near = cKDTree(points).query(points, min(13, len(points)))
+    apart, near = neighbors(points, min(13, len(points)))
     wide = apart[:, 1:NEAR + 1].mean(axis=1)
     return np.asarray(wide > factor * np.median(wide[near[:, 1:]], axis=1))
 

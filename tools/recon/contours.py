@@ -15,13 +15,14 @@ last one rounded.
 from __future__ import annotations
 
 import os
+from dataclasses import dataclass
 from decimal import Decimal
 from typing import Any, Sequence, TextIO
 
 from recon.toolbox.exact import READ, text
 from recon.toolbox.ply_text import Refusal, whole_file
 from recon.toolbox.slice_text import Frame, read_loops
-from recon.toolbox.tool import number_of, run
+from recon.toolbox.tool import Report, number_of, run
 
 MARGIN = Decimal('0.05')
 
@@ -67,15 +68,28 @@ def tabulate(slice_path: str, frame: Frame, file: TextIO) -> tuple[int, int]:
 FORMS = {'.svg': draw, '.csv': tabulate}
 
 
-def work(names: Sequence[str], options: Any) -> str:
+@dataclass
+class Drawn(Report):
+    """A slice that was drawn or tabulated."""
+    name: str
+    out: str
+    loops: int
+    points: int
+
+    def __str__(self) -> str:
+        counts = f'{number_of(self.loops, "loop")} of {number_of(self.points, "point")}'
+        return f'read {counts} of {self.name}; left out nothing; wrote as many to {self.out}'
+
+
+def work(names: Sequence[str], options: Any) -> Drawn:
+    """Draws or tabulates a slice, as the ending of the output's name says."""
     ending = os.path.splitext(names[1])[1].lower()
     if ending not in FORMS:
         raise Refusal(f'{names[1]} ends in none of {", ".join(FORMS)}, which say the form')
     frame = Frame(options)
     with whole_file(names[1]) as file:
         loops, points = FORMS[ending](names[0], frame, file)
-    counts = f'{number_of(loops, "loop")} of {number_of(points, "point")}'
-    return f'read {counts} of {names[0]}; left out nothing; wrote as many to {names[1]}'
+    return Drawn(names[0], names[1], loops, points)
 
 
 def main() -> None:

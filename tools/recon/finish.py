@@ -35,7 +35,7 @@ import re
 import sys
 import time
 from dataclasses import dataclass
-from typing import Any, Callable, List, Optional, Sequence
+from typing import Any, Callable, List, Optional, Sequence, Tuple
 
 import numpy as np
 
@@ -46,7 +46,7 @@ from recon.toolbox.mesh_files import Column, Finished, form_of, read_mesh, write
 from recon.toolbox.ply_text import IS_NUMBER, Refusal
 from recon.toolbox.scan_rows import columns_of
 from recon.toolbox.smoothing import Smoother
-from recon.toolbox.tool import number_of, run, three, whole, yes
+from recon.toolbox.tool import Report, number_of, run, three, whole, yes
 from recon.toolbox.vectors import across, angle, axes, dot, normal
 
 LONGEST = 1 << 22
@@ -103,7 +103,7 @@ class Wishes:
 
 
 @dataclass
-class Report:
+class FinishReport(Report):
     """What became of a mesh. Angles are in degrees, lengths in the numbers of the scan; a step that was not asked for is None."""
     name: str
     vertices: int
@@ -125,6 +125,15 @@ class Report:
     columns: Optional[List[str]] = None
     split: Optional[int] = None
     unseen: Optional[int] = None
+    out: str = ''
+    written: Tuple[int, int] = (0, 0)
+    seen_part: int = 0
+
+    def __str__(self) -> str:
+        wrote = f'wrote {self.written[0]} vertices and {number_of(self.written[1], "face")} to {self.out}'
+        if self.seen_part:
+            wrote += f', and the {number_of(self.seen_part, "face")} that were seen to {seen_path(self.out)}, which is open'
+        return '; '.join([*self.sentences(), wrote])
 
     def sentences(self) -> list[str]:
         """The report in words."""
@@ -152,14 +161,14 @@ class Report:
 class Work:
     """A mesh on its way, and the report of it."""
 
-    def __init__(self, name: str, wishes: Wishes, tell: Callable[[str], None]) -> None:
+    def __init__(self, name: str, wishes: Wishes, tell: Callable[[str], None], mesh: tuple[np.ndarray, np.ndarray] | None) -> None:
         self.wishes, self.tell, self.fine = wishes, tell, 1
-        self.places, self.corners = read_mesh(name)
+        self.places, self.corners = read_mesh(name) if mesh is None else mesh
         if not len(self.corners):
             raise Refusal('the mesh has no faces: there is nothing to finish')
         self.twins = pair_edges(self.places, self.corners)
         self.vertex_of = np.arange(len(self.places))
-        self.report = Report(name, len(self.places), len(self.corners) // 3, unit=wishes.unit)
+        self.report = FinishReport(name, len(self.places), len(self.corners) // 3, unit=wishes.unit)
 
     def keep_pieces(self, most: int) -> None:
         """Keeps the largest pieces."""
@@ -242,15 +251,18 @@ class Work:
         return self.finished()
 
 
-def finished(path: str, wishes: Wishes, tell: Callable[[str], None] = lambda text: None) -> tuple[Finished, Report]:
-    """Finishes the mesh of a file, and returns it with the report. `tell` gets lines on what is done."""
-    work = Work(path, wishes, tell)
+def finished(path: str, wishes: Wishes, tell: Callable[[str], None] = lambda text: None,
+             mesh: tuple[np.ndarray, np.ndarray] | None = None) -> tuple[Finished, FinishReport]:
+    """Finishes the mesh of a file, and returns it with the report. `tell` gets lines on what is done; `mesh` is what `read_mesh` gives
+    of the file, if it is known."""
+    work = Work(path, wishes, tell, mesh)
     return work.run(), work.report
 
 
 def seen_part(mesh: Finished) -> Finished:
     """The open mesh without the faces that span unseen space, with the vertices that are left."""
-    seen = Mesh(mesh.places, mesh.faces).seen().faces
+    known = [np.asarray(values, bool) for name, _, values in mesh.face_columns if name == 'unseen']
+    seen = Mesh(mesh.places, mesh.faces).seen(*known).faces
     used, faces = np.unique(seen, return_inverse=True)
     return Finished(mesh.places[used], faces.reshape(-1, 3), [(name, kind, values[used]) for name, kind, values in mesh.columns],
                     vertex_of=mesh.vertex_of[used])
@@ -287,7 +299,8 @@ def stamped_unit(mesh: str, named: str | None) -> tuple[str, str] | None:
     return (stamp[1].decode('ascii'), os.path.basename(found[0])) if stamp else None
 
 
-def work(names: Sequence[str], options: Any) -> str:
+def work(names: Sequence[str], options: Any) -> FinishReport:
+    """Finishes a mesh, and writes it."""
     form_of(names[1])
     stamp = None if options.unit else stamped_unit(names[0], options.cert)
     if stamp is not None:
@@ -297,13 +310,11 @@ def work(names: Sequence[str], options: Any) -> str:
         mesh, report = finished(names[0], wishes, progress.tell)
         report.stamp = stamp[1] if stamp else None
         write_mesh(names[1], mesh)
-        wrote = f'wrote {len(mesh.places)} vertices and {number_of(len(mesh.faces), "face")} to {names[1]}'
-        if wishes.seen:
-            count = write_seen(names[1], mesh)
-            wrote += f', and the {number_of(count, "face")} that were seen to {seen_path(names[1])}, which is open' if count else ''
+        report.out, report.written = names[1], (len(mesh.places), len(mesh.faces))
+        report.seen_part = write_seen(names[1], mesh) if wishes.seen else 0
     finally:
         progress.end()
-    return '; '.join([*report.sentences(), wrote])
+    return report
 
 
 def main() -> None:

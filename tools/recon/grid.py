@@ -16,14 +16,15 @@ surface goes through.
 from __future__ import annotations
 
 import re
+from dataclasses import dataclass
 from decimal import Decimal, ROUND_CEILING
-from typing import Any, Sequence
+from typing import Any, Sequence, Tuple
 
 from recon.toolbox.exact import WIDE, text
 from recon.toolbox.ply_text import Refusal, whole_file
 from recon.toolbox.sieve import length_of
 from recon.toolbox.text_lines import Lines
-from recon.toolbox.tool import NotUnderstood, number_of, run, three
+from recon.toolbox.tool import NotUnderstood, Report, number_of, run, three
 
 LIMIT = 1048576
 HALF = Decimal('0.5')
@@ -41,8 +42,31 @@ def middles(low: Decimal, high: Decimal, side: Decimal) -> list[str]:
     return [text(WIDE.add(low, WIDE.multiply(side, k + HALF))) for k in range(int(count))]
 
 
-def write_points(out: str, start: str | None, end: str | None, side: Decimal) -> str:
-    """Writes the points, and answers the line to be said."""
+@dataclass
+class Grid(Report):
+    """A grid of points that was written, and how many there are along each axis."""
+    out: str
+    counts: Tuple[int, int, int]
+
+    def __str__(self) -> str:
+        x, y, z = self.counts
+        return f'wrote {number_of(x * y * z, "point")} to {self.out}, {x} by {y} by {z}'
+
+
+@dataclass
+class Volume(Report):
+    """Answers that were counted, and the volume of the cubes whose middles are inside."""
+    name: str
+    count: int
+    inside: int
+    volume: str
+
+    def __str__(self) -> str:
+        return f'read {number_of(self.count, "answer")} of {self.name}; inside {self.inside}, volume {self.volume}'
+
+
+def write_points(out: str, start: str | None, end: str | None, side: Decimal) -> Grid:
+    """Writes the points."""
     if start is None or end is None:
         raise Refusal('from= and to= are the two corners of the box')
     corners = zip(three(start, 'from'), three(end, 'to'))
@@ -54,7 +78,7 @@ def write_points(out: str, start: str | None, end: str | None, side: Decimal) ->
         for z in zs:
             for y in ys:
                 file.writelines(f'{x} {y} {z}\n' for x in xs)
-    return f'wrote {number_of(count, "point")} to {out}, {len(xs)} by {len(ys)} by {len(zs)}'
+    return Grid(out, (len(xs), len(ys), len(zs)))
 
 
 def answer_of(lines: Lines) -> int:
@@ -83,7 +107,8 @@ def read_answers(path: str) -> tuple[int, int]:
         lines.close()
 
 
-def work(names: Sequence[str], options: Any) -> str:
+def work(names: Sequence[str], options: Any) -> Report:
+    """Writes a grid of points, or tells a volume by the answers to one."""
     command, path = names
     if command not in ('points', 'volume'):
         raise NotUnderstood
@@ -95,7 +120,7 @@ def work(names: Sequence[str], options: Any) -> str:
         raise Refusal('from= and to= are no options of volume')
     count, inside = read_answers(path)
     volume = text(WIDE.multiply(Decimal(inside), WIDE.power(side, 3)))
-    return f'read {number_of(count, "answer")} of {path}; inside {inside}, volume {volume}'
+    return Volume(path, count, inside, volume)
 
 
 def main() -> None:

@@ -138,7 +138,7 @@ class Inputs:
         given = Options(scan.KEYS)
         for key, value in options.items():
             setattr(given, field(key), value)
-        self.choices.tell(scan.work([*names, path], given))
+        self.choices.tell(str(scan.work([*names, path], given)))
         try:
             return load_scan(path)
         finally:

@@ -210,6 +210,10 @@ class Surface(Mesh):
         found = [np.array([(int(x) / int(under), int(y) / int(under)) for _, x, y, under in loop]) for loop in read_loops(os.fspath(loops))]
         return [loop / self.unit + self.origin[:2] for loop in found]
 
+    def whole(self) -> tuple[np.ndarray, np.ndarray]:
+        """The mesh as the program wrote it: places (n, 3) in whole units, and the corners of all faces one after another."""
+        return np.rint((self.vertices - self.origin) * self.unit).astype(np.int64), self.faces.ravel()
+
     def finish(self, pieces: int | None = None, flips: bool = True, smooth: int = 0, within: float | None = None,
                manifold: bool = False) -> Mesh:
         """Returns a mesh that is less rough, as `recon-finish` makes it: the largest pieces, edges flipped, `smooth` steps in which no
@@ -217,7 +221,7 @@ class Surface(Mesh):
         from recon.finish import Wishes, finished
         wishes = Wishes(unit=self.unit, origin=self.origin.tolist(), pieces=pieces, flips=flips, steps=smooth, within=within or 0.0,
                         manifold=manifold)
-        done, _ = finished(str(self.mesh), wishes)
+        done, _ = finished(str(self.mesh), wishes, mesh=self.whole())
         return Mesh(done.places, done.faces)
 
 

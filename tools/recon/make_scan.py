@@ -22,10 +22,11 @@ from __future__ import annotations
 import itertools
 import math
 import random
+from dataclasses import dataclass
 from typing import Any, Iterator, Sequence, Tuple
 
 from recon.toolbox.ply_text import IS_NUMBER, SCANNER_LIMIT, Property, Refusal, Writer, whole_file
-from recon.toolbox.tool import number_of, run
+from recon.toolbox.tool import Report, number_of, run
 
 Place = Sequence[float]
 Box = Tuple[Place, Place]
@@ -243,7 +244,20 @@ def number(text: str, what: str, least: int, most: int) -> float:
     return float(text)
 
 
-def work(names: Sequence[str], options: Any) -> str:
+@dataclass
+class MadeScan(Report):
+    """A scan that was made of a shape."""
+    shape: str
+    out: str
+    points: int
+    scanners: int
+
+    def __str__(self) -> str:
+        return f'wrote {number_of(self.points, "point")} and {self.scanners} scanners of a {self.shape} to {self.out}'
+
+
+def work(names: Sequence[str], options: Any) -> MadeScan:
+    """Makes a scan of a shape."""
     shape, out = shape_of(names[0]), names[3]
     count = int(number(names[1], 'COUNT', 0, COUNT_LIMIT))
     scale = number(options.scale or '500000', 'scale', 1, LIMIT)
@@ -258,7 +272,7 @@ def work(names: Sequence[str], options: Any) -> str:
         for p, index in itertools.islice(rows_of(draw, shape, noise, stray), count):
             writer.row(scaled(p, scale) + [str(index)])
         writer.finish([scaled(place, scale) for place in shape.scanners])
-    return f'wrote {number_of(count, "point")} and {len(shape.scanners)} scanners of a {names[0]} to {out}'
+    return MadeScan(names[0], out, count, len(shape.scanners))
 
 
 def main() -> None:

@@ -10,12 +10,13 @@ Coordinates are exact decimals, rounded only where they have over 30 digits. The
 """
 from __future__ import annotations
 
+from dataclasses import dataclass
 from decimal import Decimal
 from typing import Any, Sequence, TextIO
 
 from recon.toolbox.exact import quotients
 from recon.toolbox.ply_text import ARE_THREE, Element, Property, Reader, Refusal, plain_names, whole_file
-from recon.toolbox.tool import number_of, run, three, whole
+from recon.toolbox.tool import Report, number_of, run, three, whole
 
 
 def head(vertex: Element, face: Element) -> str:
@@ -45,7 +46,23 @@ def pass_mesh(reader: Reader, file: TextIO, unit: Decimal, origin: list[Decimal]
     return vertex, face
 
 
-def work(names: Sequence[str], options: Any) -> str:
+@dataclass
+class Converted(Report):
+    """A mesh that was written in the numbers of the scan; `is_plain` where no unit was named."""
+    name: str
+    out: str
+    vertices: int
+    faces: int
+    is_plain: bool
+
+    def __str__(self) -> str:
+        counts = f'{self.vertices} vertices and {number_of(self.faces, "face")}'
+        line = f'read {counts} of {self.name}; left out nothing; wrote as many to {self.out}'
+        return line + ', at unit=1, since none is named' if self.is_plain else line
+
+
+def work(names: Sequence[str], options: Any) -> Converted:
+    """Writes a mesh in the numbers of the scan."""
     unit = Decimal(whole(options.unit or '1', 'unit', 1, 1000000))
     origin = [Decimal(word) for word in three(options.origin or '0,0,0', 'origin')]
     reader = Reader(names[0])
@@ -54,9 +71,7 @@ def work(names: Sequence[str], options: Any) -> str:
             vertex, face = pass_mesh(reader, file, unit, origin)
     finally:
         reader.close()
-    counts = f'{vertex.count} vertices and {number_of(face.count, "face")}'
-    line = f'read {counts} of {names[0]}; left out nothing; wrote as many to {names[1]}'
-    return line if options.unit else line + ', at unit=1, since none is named'
+    return Converted(names[0], names[1], vertex.count, face.count, not options.unit)
 
 
 def main() -> None:

@@ -10,7 +10,8 @@ from typing import Any
 import numpy as np
 from scipy.sparse import coo_matrix
 from scipy.sparse.csgraph import connected_components
-from scipy.spatial import cKDTree
+
+from recon.clouds import neighbors
 
 NEAR = 6
 FACTOR = 8.0
@@ -29,10 +30,10 @@ class Mesh:
         """Returns which faces (m,) span space that no scanner saw; see `unseen_faces`."""
         return unseen_faces(self.vertices, self.faces)
 
-    def seen(self) -> Mesh:
+    def seen(self, unseen: np.ndarray | None = None) -> Mesh:
         """Returns the open mesh without the faces that span unseen space, and without pieces under 20 faces that are left of it. All
-        vertices stay."""
-        faces = self.faces[~self.unseen()]
+        vertices stay. `unseen` is what `unseen` returned, if it is known."""
+        faces = self.faces[~(self.unseen() if unseen is None else unseen)]
         part = pieces(faces, len(self.vertices))
         return Mesh(self.vertices, faces[np.bincount(part)[part] >= LEAST_PIECE] if len(faces) else faces, self.source)
 
@@ -66,7 +67,7 @@ def unseen_faces(vertices: np.ndarray, faces: np.ndarray, factor: float = FACTOR
     if not len(faces):
         return np.zeros(0, bool)
     used = np.unique(faces)
-    distances = cKDTree(vertices[used]).query(vertices[used], min(NEAR + 1, len(used)))[0]
+    distances = neighbors(vertices[used], min(NEAR + 1, len(used)))[0]
     near = np.zeros(len(vertices))
     near[used] = distances[:, 1:].mean(axis=1)
     near = np.maximum(near, np.median(near[used]) / 2)

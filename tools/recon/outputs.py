@@ -8,6 +8,7 @@ import hashlib
 import json
 import os
 import shlex
+import shutil
 import sys
 from dataclasses import dataclass
 from pathlib import Path
@@ -17,7 +18,7 @@ import numpy as np
 
 from recon.choices import Choices
 from recon.clouds import Spacing
-from recon.finish import Report, seen_path, write_seen
+from recon.finish import FinishReport, seen_path, write_seen
 from recon.inputs import Cloud
 from recon.library import Surface
 from recon.meshes import Mesh, areas
@@ -31,7 +32,7 @@ HERE = os.path.dirname(os.path.abspath(__file__))
 
 @dataclass
 class Made:
-    """What a run made: the cloud that was built (`read` points were read), the surface, the finished mesh with the colors of its
+    """What a run made, in `folder`, which goes with the run: the cloud that was built (`read` points were read), the surface, the finished mesh with the colors of its
     vertices, and the surfaces of a sweep."""
     args: Any
     out: Path
@@ -42,9 +43,13 @@ class Made:
     surface: Surface
     mesh: Finished
     colors: Optional[np.ndarray]
-    finish: Report
+    finish: FinishReport
     sweep: List[Mesh]
     choices: Choices
+
+    def kept(self) -> Path:
+        """The folder in which scan, mesh and certificate are left."""
+        return Path(self.args.keep or self.out.with_suffix('.recon'))
 
     def unseen(self) -> np.ndarray:
         """Which faces of the finished mesh span unseen space."""
@@ -79,8 +84,11 @@ def write_outputs(made: Made) -> None:
                digests=digests, commands=verifying(made), title=made.out.stem)
     choices.timed('write')
     write_report(made, figures, digests, part)
+    made.kept().mkdir(parents=True, exist_ok=True)
+    for name in (*FILES, 'report.json', 'again.sh'):
+        shutil.move(os.fspath(made.folder / name), os.fspath(made.kept() / name))
     choices.tell(f'wrote {made.out} ({len(made.mesh.faces):,} faces), {seen_path(os.fspath(made.out))}, {made.out.with_suffix(".html")} and '
-                 f'{made.folder}/')
+                 f'{made.kept()}/')
 
 
 def page_meshes(made: Made, unseen: np.ndarray) -> list[PageMesh]:
@@ -113,7 +121,7 @@ def figures_of(made: Made, unseen: float) -> list[tuple[str, str]]:
 
 def verifying(made: Made) -> list[str]:
     """The commands that verify the surface again."""
-    names = ' '.join(shlex.quote(os.path.join(made.folder.name, name)) for name in FILES)
+    names = ' '.join(shlex.quote(os.path.join(made.kept().name, name)) for name in FILES)
     return [f'recon check {names} {" ".join(made.surface.options())}']
 
 

@@ -57,8 +57,9 @@ all elements of a PLY but `vertex` and `scanner`. Names of properties that are n
 """
 from __future__ import annotations
 
+from dataclasses import dataclass
 from math import isfinite
-from typing import Any, Callable, Sequence
+from typing import Any, Callable, Dict, Optional, Sequence
 
 import numpy as np
 
@@ -67,7 +68,7 @@ from recon.toolbox.ply_text import SCANNER_LIMIT, Refusal, Writer, whole_file
 from recon.toolbox.scan_source import source_of
 from recon.toolbox.sieve import SIEVING, Passage, Sieve
 from recon.toolbox.sources import READING, Source
-from recon.toolbox.tool import NotUnderstood, left_out, number_of, run, said_of
+from recon.toolbox.tool import NotUnderstood, Report, left_out, number_of, run
 
 KEYS = READING + SIEVING + ('origin', 'divide')
 FEW, MANY = 20, 1000
@@ -128,7 +129,29 @@ def remark_of(sieve: Sieve, part: float) -> str:
     return said
 
 
-def work(names: Sequence[str], options: Any) -> str:
+@dataclass
+class ScanReport(Report):
+    """A scan that was written: how many points and scanners it has (None where the files name none), what was left out and how often,
+    what was read, in words, and remarks."""
+    out: str
+    read: str
+    points: int
+    scanners: Optional[int]
+    left_out: Dict[str, int]
+    remarks: str
+
+    @property
+    def is_empty(self) -> bool:
+        return not self.points
+
+    def __str__(self) -> str:
+        wrote = number_of(self.points, 'point') + ('' if self.scanners is None else f' and {number_of(self.scanners, "scanner")}')
+        line = f'{self.read}; left out {left_out(self.left_out)}; wrote {wrote} to {self.out}{self.remarks}'
+        return line + ': no point is left' if self.is_empty else line
+
+
+def work(names: Sequence[str], options: Any) -> ScanReport:
+    """Writes the scan of some files, the last name being its own."""
     if not names:
         raise NotUnderstood
     sieve, source = Sieve(options), source_of(names[:-1], options)
@@ -142,9 +165,8 @@ def work(names: Sequence[str], options: Any) -> str:
             part = sample.surrounded(source, positions) if sample.rows and source.scanner is not None else 0.0
             add_corners(source, sieve, writer, positions)
         writer.finish(positions)
-    wrote = number_of(writer.count, 'point') + (f' and {number_of(len(positions), "scanner")}' if source.has_scanners else '')
-    return said_of(writer, f'{source.read()}; left out {left_out({**source.counts, **sieve.counts})}; wrote {wrote} to {names[-1]}'
-                   f'{source.remark()}{remark_of(sieve, part)}')
+    return ScanReport(names[-1], source.read(), writer.count, len(positions) if source.has_scanners else None,
+                      {**source.counts, **sieve.counts}, source.remark() + remark_of(sieve, part))
 
 
 def main() -> None:

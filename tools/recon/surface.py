@@ -16,6 +16,7 @@ from __future__ import annotations
 import argparse
 import os
 import sys
+import tempfile
 from dataclasses import dataclass
 from pathlib import Path
 from typing import Any, Sequence
@@ -244,24 +245,19 @@ def refuse_own_inputs(args: Any) -> None:
             raise Refusal(f'{path} is read, and would be written over: choose another name for -o')
 
 
-def made(args: Any, choices: Choices) -> Made:
-    """The whole run."""
-    out = Path(args.output)
-    form_of(args.output)
-    refuse_own_inputs(args)
+def made(args: Any, choices: Choices, folder: Path) -> Made:
+    """The whole run but for its outputs. Scan, mesh and certificate are made in a folder."""
     args.program = program_path(args.program)
-    folder = Path(args.keep or out.with_suffix('.recon'))
-    folder.mkdir(parents=True, exist_ok=True)
     scan = prepared(Inputs(args, folder, choices))
     surface = built(scan, args, folder, choices)
     wishes = wishes_for(surface, scan, args, choices)
     choices.tell(f'finishing {len(surface.faces):,} faces')
-    mesh, report = finished(os.fspath(surface.mesh), wishes)
+    mesh, report = finished(os.fspath(surface.mesh), wishes, mesh=surface.whole())
     colors = colored(mesh, surface, scan.cloud)
     choices.timed('finish')
     sweep = surface.sweep(0, 1, args.sweep) if args.sweep else []
     choices.timed('sweep')
-    return Made(args, out, folder, scan.cloud, scan.read, scan.texture, surface, mesh, colors, report, sweep, choices)
+    return Made(args, Path(args.output), folder, scan.cloud, scan.read, scan.texture, surface, mesh, colors, report, sweep, choices)
 
 
 def parser() -> argparse.ArgumentParser:
@@ -348,8 +344,15 @@ def run(words: Sequence[str]) -> int:
     args = parser().parse_args(arguments(words))
     choices = Choices(args.quiet)
     try:
-        result = made(args, choices)
-        write_outputs(result)
+        form_of(args.output)
+        refuse_own_inputs(args)
+        with tempfile.TemporaryDirectory(prefix='.recon-', dir=os.path.dirname(args.output) or '.') as folder:
+            result = made(args, choices, Path(folder))
+            write_outputs(result)
+    except MemoryError:
+        return failed(1, 'error: out of memory')
+    except KeyboardInterrupt:
+        return failed(130, 'interrupted')
     except NoSurface as error:
         return failed(3, error)
     except (Refusal, Invalid, Refused) as error:

@@ -34,7 +34,7 @@ from recon.toolbox.ply_text import IS_NUMBER, Refusal
 from recon.toolbox.scan_feeds import KEYS
 from recon.toolbox.tile_join import join
 from recon.toolbox.tile_split import Wanted, split
-from recon.toolbox.tool import NotUnderstood, run, whole, yes
+from recon.toolbox.tool import NotUnderstood, Report, run, whole, yes
 
 SPLIT = ('points', 'overlap', 'spacings', 'through', 'unit', 'vote', 'smooth') + KEYS
 JOIN = ('fill', 'report')
@@ -65,7 +65,8 @@ def wanted_of(options: Any) -> tuple[Wanted, list[str]]:
     return wanted, [f'{key}={value}' for key, value in handed.items()]
 
 
-def work(names: Sequence[str], options: Any) -> str:
+def work(names: Sequence[str], options: Any) -> Report:
+    """Cuts a scan into tiles, or joins their surfaces."""
     command, *others = names or ['']
     if command == 'split' and len(others) > (options.table is None):
         refuse_others(options, SPLIT, JOIN, command)

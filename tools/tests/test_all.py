@@ -9,7 +9,7 @@ import struct
 import subprocess
 import sys
 
-from helpers import (MESH, PACKAGE, POINTS, ROOT, SCAN, Given, InFolder, binary, call, command, equal, head, holds, read, refuses,
+from helpers import (MESH, PACKAGE, POINTS, RECON, ROOT, SCAN, Given, InFolder, binary, call, command, equal, head, holds, read, refuses,
                      says, spoken, write)
 from recon.toolbox.ply_text import Refusal
 from test_stations import FIRST_STATION, PTX
@@ -179,8 +179,11 @@ class All(InFolder):
             lines = re.findall(r'(?:^    |^      |`)recon-([a-z-]+) ([^`\n]*(?:\.|[a-z]=)[^`\n]*)', file.read(), re.MULTILINE)
         equal(len(lines) > 15, True)
         for program, words in lines:
-            status, said, error = call(program, *words.split())
-            wanted = (0, False) if program == 'make_scan' or words.startswith('points ') else (1, True)
+            if program == 'surface' and not RECON:
+                continue
+            more = ['--program', RECON] if program == 'surface' else []
+            status, said, error = call(program, *words.split(), *more)
+            wanted = (0, False) if program == 'make-scan' or words.startswith('points ') else (1, True)
             equal((program, words, status, 'No such file' in error), (program, words) + wanted)
 
     def test_large_files_take_little_memory(self) -> None:

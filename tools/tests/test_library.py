@@ -72,9 +72,10 @@ class Arrays(InFolder):
     @unittest.skipUnless(RECON, 'recon is not built here')
     def test_the_program_answers_more(self) -> None:
         points = sphere(400)
-        surface = recon.build(points, SCANNERS, [[k] for k in nearest(points)], weights=np.full(400, 2))
+        surface = recon.build(points, SCANNERS, [[k, k][:1 + k % 2] for k in nearest(points)], weights=np.full(400, 2))
+        equal(surface.counts['sights'], int((1 + nearest(points) % 2).sum()))
         equal(surface.contains([[0, 0, 0], [2, 0, 0], [0, 1e9, 0], [0.5, 0, 0]]).tolist(), [True, False, False, True])
-        equal([len(mesh.faces) for mesh in surface.sweep(0, 3, 2)], [796, 796])
+        equal([len(mesh.faces) for mesh in surface.sweep(3, 1, 2)], [796, 796])
         loop, = surface.slice(0.1)
         equal(bool(np.abs(np.linalg.norm(loop, axis=1) - 0.99).max() < 0.1), True)
         mesh = surface.finish(pieces=1, smooth=1, within=0.01)

@@ -15,6 +15,7 @@ from helpers import RECON, InFolder, binary, call, equal, head, write
 from recon.inputs import load_scan
 from recon.surface import arguments, parser, plain
 from test_library import SCANNERS, nearest, sphere
+from test_readers import images_bin, points_bin
 
 
 def listed(name: str, rows: np.ndarray) -> None:
@@ -98,6 +99,18 @@ class Surfaces(InFolder):
         equal(chosen(report, 'sights', 'smooth'), ['from above', '3'])
         equal(report['origin'][:2] != [0, 0], True)
 
+    def test_a_workspace_of_colmap(self) -> None:
+        os.makedirs('ws/sparse/0')
+        points = sphere(150)
+        rows = [(tuple(point), (k, 7, 9), [9, 4] if point[2] > 0.3 else [4]) for k, point in enumerate(points.tolist())]
+        write('ws/sparse/0/points3D.bin', points_bin(rows))
+        write('ws/sparse/0/images.bin', images_bin())
+        for number, name in enumerate(('ws', 'ws/sparse/0', 'ws/sparse/0/points3D.bin')):
+            report = made(name, '--force', '--no-check', '--smooth', '0', '--no-clean', out=f'{number}.ply')
+            equal(chosen(report, 'sights'), ['images'])
+            equal((report['counts']['scanners'], report['counts']['sights']), (2, 150 + int((points[:, 2] > 0.3).sum())))
+            equal(b'property uchar red' in pathlib.Path(f'{number}.ply').read_bytes()[:400], True)
+
     def test_rooms_are_closed_from_outside(self) -> None:
         draw = np.random.default_rng(3)
         walls = draw.uniform(-1, 1, (800, 3)) * [2, 3, 1.2]
@@ -135,7 +148,7 @@ class Surfaces(InFolder):
         refused('--scanner goes with one file', 'in.ply', 'flat.xyz', '--scanner', '1,2,3', '-o', 'mesh.ply')
         refused('is not X,Y,Z', 'in.ply', '-o', 'mesh.ply', '--scanner', '1,2', status=2)
         refused('a whole number from 1', 'in.ply', '-o', 'mesh.ply', '--unit', '0', status=2)
-        equal([name for name in os.listdir() if name.startswith('mesh') and not name.endswith('.recon')], [])
+        equal([name for name in os.listdir() if name.startswith(('mesh', '.recon'))], [])
         write('fails', '#!/bin/sh\necho refused 5 twice line 3\necho "recon: rename one" >&2\nexit 3\n')
         os.chmod('fails', 0o755)
         got, _, error = call('surface', 'in.ply', '-o', 'mesh.ply', '-q', '--program', './fails')

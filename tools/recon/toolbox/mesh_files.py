@@ -54,9 +54,11 @@ def refuse(why: str) -> NoReturn:
 
 def numbers_of(data: bytes, count: int) -> np.ndarray:
     """The whole numbers of a text."""
-    if re.search(rb'[^-0-9 \n]', data) or data and not data.endswith(b'\n'):
+    if data.translate(None, b'-0123456789 \n') or data and not data.endswith(b'\n'):
         refuse('it is cut or has words that are no whole numbers')
-    if re.search(rb'[0-9]-|-[^0-9]|[0-9]{18}', data):
+    letters = np.frombuffer(b'\n' + data, np.uint8)
+    signs = np.flatnonzero(letters == ord('-'))
+    if (letters[signs - 1] > ord(' ')).any() or (letters[signs + 1] < ord('0')).any():
         refuse('a word is no whole number')
     with warnings.catch_warnings():
         warnings.simplefilter('ignore')

@@ -18,12 +18,13 @@ import shutil
 from array import array
 from decimal import ROUND_HALF_UP, Decimal
 from fractions import Fraction
-from typing import Any, BinaryIO, Callable, Iterator, TextIO
+from dataclasses import dataclass
+from typing import Any, BinaryIO, Callable, Iterator, List, Optional, TextIO, Tuple
 
 from recon.toolbox.ply_text import CHUNK, Refusal, read_head, whole_file
 from recon.toolbox.tile_gaps import Gaps
 from recon.toolbox.tile_jobs import is_done
-from recon.toolbox.tool import number_of
+from recon.toolbox.tool import Report, number_of
 
 IS_NAME = re.compile('[0-9]{3,20}').fullmatch
 HALF = 1 << 21
@@ -358,16 +359,36 @@ def join_tiles(folder: str, tiles: list[Tile], handed: set[int], out: str, fills
     return joined, had
 
 
-def join(folder: str, out: str, fills: bool, report: str | None) -> str:
-    """Puts the surfaces of a folder's tiles together, and answers the lines to be said."""
+@dataclass
+class JoinReport(Report):
+    """A surface that was joined: its tiles and their faces, its own points and faces, the edges at seams that are open or crowded, and,
+    where gaps were filled, by how many faces, and the edges of the longest gap. `seams` tells each two tiles in words."""
+    folder: str
+    out: str
+    tiles: int
+    tile_faces: int
+    points: int
+    faces: int
+    open_edges: int
+    crowded_edges: int
+    filled: Optional[Tuple[int, int]]
+    seams: List[str]
+
+    def __str__(self) -> str:
+        line = (f'joined {number_of(self.tiles, "tile")} with {number_of(self.tile_faces, "face")} of {self.folder}; wrote '
+                f'{number_of(self.points, "point")} and {number_of(self.faces, "face")} to {self.out}; {self.open_edges} edges at seams '
+                f'are open and {self.crowded_edges} crowded')
+        if self.filled is not None:
+            line += f'; filled by {number_of(self.filled[0], "face")}, the longest gap has {number_of(self.filled[1], "edge")}'
+        return '\n'.join([line, *self.seams])
+
+
+def join(folder: str, out: str, fills: bool, report: str | None) -> JoinReport:
+    """Puts the surfaces of a folder's tiles together."""
     tiles, handed = read_tiles(folder)
     with whole_file(report) if report else contextlib.nullcontext() as file:
         joined, had = join_tiles(folder, tiles, handed, out, fills, file)
     seams = joined.seams
-    line = (f'joined {number_of(len(tiles), "tile")} with {number_of(had, "face")} of {folder}; wrote '
-            f'{number_of(joined.vertex_count, "point")} and {number_of(joined.face_count, "face")} to {out}; '
-            f'{sum(counts[0] for counts in seams.counts.values())} edges at seams are open and '
-            f'{sum(counts[1] for counts in seams.counts.values())} crowded')
-    if fills:
-        line += f'; filled by {number_of(joined.filled, "face")}, the longest gap has {number_of(seams.gaps.longest, "edge")}'
-    return '\n'.join([line, *seams.lines()])
+    filled = (joined.filled, seams.gaps.longest) if fills else None
+    opened, crowded = (sum(counts[k] for counts in seams.counts.values()) for k in (0, 1))
+    return JoinReport(folder, out, len(tiles), had, joined.vertex_count, joined.face_count, opened, crowded, filled, list(seams.lines()))

@@ -14,13 +14,14 @@ import shutil
 from itertools import chain, islice
 from math import inf, isinf
 from operator import gt
-from typing import Any, Callable, Iterator, Sequence
+from dataclasses import dataclass
+from typing import Any, Callable, Dict, Iterator, Sequence
 
 from recon.toolbox import tile_jobs
 from recon.toolbox.ply_text import SCANNER_LIMIT, Property, Refusal, Writer
 from recon.toolbox.scan_feeds import Fed, feed
 from recon.toolbox.tile_boxes import Core, Cut, Place, Row, Sample, cores_of, divide, mean_spacing
-from recon.toolbox.tool import left_out, number_of
+from recon.toolbox.tool import Report, left_out, number_of
 
 ROWS_HELD = 400000
 SCALED_LIMIT = 2097151
@@ -292,12 +293,28 @@ def whole_folder(path: str) -> Iterator[str]:
         raise
 
 
-def split(scan: list[str], folder: str, wanted: Wanted, options: Any) -> str:
-    """Cuts the scan of these names into tiles, and answers the line to be said."""
+@dataclass
+class SplitReport(Report):
+    """Tiles that were written: how many, the most points of one and the points of all, the overlap and the mean spacing."""
+    read: str
+    left_out: Dict[str, int]
+    folder: str
+    tiles: int
+    most: int
+    points: int
+    overlap: float
+    spacing: float
+
+    def __str__(self) -> str:
+        return (f'{self.read}; left out {left_out(self.left_out)}; wrote {number_of(self.tiles, "tile")} of at most '
+                f'{number_of(self.most, "point")}, {self.points} in all, to {self.folder}; overlap {self.overlap:.4g}, mean spacing '
+                f'{self.spacing:.4g}')
+
+
+def split(scan: list[str], folder: str, wanted: Wanted, options: Any) -> SplitReport:
+    """Cuts the scan of these names into tiles."""
     with whole_folder(folder) as part:
         fed, about = write_folder(scan, part, wanted, options)
     tiles = about['tiles']
     most, handed = max(tile['points'] for tile in tiles), sum(tile['points'] for tile in tiles)
-    return (f'{fed.read}; left out {left_out(fed.left_out)}; wrote '
-            f'{number_of(len(tiles), "tile")} of at most {number_of(most, "point")}, {handed} in all, to {folder}; overlap '
-            f'{about["overlap"]:.4g}, mean spacing {about["spacing"]:.4g}')
+    return SplitReport(fed.read, fed.left_out, folder, len(tiles), most, handed, about['overlap'], about['spacing'])

@@ -11,7 +11,7 @@ import sys
 from decimal import Decimal
 from typing import Any, Callable, Iterator, Sequence
 
-from recon.toolbox.ply_text import IS_NUMBER, Refusal, Writer, count_in
+from recon.toolbox.ply_text import IS_NUMBER, Refusal, count_in
 
 SWITCHES = ('above', 'outside', 'open_end', 'normals', 'flips', 'manifold', 'seen', 'fill')
 FARTHEST = 300
@@ -27,13 +27,12 @@ class NotUnderstood(Exception):
     """The words are none of the program's."""
 
 
-class NoPoint(str):
-    """The line of a run that wrote a scan without a point."""
+class Report:
+    """What a program did, as a record. As text it is the line that the program prints; `is_empty` where a scan has no point."""
 
-
-def said_of(writer: Writer, line: str) -> str:
-    """The line of a run that wrote points, or that of one that wrote none."""
-    return line if writer.count else NoPoint(line + ': no point is left')
+    @property
+    def is_empty(self) -> bool:
+        return False
 
 
 class Options:
@@ -93,17 +92,17 @@ def program_name() -> str:
     return 'recon-' + stem.replace('_', '-') if folder == PACKAGE and ending == '.py' else base
 
 
-def run(main: Callable[..., Any], doc: str, name_count: int | None, keys: tuple[str, ...]) -> None:
-    """Runs `main(names, options)`, which answers the line to be said."""
+def run(work: Callable[..., Any], doc: str, name_count: int | None, keys: tuple[str, ...]) -> None:
+    """Runs `work(names, options)`, which returns a record of what it did, or its text, and prints that."""
     words = sys.argv[1:]
     name = program_name()
     try:
         if '--help' in words or '-h' in words:
             print(doc.strip(), flush=True)
             return
-        line = main(*read_words(words, name_count, keys))
-        print(f'{name}: {line}', flush=True)
-        sys.exit(3 if isinstance(line, NoPoint) else 0)
+        report = work(*read_words(words, name_count, keys))
+        print(f'{name}: {report}', flush=True)
+        sys.exit(3 if isinstance(report, Report) and report.is_empty else 0)
     except NotUnderstood:
         sys.exit(told(2, f'{name}: the words are not understood; {name} --help says which are'))
     except Refusal as refusal:
