@@ -1,5 +1,5 @@
-"""The built program as the system runs it: statuses, lines and files, files that are cut or spoiled, and memory by what is
-there. They run where `recon` is built (see run.py)."""
+"""The built program as the system runs it: statuses, lines and files, and memory by what is there. Files that are cut or spoiled are tried by
+dev/fuzz. They run where `recon` is built (see run.py)."""
 from __future__ import annotations
 
 import hashlib
@@ -15,7 +15,7 @@ import time
 import unittest
 from typing import Any
 
-from helpers import RECON, ROOT, InFolder, equal, read, says, write
+from helpers import RECON, ROOT, InFolder, equal, says, write
 
 EXAMPLES = os.path.join(ROOT, 'examples')
 LIMIT = 64 * 2 ** 20
