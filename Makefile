@@ -7,7 +7,10 @@ MESH_PROGRAM = crates/mesh_main/out/mesh_main
 PYTHON = $(shell sh dev/python)
 MACHINE = $(shell uname -s | tr A-Z a-z)-$(shell uname -m)
 
-.PHONY: run recon recon-mesh python test attack bench bench-short install dist clean
+.PHONY: run recon recon-mesh python test attack fuzz try reference bench bench-short bench-others install dist clean
+REFERENCE = dev/reference/target/release/recon-reference
+# (looked up when it is used, after it has been built)
+BESIDE ?= $(wildcard $(REFERENCE))
 
 # Proves and builds the program (the first time about twenty minutes on four processors, afterwards seconds), leaves it
 # as ./recon and ./recon-mesh and runs them on an example.
@@ -46,18 +49,41 @@ attack:
 	@echo "wrong bodies of attack/: what begins, and a line for each crate at the end; all that is printed goes to attack.log"
 	python3 dev/attack.py $(CRATES)
 
-# Times calls of linked cells and walks along sights at 100,000 points, then build and check on scans of 10,000 to 1,000,000 points,
-# and prints a table like those of docs/performance.md (some tens of minutes; the scans are made the first time). BESIDE=PROGRAM times another
-# program of the same words run by run with it.
-bench: recon
+# Tries to make the built program and the Python tools fail, beside the model of dev/model and the reference program (ten minutes, or MINUTES;
+# another SEED makes other cases). The smallest case of each failure is kept in fuzz_failures/, and printed as a command.
+fuzz: recon reference
+	python3 dev/fuzz seed=$(or $(SEED),1) minutes=$(or $(MINUTES),10)
+
+# Builds the unverified reference program of dev/reference, where there is cargo (less than a minute the first time).
+reference:
+	@if command -v cargo >/dev/null; then cd dev/reference && cargo build --quiet --release --offline; \
+	else echo "no cargo is here (Debian: apt-get install cargo): what needs the unverified reference program is left out"; fi
+
+# A first surface before anything is proved: builds the reference program and runs it on a scan (a minute).
+try:
+	@command -v cargo >/dev/null || { echo "make try needs cargo (Debian: apt-get install cargo)"; exit 1; }
+	@echo "This builds the unverified reference program, which writes the same mesh as recon. make run proves and builds recon itself."
+	@$(MAKE) --no-print-directory reference
+	python3 dev/try.py $(REFERENCE)
+
+# Times calls of linked cells and walks along sights at 100,000 points, then build and check on scans of 10,000 to 1,000,000 points, run by run
+# with the unverified reference program where there is cargo, or with BESIDE=PROGRAM, and prints a table like those of docs/performance.md (some
+# tens of minutes; the scans are made the first time). Then what users would use instead.
+bench: recon reference
 	@echo "times of calls of linked cells and of walks along sights, 100,000 points"
 	cd crates/cell_bench && rt run -- 100000
 	@echo "times of build and check at growing sizes, into bench_scans/"
 	$(PYTHON) dev/bench.py ./recon bench_scans $(if $(BESIDE),beside=$(BESIDE))
+	$(MAKE) --no-print-directory bench-others
+
+# Seconds, memory, open edges and distance to the object of other programs on the same scans: CGAL, COLMAP and Open3D, where they are installed
+# (Debian: libcgal-dev, colmap, python3-open3d); a missing one is named and left out.
+bench-others: recon
+	$(PYTHON) dev/others.py ./recon bench_scans
 
 # Times build alone on the three worst shapes and on a cube, a room and a torus of a million points, a run each (some minutes; BESIDE as
 # above), and prints the table of docs/performance.md that has these.
-bench-short: recon
+bench-short: recon reference
 	$(PYTHON) dev/bench.py ./recon bench_scans scans=short check=no runs=1 $(if $(BESIDE),beside=$(BESIDE))
 
 # Installs the two programs, their manual pages and the programs of tools/ under PREFIX (a second, where they are built; else they
@@ -83,4 +109,4 @@ dist: recon recon-mesh
 # Removes what was built and what the proofs kept (a second; the next run proves from nothing). The scans of bench stay.
 clean:
 	rm -rf crates/*/out recon recon-mesh recon-*.tar.gz tetrahedron_mesh.ply tetrahedron_finished.ply tetrahedron.cert run.log run_mesh.log \
-	  test.log attack.log
+	  try_scan.ply try_mesh.ply try.cert test.log attack.log dev/reference/target

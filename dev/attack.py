@@ -5,7 +5,8 @@ usage: dev/attack.py [CRATE ..]               (at the top of the repository; wit
 
 It copies the repository to a folder of its own, puts the edits of attack/NAME/ in the place of crates/NAME/must-fail/, and runs `rt ci` there, of
 the crates that are named or of all. So what the gate has proved on this machine is not proved again, edits are tried side by side, and one that was
-tried here over the same text is not tried again. What begins is told as it does, as dev/progress.py tells it. At the end a line for each crate says
+tried here over the same text is not tried again. What begins is told as it does, as dev/progress.py tells it. Where `rt ci` takes no names (`rt help`
+tells), the copy keeps what was built here, and `rt must-fail` tries four crates side by side. At the end a line for each crate says
 how many were tried and refused, how many only by a name that a proof lost or by a limit of the prover (which says less of the contract), and how
 many were not refused or are bad: such an edit is told by its name and what `rt` said. All that `rt` prints goes to attack.log. The status is 1
 where one was not refused.
@@ -13,6 +14,7 @@ where one was not refused.
 from __future__ import annotations
 
 import collections
+import concurrent.futures
 import pathlib
 import re
 import shutil
@@ -26,6 +28,9 @@ from report import begun
 
 TOP = pathlib.Path(__file__).resolve().parent.parent
 LOG = TOP / 'attack.log'
+# A line of `rt help` that says that `rt ci` takes names of crates.
+TAKES_NAMES = re.compile(r'(?m)^ *rt ci +\[')
+SIDE_BY_SIDE = 4
 RESULT = re.compile(r'(?:rt: )?must-fail (\w+/\S+)\.edit: (.*)')
 
 
@@ -43,16 +48,45 @@ def results_of(text: str) -> dict[str, str]:
 
 def copied(to: pathlib.Path, crates: list[str]) -> None:
     """Copies the repository without what proofs left, with the edits of attack/ of these crates in the place of those of the gate."""
-    leave = shutil.ignore_patterns('out', '.git', 'must-fail', 'bench_scans', '__pycache__', '*.log')
+    leave = shutil.ignore_patterns('out', '.git', 'must-fail', 'bench_scans', 'target', 'fuzz_failures', '__pycache__', '*.log')
     shutil.copytree(TOP, to, ignore=leave, symlinks=True)
     for crate in crates:
         shutil.copytree(TOP / 'attack' / crate, to / 'crates' / crate / 'must-fail')
+
+
+def takes_names(help_text: str) -> bool:
+    """Whether `rt ci` takes names of crates, and so keeps what it proved."""
+    return TAKES_NAMES.search(help_text) is not None
+
+
+def rt_help() -> str:
+    done = subprocess.run(['rt', 'help'], stdin=subprocess.DEVNULL, capture_output=True, text=True, errors='replace')
+    return done.stdout + done.stderr
 
 
 def tried(room: pathlib.Path, names: list[str]) -> dict[str, str]:
     """Runs the gate in the copy and returns what was said of each edit."""
     subprocess.run([sys.executable, str(TOP / 'dev/progress.py'), str(LOG), 'rt', 'ci', *names], cwd=room, stdin=subprocess.DEVNULL)
     return results_of(LOG.read_text(encoding='utf-8', errors='replace'))
+
+
+def tried_alone(room: pathlib.Path, crate: str) -> str:
+    """Tries the edits of one crate in the copy by `rt must-fail`, and returns what was said."""
+    print(f"trying {len(list((room / 'crates' / crate / 'must-fail').glob('*.edit')))} wrong bodies of {crate}", flush=True)
+    done = subprocess.run(['rt', 'must-fail', crate], cwd=room, stdin=subprocess.DEVNULL, stdout=subprocess.PIPE, stderr=subprocess.STDOUT,
+                          text=True, errors='replace')
+    with open(LOG, 'a', encoding='utf-8') as log:
+        log.write(f'== {crate}\n{done.stdout}')
+    return done.stdout
+
+
+def tried_side_by_side(room: pathlib.Path, crates: list[str]) -> dict[str, str]:
+    """Tries the edits of some crates in a copy that has what was built here, and returns what was said of each edit."""
+    for out in TOP.glob('crates/*/out'):
+        (room / out.relative_to(TOP)).symlink_to(out)
+    LOG.write_text('')
+    with concurrent.futures.ThreadPoolExecutor(SIDE_BY_SIDE) as pool:
+        return results_of('\n'.join(pool.map(lambda crate: tried_alone(room, crate), crates)))
 
 
 def line_of(crate: str, said: dict[str, str]) -> str:
@@ -79,7 +113,7 @@ def main() -> int:
     with tempfile.TemporaryDirectory(prefix='attack-') as place:
         room = pathlib.Path(place) / 'copy'
         copied(room, crates)
-        found = tried(room, sys.argv[1:])
+        found = tried(room, sys.argv[1:]) if takes_names(rt_help()) else tried_side_by_side(room, crates)
     for crate in crates:
         edits = sorted(it.stem for it in (TOP / 'attack' / crate).glob('*.edit'))
         said = {name: found.get(f'{crate}/{name}', f'NOT TRIED: {LOG.name} says why') for name in edits}

@@ -6,8 +6,8 @@
   RECON              the built program
   FOLDER             where the scans are kept and the meshes and certificates are written; a scan that is there is not made
                      again
-  beside=PROGRAM     another program that takes the same words, timed run by run beside RECON; its lines and its meshes have to
-                     be the same, byte for byte
+  beside=PROGRAM     another program that takes the same words, timed run by run beside RECON, as the unverified reference program of
+                     dev/reference; its lines and its meshes have to be the same, byte for byte
   sizes=N,N,..       without it 10000,100000,1000000
   shapes=NAME,..     shapes of recon-make-scan; without it cube,torus,room,statue. Where neither sizes nor shapes are given, the
                      worst shapes follow, each at a size of its own
@@ -131,7 +131,7 @@ def heading(programs: list[str], check: bool) -> str:
     """The first two rows of the table."""
     cells = ['scan', 'build s', 'wall s', 'peak MB']
     if len(programs) == 2:
-        cells += ['beside s', 'wall s', 'peak MB', 'ratio']
+        cells += ['reference s', 'wall s', 'peak MB', 'ratio']
     if check:
         cells += ['check s', 'wall s', 'peak MB']
     return '| ' + ' | '.join(cells) + ' |\n|' + '---|' * len(cells)

@@ -1,6 +1,7 @@
 """Prefixes, and bytes changed, left out, put in and repeated, of small scans, their certificates, meshes and points."""
 from __future__ import annotations
 
+import time
 from typing import Callable, NamedTuple, Sequence
 
 from .judge import OLD, judge, texts_of
@@ -57,9 +58,12 @@ def repeated(at: int, count: int) -> Change:
     return lambda data: data[:at + count] + data[at:]
 
 
-def changes_of(data: bytes, context: Context) -> list[Change]:
-    found = [prefix(length) for length in range(len(data))]
-    inserted = (0, 10, 13, 32, 45, 46, 48, 49, 255)
+def prefixes_of(data: bytes) -> list[Change]:
+    return [prefix(length) for length in range(len(data))]
+
+
+def changes_of(data: bytes) -> list[Change]:
+    found, inserted = [], (0, 10, 13, 32, 45, 46, 48, 49, 255)
     for at, old in enumerate(data):
         values = {0, 9, 10, 13, 32, 45, 46, 48, 49, 57, 101, 127, 128, 255, old ^ 1, old ^ 32, old ^ 128, (old + 1) % 256, (old - 1) % 256}
         found += [spliced(at, at + 1, bytes([value])) for value in sorted(values - {old})]
@@ -68,17 +72,22 @@ def changes_of(data: bytes, context: Context) -> list[Change]:
     return found + [spliced(len(data), len(data), bytes([value])) for value in (*inserted, 120)]
 
 
-def run(context: Context, tally: Tally) -> None:
-    folder = Folder()
-    todo = context.share([(target, change) for target in targets() for change in changes_of(target.files[target.name], context)])
-    tried = 0
-    for target, change in todo:
-        if context.is_over():
-            break
+def try_all(context: Context, tally: Tally, folder: Folder, todo: Sequence[tuple[Target, Change]], until: float) -> int:
+    """Tries changes until some time; returns what part of a hundred of them was tried."""
+    for tried, (target, change) in enumerate(todo):
+        if time.monotonic() > until:
+            return 100 * tried // len(todo)
         files = {**target.files, target.name: change(target.files[target.name])}
         for words in context.draw.sample(list(target.commands), min(MOST_COMMANDS, len(target.commands))):
             outputs = {name: OLD for name in ('o1', 'o2', 'o3') if name in words and context.draw.random() < 0.7}
             judge(context, tally, target.label, folder, words, {**files, **outputs})
-        tried += 1
-    tally.note(f'{100 * tried // max(1, len(todo))} % of the changes')
+    return 100
+
+
+def run(context: Context, tally: Tally) -> None:
+    folder, every = Folder(), targets()
+    prefixes = context.share([(target, change) for target in every for change in prefixes_of(target.files[target.name])])
+    changes = context.share([(target, change) for target in every for change in changes_of(target.files[target.name])])
+    first = try_all(context, tally, folder, prefixes, context.until(0.5))
+    tally.note(f'{first} % of the prefixes, {try_all(context, tally, folder, changes, context.deadline)} % of the changes')
     folder.close()

@@ -31,6 +31,7 @@ ERRORS = {'openat': ['ENOENT', 'EACCES', 'EMFILE', 'ENFILE', 'EIO', 'ENOMEM', 'E
           'close': ['EIO', 'ENOSPC', 'EINTR', 'EBADF']}
 NOTHING_TO_PUT = ('EINVAL', 'ENOSYS', 'EOPNOTSUPP')
 OUTPUTS = ['x1', 'x2', 'x3']
+STRACE = shutil.which('strace') or ''
 
 
 class Command:
@@ -147,7 +148,7 @@ class Part:
         """The calls of a command after its loader: the name, the number among its kind, and what follows."""
         log = os.path.join(self.place, 'calls')
         self.folder.put(command.files)
-        self.folder.run(['/usr/bin/strace', '-qq', '-s', '64', '-e', 'trace=' + ','.join(ERRORS), '-o', log, *command.argv])
+        self.folder.run([STRACE, '-qq', '-s', '64', '-e', 'trace=' + ','.join(ERRORS), '-o', log, *command.argv])
         self.folder.look()
         with open(log, encoding='utf-8', errors='replace') as file:
             calls = [found.groups() for found in map(re.compile(r'(\w+)\((.*)').match, file) if found]
@@ -172,7 +173,7 @@ class Part:
 
     def calls(self, until: float) -> None:
         """Each call of each command fails, in each way."""
-        traced = subprocess.run(['/usr/bin/strace', '-qq', '-o', '/dev/null', '/bin/true'], capture_output=True) if shutil.which('strace') else None
+        traced = subprocess.run([STRACE, '-qq', '-o', '/dev/null', '/bin/true'], capture_output=True) if STRACE else None
         if traced is None or traced.returncode != 0:
             self.tally.note('no strace: calls do not fail')
             return
@@ -180,7 +181,7 @@ class Part:
         for command, name, fault, statuses in todo:
             if time.monotonic() > until:
                 break
-            how = ['/usr/bin/strace', '-qq', '-o', '/dev/null', '-e', 'trace=' + name, '-e', f'inject={name}:{fault}']
+            how = [STRACE, '-qq', '-o', '/dev/null', '-e', 'trace=' + name, '-e', f'inject={name}:{fault}']
             before = command.before(self.draw)
             self.folder.put(before)
             self.judge('a call fails', command, before, self.folder.run([*how, *command.argv], 60), statuses, how)

@@ -13,6 +13,7 @@ import re
 import resource
 import runpy
 import shutil
+import signal
 import struct
 import sys
 import tempfile
@@ -25,7 +26,7 @@ from .tool_files import Job, bombs, jobs
 
 TOOLS = os.path.join(os.path.dirname(os.path.dirname(os.path.dirname(os.path.abspath(__file__)))), 'tools')
 NAMES = ['scan', 'finish', 'mesh_to_floats', 'contours', 'grid', 'tiles', 'make_scan']
-MOST_SECONDS, MOST_MEMORY = 10, 1536 << 20
+MOST_SECONDS, MOST_WALL, MOST_MEMORY = 10, 300, 1536 << 20       # of the processor, by the clock, bytes
 OUT_OF_MEMORY = 99
 OUTPUTS = ['out', 'out.ply', 'out.stl', 'out.glb', 'out.svg', 'out.csv']
 TOKENS = [b'1e999999', b'-1e-999999', b'1e99999999999', b'1e4000', b'9' * 400, b'0' * 5000, b'0.' + b'0' * 3000 + b'1', b'nan', b'-inf', b'4294967295',
@@ -68,6 +69,7 @@ class Tools:
         """A tool in a fork of this process."""
         def work() -> int:
             resource.setrlimit(resource.RLIMIT_AS, (MOST_MEMORY, MOST_MEMORY))
+            resource.setrlimit(resource.RLIMIT_CPU, (2 * MOST_SECONDS, 2 * MOST_SECONDS))
             sys.stdout = os.fdopen(1, 'w', encoding='utf-8', errors='surrogateescape', closefd=False)
             sys.stderr = os.fdopen(2, 'w', encoding='utf-8', errors='backslashreplace', closefd=False)
             sys.argv = [os.path.join(self.folder, tool + '.py'), *words]
@@ -87,7 +89,7 @@ class Tools:
             sys.stderr.flush()
             return status
 
-        return folder.forked(work, 30)
+        return folder.forked(work, MOST_WALL)
 
 
 def spoiled(draw: random.Random, data: bytes, is_text: bool) -> bytes:
@@ -126,7 +128,7 @@ def wrong_in(job: Job, done: Done, before: Files, after: Files) -> Optional[tupl
     """The kind of a failure and what is wrong."""
     if any(word in ('--help', '-h') for word in job.words):
         return None if done.status == 0 and done.out and after == before else ('help', str(done))
-    if done.status == OUT_OF_MEMORY or done.status is None or done.seconds > MOST_SECONDS:
+    if done.status in (OUT_OF_MEMORY, None, -signal.SIGXCPU) or done.seconds > MOST_SECONDS:
         return 'memory' if done.status == OUT_OF_MEMORY else 'time', f'{done}; {sum(map(len, before.values()))} bytes of files, {done.seconds:.1f} s'
     if b'Traceback' in done.err or done.status not in (0, 1, 2, 3):
         return 'traceback', done.err.decode('utf-8', 'replace')[-400:] or str(done)

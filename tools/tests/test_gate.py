@@ -122,3 +122,5 @@ class Gate(InFolder):
         equal(attack.line_of('low', results), 'low: 4 tried, 2 refused (1 by a name or a limit alone), 1 not refused, 1 bad')
         equal(attack.crates_of(['no_crate'])[1], ['no_crate'])
         equal(os.path.isdir(os.path.join(ROOT, 'attack')), True)
+        equal(attack.takes_names('usage\n  rt ci [NAME..]          the gate\n'), True)
+        equal(attack.takes_names('usage\n  rt ci                   the gate\n  rt must-fail [NAME..]\n'), False)

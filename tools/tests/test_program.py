@@ -1,11 +1,10 @@
-"""The built program as the system runs it: statuses, lines and files, files that are cut or spoiled, and memory by what is
-there. They run where `recon` is built (see run.py)."""
+"""The built program as the system runs it: statuses, lines and files, and memory by what is there. Files that are cut or spoiled are tried by
+dev/fuzz. They run where `recon` is built (see run.py)."""
 from __future__ import annotations
 
 import hashlib
 import os
 import pty
-import random
 import re
 import resource
 import shutil
@@ -14,15 +13,13 @@ import struct
 import subprocess
 import time
 import unittest
-from typing import Any, Iterator
+from typing import Any
 
-from helpers import RECON, ROOT, InFolder, equal, read, says, write
+from helpers import RECON, ROOT, InFolder, equal, says, write
 
 EXAMPLES = os.path.join(ROOT, 'examples')
 LIMIT = 64 * 2 ** 20
 STEP = 64 * 2 ** 10
-# What may stand behind a number that a command ends with, where no host fails and there is memory.
-LINES = {0: ('points ', 'yes ', 'demo ', 'upgraded ', 'sweep ', 'loops ', 'exported '), 1: ('no ',), 2: ('refused words\n',), 3: ('refused ',)}
 
 
 def example(name: Any) -> Any:
@@ -105,20 +102,6 @@ usage: recon demo N SEED
 POINTS = b'0 0 0\n100 100 100\t-3.4e1 -33 -33.4\r\n1000 0 +0.'
 
 
-def told_of_points(text: Any) -> Any:
-    """The line of `ask` on the tetrahedron for a text of points, in words of its own."""
-    values = text.replace(b'\r', b' ').replace(b'\n', b' ').replace(b'\t', b' ').split(b' ')
-    values = [value for value in values if value]
-    if len(values) % 3:
-        return 3, f'refused 26 query_cut tokens {len(values)}\n'
-    for place, value in enumerate(values):
-        if not re.fullmatch(rb'[+-]?(\d+\.?\d*|\.\d+)([eE][+-]?\d+)?', value):
-            return 3, f'refused 23 bad_query token {place}\n'
-        if abs(float(value)) >= 2097151.5:
-            return 3, f'refused 25 query_range token {place}\n'
-    return 0, f'points 4 asked {len(values) // 3} inside '
-
-
 def header(kind: Any, elements: Any) -> Any:
     """A header of a format with elements and their properties."""
     lines = ['ply', f'format {kind} 1.0']
@@ -129,13 +112,6 @@ def header(kind: Any, elements: Any) -> Any:
 
 POINT = ['int x', 'int y', 'int z']
 WITH_LIST = [('vertex', 2, ['list uchar short colours'] + POINT + ['uchar scanner']), ('scanner', 1, POINT)]
-
-
-def with_lists(order: Any) -> Any:
-    """A binary scan with a list in each row of its points."""
-    rows = b''.join(struct.pack(order + 'BhhiiiB', 2, -1, 7, 100 * sign, 5, -100, 0) for sign in (1, -1))
-    kind = {'<': 'binary_little_endian', '>': 'binary_big_endian'}[order]
-    return header(kind, WITH_LIST) + rows + struct.pack(order + 'iii', 0, 0, 1000)
 
 
 COORDINATES = [(-100, 5, 7), (100, 5, 7), (-3, 100, -128), (0, -90, 127), (11, 12, 13)]
@@ -177,63 +153,6 @@ def weighed(order: Any) -> Any:
     places = b''.join(struct.pack(order + '3i', *place) for place in AROUND)
     rows = (struct.pack(f'{order}H{len(by)}Bh3i', len(by), *by, weight, *point) for point, weight, by in WEIGHED)
     return head + places + b''.join(rows)
-
-
-DECIMALS = b"""ply
-format ascii 1.0
-comment a comment
-obj_info some words
-
-element nothing 4294967295
-element scanner 1
-property double z
-property double y
-property float x
-element vertex 2
-property float confidence
-property double x
-property double y
-property int scanner
-property double z
-end_header
-9 9e0 -9
-.5 -1.25e2 +3. 0 .4E+1
-nan 1 2 0 30
-"""
-
-
-def scans() -> Any:
-    """Small scans of each kind, each with the options under which it is read."""
-    text, none = example('tetrahedron.ply'), header('ascii', [('vertex', 0, POINT + ['int scanner']), ('scanner', 1, POINT)])
-    lists = header('ascii', WITH_LIST) + b'2 1 2 100 5 -100 0\n0 -100 5 -100 0\n0 0 1000'
-    plain = [text, text.replace(b'\n', b'\r\n'), example('one_point.ply'), with_lists('<'), with_lists('>'), lists, example('cube.ply'),
-             none + b'0 0 0\n', scan_of_type('<', 'short', 3), scan_of_type('>', 'uint', 2), scan_of_type('<', 'char', 1), text_of_type('int', 2, 1),
-             example('weighed.ply'), weighed('<'), weighed('>')]
-    return [(scan, []) for scan in plain] + [(example('metres.ply'), ['unit=1000', 'scanner=1,1,1']), (DECIMALS, ['unit=2'])]
-
-
-def answers() -> Any:
-    """Meshes with their certificates, each with the scan that they were built of."""
-    built = []
-    for name in ('tetrahedron.ply', 'cube.ply', 'one_point.ply'):
-        write('scan', example(name))
-        recon('build', 'scan', 'mesh', 'cert')
-        built.append((example(name), data('mesh'), data('cert')))
-    return built
-
-
-def is_told(answer: Any) -> None:
-    """The status is one of the table, with a line of its own."""
-    status, line = answer
-    if status not in LINES or not line.startswith(LINES[status]) or line.count('\n') != 1:
-        raise AssertionError(f'answered {answer!r}')
-
-
-def spoiled(draw: Any, whole: Any) -> Iterator[Any]:
-    """The bytes with each of them replaced by each of sixteen others."""
-    for place in range(len(whole)):
-        for byte in draw.sample(sorted(set(range(256)) - {whole[place]}), 16):
-            yield place, whole[:place] + bytes([byte]) + whole[place + 1:]
 
 
 def stated(file: Any, small: Any, large: Any, words: Any, line: Any) -> None:
@@ -343,23 +262,6 @@ class Program(InFolder):
         says('grid', 'wrote 8000 points to grid, 20 by 20 by 20', 'points', 'grid', 'from=-100,-100,-100', 'to=100,100,100', 'side=10')
         ends(['ask', 'scan.ply', 'grid', 'answers'], 0, 'points 4 asked 8000 inside 2680\n', ['grid'])
         says('grid', 'read 8000 answers of answers; inside 2680, volume 2680000', 'volume', 'answers', 'side=10')
-
-    def test_points_cut_and_spoiled(self) -> None:
-        write('scan', example('tetrahedron.ply'))
-        write('answers', 'before')
-        others = [POINTS[:length] for length in range(len(POINTS))] + [other for _, other in spoiled(random.Random(1), POINTS)]
-        for text in others:
-            write('points', text)
-            status, line = recon('ask', 'scan', 'points', 'answers')
-            wanted = told_of_points(text)
-            equal((text, status, line[:len(wanted[1])]), (text, *wanted))
-            if status == 3:
-                equal(read('answers'), 'before')
-            else:
-                answers = read('answers').split('\n')
-                equal((answers[0], len(answers) - 2), ('answers ' + line.split()[3], int(line.split()[3])))
-                equal(answers.count('inside'), int(line.split()[5]))
-                write('answers', 'before')
 
     def test_surfaces_at_rising_weights(self) -> None:
         write('scan.ply', example('tetrahedron.ply'))
@@ -586,50 +488,6 @@ class Program(InFolder):
         line = f'inside 0 faces 0 cost {rows * 65535}\n'
         equal(recon('build', 'scan', 'mesh', 'cert', *options), (0, f'points 1 scanners 1 sights {rows} {line}'))
         equal(recon('check', 'scan', 'mesh', 'cert', *options), (0, f'yes {line}'))
-
-    def test_scans_cut_anywhere(self) -> None:
-        for number, (scan, options) in enumerate(scans()):
-            write('whole', scan)
-            equal((number, recon('cells', 'whole', 'out', *options)[0]), (number, 0))
-            write('out', 'before')
-            for length in range(len(scan)):
-                write('cut', scan[:length])
-                answer = recon('cells', 'cut', 'out', *options)
-                is_told(answer)
-                if answer[0] == 3:
-                    equal(read('out'), 'before')
-                elif scan[length:].strip(b'0123456789. \r\n'):
-                    raise AssertionError(f'scan {number} cut at {length}: {answer!r}')
-                else:
-                    write('out', 'before')
-
-    def test_files_of_an_answer_cut_anywhere(self) -> None:
-        for scan, mesh, cert in answers():
-            for name, bytes_ in (('scan', scan), ('mesh', mesh), ('cert', cert)):
-                write(name, bytes_)
-            for length in range(len(mesh)):
-                write('cut', mesh[:length])
-                equal(recon('check', 'scan', 'cut', 'cert'), (1, f'no 15 mesh_differs at {length}\n'))
-            for length in range(len(cert)):
-                write('cut', cert[:length])
-                status, line = recon('check', 'scan', 'mesh', 'cut')
-                equal((status, line[:5]), (1, 'no 3 ' if not line.startswith('no 1 ') else 'no 1 '))
-
-    def test_spoiled_bytes(self) -> None:
-        draw = random.Random(1)
-        scan, mesh, cert = answers()[2]
-        for _, other in spoiled(draw, scan):
-            write('spoiled', other)
-            is_told(recon('cells', 'spoiled', 'out'))
-        write('mesh', mesh)
-        write('cert', cert)
-        for place, other in spoiled(draw, mesh):
-            write('spoiled', other)
-            equal(recon('check', 'scan', 'spoiled', 'cert'), (1, f'no 15 mesh_differs at {place}\n'))
-        for _, other in spoiled(draw, cert):
-            write('spoiled', other)
-            status, line = recon('check', 'scan', 'mesh', 'spoiled')
-            equal((status, line[:3], line.count('\n')), (1, 'no ', 1))
 
     def test_memory_follows_the_bytes(self) -> None:
         cells = ['cells', 'stated', 'out']
