@@ -52,7 +52,7 @@ attack:
 # Tries to make the built program and the Python tools fail, beside the model of dev/model and the reference program (ten minutes, or MINUTES;
 # another SEED makes other cases). The smallest case of each failure is kept in fuzz_failures/, and printed as a command.
 fuzz: recon reference
-	python3 dev/fuzz seed=$(or $(SEED),1) minutes=$(or $(MINUTES),10)
+	$(PYTHON) dev/fuzz seed=$(or $(SEED),1) minutes=$(or $(MINUTES),10)
 
 # Builds the unverified reference program of dev/reference, where there is cargo (less than a minute the first time).
 reference:
@@ -64,7 +64,7 @@ try:
 	@command -v cargo >/dev/null || { echo "make try needs cargo (Debian: apt-get install cargo)"; exit 1; }
 	@echo "This builds the unverified reference program, which writes the same mesh as recon. make run proves and builds recon itself."
 	@$(MAKE) --no-print-directory reference
-	python3 dev/try.py $(REFERENCE)
+	$(PYTHON) dev/try.py $(REFERENCE)
 
 # Times calls of linked cells and walks along sights at 100,000 points, then build and check on scans of 10,000 to 1,000,000 points, run by run
 # with the unverified reference program where there is cargo, or with BESIDE=PROGRAM, and prints a table like those of docs/performance.md (some
