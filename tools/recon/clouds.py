@@ -106,8 +106,9 @@ def lone_points(points: np.ndarray, factor: float = 4.0) -> np.ndarray:
 
 def surrounding(points: np.ndarray, scanner: np.ndarray) -> float:
     """Returns in which part of 200 directions around a scanner there are points: about 1 in a room, under 0.6 outdoors."""
-    way = points - scanner
-    long = np.linalg.norm(way, axis=1)
+    with np.errstate(over='ignore', invalid='ignore'):
+        way = points - scanner
+        long = np.linalg.norm(way, axis=1)
     is_usual = (long > 0) & (long < 1e150)
     way = way[is_usual] / long[is_usual][:, None]
     if not len(way):

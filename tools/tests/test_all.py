@@ -196,7 +196,8 @@ class All(InFolder):
         for words in ([], ['side=0.5']):
             done = subprocess.run([sys.executable, '-c', measure, PACKAGE, 'scan', 'in.ply', 'out.ply'] + words,
                                   capture_output=True, text=True)
-            equal((words, done.returncode, int(done.stdout) < 60000), (words, 0, True))
+            # numpy and scipy take some 50 MB of these
+            equal((words, done.returncode, int(done.stdout) < 75000), (words, 0, True))
             equal(read('out.ply')[:400].count('element vertex 200000\n'), 1)
 
     def test_scans_that_are_made(self) -> None:

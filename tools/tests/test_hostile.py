@@ -127,6 +127,12 @@ class Hostile(InFolder):
         write('images.bin', struct.pack('<Q', 1) + pose + b'a\0' + struct.pack('<Q', 0))
         is_error('is not finite', 'scan', 'fused.ply', 'out.ply', 'images=images.bin')
 
+    def test_points_that_are_far_out_within_eight_others(self) -> None:
+        write('in.xyz', '0 0 0\n1e200 1 2\n-1e308 1 1e308\n')
+        for place in ('1,2,3', '1e300,-1e300,0'):
+            status, said, error = call('scan', f'in.xyz={place}', 'out.ply', 'surround=5')
+            equal((status, 'wrote 11 points and 9 scanners' in said, error), (0, True, ''))
+
     def test_a_las_whose_scale_is_not_finite(self) -> None:
         good = las(2, 0, [struct.pack('<iiiHBBbBH', 1, 2, 3, 4, 5, 6, 7, 8, 9)])
         for at in (131, 155, 171):
