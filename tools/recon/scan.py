@@ -63,7 +63,6 @@ from typing import Any, Callable, Dict, Optional, Sequence
 
 import numpy as np
 
-from recon.clouds import surrounding
 from recon.toolbox.ply_text import SCANNER_LIMIT, Refusal, Writer, whole_file
 from recon.toolbox.scan_source import source_of
 from recon.toolbox.sieve import SIEVING, Passage, Sieve
@@ -110,6 +109,8 @@ class Sample:
 
     def surrounded(self, source: Source, positions: Sequence[Sequence[str]]) -> float:
         """In which part of the directions around the scanner with the most points there are points."""
+        # scipy takes a while to load, and is not needed otherwise
+        from recon.clouds import surrounding
         assert source.scanner is not None
         seen_by = [words[source.scanner].split()[-1] for words in self.rows]
         busiest = max(set(seen_by), key=seen_by.count) if len(set(seen_by)) < 1000 else seen_by[0]

@@ -13,8 +13,6 @@ from typing import Any, Iterator, Sequence
 
 import numpy as np
 
-from recon.clouds import spacing
-from recon.sights import along_normals
 from recon.toolbox.ply_text import IS_NOT_FINITE, IS_NUMBER, Property, Refusal
 from recon.toolbox.point_files import has_rows, open_points
 from recon.toolbox.sieve import Mover, Passage, length_of
@@ -121,6 +119,9 @@ class Cloud:
 
     def scanners(self, word: str | None) -> tuple[float, np.ndarray, np.ndarray]:
         """How far off scanners stand, where, and the number of the scanner of each point."""
+        # scipy takes a while to load, and is not needed otherwise
+        from recon.clouds import spacing
+        from recon.sights import along_normals
         points, ways = (np.stack([np.frombuffer(column) for column in columns], axis=1) for columns in (self.places, self.directions))
         far = length_of(word, 'far', 'how far off scanners stand') if word else spacing(points).distance or spacing(np.unique(points, axis=0)).distance
         if not far:
