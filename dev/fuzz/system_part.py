@@ -270,7 +270,7 @@ class Part:
         self.folder.put(before)
         done, after = self.folder.run(words), self.folder.look()
         self.tally.runs += 1
-        wanted = {**before, **{o: command.whole[o] for o in command.outputs[:k]}}
+        wanted = {**before, **{o: command.whole[o] or b'' for o in command.outputs[:k]}}
         if done.status != 4 or done.out or after != wanted or not done.err.startswith(b'recon: '):
             self.tally.fail(f'an output that cannot be written, {command.name}', words, before, f'{done}; files {sorted(after)}')
 
@@ -382,13 +382,14 @@ class Part:
             return text.startswith(b'recon certificate 2\n') and text.endswith(b'end\n')
 
         full = {'in': data, 'm': mesh, 'c': one}
-        for words, files, wanted in (
+        trials: list[tuple[list[str], Files, dict[str, Callable[[bytes], object]]]] = [
                 (['build', 'in', './in', 'c', *options], {'in': data}, {'in': mesh.__eq__, 'c': is_certificate}),
                 (['build', 'in', 'm', './m', *options], {'in': data}, {'in': data.__eq__, 'm': is_certificate}),
                 (['build', 'in', 'm', './in', *options], {'in': data}, {'in': is_certificate, 'm': mesh.__eq__}),
                 (['upgrade', 'in', 'm', 'c', './c', *options], full, {'c': cert.__eq__, 'm': mesh.__eq__, 'in': data.__eq__}),
                 (['export', 'm', './m', 'o', 'p'], {'m': mesh}, {'m': mesh.__eq__}),
-                (['sweep', 'in', '1', '1', '2', './in', 'o', 'vote=3'], {'in': data}, {'in': mesh.__eq__})):
+                (['sweep', 'in', '1', '1', '2', './in', 'o', 'vote=3'], {'in': data}, {'in': mesh.__eq__})]
+        for words, files, wanted in trials:
             self.folder.put(files)
             done, after = self.folder.run([self.context.recon, *words]), self.folder.look()
             self.tally.runs += 1
