@@ -25,7 +25,7 @@ OPTIONS = ['Unit=1', 'UNIT=1', 'unit =1', 'unit= 1', ' unit=1', 'unit=1 ', 'unit
            'scanner=,1,2', 'scanner', 'smooth=-0', 'smooth=00000000000']
 GOOD = {'cells': ['in', 'o1'], 'build': ['in', 'o1', 'o2'], 'check': ['in', 'm', 'c'], 'upgrade': ['in', 'm', 'c', 'o1'], 'ask': ['in', 'q', 'o1'],
         'slice': ['m', '0', 'o1'], 'export': ['m', 'o1', 'o2', 'o3'], 'demo': ['4', '1'], 'sweep': ['in', '0', '1', '2', 'o1', 'o2']}
-OPTIONS_OF = {**{name: allowed for name, (_, allowed) in NAMES.items()}, 'sweep': ('unit', 'vote', 'scanner')}
+OPTIONS_OF: dict[str, Sequence[str]] = {**{name: allowed for name, (_, allowed) in NAMES.items()}, 'sweep': ('unit', 'vote', 'scanner')}
 MOST_DEMO_ROWS, MOST_SURFACES = 40, 20
 
 
@@ -164,15 +164,17 @@ def words_once(context: Context, tally: Tally, folder: Folder, bases: Sequence[d
     if is_long(words):
         return
     files = {**draw.choice(bases), **{name: OLD for name in ('o1', 'o2') if draw.random() < 0.3}}
-    name: Optional[str | bytes] = draw.choice([None] * 6 + ['recon', b'\xff\xfe', 'build', 'unit=1'])
+    names: list[Optional[str | bytes]] = [*[None] * 6, 'recon', b'\xff\xfe', 'build', 'unit=1']
+    name = draw.choice(names)
     done, _ = judge(context, tally, 'arguments', folder, words, files, 300, name)
     if done.status == 2 and not done.err.startswith(b'usage: recon '):
         tally.fail('no usage', [context.recon, *words], files, str(done))
 
 
 def run(context: Context, tally: Tally) -> None:
+    kinds: list[tuple[str, list[str], bytes]] = [('decimals', [], b'1 2 3 0 0 0'), ('fixed', ['scanner=1,1,1', 'unit=100'], b'.1 0 .1 1 1 1')]
     folder, bases = Folder(), []
-    for kind, options, points in (('decimals', [], b'1 2 3 0 0 0'), ('fixed', ['scanner=1,1,1', 'unit=100'], b'.1 0 .1 1 1 1')):
+    for kind, options, points in kinds:
         mesh, _, cert = texts_of(SCANS[kind].data, options)
         bases.append({'in': SCANS[kind].data, 'm': mesh, 'c': cert, 'q': points})
     while not context.is_over():

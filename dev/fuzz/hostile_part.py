@@ -66,8 +66,8 @@ def lies() -> list[Lie]:
     for name, text in (('a mesh of 2^32 - 1 points', re.sub(rb'vertex \d+', b'vertex 4294967295', mesh)),
                        ('a mesh of 2^32 - 1 faces', re.sub(rb'face \d+', b'face 4294967295', mesh)), ('a mesh of one line', b'ply' + b'x' * 20 * MB)):
         found += [Lie(name, ['slice', 'm', '0', 'o'], {'m': text}, None), Lie(name, ['export', 'm', 'o', 'p', 'r'], {'m': text}, None)]
-    for name in (b'inside', b'flow', b'sink'):
-        text = re.sub(name + rb' \d+', name + b' 18446744073709551615', cert)
+    for rows in (b'inside', b'flow', b'sink'):
+        text = re.sub(rows + rb' \d+', rows + b' 18446744073709551615', cert)
         found.append(Lie('2^64 - 1 rows of a certificate', ['check', 'in', 'm', 'c', *options], {'in': data, 'm': mesh, 'c': text}, None))
     for text in (b'recon certificate 1\n' + b'x' * 20 * MB, b'recon certificate 1\npoints ' + b'0' * 20 * MB + b'5\n'):
         found.append(Lie('a certificate of 20 MB', ['check', 'in', 'm', 'c', *options], {'in': data, 'm': mesh, 'c': text}, None))

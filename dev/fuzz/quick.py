@@ -58,7 +58,7 @@ def by_insertion(vertices: Sequence[Point]) -> list[Cell]:
     growing = Growing(vertices)
     for new in range(8, len(vertices)):
         growing.insert(new)
-    return sorted({(a, b, c, d) for a, b, c, d in map(sorted, growing.owner.values())})
+    return sorted({(a, b, c, d) for a, b, c, d in (sorted(cell) for cell in growing.owner.values())})
 
 
 class QuickCells(Cells):
@@ -117,7 +117,8 @@ class Levels(Residual):
 
     def send_all(self, level: dict[int, int]) -> None:
         """Sends along ascending paths until there is none."""
-        used, way, u = dict.fromkeys(self.leaving, 0), [], FROM
+        used, u = dict.fromkeys(self.leaving, 0), FROM
+        way: list[int] = []
         while True:
             if u == TO:
                 self.send(way)

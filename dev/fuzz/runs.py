@@ -90,7 +90,7 @@ class Folder:
         err_read, err_write = os.pipe()
         nothing = os.open(os.devnull, os.O_RDONLY)
         actions = [(os.POSIX_SPAWN_DUP2, nothing, 0), (os.POSIX_SPAWN_DUP2, out_write, 1), (os.POSIX_SPAWN_DUP2, err_write, 2)]
-        pid = os.posix_spawn(path or argv[0], argv, ENVIRONMENT, file_actions=actions,
+        pid = os.posix_spawn(path or argv[0], list(argv), ENVIRONMENT, file_actions=actions,
                              setsigdef=[signal.SIGPIPE, signal.SIGXFSZ, signal.SIGALRM])
         for descriptor in (nothing, out_write, err_write):
             os.close(descriptor)

@@ -168,7 +168,7 @@ def outward(points: Points) -> Points:
 
 def far_corners(points: Points) -> Points:
     far = max(1, *(abs(w) for p in points for w in p))
-    return [clipped(times(3 * far, corner)) for corner in itertools.product((-1, 1), repeat=3)]
+    return [clipped((3 * far * x, 3 * far * y, 3 * far * z)) for x, y, z in itertools.product((-1, 1), repeat=3)]
 
 
 def drawn_scan(draw: Draw, n: int, kind: Optional[str] = None) -> Drawn:

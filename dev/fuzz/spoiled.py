@@ -54,6 +54,47 @@ class Sheet:
         rows = [row for row in self.lists[name] if row[:-1] != list(key)]
         self.lists[name] = sorted(rows + ([[*key, amount]] if amount > 0 else []), key=lambda row: row[:-1])
 
+    def add_one(self, name: str, key: Sequence[int]) -> None:
+        self.put(name, key, self.amount(name, key) + 1)
+
+    def repeat(self, name: str, k: int, count: int) -> None:
+        """Has a row so many times."""
+        self.lists[name][k:k + 1] = [list(row) for row in self.lists[name][k:k + 1] * count]
+
+    def exchange(self, name: str, k: int) -> None:
+        self.lists[name][k:k + 2] = self.lists[name][k:k + 2][::-1]
+
+    def turn(self, name: str, k: int) -> None:
+        self.lists[name][k:k + 1] = [[row[0], row[2], row[1], *row[3:]] for row in self.lists[name][k:k + 1]]
+
+    def sort_as_text(self, name: str) -> None:
+        self.lists[name].sort(key=lambda row: ' '.join(map(str, row)))
+
+    def reverse(self, name: str) -> None:
+        self.lists[name].reverse()
+
+    def state(self, name: str, count: int) -> None:
+        self.stated[name] = count
+
+    def set_cost(self, cost: int) -> None:
+        self.cost = cost
+
+    def set_count(self, k: int, count: Any) -> None:
+        self.counts[k] = count
+
+    def set_stamp(self, k: int, word: str) -> None:
+        if self.stamp is not None:
+            self.stamp[k] = word
+
+    def drop_stamp(self) -> None:
+        self.stamp = None
+
+    def insert(self, name: str, row: Row) -> None:
+        """Puts a row in its place in the order, as far as there is one."""
+        rows = [*self.lists[name], list(row)]
+        is_odd = any(isinstance(word, str) for each in rows for word in each)
+        self.lists[name] = sorted(rows, key=lambda each: [str(word) if is_odd else word for word in each])
+
 
 class Change(NamedTuple):
     name: str
@@ -89,8 +130,8 @@ def circles(network: Network) -> list[list[Facet]]:
                 around.setdefault((a, b), []).append(f)
     for facets in around.values():
         turn = {ends[f][0]: f for f in facets}
-        way, k = [], next(iter(turn))
-        first = k
+        way: list[Facet] = []
+        k = first = next(iter(turn))
         while k in turn and len(way) <= len(turn):
             way.append(turn[k])
             k = ends[turn[k]][1]
@@ -110,37 +151,36 @@ class Changes:
         for part in (self.amounts, self.orders, self.flows, self.labels, self.heads, self.rows_of_nothing, self.words):
             part()
 
-    def add(self, name: str, apply: Callable[[Sheet], Any]) -> None:
-        self.found.append(Change(name, lambda sheet: apply(sheet)))
+    def add(self, name: str, apply: Callable[..., None], *words: Any) -> None:
+        """A change that calls `apply` with the certificate and these words."""
+        self.found.append(Change(name, lambda sheet: apply(sheet, *words)))
 
     def amounts(self) -> None:
         """Another amount in a row of flow or sink."""
         for name in ('flow', 'sink'):
             for row in self.base.lists[name]:
                 for new in (row[-1] + 1, row[-1] - 1, 1, 1 << 63, U64):
-                    self.add(f'amount of {name}', lambda s, name=name, key=row[:-1], new=new: s.put(name, key, new))
+                    self.add(f'amount of {name}', Sheet.put, name, row[:-1], new)
 
     def orders(self) -> None:
         """Rows left out, twice, exchanged, turned round."""
         for name, rows in self.base.lists.items():
             for k in range(len(rows)):
                 for count in (0, 2):
-                    self.add(f'{name} row {count} times', lambda s, n=name, k=k, c=count: s.lists[n].__setitem__(
-                        slice(k, k + 1), [list(row) for row in s.lists[n][k:k + 1] * c]))
-                self.add(f'{name} rows exchanged', lambda s, n=name, k=k: s.lists[n].__setitem__(slice(k, k + 2), s.lists[n][k:k + 2][::-1]))
-                self.add(f'{name} row turned', lambda s, n=name, k=k: s.lists[n].__setitem__(
-                    slice(k, k + 1), [[row[0], row[2], row[1], *row[3:]] for row in s.lists[n][k:k + 1]]))
-            self.add('in another order', lambda s, n=name: s.lists[n].sort(key=lambda row: ' '.join(map(str, row))))
-            self.add('in another order', lambda s, n=name: s.lists[n].reverse())
+                    self.add(f'{name} row {count} times', Sheet.repeat, name, k, count)
+                self.add(f'{name} rows exchanged', Sheet.exchange, name, k)
+                self.add(f'{name} row turned', Sheet.turn, name, k)
+            self.add('in another order', Sheet.sort_as_text, name)
+            self.add('in another order', Sheet.reverse, name)
             for count in (len(rows) + 1, max(0, len(rows) - 1), 10 ** 6, 2 ** 64 - 1, 2 ** 64):
-                self.add('count of rows', lambda s, n=name, c=count: s.stated.__setitem__(n, c))
+                self.add('count of rows', Sheet.state, name, count)
 
     def flows(self) -> None:
         """At and over capacities, to another sink, over other facets, and round in a circle."""
         capacity = {arc.facet: arc.capacity for arc in self.network.arcs}
         for arc in self.network.arcs:
             for amount in (arc.capacity, arc.capacity + 1, self.base.amount('flow', arc.facet) + 1):
-                self.add('flow over a facet', lambda s, f=arc.facet, a=amount: s.put('flow', f, a))
+                self.add('flow over a facet', Sheet.put, 'flow', arc.facet, amount)
             own, across = self.rows[arc.own], self.rows[arc.across]
             if self.network.sink[arc.across]:
                 def moved(s: Sheet, f: Facet = arc.facet, own: Any = own, across: Any = across) -> None:
@@ -150,7 +190,7 @@ class Changes:
 
                 self.add('a unit to another sink', moved)
         for f in self.network.cells.owner:
-            self.add('flow over any facet', lambda s, f=f: s.put('flow', f, s.amount('flow', f) + 1))
+            self.add('flow over any facet', Sheet.add_one, 'flow', f)
         for way in circles(self.network):
             room = min(capacity[f] - self.base.amount('flow', f) for f in way)
             for amount in {1, room, room + 1}:
@@ -172,17 +212,17 @@ class Changes:
         others = [most, frozenset[int](), free] + [inside | {k} for k in most - inside] + [inside ^ {k} for k in range(len(self.rows))]
         others += [(inside - {self.draw.choice(sorted(inside))}) | {k} for k in range(0, len(self.rows), 3) if inside]
         for labels, own_cost in itertools.product(others, (False, True)):
-            self.add('labels', lambda s, labels=labels, own=own_cost: put(s, labels, own))
+            self.add('labels', put, labels, own_cost)
         for row in self.rows:
-            self.add('sink of any cell', lambda s, row=row: s.put('sink', row, s.amount('sink', row) + 1))
+            self.add('sink of any cell', Sheet.add_one, 'sink', row)
 
     def heads(self) -> None:
         """Counts, cost and stamp."""
         for cost in (0, self.base.cost + 1, max(0, self.base.cost - 1), self.base.cost + 1000, U64):
-            self.add('cost', lambda s, cost=cost: setattr(s, 'cost', cost))
+            self.add('cost', Sheet.set_cost, cost)
         for k in range(5):
             for count in (0, 1, self.base.counts[k] + 1, U32, U32 + 1, '01', '-1', ''):
-                self.add('counts', lambda s, k=k, count=count: s.counts.__setitem__(k, count))
+                self.add('counts', Sheet.set_count, k, count)
         if self.base.stamp is None:
             return
         digest = self.base.stamp[0]
@@ -190,8 +230,8 @@ class Changes:
         places = ['none', '0 0 0', '1 2 3', f'{LIMIT} -{LIMIT} 0', f'{LIMIT + 1} 0 0', '-0 0 0', '1 2', '1 2 3 4', 'None', '+1 2 3']
         for k, values in enumerate((digests, ['0', '1', '2', '1000000', '1000001', '01', 'x'], places)):
             for new in values:
-                self.add('stamp', lambda s, k=k, new=new: s.stamp and s.stamp.__setitem__(k, new))
-        self.add('stamp', lambda s: setattr(s, 'stamp', None))
+                self.add('stamp', Sheet.set_stamp, k, new)
+        self.add('stamp', Sheet.drop_stamp)
 
     def rows_of_nothing(self) -> None:
         """A row of what is no cell or no facet."""
@@ -202,8 +242,7 @@ class Changes:
             numbers = draw.sample(range(n), width) if draw.random() < 0.7 else [draw.choice(odd) for _ in range(width)]
             key = sorted(numbers) if width == 4 or draw.random() < 0.5 else list(rotated(*numbers))
             row = key if name == 'inside' else [*key, draw.choice([1, 1, 2, U64])]
-            self.add('a row of nothing', lambda s, n=name, row=row, w=width: s.lists.__setitem__(
-                n, sorted([*s.lists[n], list(row)], key=lambda r: list(map(str, r[:w])) if any(isinstance(v, str) for v in r) else r[:w])))
+            self.add('a row of nothing', Sheet.insert, name, row)
 
     def words(self) -> None:
         """A word of a row that is spelled otherwise or is no number."""

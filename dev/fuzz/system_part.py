@@ -71,11 +71,12 @@ def commands(context: Context, folder: Folder, points: int = 0) -> list[Command]
         mesh, _, cert = texts_of(data, options)
     base = {'in': data, 'm': mesh, 'c': cert, 'q': b'1 2 3 0 0 0 9 9 9\n' * (4000 if points else 1)}
     sweep = [o for o in options if not o.startswith('smooth')]
-    made = [('cells', ['cells', 'in', 'x1'], ['in'], 1), ('build', ['build', 'in', 'x1', 'x2', *options], ['in'], 2),
-            ('check', ['check', 'in', 'm', 'c', *options], ['in', 'm', 'c'], 0),
-            ('upgrade', ['upgrade', 'in', 'm', 'c', 'x1', *options], ['in', 'm', 'c'], 1), ('ask', ['ask', 'in', 'q', 'x1', *options], ['in', 'q'], 1),
-            ('sweep', ['sweep', 'in', '0', '1', '3', *OUTPUTS, *sweep], ['in'], 3), ('slice', ['slice', 'm', '0', 'x1'], ['m'], 1),
-            ('export', ['export', 'm', *OUTPUTS], ['m'], 3), ('demo', ['demo', '5', '7'], [], 0)]
+    made: list[tuple[str, list[str], list[str], int]] = [
+        ('cells', ['cells', 'in', 'x1'], ['in'], 1), ('build', ['build', 'in', 'x1', 'x2', *options], ['in'], 2),
+        ('check', ['check', 'in', 'm', 'c', *options], ['in', 'm', 'c'], 0),
+        ('upgrade', ['upgrade', 'in', 'm', 'c', 'x1', *options], ['in', 'm', 'c'], 1), ('ask', ['ask', 'in', 'q', 'x1', *options], ['in', 'q'], 1),
+        ('sweep', ['sweep', 'in', '0', '1', '3', *OUTPUTS, *sweep], ['in'], 3), ('slice', ['slice', 'm', '0', 'x1'], ['m'], 1),
+        ('export', ['export', 'm', *OUTPUTS], ['m'], 3), ('demo', ['demo', '5', '7'], [], 0)]
     found = [Command(context, folder, name, words, {k: base[k] for k in inputs}, OUTPUTS[:n]) for name, words, inputs, n in made]
     if not points:
         found += [Command(context, folder, 'a mesh that is rejected', ['check', 'in', 'm', 'c', *options], {**base, 'm': mesh + b'x'}, []),
@@ -270,7 +271,7 @@ class Part:
         self.folder.put(before)
         done, after = self.folder.run(words), self.folder.look()
         self.tally.runs += 1
-        wanted = {**before, **{o: command.whole[o] for o in command.outputs[:k]}}
+        wanted = {**before, **{o: command.whole[o] or b'' for o in command.outputs[:k]}}
         if done.status != 4 or done.out or after != wanted or not done.err.startswith(b'recon: '):
             self.tally.fail(f'an output that cannot be written, {command.name}', words, before, f'{done}; files {sorted(after)}')
 
@@ -301,11 +302,12 @@ class Part:
             except OSError:
                 pass
 
-        feeder = threading.Thread(target=feed)
+        feeder = threading.Thread(target=feed, daemon=True)
         feeder.start()
         self.folder.put(rest)
         done = self.folder.run([path if word == name else word for word in command.argv])
-        feeder.join()
+        os.close(os.open(path, os.O_RDONLY | os.O_NONBLOCK))       # (so that the feeder ends if nobody has read)
+        feeder.join(20)
         os.unlink(path)
         self.judge('an input through a pipe', command, rest, done, (command.good.status,), [f'pipe={name}'])
 
@@ -319,10 +321,12 @@ class Part:
             with open(path, 'rb') as file:
                 got.append(file.read())
 
-        reader = threading.Thread(target=drain)
+        reader = threading.Thread(target=drain, daemon=True)
         reader.start()
         self.folder.put(command.files)
         done = self.folder.run([path if word == name else word for word in command.argv])
+        if reader.is_alive() and done.status != 0:
+            os.close(os.open(path, os.O_WRONLY | os.O_NONBLOCK))       # (so that the reader ends if nobody has written)
         reader.join(20)
         os.unlink(path)
         self.judge('an output through a pipe', command, command.files, done, (0,), [f'pipe={name}'], {**self.folder.look(), name: b''.join(got)})
@@ -382,13 +386,14 @@ class Part:
             return text.startswith(b'recon certificate 2\n') and text.endswith(b'end\n')
 
         full = {'in': data, 'm': mesh, 'c': one}
-        for words, files, wanted in (
+        trials: list[tuple[list[str], Files, dict[str, Callable[[bytes], object]]]] = [
                 (['build', 'in', './in', 'c', *options], {'in': data}, {'in': mesh.__eq__, 'c': is_certificate}),
                 (['build', 'in', 'm', './m', *options], {'in': data}, {'in': data.__eq__, 'm': is_certificate}),
                 (['build', 'in', 'm', './in', *options], {'in': data}, {'in': is_certificate, 'm': mesh.__eq__}),
                 (['upgrade', 'in', 'm', 'c', './c', *options], full, {'c': cert.__eq__, 'm': mesh.__eq__, 'in': data.__eq__}),
                 (['export', 'm', './m', 'o', 'p'], {'m': mesh}, {'m': mesh.__eq__}),
-                (['sweep', 'in', '1', '1', '2', './in', 'o', 'vote=3'], {'in': data}, {'in': mesh.__eq__})):
+                (['sweep', 'in', '1', '1', '2', './in', 'o', 'vote=3'], {'in': data}, {'in': mesh.__eq__})]
+        for words, files, wanted in trials:
             self.folder.put(files)
             done, after = self.folder.run([self.context.recon, *words]), self.folder.look()
             self.tally.runs += 1

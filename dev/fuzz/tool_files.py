@@ -125,8 +125,9 @@ def scan_jobs() -> list[Job]:
     normals = ply('', 'float x float y float z float nx float ny float nz', NORMALS)
     fused = ply('<', 'float x float y float z float nx float ny float nz uchar red', [(*p, 0, 0, 1, 9) for p in POINTS[:3]])
     colmap = {'in': fused, 'in.vis': VISIBLE, 'i.bin': IMAGES, 'i.txt': IMAGES_TEXT}
+    sieves: list[list[str]] = [[], ['side=0.5'], ['from=-5,-5,-5', 'to=5,5,5'], ['origin=0.5,1e1,-3'], ['surround=5']]
     found = []
-    for more in ([], ['side=0.5'], ['from=-5,-5,-5', 'to=5,5,5'], ['origin=0.5,1e1,-3'], ['surround=5']):
+    for more in sieves:
         found += [Job('text PLY', 'scan', ['in', 'out', *more], {'in': text}, 'in'), Job('PTX', 'scan', ['in', 'out', *more], {'in': PTX}, 'in'),
                   Job('list', 'scan', ['in=1,2,3', 'out', *more], {'in': XYZ}, 'in'),
                   Job('PCD text', 'scan', ['in', 'out', *more], {'in': pcd('ascii')}, 'in'),
@@ -151,7 +152,7 @@ def scan_jobs() -> list[Job]:
 def jobs() -> list[Job]:
     scan = colored_scan()
     mesh = texts_of(scan, [])[0]
-    finishing = (('out.ply', []), ('out.stl', ['unit=10']), ('out.glb', ['pieces=1', 'by=volume', 'origin=1,2,3']), ('out.ply', ['smooth=2', 'within=3']),
+    finishing: tuple[tuple[str, list[str]], ...] = (('out.ply', []), ('out.stl', ['unit=10']), ('out.glb', ['pieces=1', 'by=volume', 'origin=1,2,3']), ('out.ply', ['smooth=2', 'within=3']),
                  ('out.ply', ['manifold=yes', 'flips=no']))
     return scan_jobs() + [Job('mesh', 'finish', ['in', out, *more], {'in': mesh}, 'in') for out, more in finishing] + [
         Job('scan', 'finish', ['in', 'out.ply', 'scan=s'], {'in': mesh, 's': scan}, 's'),
