@@ -34,6 +34,89 @@ pub record IsBoth (a b : ℕ) : Type 0 where
 abbrev pub IsOther : ℕ → Type 0
 IsOther n = numbers.other n ≡ n
 """
+WEIGHTS = """use Rattle.std.specs.Prelude.{ℕ, ◌≤◌}
+use Rattle.low.specs.Numbers.{
+  other,
+}
+use Rattle.low.specs.declared.limits.TheConstants.{MOST}
+use Rattle.low.specs.declared.limits.Kind.TheVariants.{Small as little}
+
+-- of a section
+use Rattle.std.specs.List.{sum_by}
+
+-- at most MOST,
+-- whatever it is
+pub record IsFew (n : ℕ) : Type 0 where
+  -- the bound
+  pub few : other n ≤ MOST little
+"""
+LIMITS = """/// Sizes.
+#[derive(Clone)]
+pub enum Kind {
+    /// little
+    Small,
+}
+
+pub const MOST: u8 = 8;
+"""
+SOURCE = """# Few: {count}, {lines} lines
+
+{contents}
+
+`ℕ` and `≤`, `≡` are known.
+
+## Numbers & `others`
+
+| Crate | File | Definition | What it says |
+|---|---|---|---|
+| `low` | `Numbers` | `other` | The next number. |
+| `low` | `src/limits.rt` | `MOST` | Eight. |
+| `low` | `src/limits.rt` | `Kind` | One kind. |
+| `high` | `Weights` | `IsFew` | At most 8. |
+"""
+PAGE = believed.PRINTED + """
+# Few: 2, 4 lines
+
+- [Numbers & `others`](#numbers--others)
+
+`ℕ` and `≤`, `≡` are known.
+
+## Numbers & `others`
+
+**`other`** (`low`, `Numbers`). The next number.
+
+```text
+-- the other one
+abbrev pub other : ℕ → ℕ
+other n = n + 1
+```
+
+**`MOST`** (`low`, `src/limits.rt`). Eight.
+
+```text
+pub const MOST: u8 = 8;
+```
+
+**`Kind`** (`low`, `src/limits.rt`). One kind.
+
+```text
+/// Sizes.
+pub enum Kind {
+    /// little
+    Small,
+}
+```
+
+**`IsFew`** (`high`, `Weights`). At most 8.
+
+```text
+-- at most MOST,
+-- whatever it is
+pub record IsFew (n : ℕ) : Type 0 where
+  -- the bound
+  pub few : other n ≤ MOST little
+```
+"""
 CODE = """ghost use Rattle.high.specs.Both.{IsBoth as AreBoth, IsOther};
 
 pub fn first(a: u32)
@@ -62,6 +145,31 @@ class Believed(InFolder):
             equal(believed.told('high', 'src/lib.rt', 'second'), f'`second`: {second}')
         finally:
             believed.CRATES = crates
+
+    def test_the_page_for_auditors_is_printed(self) -> None:
+        for name, text in (('low/specs/Numbers.antt', LOW), ('high/specs/Weights.antt', WEIGHTS), ('low/src/limits.rt', LIMITS)):
+            os.makedirs(os.path.dirname(name), exist_ok=True)
+            write(name, text.encode())
+        crates, believed.CRATES = believed.CRATES, pathlib.Path.cwd()
+        try:
+            audited = believed.Audited([('high', 'Weights', 'IsFew')])
+        finally:
+            believed.CRATES = crates
+        equal(believed.audit_page(SOURCE, audited), (PAGE, []))
+        for old, new, faults in (
+                ('| `low` | `Numbers` | `other` | The next number. |\n', '', ['high Weights IsFew comes before low Numbers other, which it uses',
+                                                                              'low Numbers other has no sentence']),
+                ('`MOST`', '`LEAST`', ['low src/limits.rt LEAST has a sentence and is not used',
+                                       'high Weights IsFew comes before low src/limits.rt MOST, which it uses',
+                                       'low src/limits.rt MOST has no sentence']),
+                ('| `high`', '| `low` | `Numbers` | `other` | Again. |\n| `high`',
+                 ['low Numbers other has a sentence twice']),
+                ('`≤`', 'less', ['the text does not explain `≤`'])):
+            equal(believed.audit_page(SOURCE.replace(old, new), audited)[1], faults)
+
+    def test_the_page_for_auditors_is_as_printed(self) -> None:
+        status, said, error = call('believed', 'audit')
+        equal((status, len(said.splitlines()), error), (0, 1, ''))
 
     def test_believed_definitions_stand_in_the_promises(self) -> None:
         promises = pathlib.Path(ROOT, 'docs', 'promises.md').read_text()
