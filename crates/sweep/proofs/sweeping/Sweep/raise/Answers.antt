@@ -38,3 +38,6 @@ invariant_of-self-2 c =
 
 pub returns-clause-largest : goal.returns-clause-largest
 returns-clause-largest c = largest_of _ _ _ _ _ _ _ _ _ _ (invariant_of-self-2 c)
+
+pub returns-in_err-flow-clause-largest : goal.returns-in_err-flow-clause-largest
+returns-in_err-flow-clause-largest c = largest_of _ _ _ _ _ _ _ _ _ _ c.self.invariant
