@@ -52,13 +52,17 @@ def call(program: str, *words: str) -> Any:
 
 def command(program: str) -> list[str]:
     """The words that run a program of tools/ or dev/, from any folder."""
-    path = os.path.join(DEV, program + '.py')
-    return [sys.executable, path] if os.path.exists(path) else [sys.executable, PACKAGE, program]
+    return [sys.executable, PACKAGE, program] if is_packed(program) else [sys.executable, os.path.join(DEV, program + '.py')]
+
+
+def is_packed(program: str) -> bool:
+    """Returns whether a program is one of the package, and not one of dev/. Both have a `surface`; the package's is meant."""
+    return program == 'surface' or not os.path.exists(os.path.join(DEV, program + '.py'))
 
 
 def spoken(program: str) -> str:
     """The name under which a program speaks."""
-    return program + '.py' if os.path.exists(os.path.join(DEV, program + '.py')) else 'recon-' + program.replace('_', '-')
+    return 'recon-' + program.replace('_', '-') if is_packed(program) else program + '.py'
 
 
 def equal(got: Any, wanted: Any) -> None:
