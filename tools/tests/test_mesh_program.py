@@ -8,6 +8,8 @@ import unittest
 from collections import Counter
 from typing import Any, Sequence
 
+import numpy as np
+
 from helpers import RECON_MESH, InFolder, equal, read, write
 from test_finish import ball, crossing_pairs, flat, mesh_text, total_angle
 
@@ -86,8 +88,9 @@ class MeshProgram(InFolder):
             equal(points, [tuple(place) for place in places])
             equal(edges_of(finished), Counter((b, a) for a, b in edges_of(finished).elements()))
             equal(set(edges_of(finished).values()), {1})
-            equal(len(crossing_pairs(places, flat(finished))) <= len(crossing_pairs(places, flat(faces))), True)
-            equal(total_angle(places, flat(finished)) < 0.9 * total_angle(places, flat(faces)), True)
+            before, after = np.array(flat(faces)), np.array(flat(finished))
+            equal(len(crossing_pairs(places, after)) <= len(crossing_pairs(places, before)), True)
+            equal(total_angle(places, after) < 0.9 * total_angle(places, before), True)
 
 
 def turned(face: Sequence[int]) -> tuple[int, ...]:
