@@ -32,7 +32,7 @@ from collections.abc import Callable, Iterator
 from report import begun, reported
 
 TOP = pathlib.Path(__file__).resolve().parent.parent
-ALLOWED = 3192
+ALLOWED = 3187
 FOR_DEVELOPERS = ('docs/contributing.md', 'docs/DECISIONS.md', 'docs/layers.md', 'docs/definitions.in.md', 'docs/surface.md', 'docs/dev/')
 TEXT = (r'(?:spaces?|bytes?|numbers?|names?|ends?|lines?|rows?|coordinates?|labels?|signs?|digits?|zeros?|minus|headers?|optional|words?|texts?|'
         r'points? of a line|counts?|values?|marks?|colons?|commas?|options?|keys?|exponents?|arguments?|first|last|second|others?|data|program)')
