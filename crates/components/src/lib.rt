@@ -4,7 +4,7 @@
 //! occurs looks at neighbors. Two numbers with one key are linked. [`components`] finds the connected components by a union-find
 //! forest (Tarjan 1975), in which each number leads to a smaller one.
 //!
-//! The numbers may be faces and the keys edges. The crate depends on none of the others.
+//! The numbers may be faces and the keys edges. The crate depends on `counting`.
 #![tactic(auto)]
 
 mod forest;
@@ -12,7 +12,7 @@ mod runs;
 mod tag;
 
 pub use forest::components;
-pub use runs::{count_keys, count_keys_but_twos, is_first, next_count};
+pub use runs::{count_keys, count_keys_but_twos, is_first};
 use std::alloc::AllocError;
 pub use tag::{Tag, sort_tags};
 

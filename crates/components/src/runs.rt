@@ -1,19 +1,12 @@
 //! How many keys there are among sorted tags, and how many occur another number of times than twice.
 
-ghost use Rattle.std.specs.Prelude.{◌≡◌, ◌≢◌, ◌<◌, ◌≤◌, ◌+◌, ◌^◌, length, if◌then◌else◌};
+ghost use Rattle.std.specs.Prelude.{◌≡◌, ◌≢◌, ◌<◌, length};
 ghost use Rattle.std.specs.Bool.{OnTrue, OnFalse};
-ghost use Rattle.components.specs.Sets.{AreSoMany};
+ghost use Rattle.counting.specs.Sets.{AreSoMany};
 ghost use Rattle.components.specs.Tags.{AreSorted, IsFirst, IsTwoAt, key_at, key_count};
 
 use crate::tag::{Tag, key};
-
-/// Returns a count, one more if something is to be counted.
-pub fn next_count(count: usize, hit: bool) -> usize
-    requires { count < 2 ^ 64 - 1 }
-    ensures { result ≡ count + (if hit then 1 else 0) }
-{
-    if hit { count + 1 } else { count }
-}
+use counting::next_count;
 
 /// Returns whether no tag before this one has its key.
 pub fn is_first(tags: &[Tag], i: usize) -> bool

@@ -5,7 +5,7 @@
 --   inspected_line points faces m   the line
 --   IsInspection mesh answer     the answer says the measures of a mesh
 --   inspect_task name            the command
-use Rattle.std.specs.Prelude.{ℕ, List, [], ◌∷◌, Option, Some, None, ◌++◌, codes, ◌≡◌, ◌<◌, length, MatchOption}
+use Rattle.std.specs.Prelude.{ℕ, List, [], ◌∷◌, Option, Some, None, ◌++◌, codes, ◌≡◌, ◌<◌, length, IfNone, IfSome}
 use Rattle.std.specs.Fmt.{signed_decimal}
 use Rattle.mesh_ply.specs.Meshes.{Surface}
 use Rattle.mesh_edges.specs.Edges.{face_at, IsBalanced, IsFirstUnbalanced}
@@ -22,8 +22,8 @@ use Rattle.mesh_cmd.specs.declared.commands.inspect.Measures.{Measures}
 -- The first edge that occurs another number of times than its reverse, if the mesh is not closed; how many faces have their three
 -- corners on one line; and six times the signed volume.
 pub record AreMeasuresOf (mesh : Surface) (m : Measures) : Type 0 where
-  pub closed :
-      MatchOption m.unbalanced (IsBalanced mesh.faces) (λ e. IsFirstUnbalanced mesh.faces e.from e.to e.there e.back)
+  pub closed : IfNone m.unbalanced (IsBalanced mesh.faces)
+  pub unbalanced : IfSome m.unbalanced (λ e. IsFirstUnbalanced mesh.faces e.from e.to e.there e.back)
   pub flat : AreSoMany (λ f. (f < length mesh.faces) × IsFlat mesh.points (face_at mesh.faces f)) m.flat_faces
   pub volume : m.six_volume ≡ six_volume mesh.points mesh.faces
 

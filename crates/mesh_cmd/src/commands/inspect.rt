@@ -111,15 +111,16 @@ fn push_closed(line: &mut Vec<u8>, unbalanced: Option<UnbalancedEdge>) -> Result
     match unbalanced {
         None => {
             line.extend_from_slice(b" closed yes")?;
+            Ok(())
         }
         Some(edge) => {
             push_labelled(line, b" closed no edge ", u64::from(edge.from))?;
             push_labelled(line, b" ", u64::from(edge.to))?;
             push_labelled(line, b" there ", u64::from(edge.there))?;
             push_labelled(line, b" back ", u64::from(edge.back))?;
+            Ok(())
         }
     }
-    Ok(())
 }
 
 /// Returns the line of `inspect`: the numbers of points and faces, and the measures.

@@ -1,5 +1,5 @@
 use Rattle.std.proofs.Common.{◌<◌, ◌≤◌}
-use Rattle.components.specs.Sets.{AreSoMany}
+use Rattle.counting.specs.Sets.{AreSoMany}
 use Rattle.components.specs.Tags.{IsFirst, IsTwoAt}
 use Rattle.components.proofs.runs.count_keys.Given as goal
 
