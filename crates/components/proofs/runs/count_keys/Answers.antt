@@ -12,7 +12,7 @@ loop-i-preserved c =
     record {
       few = grind arith;
       many =
-          number_next (λ k. IsFirst c.args.tags.now k) c.loop-i.i c.loop-i.count _ c.is_first-hit.result c.loop-i.invariant.many c.next_count.ensures
+          number_next (λ k. IsFirst c.args.tags.now k) c.loop-i.i c.loop-i.count _ c.is_first-hit.result c.loop-i.invariant.many c.next_count-count.ensures
           c.is_first-hit.ensures.yes c.is_first-hit.ensures.no;
     }
 
