@@ -31,11 +31,11 @@ equal_or_not i j =
       | inr l ↦ elim (cases_lt j i) [ inl m ↦ inr (λ e. omega (arith, e)) | inr m ↦ inl (omega arith) ]
     ]
 
-abbrev Stands : ℕ → List Tag → Type 0
+abbrev pub Stands : ℕ → List Tag → Type 0
 Stands k tags = (i : ℕ) × (i < length tags) × (key_at tags i ≡ k)
 
 -- a key that occurs stands somewhere
-found : (k : ℕ) (tags : List Tag) → key_count k tags ≢ 0 → Stands k tags
+pub found : (k : ℕ) (tags : List Tag) → key_count k tags ≢ 0 → Stands k tags
 found k [] some = absurd (some refl)
 found k (t ∷ tags) some = by (equal_or_not (key_of t) k) (λ h. found k tags h)
   where

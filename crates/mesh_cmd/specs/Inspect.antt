@@ -2,10 +2,11 @@
 --
 --   AreMeasuresOf mesh m         m are the measures of a mesh
 --   closed_text unbalanced       the part of the line on the first unbalanced edge
+--   counts_text, volume_text, measures_text   its other parts
 --   inspected_line points faces m   the line
 --   IsInspection mesh answer     the answer says the measures of a mesh
 --   inspect_task name            the command
-use Rattle.std.specs.Prelude.{ℕ, List, [], ◌∷◌, Option, Some, None, ◌++◌, codes, ◌≡◌, ◌<◌, length, IfNone, IfSome}
+use Rattle.std.specs.Prelude.{ℕ, ℤ, List, [], ◌∷◌, Option, Some, None, ◌++◌, codes, ◌≡◌, ◌<◌, length, IfNone, IfSome}
 use Rattle.std.specs.Fmt.{signed_decimal}
 use Rattle.mesh_ply.specs.Meshes.{Surface}
 use Rattle.mesh_edges.specs.Edges.{face_at, IsBalanced, IsFirstUnbalanced}
@@ -34,14 +35,21 @@ closed_text (Some e) =
     labelled (codes " closed no edge ") e.from
     ++ (labelled (codes " ") e.to ++ (labelled (codes " there ") e.there ++ labelled (codes " back ") e.back))
 
+-- the numbers of points and faces
+unfoldable pub counts_text : (points faces : ℕ) → List ℕ
+counts_text points faces = labelled (codes "inspected points ") points ++ labelled (codes " faces ") faces
+
+-- the volume as a sixth of a whole number, and the end of the line
+unfoldable pub volume_text : ℤ → List ℕ
+volume_text six = codes " volume " ++ (signed_decimal six ++ codes "/6\n")
+
+-- the measures
+unfoldable pub measures_text : Measures → List ℕ
+measures_text m = closed_text m.unbalanced ++ (labelled (codes " flat_faces ") m.flat_faces ++ volume_text m.six_volume)
+
 -- `inspected points N faces M closed yes flat_faces D volume V/6`
 unfoldable pub inspected_line : (points faces : ℕ) → Measures → List ℕ
-inspected_line points faces m =
-    labelled (codes "inspected points ") points
-    ++ (labelled (codes " faces ") faces
-    ++ (closed_text m.unbalanced
-    ++ (labelled (codes " flat_faces ") m.flat_faces
-    ++ (codes " volume " ++ (signed_decimal m.six_volume ++ codes "/6\n")))))
+inspected_line points faces m = counts_text points faces ++ measures_text m
 
 -- the measures of the mesh are said
 pub record IsInspection (mesh : Surface) (answer : Answer) : Type 0 where

@@ -5,7 +5,7 @@ ghost use Rattle.mesh_ply.specs.Texts.{IsPrinted};
 ghost use Rattle.command_run.specs.Replies.{answer_of};
 ghost use Rattle.command_run.specs.Steps.{IsReplied, ReadsFor, CountsFaults, surface_of};
 ghost use Rattle.mesh_cmd.specs.Commands.{asked, inspect_of};
-ghost use Rattle.mesh_cmd.specs.Inspect.{inspect_task, inspected_line, closed_text, IsInspection, AreMeasuresOf};
+ghost use Rattle.mesh_cmd.specs.Inspect.{inspect_task, inspected_line, closed_text, counts_text, volume_text, measures_text, IsInspection, AreMeasuresOf};
 
 use crate::commands::Command;
 use command_run::{
@@ -123,6 +123,38 @@ fn push_closed(line: &mut Vec<u8>, unbalanced: Option<UnbalancedEdge>) -> Result
     }
 }
 
+/// Appends the numbers of points and faces.
+#[tactic(auto, unfolding(crate::specs::Inspect::counts_text))]
+fn push_counts(line: &mut Vec<u8>, points: u64, faces: u64) -> Result<(), NoMemory>
+    ensures { OnOk result (line.new.items ≡ line.old.items ++ counts_text points faces) }
+{
+    push_labelled(line, b"inspected points ", points)?;
+    push_labelled(line, b" faces ", faces)?;
+    Ok(())
+}
+
+/// Appends the volume and the end of the line.
+#[tactic(auto, unfolding(crate::specs::Inspect::volume_text))]
+fn push_volume(line: &mut Vec<u8>, six: i128) -> Result<(), NoMemory>
+    ensures { OnOk result (line.new.items ≡ line.old.items ++ volume_text six) }
+{
+    line.extend_from_slice(b" volume ")?;
+    push_whole(line, six)?;
+    line.extend_from_slice(b"/6\n")?;
+    Ok(())
+}
+
+/// Appends the measures.
+#[tactic(auto, unfolding(crate::specs::Inspect::measures_text))]
+fn push_measures(line: &mut Vec<u8>, measures: Measures) -> Result<(), NoMemory>
+    ensures { OnOk result (line.new.items ≡ line.old.items ++ measures_text measures) }
+{
+    push_closed(line, measures.unbalanced)?;
+    push_labelled(line, b" flat_faces ", measures.flat_faces as u64)?;
+    push_volume(line, measures.six_volume)?;
+    Ok(())
+}
+
 /// Returns the line of `inspect`: the numbers of points and faces, and the measures.
 #[tactic(auto, unfolding(crate::specs::Inspect::inspected_line))]
 fn line_of_inspect(
@@ -134,12 +166,7 @@ fn line_of_inspect(
     ensures { IfOk result (λ line. line.items ≡ inspected_line points faces measures) }
 {
     let mut line = Vec::new(alloc);
-    push_labelled(&mut line, b"inspected points ", points)?;
-    push_labelled(&mut line, b" faces ", faces)?;
-    push_closed(&mut line, measures.unbalanced)?;
-    push_labelled(&mut line, b" flat_faces ", measures.flat_faces as u64)?;
-    line.extend_from_slice(b" volume ")?;
-    push_whole(&mut line, measures.six_volume)?;
-    line.extend_from_slice(b"/6\n")?;
+    push_counts(&mut line, points, faces)?;
+    push_measures(&mut line, measures)?;
     Ok(line)
 }
