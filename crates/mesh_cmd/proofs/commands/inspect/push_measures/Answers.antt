@@ -1,5 +1,7 @@
-use Rattle.std.proofs.Common.{◌≡◌, ◌++◌, List, ℕ, append_assoc, ap, ◌∙◌}
-use Rattle.mesh_cmd.specs.Inspect.{measures_text}
+use Rattle.std.proofs.Common.{◌≡◌, ◌++◌, List, ℕ, ℤ, append_assoc, ap, ◌∙◌, FitsSigned, rules}
+use Rattle.std.proofs.lemmas.Int.{to_z-of_z}
+use mir.Syntax.{w128}
+use Rattle.mesh_cmd.specs.Inspect.{measures_text, volume_text}
 use Rattle.mesh_cmd.proofs.commands.inspect.push_measures.Goals as goal
 
 -- three texts after another
@@ -11,4 +13,7 @@ three_after a b c d x y z e f g =
 pub returns : goal.returns
 unfolding measures_text
 returns c =
-    three_after _ _ _ _ _ _ _ c.in_ok-push_closed.ensures c.in_ok-push_labelled.ensures c.in_ok-push_volume.ensures
+    let fits : FitsSigned w128 c.args.measures.six_volume = search rules in
+    three_after _ _ _ _ _ _ _ c.in_ok-push_closed.ensures c.in_ok-push_labelled.ensures
+    (c.in_ok-push_volume.ensures
+    ∙ ap (λ (v : ℤ). c.push_labelled.new.line.items ++ volume_text v) (to_z-of_z w128 c.args.measures.six_volume fits))

@@ -1,7 +1,0 @@
-use Rattle.std.proofs.Common.{◌<◌, ◌≤◌}
-use Rattle.counting.specs.Sets.{AreSoMany}
-use Rattle.components.specs.Tags.{IsFirst, IsTwoAt}
-use Rattle.components.proofs.runs.count_keys_but_twos.Given as goal
-
-abbrev pub invariant-loop-i : goal.invariant-loop-i
-invariant-loop-i l = record { few : l.count ≤ l.i; many : AreSoMany (λ k. (k < l.i) × (IsFirst l.tags k × (IsTwoAt l.tags k → ⊥))) l.count }
