@@ -109,4 +109,4 @@ dist: recon recon-mesh
 # Removes what was built and what the proofs kept (a second; the next run proves from nothing). The scans of bench stay.
 clean:
 	rm -rf crates/*/out recon recon-mesh recon-*.tar.gz tetrahedron_mesh.ply tetrahedron_finished.ply tetrahedron.cert run.log run_mesh.log \
-	  try_scan.ply try_mesh.ply try.cert test.log attack.log dev/reference/target
+	  try_mesh.ply try.cert test.log attack.log dev/reference/target
