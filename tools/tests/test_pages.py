@@ -55,7 +55,7 @@ class Faults(InFolder):
         nothing = pages.Programs('', '', '')
         page = pathlib.Path.cwd() / 'page.md'
         equal(pages.faults_of(page, nothing), ([], 2, 2))
-        equal(pages.commands_alone(page), [(18, 'recon-scan a.ply b.ply')])
+        equal(pages.commands_alone(page), [(17, 'recon-scan a.ply b.ply')])
         kept, pages.TOP = pages.TOP, pathlib.Path.cwd()
         try:
             page.write_text(PAGE.replace('\ntwo\n', '\nthree\n'))
