@@ -29,7 +29,7 @@ impl Answers {
     }
 }
 
-/// The next of a row of numbers with no pattern in their high bits.
+/// Returns the next of a row of numbers with no pattern in their high bits.
 fn next_number(number: u64) -> u64 {
     number
         .wrapping_mul(6_364_136_223_846_793_005)

@@ -30,13 +30,13 @@ use std::env;
 use std::time::{Clock, Instant};
 use tetra_store::Tetra;
 
-/// Want of memory.
+/// Out of memory.
 pub(crate) type NoMemory = AllocError;
 
 /// The number that the generated scans are made of.
 const SEED: u64 = 7;
 
-/// How many points there are where no word says it.
+/// How many points there are if no word says it.
 const FEW_POINTS: u32 = 500;
 
 /// How many calls of `cell` and `across` there are then.
@@ -48,7 +48,7 @@ const MANY_CALLS: u64 = 10_000_000;
 /// The most points that a word may ask for.
 const MOST_POINTS: u32 = 1_000_000;
 
-/// How many calls, with their sum, and how long each took where that is asked for.
+/// Returns how many calls, with their sum, and how long each took if that is asked for.
 fn report<R: Print>(
     rt: &R,
     what: &str,
@@ -116,7 +116,7 @@ fn time_replaced<R: Print + Clock>(
     report(rt, "replace of other counts", splits.others, 0, false)
 }
 
-/// All of it, with so many points each.
+/// Returns all of it, with so many points each.
 fn time_all<R: Print + Clock>(rt: &R, alloc: Global, count: u32, timed: bool) -> anyhow::Result<()>
     requires least { 1 ≤ count }
     requires most { count ≤ MOST_POINTS }
@@ -131,7 +131,7 @@ fn time_all<R: Print + Clock>(rt: &R, alloc: Global, count: u32, timed: bool) ->
     time_replaced(rt, alloc, side_of(count), timed)
 }
 
-/// How many points a side a flat lattice has, so that with the inner points there are about so many.
+/// Returns how many points a side a flat lattice has, so that with the inner points there are about so many.
 fn side_of(count: u32) -> u32 {
     let mut side: u32 = 1;
     for step in [512, 256, 128, 64, 32, 16, 8, 4, 2, 1] {

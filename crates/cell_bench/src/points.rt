@@ -21,7 +21,7 @@ const ERROR: i64 = 4;
 /// How far the two tips of the flat points are from their plane.
 const TIP: i64 = 1_000_000;
 
-/// The whole root of a number, if it is below 2^13.
+/// Returns the whole root of a number, if it is below 2^13.
 fn root(square: u64) -> i64
     ensures { pos 1 ≤ℤ result }
 {
@@ -35,14 +35,14 @@ fn root(square: u64) -> i64
     if root == 0 { 1 } else { i64::from(root) }
 }
 
-/// A coordinate at that reach, of a vector of this length.
+/// Returns a coordinate at that reach, of a vector of this length.
 fn scaled(coordinate: i64, reach: i64, length: i64) -> i64
     requires { pos 1 ≤ℤ length }
 {
     coordinate.wrapping_mul(reach) / length
 }
 
-/// The place towards a point on the sphere, with an error by a number.
+/// Returns the place towards a point on the sphere, with an error by a number.
 fn rounded(p: Point, number: i64) -> Point
     requires { IsWithin DATA_LIMIT p }
     ensures { IsWithin DATA_LIMIT result }
@@ -64,7 +64,7 @@ fn rounded(p: Point, number: i64) -> Point
     }
 }
 
-/// The same points on a sphere, each with an error.
+/// Returns the same points on a sphere, each with an error.
 pub(crate) fn on_sphere(alloc: Global, points: &[Point]) -> Result<Vec<Point>, NoMemory>
     requires { All (IsWithin DATA_LIMIT) points.now }
     ensures within { IfOk result (λ made. All (IsWithin DATA_LIMIT) made.items) }
@@ -107,8 +107,8 @@ fn push_lattice(points: &mut Vec<Point>, side: u32, x: i64, y: i64) -> Result<()
     Ok(())
 }
 
-/// A flat lattice of triangles between two tips, and behind these points one in each triangle that stands upright: the point in which
-/// the triangle's heights meet.
+/// Returns a flat lattice of triangles between two tips, and behind these points one in each triangle that stands upright: the
+/// point in which the triangle's heights meet.
 ///
 /// Each triangle is a facet between two cells, one to each tip. The spheres of all other cells have the inner point outside or on them. So
 /// where the points are inserted in this order, each inner one is in conflict with these two cells alone.
@@ -123,7 +123,7 @@ pub(crate) fn flat(alloc: Global, side: u32) -> Result<Vec<Point>, NoMemory>
     Ok(points)
 }
 
-/// The distinct points of some, in the order in which they come. More than a store holds are an error.
+/// Returns the distinct points of some, in the order in which they come. More than a store holds are an error.
 pub(crate) fn merged(alloc: Global, points: &[Point]) -> anyhow::Result<Merged>
     requires { All (IsWithin DATA_LIMIT) points.now }
     ensures within { IfOk result (λ merged. (k : ℕ) → k < length merged.points.items → IsWithin DATA_LIMIT (get_or merged.points.items k origin)) }

@@ -1,11 +1,11 @@
 -- The text of a certificate, in its two versions.
 --
---   title, stamped_title              the first line of a certificate without a stamp, and of one with a stamp
+--   title, stamped_title              the first line of a certificate without a fingerprint, and of one with a fingerprint
 --   scan_word, .., end_line           the fixed words of the other lines
 --   scan_line d                       the line of the digest of a scan's file
 --   fixed_line p                      the line of the fixed scanner
---   stamp_text s, version_text s      the lines of a stamp; the first line, and they where there is a stamp
---   cell_fields c end                 a cell's numbers, and the byte behind the last
+--   stamp_text s, version_text s      the lines of a fingerprint; the first line, and they if there is a fingerprint
+--   cell_fields c end                 a cell's numbers, and the byte after the last
 --   cell_line, flow_line, sink_line   the lines of the rows
 --   counts_text c                     the lines between these and the lists
 --   cert_text c                       the text
@@ -25,7 +25,7 @@ use Rattle.cert_text.specs.Certificates.{Counts, Claim}
 unfoldable pub title : List ℕ
 title = codes "recon certificate 1\n"
 
--- the second version has a stamp behind this line
+-- the second version has a fingerprint after this line
 unfoldable pub stamped_title : List ℕ
 stamped_title = codes "recon certificate 2\n"
 
@@ -85,7 +85,7 @@ sink_word = codes "sink "
 unfoldable pub end_line : List ℕ
 end_line = codes "end\n"
 
--- a b c d, and the byte behind d
+-- a b c d, and the byte after d
 abbrev pub cell_fields : List ℕ → ℕ → List ℕ
 cell_fields (a ∷ b ∷ c ∷ d ∷ []) end = ended a space ++ (ended b space ++ (ended c space ++ ended d end))
 cell_fields _ end = []
@@ -115,11 +115,11 @@ place_line (Some p) = point_line p
 abbrev pub fixed_line : Option Point → List ℕ
 fixed_line fixed = scanner_word ++ place_line fixed
 
--- the lines of the digest, the unit and the fixed scanner
+-- the lines of the digest, the scale and the fixed scanner
 abbrev pub stamp_text : StampView → List ℕ
 stamp_text s = scan_line s.digest ++ (counted unit_word s.unit ++ fixed_line s.fixed)
 
--- the first line, which says which version it is, and the stamp where there is one
+-- the first line, which says which version it is, and the fingerprint if there is one
 abbrev pub version_text : Option StampView → List ℕ
 version_text None = title
 version_text (Some s) = stamped_title ++ stamp_text s

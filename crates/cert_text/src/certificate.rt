@@ -3,7 +3,7 @@
 use crate::Stamp;
 use std::alloc::AllocError;
 
-/// Want of memory.
+/// Out of memory.
 pub type NoMemory = AllocError;
 
 /// How much flows over a directed facet, from its own cell to the cell across.
@@ -30,7 +30,7 @@ pub struct SinkRow {
     pub amount: u64,
 }
 
-/// Labels and a flow, with the stamp, the counts and the weights of the scan that they belong to.
+/// Labels and a flow, with the fingerprint, the counts and the weights of the scan that they belong to.
 ///
 /// A cell is its four vertex numbers, a directed facet its three. What has no row is 0, and
 /// a cell without a row in `inside` is outside. A certificate is *well formed* where the

@@ -1,4 +1,4 @@
-//! The text of a certificate, printed. It stands on `line_text`.
+//! The text of a certificate, printed. Depends on `line_text`.
 
 ghost use Rattle.std.specs.Prelude.{◌≡◌, ◌++◌, OnOk, OnErr, length, take};
 ghost use Rattle.std.specs.List.{flat_map};
@@ -60,12 +60,10 @@ fn push_parts(out: &mut Vec<u8>, cert: &Certificate) -> Result<(), NoMemory>
     Ok(())
 }
 
-/// Adds the text of a well-formed certificate at the end of `out`: a line that names the
-/// format and its version, the three lines of the stamp where there is one, six lines of a
-/// word and a number, then the inside cells, the flow over facets
-/// and the flow into sinks, each list with its length before it, and the line `end`. Each
-/// line is ended by LF, one space stands between words, and numbers are decimal without
-/// leading zeros.
+/// Adds the text of a well-formed certificate at the end of `out`: a line that names the format and its version, the three
+/// lines of the fingerprint if there is one, six lines of a word and a number, then the inside cells, the flow over facets and
+/// the flow into sinks, each list with its length before it, and the line `end`. Each line is ended by LF, one space stands
+/// between words, and numbers are decimal without leading zeros.
 ///
 /// After `NoMemory`, `out` is as it was.
 pub fn push_cert(out: &mut Vec<u8>, cert: &Certificate) -> Result<(), NoMemory>

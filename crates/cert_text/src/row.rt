@@ -28,17 +28,17 @@ pub trait Row: Copy {
     fn word() -> &'static [u8]
         ensures { result.now ≡ word };
 
-    /// The row whose line stands at the front of a text, and what stands behind. None where no such line stands there.
+    /// Returns the row whose line stands at the start of a text, and what stands after. None if no such line stands there.
     fn first(text: &[u8]) -> Option<(Self, &[u8])>
         ensures some { IfSome result (λ read. is_row read.0 × (text.now ≡ line read.0 ++ read.1.now)) }
         ensures none { IfNone result (BeginsWithNone is_row line text.now) };
 
-    /// Adds its line. After `NoMemory` the bytes that `out` held are still at its front, and more may follow.
+    /// Adds its line. After `NoMemory` the bytes that `out` held are still at its start, and more may follow.
     fn push(self, out: &mut Vec<u8>) -> Result<(), NoMemory>
         ensures ok { OnOk result (out.new.items ≡ out.old.items ++ line self) }
         ensures kept { OnErr result (take (length out.old.items) out.new.items ≡ out.old.items) };
 
-    /// The numbers by which it rises.
+    /// Returns the numbers by which it rises.
     fn key(&self) -> &[u32]
         ensures { result.now ≡ key self.now };
 }

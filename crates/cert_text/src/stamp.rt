@@ -13,7 +13,7 @@ pub struct Stamp {
     pub digest: [u8; 32],
     /// How many scaled units make one of the file's.
     pub unit: u32,
-    /// Where all points were seen from, in scaled units, if that was told beside the file.
+    /// If all points were seen from, in scaled units, if that was told beside the file.
     pub fixed: Option<Point>,
     pub ghost digest_is: { IsDigest digest },
     pub ghost unit_is: { IsUnit unit },

@@ -1,5 +1,4 @@
-//! The first line of a certificate and its stamp, printed. It stands on `line_text` and on
-//! `mesh_ply`, which prints points.
+//! The first line of a certificate and its fingerprint, printed. Depends on `line_text` and on `mesh_ply`, which prints points.
 
 ghost use Rattle.std.specs.Prelude.{◌≡◌, ◌++◌, OnOk, OnErr, length, take};
 ghost use Rattle.std.specs.Option.{option_map};
@@ -46,7 +45,7 @@ fn push_fixed(out: &mut Vec<u8>, fixed: Option<Point>) -> Result<(), NoMemory>
     Ok(())
 }
 
-/// The three lines of a stamp.
+/// The three lines of a fingerprint.
 fn push_stamp(out: &mut Vec<u8>, stamp: &Stamp) -> Result<(), NoMemory>
     ensures ok { OnOk result (out.new.items ≡ out.old.items ++ stamp_text (stamp_view stamp.now)) }
     ensures kept { OnErr result (take (length out.old.items) out.new.items ≡ out.old.items) }
@@ -57,7 +56,7 @@ fn push_stamp(out: &mut Vec<u8>, stamp: &Stamp) -> Result<(), NoMemory>
     Ok(())
 }
 
-/// The first line, and the stamp where there is one.
+/// The first line, and the fingerprint if there is one.
 pub fn push_version(out: &mut Vec<u8>, stamp: Option<Stamp>) -> Result<(), NoMemory>
     ensures ok { OnOk result (out.new.items ≡ out.old.items ++ version_text (option_map stamp_view stamp)) }
     ensures kept { OnErr result (take (length out.old.items) out.new.items ≡ out.old.items) }

@@ -1,4 +1,4 @@
-//! Amounts by number, in few bits where these are enough. It stands on nothing else.
+//! Amounts by number, in few bits where these are enough. Depends on nothing else.
 
 use crate::NoMemory;
 use std::alloc::Global;
@@ -26,7 +26,7 @@ impl Amounts {
         })
     }
 
-    /// The same amounts once more.
+    /// Returns the same amounts once more.
     pub fn copied(&self, alloc: Global) -> Result<Amounts, NoMemory> {
         Ok(Amounts {
             narrow: Vec::from_slice(alloc, self.narrow.as_slice())?,
@@ -34,7 +34,7 @@ impl Amounts {
         })
     }
 
-    /// The same amounts, in 64 bits unless 32 are enough for what they become.
+    /// Returns the same amounts, in 64 bits unless 32 are enough for what they become.
     pub fn widened(self, alloc: Global, is_narrow: bool) -> Result<Amounts, NoMemory> {
         if is_narrow || self.narrow.is_empty() {
             return Ok(self);
@@ -46,12 +46,12 @@ impl Amounts {
         Ok(amounts)
     }
 
-    /// How many places there are.
+    /// Returns how many places there are.
     pub fn len(&self) -> usize {
         self.narrow.len().max(self.wide.len())
     }
 
-    /// The amount at a place.
+    /// Returns the amount at a place.
     #[inline]
     pub fn get(&self, place: usize) -> u64 {
         if place < self.narrow.len() {

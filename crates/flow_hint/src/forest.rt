@@ -1,5 +1,5 @@
-//! A forest that grows from nodes with excess, and sends along its branches to each sink with room that it meets. It
-//! stands on preflows.
+//! A forest that grows from nodes with excess, and sends along its branches to each sink with residual capacity that it meets.
+//! Depends on preflows.
 //!
 //! It is half of the two trees of Boykov and Kolmogorov (2004): what a full branch has cut off leaves the forest, and then each
 //! of these nodes joins it again by the neighbor nearest to a root, if one is still in it. The work is bounded by fuel; where
@@ -66,7 +66,7 @@ pub struct Forest<'a, N: FlowNetwork> {
 }
 
 impl<'a, N: FlowNetwork> Forest<'a, N> {
-    /// No node is in the forest.
+    /// Returns no node is in the forest.
     pub fn new(alloc: Global, preflow: Preflow<'a, N>) -> Result<Forest<'a, N>, NoMemory>
         ensures { IfOk result (λ forest. forest.preflow ≡ preflow.entry) }
     {
@@ -121,7 +121,7 @@ impl<'a, N: FlowNetwork> Forest<'a, N> {
         self.waiting += 1;
     }
 
-    /// The node that has waited longest. It waits no longer.
+    /// Returns the node that has waited longest. It waits no longer.
     fn dequeue(&mut self) -> Option<usize>
         ensures preflow { self.new.preflow ≡ self.old.preflow }
         ensures node { IfSome result (λ node. node < self.old.preflow.wiring.nodes) }
@@ -152,7 +152,7 @@ impl<'a, N: FlowNetwork> Forest<'a, N> {
         }
     }
 
-    /// How much can come to a node of the forest along its branch.
+    /// Returns how much can come to a node of the forest along its branch.
     fn most_along(&self, node: usize) -> u64
         requires { node < self.now.preflow.wiring.nodes }
     {
@@ -205,7 +205,7 @@ impl<'a, N: FlowNetwork> Forest<'a, N> {
         }
     }
 
-    /// The branch of a node by the parent nearest to a root.
+    /// Returns the branch of a node by the parent nearest to a root.
     fn best_branch(&self, node: usize) -> Branch
         requires { node < self.now.preflow.wiring.nodes }
     {

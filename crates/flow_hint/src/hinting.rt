@@ -1,4 +1,4 @@
-//! The hint. It stands on the forest and the rounds, and on the sweep and the walks.
+//! The hint. Depends on the forest and the rounds, and on the sweep and the walks.
 
 ghost use Rattle.std.specs.Prelude.{◌≡◌, length, IfOk, IfSome};
 
@@ -20,13 +20,13 @@ use watch::{Silent, Watch};
 pub struct Hint {
     /// An amount an arc, and an amount a node.
     pub flow: Flow,
-    /// The nodes from which a sink with room can be reached. What is given back flows between other nodes alone, so it changes no
-    /// level.
+    /// The nodes from which a sink with residual capacity can be reached. What is given back flows between other nodes alone,
+    /// so it changes no level.
     pub levels: Levels,
 }
 
-/// The amounts after those that can have come to sinks, and the levels of the nodes from which a sink could still be reached. A watch
-/// is told from how many nodes amounts were moved on.
+/// Returns the amounts after those that can have come to sinks, and the levels of the nodes from which a sink could still be
+/// reached. A watch is told from how many nodes amounts were moved on.
 fn sent<'a, N: FlowNetwork, W: Watch>(
     alloc: Global,
     preflow: Preflow<'a, N>,
@@ -46,7 +46,7 @@ fn sent<'a, N: FlowNetwork, W: Watch>(
     rounds.into_levels(alloc)
 }
 
-/// The amounts after sinks have taken what is listed, as far as it can come, with the sinks open to their whole size.
+/// Returns the amounts after sinks have taken what is listed, as far as it can come, with the sinks open to their whole size.
 fn filled_first<'a, N: FlowNetwork, W: Watch>(
     alloc: Global,
     preflow: Preflow<'a, N>,
@@ -63,7 +63,7 @@ fn filled_first<'a, N: FlowNetwork, W: Watch>(
     Ok(preflow)
 }
 
-/// The amounts after those that have come to no sink have gone back.
+/// Returns the amounts after those that have come to no sink have gone back.
 fn given_back<'a, N: FlowNetwork>(
     alloc: Global,
     preflow: Preflow<'a, N>,
@@ -82,9 +82,9 @@ fn given_back<'a, N: FlowNetwork>(
     Ok(preflow)
 }
 
-/// The amounts by one way to start, after those that can have come to sinks, and the levels. None where there is no hint.
+/// Returns the amounts by one way to start, after those that can have come to sinks, and the levels. None if there is no hint.
 ///
-/// Where amounts are listed, sinks first take no more than these, so that mostly no less comes to any.
+/// If amounts are listed, sinks first take no more than these, so that mostly no less comes to any.
 fn sent_from<'a, N: FlowNetwork, W: Watch>(
     alloc: Global,
     net: &'a N,
@@ -101,7 +101,7 @@ fn sent_from<'a, N: FlowNetwork, W: Watch>(
     Ok(Some(sent(alloc, preflow, watch)?))
 }
 
-/// The hint that amounts are after what has come to no sink has gone back, or None where not all of it has.
+/// Returns the hint that amounts are after what has come to no sink has gone back, or None where not all of it has.
 fn settled<N: FlowNetwork>(
     alloc: Global,
     preflow: Preflow<'_, N>,
@@ -136,7 +136,7 @@ fn settled_and_kept<N: FlowNetwork>(
     }
 }
 
-/// A hint at a largest flow, or None where there is none: where capacities come to more than 2^62, or there are no arcs
+/// Returns a hint at a largest flow, or None if there is none: where capacities come to more than 2^62, or there are no arcs
 /// between free nodes, or more arcs than fit in 32 bits, or giving back took too long.
 ///
 /// Nothing is promised of its time, which on the networks of scans is about linear in the network. Beside its answer it
@@ -149,7 +149,8 @@ pub fn find_hint<N: FlowNetwork>(alloc: Global, net: &N) -> Result<Option<Hint>,
     find_hint_watched(alloc, net, &mut Silent)
 }
 
-/// The same, where a watch is told from how many nodes amounts were moved on. The count begins anew where a first try gives no hint.
+/// Returns the same, where a watch is told from how many nodes amounts were moved on. The count begins anew where a first try
+/// gives no hint.
 pub fn find_hint_watched<N: FlowNetwork, W: Watch>(
     alloc: Global,
     net: &N,
@@ -169,8 +170,8 @@ pub fn find_hint_watched<N: FlowNetwork, W: Watch>(
     Ok(None)
 }
 
-/// A hint by which mostly no less comes to each sink than is listed, where a valid flow brings so much there, and the preflow
-/// that it was made of. Nothing is listed past the end of the list.
+/// Returns a hint by which mostly no less comes to each sink than is listed, where a valid flow brings so much there, and the
+/// preflow that it was made of. Nothing is listed past the end of the list.
 ///
 /// The preflow takes 4 bytes an arc, or 8 where capacities are large, and 24 a node.
 pub fn find_hint_above<N: FlowNetwork>(
@@ -184,7 +185,7 @@ pub fn find_hint_above<N: FlowNetwork>(
     find_hint_above_watched(alloc, net, first, &mut Silent)
 }
 
-/// The same, where a watch is told as by `find_hint_watched`.
+/// Returns the same, where a watch is told as by `find_hint_watched`.
 pub fn find_hint_above_watched<N: FlowNetwork, W: Watch>(
     alloc: Global,
     net: &N,
@@ -205,7 +206,7 @@ pub fn find_hint_above_watched<N: FlowNetwork, W: Watch>(
     Ok(None)
 }
 
-/// A hint that goes on from the preflow of an earlier one, and its own preflow.
+/// Returns a hint that goes on from the preflow of an earlier one, and its own preflow.
 ///
 /// Mostly it is a flow where the network is the earlier one at capacities that are larger, by the same for both arcs of a
 /// pair, and no less comes to any sink than by the earlier hint. There is none where the network has not as many nodes and

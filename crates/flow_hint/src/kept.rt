@@ -1,4 +1,4 @@
-//! A preflow that is kept, so that a later hint goes on from it where capacities have risen. It stands on preflows.
+//! A preflow that is kept, so that a later hint goes on from it where capacities have risen. Depends on preflows.
 
 ghost use Rattle.std.specs.Prelude.{◌≡◌, length, true, IfOk, IfSome};
 
@@ -27,7 +27,7 @@ pub struct KeptPreflow {
 }
 
 impl KeptPreflow {
-    /// The amounts of a preflow.
+    /// Returns the amounts of a preflow.
     pub fn of<N: FlowNetwork>(
         alloc: Global,
         preflow: &Preflow<'_, N>,
@@ -40,7 +40,7 @@ impl KeptPreflow {
         })
     }
 
-    /// Whether there is an amount for each of so many arcs, and one of each kind for each of so many nodes.
+    /// Returns whether there is an amount for each of so many arcs, and one of each kind for each of so many nodes.
     fn has_lengths(&self, arcs: usize, nodes: usize) -> bool
         ensures excess { result ≡ true → length self.now.excess.items ≡ nodes }
         ensures sink { result ≡ true → length self.now.sink.items ≡ nodes }
@@ -54,8 +54,8 @@ impl KeptPreflow {
 }
 
 impl<'a, N: FlowNetwork> Preflow<'a, N> {
-    /// The amounts of a kept preflow, and what more comes from fixed nodes where capacities have risen. None where the preflow
-    /// is not of so many nodes and arcs, the sums of capacities are too large or there are no arcs between free nodes.
+    /// Returns the amounts of a kept preflow, and what more comes from fixed nodes where capacities have risen. None where the
+    /// preflow is not of so many nodes and arcs, the sums of capacities are too large or there are no arcs between free nodes.
     pub fn on(
         alloc: Global,
         net: &'a N,

@@ -1,4 +1,4 @@
-//! Amounts on their way into sinks: more may have entered a node than has left it. It stands on the wiring.
+//! Amounts on their way into sinks: more may have entered a node than has left it. Depends on the wiring.
 //!
 //! Sums saturate, so that an amount that is too large for its type gives a wrong hint and nothing worse.
 
@@ -41,7 +41,8 @@ pub struct Preflow<'a, N: FlowNetwork> {
     pub ghost source_count: { length source.items ≡ wiring.nodes },
 }
 
-/// How much can leave at each node at first: as much as is listed, its sink where nothing is listed, and nothing where it is fixed.
+/// Returns how much can leave at each node at first: as much as is listed, its sink if nothing is listed, and nothing if it is
+/// fixed.
 fn free_sinks<N: FlowNetwork>(alloc: Global, net: &N, first: &[u64]) -> Result<Vec<u64>, NoMemory>
     ensures { IfOk result (λ sinks. length sinks.items ≡ (N.numbered net.now).node_count) }
 {
@@ -57,8 +58,8 @@ fn free_sinks<N: FlowNetwork>(alloc: Global, net: &N, first: &[u64]) -> Result<V
     Ok(sinks)
 }
 
-/// How much more can flow along each arc, where every arc between free nodes is full or all are empty. It is nothing along other
-/// arcs.
+/// Returns how much more can flow along each arc, where every arc between free nodes is full or all are empty. It is nothing
+/// along other arcs.
 fn all_rooms<N: FlowNetwork>(
     alloc: Global,
     wiring: &Wiring<'_, N>,
@@ -77,11 +78,11 @@ fn all_rooms<N: FlowNetwork>(
 }
 
 impl<'a, N: FlowNetwork> Preflow<'a, N> {
-    /// The amounts at the start: fixed nodes send all that they can, other arcs are full or empty, and sinks have taken
-    /// what they can, but no more than is listed. None where the sums of capacities are too large or there are no arcs between free
-    /// nodes.
+    /// Returns the amounts at the start: fixed nodes send all that they can, other arcs are full or empty, and sinks have taken
+    /// what they can, but no more than is listed. None where the sums of capacities are too large or there are no arcs between
+    /// free nodes.
     ///
-    /// Where a node would owe an amount if every arc were full, these arcs are empty.
+    /// If a node would owe an amount if every arc were full, these arcs are empty.
     pub fn new(
         alloc: Global,
         net: &'a N,
@@ -124,7 +125,7 @@ impl<'a, N: FlowNetwork> Preflow<'a, N> {
         Ok(Some(preflow))
     }
 
-    /// Opens each sink to its whole size, where no more of it was open than is listed, and lets leave there what can.
+    /// Opens each sink to its whole size, if no more of it was open than is listed, and lets leave there what can.
     pub fn open_sinks(&mut self, first: &[u64])
         ensures { self.new.wiring ≡ self.old.wiring }
     {
@@ -138,7 +139,7 @@ impl<'a, N: FlowNetwork> Preflow<'a, N> {
         self.settle();
     }
 
-    /// Whether more can leave at a node.
+    /// Returns whether more can leave at a node.
     pub fn has_room(&self) -> bool {
         self.sink.iter().any(|amount| *amount > 0)
     }
@@ -154,7 +155,7 @@ impl<'a, N: FlowNetwork> Preflow<'a, N> {
         }
     }
 
-    /// Lets an amount come to a node, and leave there as far as there is room. Answers what the node has then.
+    /// Lets an amount come to a node, and leave there as far as there is room. Returns what the node has then.
     pub fn arrive(&mut self, node: usize, amount: u64) -> u64
         requires { node < self.old.wiring.nodes }
         ensures { self.new.wiring ≡ self.old.wiring }

@@ -1,4 +1,4 @@
-//! Amounts that go back to the fixed nodes, as far as they have come to no sink. It stands on preflows.
+//! Amounts that go back to the fixed nodes, as far as they have come to no sink. Depends on preflows.
 
 ghost use Rattle.std.specs.Prelude.{◌≡◌, ◌<◌, length, IfOk};
 
@@ -20,12 +20,13 @@ impl<'a, N: FlowNetwork> Preflow<'a, N> {
         }
     }
 
-    /// Whether nothing is left to be given back.
+    /// Returns whether nothing is left to be given back.
     pub fn is_settled(&self) -> bool {
         self.excess.iter().all(|amount| *amount == 0)
     }
 
-    /// How much can go back along an arc: what flows on its reverse, which is the room that is there beside its capacity.
+    /// Returns how much can go back along an arc: what flows on its reverse, which is the room that is there beside its
+    /// capacity.
     #[inline]
     pub fn most_back(&self, arc: usize) -> u64
         requires { arc < self.now.wiring.arcs }
@@ -48,12 +49,12 @@ impl<'a, N: FlowNetwork> Preflow<'a, N> {
         self.excess[node] = arrived - goes;
     }
 
-    /// The amounts as a flow.
+    /// Returns the amounts as a flow.
     pub fn into_flow(self, alloc: Global) -> Result<Flow, NoMemory>
         ensures arcs { IfOk result (λ flow. length flow.on_arc ≡ (N.numbered self.entry.wiring.net.now).arc_count) }
         ensures sinks { IfOk result (λ flow. length flow.on_sink ≡ (N.numbered self.entry.wiring.net.now).node_count) }
     {
-        // The answer takes the most memory of all, so what it is not made of is let go of before.
+        // The answer takes the most memory of all, so what it is not made of is freed of before.
         let (net, rooms, sink, source) = {
             let Preflow {
                 wiring,
@@ -74,8 +75,8 @@ impl<'a, N: FlowNetwork> Preflow<'a, N> {
     }
 }
 
-/// The amount on each arc, by how much more can flow along it. From a fixed node goes what came to the free node, by one arc after
-/// the other.
+/// Returns the amount on each arc, by how much more can flow along it. From a fixed node goes what came to the free node, by
+/// one arc after the other.
 fn on_arcs<N: FlowNetwork>(
     alloc: Global,
     net: &N,
@@ -100,7 +101,7 @@ fn on_arcs<N: FlowNetwork>(
     Ok(amounts)
 }
 
-/// The amount at each sink: its capacity less what it still takes, and nothing where the node is fixed.
+/// Returns the amount at each sink: its capacity less what it still takes, and nothing where the node is fixed.
 fn on_sinks<N: FlowNetwork>(alloc: Global, net: &N, room: &[u64]) -> Result<Vec<u64>, NoMemory>
     requires { length room.now ≡ (N.numbered net.now).node_count }
     ensures { IfOk result (λ amounts. length amounts.items ≡ (N.numbered net.now).node_count) }

@@ -1,7 +1,7 @@
-//! Rounds that move excess to sinks. It stands on preflows.
+//! Rounds that move excess to sinks. Depends on preflows.
 //!
-//! A round gives each node its level, how many arcs with room lie between it and a sink with room, and then moves excess
-//! down by levels, from the node of the lowest level first, and lifts a node that keeps some.
+//! A round gives each node its level, how many arcs with residual capacity lie between it and a sink with residual capacity,
+//! and then moves excess down by levels, from the node of the lowest level first, and lifts a node that keeps some.
 
 ghost use Rattle.std.specs.Prelude.{◌≡◌, ◌<◌, ◌^◌, length, slice_index, EachIndex, IfSome, IfOk};
 
@@ -54,7 +54,7 @@ pub struct Rounds<'a, N: FlowNetwork> {
 }
 
 impl<'a, N: FlowNetwork> Rounds<'a, N> {
-    /// No node has a level yet.
+    /// Returns no node has a level yet.
     pub fn new(alloc: Global, preflow: Preflow<'a, N>) -> Result<Rounds<'a, N>, NoMemory>
         ensures { IfOk result (λ rounds. rounds.preflow ≡ preflow.entry) }
     {
@@ -88,7 +88,7 @@ impl<'a, N: FlowNetwork> Rounds<'a, N> {
         }
     }
 
-    /// Gives level 0 to each node whose sink has room, and none to others.
+    /// Gives level 0 to each node whose sink has residual capacity, and none to others.
     fn mark_sinks(&mut self)
         ensures { self.new.preflow ≡ self.old.preflow }
     {
@@ -102,7 +102,7 @@ impl<'a, N: FlowNetwork> Rounds<'a, N> {
         }
     }
 
-    /// Gives a level to each node from which an arc with room leads to a node.
+    /// Gives a level to each node from which an arc with residual capacity leads to a node.
     fn reach(&mut self, node: usize)
         requires { node < self.old.preflow.wiring.nodes }
         ensures { self.new.preflow ≡ self.old.preflow }
@@ -135,7 +135,7 @@ impl<'a, N: FlowNetwork> Rounds<'a, N> {
         any
     }
 
-    /// The highest level of a node.
+    /// Returns the highest level of a node.
     fn highest(&self) -> usize
         ensures { result < 2 ^ 32 }
     {
@@ -145,7 +145,7 @@ impl<'a, N: FlowNetwork> Rounds<'a, N> {
         self.level[self.queue[self.found - 1] as usize] as usize
     }
 
-    /// Lets a node wait at its level, or takes its level away where that is too high.
+    /// Lets a node wait at its level, or takes its level away if that is too high.
     fn put(&mut self, node: usize)
         requires { node < self.old.preflow.wiring.nodes }
         ensures { self.new.preflow ≡ self.old.preflow }
@@ -180,7 +180,7 @@ impl<'a, N: FlowNetwork> Rounds<'a, N> {
         Ok(())
     }
 
-    /// The node that came last to the lowest level at which one waits. It waits no longer.
+    /// Returns the node that came last to the lowest level at which one waits. It waits no longer.
     fn take(&mut self) -> Option<usize>
         ensures preflow { self.new.preflow ≡ self.old.preflow }
         ensures node { IfSome result (λ node. node < self.old.preflow.wiring.nodes) }
@@ -211,7 +211,7 @@ impl<'a, N: FlowNetwork> Rounds<'a, N> {
 
     /// Moves an amount from a node down along its arcs as far as it goes, and answers what is left.
     ///
-    /// The level of the node becomes one more than the least to which an arc with room leads.
+    /// The level of the node becomes one more than the least to which an arc with residual capacity leads.
     fn send_down(&mut self, node: usize, amount: u64) -> u64
         requires { node < self.old.preflow.wiring.nodes }
         ensures { self.new.preflow.wiring ≡ self.old.preflow.wiring }
@@ -285,8 +285,8 @@ impl<'a, N: FlowNetwork> Rounds<'a, N> {
         Ok(())
     }
 
-    /// The amounts, and which nodes reached a sink with room when levels were last found, with their levels. Where no excess was
-    /// among them, they are the inside of labels that cost what the flow is worth.
+    /// Returns the amounts, and which nodes reached a sink with residual capacity when levels were last found, with their
+    /// levels. If no excess was among them, they are the inside of labels that cost what the flow is worth.
     pub fn into_levels(self, alloc: Global) -> Result<(Preflow<'a, N>, Levels), NoMemory>
         ensures { IfOk result (λ made. made.0.wiring ≡ self.entry.preflow.wiring) }
     {

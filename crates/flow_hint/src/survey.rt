@@ -1,4 +1,4 @@
-//! What one pass over the arcs of a network adds up. It stands on the network alone.
+//! What one pass over the arcs of a network adds up. Depends on the network alone.
 
 ghost use Rattle.std.specs.Prelude.{◌≡◌, ◌+◌, length, IfOk};
 
@@ -35,7 +35,7 @@ pub struct Survey {
 }
 
 impl Survey {
-    /// The sums over the arcs of a network.
+    /// Returns the sums over the arcs of a network.
     pub fn new<N: FlowNetwork>(alloc: Global, net: &N) -> Result<Survey, NoMemory>
         ensures degrees { IfOk result (λ survey. length survey.degree.items ≡ (N.numbered net.now).node_count + 1) }
         ensures sources { IfOk result (λ survey. length survey.source.items ≡ (N.numbered net.now).node_count) }
@@ -78,17 +78,17 @@ impl Survey {
         })
     }
 
-    /// Whether there are arcs between free nodes, and no sum of capacities is too large for its type.
+    /// Returns whether there are arcs between free nodes, and no sum of capacities is too large for its type.
     pub fn is_fit(&self) -> bool {
         self.has_pairs && self.total <= MOST_IN_ALL
     }
 
-    /// Whether what can flow along an arc beside what can flow back on its reverse fits in 32 bits.
+    /// Returns whether what can flow along an arc beside what can flow back on its reverse fits in 32 bits.
     pub fn is_narrow(&self) -> bool {
         self.most <= MOST_OF_FEW
     }
 
-    /// Whether a node would owe an amount where every arc is full.
+    /// Returns whether a node would owe an amount where every arc is full.
     pub fn owes(&self) -> bool {
         self.balance.iter().any(|amount| *amount >= SIGN)
     }

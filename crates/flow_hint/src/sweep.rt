@@ -1,4 +1,4 @@
-//! One sweep that gives excess back along the arcs on which it came. It stands on what can go back.
+//! One sweep that gives excess back along the arcs on which it came. Depends on what can go back.
 //!
 //! A search in depth lists the nodes, each after those to which it can give back, but for cycles. In the other order each
 //! node gives back what it has, so a node comes when all that can come to it is there.
@@ -36,7 +36,7 @@ pub struct Sweep<'a, N: FlowNetwork> {
 }
 
 impl<'a, N: FlowNetwork> Sweep<'a, N> {
-    /// The search has come to no node.
+    /// Returns the search has come to no node.
     pub fn new(alloc: Global, preflow: Preflow<'a, N>) -> Result<Sweep<'a, N>, NoMemory>
         ensures { IfOk result (λ sweep. sweep.preflow ≡ preflow.entry) }
     {
@@ -77,7 +77,7 @@ impl<'a, N: FlowNetwork> Sweep<'a, N> {
         }
     }
 
-    /// The node to which the search goes next from a node, at which it stays while arcs are left.
+    /// Returns the node to which the search goes next from a node, at which it stays while arcs are left.
     fn step(&mut self, node: usize) -> usize
         requires { node < self.old.preflow.wiring.nodes }
         ensures { self.new.preflow ≡ self.old.preflow }

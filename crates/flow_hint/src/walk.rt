@@ -1,9 +1,8 @@
-//! Walks that give the excess of one node after the other back along the arcs on which it came. It stands on
-//! what can go back.
+//! Walks that give the excess of one node after the other back along the arcs on which it came. Depends on what can go back.
 //!
-//! A walk goes on from a node along an arc on which something can go back, until it comes to a node beside fixed ones that
-//! take it. Where it comes to a node of its path again, as much as can go round that cycle is taken off it. The work is
-//! bounded by fuel.
+//! A walk goes on from a node along an arc on which something can go back, until it comes to a node beside fixed ones that take
+//! it. If it comes to a node of its path again, as much as can go round that cycle is taken off it. The work is bounded by
+//! fuel.
 
 ghost use Rattle.std.specs.Prelude.{◌≡◌, ◌+◌, ◌<◌, ◌≤◌, length, slice_index, EachIndex, IfOk, IfSome};
 
@@ -40,7 +39,7 @@ pub struct Walk<'a, N: FlowNetwork> {
 }
 
 impl<'a, N: FlowNetwork> Walk<'a, N> {
-    /// No node is on the path.
+    /// Returns no node is on the path.
     pub fn new(alloc: Global, preflow: Preflow<'a, N>) -> Result<Walk<'a, N>, NoMemory>
         ensures { IfOk result (λ walk. walk.preflow ≡ preflow.entry) }
     {
@@ -66,7 +65,7 @@ impl<'a, N: FlowNetwork> Walk<'a, N> {
         self.fuel = self.fuel.saturating_sub(steps);
     }
 
-    /// The node at the end of the path, which begins at `start`.
+    /// Returns the node at the end of the path, which begins at `start`.
     fn end(&self, start: usize) -> usize
         requires { start < self.now.preflow.wiring.nodes }
         ensures { result < self.now.preflow.wiring.nodes }
@@ -78,7 +77,7 @@ impl<'a, N: FlowNetwork> Walk<'a, N> {
         self.preflow.wiring.ends(arc).head
     }
 
-    /// The most that can go back along the path from a place on.
+    /// Returns the most that can go back along the path from a place on.
     fn most_from(&self, place: usize, amount: u64) -> u64 {
         let mut most = amount;
         for at in place..self.steps {
@@ -117,7 +116,7 @@ impl<'a, N: FlowNetwork> Walk<'a, N> {
         self.steps = self.steps.min(place);
     }
 
-    /// The next arc of a node along which something can go back.
+    /// Returns the next arc of a node along which something can go back.
     fn next_arc(&mut self, node: usize) -> Option<usize>
         requires { node < self.old.preflow.wiring.nodes }
         ensures preflow { self.new.preflow ≡ self.old.preflow }

@@ -1,19 +1,19 @@
-//! A largest flow through a network, and the least-inside labels that it shows.
+//! A largest flow through a network, and the minimum cut with the smallest inside that it shows.
 //!
-//! The flow begins with a hint, which is tested: where it is valid, and levels beside it show from which nodes a sink with room
-//! can be reached and that no fixed node is among them, it is a largest one (Ford and Fulkerson 1956). Else rounds go on from
-//! it, or from nothing where it is not valid. A round finds all nodes from which a sink with room can be reached in the
-//! residual network, with their levels, and sends more along paths that lead down by levels until none is left (Dinic 1970).
-//! Where no fixed node is found, the flow is a largest one.
+//! The flow begins with a hint, which is tested: if it is valid, and levels beside it show from which nodes a sink with
+//! residual capacity can be reached and that no fixed node is among them, it is a largest one (Ford and Fulkerson 1956). Else
+//! rounds go on from it, or from nothing if it is not valid. A round finds all nodes from which a sink with residual capacity
+//! can be reached in the residual network, with their levels, and sends more along paths that lead down by levels until none is
+//! left (Dinic 1970). If no fixed node is found, the flow is a largest one.
 //!
-//! The least-inside labels are the nodes from which a sink with room can still be reached, which are the smallest inside of
-//! all minimum cuts. Labatut, Pons and Keriven (2007) cut such a network of cells.
+//! The minimum cut with the smallest inside are the nodes from which a sink with residual capacity can still be reached, which
+//! are the smallest inside of all minimum cuts. Labatut, Pons and Keriven (2007) cut such a network of cells.
 //!
-//! `residual` holds the residual arcs, `incidence` finds those that enter a node, `searches` goes backwards from the
-//! sinks with room, `levels` tests levels that a hint gives in its place, `paths` sends more along augmenting paths,
-//! `phases` does so down the levels of a search, `solving` has the calls that stand on all these, and `resuming` those that go on
-//! from a valid flow. The crate stands on `flow_net`, on `flow_hint` for the hint and on `flow_valid` for its test, and tells a `watch`
-//! how far it is.
+//! `residual` holds the residual arcs, `incidence` finds those that enter a node, `searches` goes backwards from the sinks with
+//! residual capacity, `levels` tests levels that a hint gives in its place, `paths` sends more along augmenting paths, `phases`
+//! does so down the levels of a search, `solving` has the calls that depend on all these, and `resuming` those that go on from
+//! a valid flow. The crate depends on `flow_net`, on `flow_hint` for the hint and on `flow_valid` for its test, and tells a
+//! `watch` how far it is.
 //!
 //! # Example
 //!

@@ -1,5 +1,5 @@
-//! A phase: more flow along paths down the levels of one search, until no such path is left (Dinic 1970). It stands on
-//! the search and on augmenting paths.
+//! A phase: more flow along paths down the levels of one search, until no such path is left (Dinic 1970). Depends on the search
+//! and on augmenting paths.
 //!
 //! Each node has a cursor, the residual arc that is tried next from it. Room along an arc to a lower level only falls
 //! during a phase, so a cursor never goes back.
@@ -26,12 +26,12 @@ pub struct Phase {
     path: Vec<ResidualArc>,
 }
 
-/// A residual arc of one direction.
+/// Returns a residual arc of one direction.
 fn along(arc: Option<u32>, forward: bool) -> Option<ResidualArc> {
     arc.map(|arc| ResidualArc { arc, forward })
 }
 
-/// The first residual arc that leaves a node: those that run the way of their arcs come first.
+/// Returns the first residual arc that leaves a node: those that run the way of their arcs come first.
 fn first_from(incidence: &Incidence, node: usize) -> Option<ResidualArc> {
     let forward = incidence.backward.last.get(node).copied().flatten();
     if forward.is_some() {
@@ -40,7 +40,7 @@ fn first_from(incidence: &Incidence, node: usize) -> Option<ResidualArc> {
     along(incidence.forward.last.get(node).copied().flatten(), false)
 }
 
-/// The residual arc that leaves a node after this one.
+/// Returns the residual arc that leaves a node after this one.
 fn next_from(incidence: &Incidence, node: usize, residual: ResidualArc) -> Option<ResidualArc> {
     if !residual.forward {
         return along(
@@ -65,7 +65,7 @@ fn next_from(incidence: &Incidence, node: usize, residual: ResidualArc) -> Optio
     along(incidence.forward.last.get(node).copied().flatten(), false)
 }
 
-/// Whether a residual arc leads from a node to a found node of a lower level, and has room.
+/// Returns whether a residual arc leads from a node to a found node of a lower level, and has residual capacity.
 fn leads_down<N: FlowNetwork>(
     net: &N,
     flow: &Flow,
@@ -87,7 +87,7 @@ fn leads_down<N: FlowNetwork>(
 }
 
 impl Phase {
-    /// The beginning of a phase.
+    /// Returns the beginning of a phase.
     pub fn new<N: FlowNetwork>(
         alloc: Global,
         net: &N,
@@ -106,7 +106,7 @@ impl Phase {
         })
     }
 
-    /// The first residual arc from the cursor of a node on that leads down. The cursor moves there.
+    /// Returns the first residual arc from the cursor of a node on that leads down. The cursor moves there.
     fn lead<N: FlowNetwork>(
         &mut self,
         net: &N,
@@ -136,7 +136,7 @@ impl Phase {
         None
     }
 
-    /// Walks down from a fixed node. Answers the node at the end of the path where its sink has room, or None where
+    /// Walks down from a fixed node. Returns the node at the end of the path where its sink has residual capacity, or None if
     /// nothing leads down from there.
     fn walk<N: FlowNetwork>(
         &mut self,

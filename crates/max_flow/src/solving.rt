@@ -1,5 +1,5 @@
-//! A largest flow from a tested hint and by rounds, and the least-inside labels that it shows. It stands on the search, on
-//! augmenting paths, on phases and on the test of levels.
+//! A largest flow from a tested hint and by rounds, and the minimum cut with the smallest inside that it shows. Depends on the
+//! search, on augmenting paths, on phases and on the test of levels.
 
 ghost use Rattle.std.specs.Prelude.{◌≡◌, ◌<◌, ◌≤◌, length, true, false, ℕ, IfOk, IfSome, IfNone, OnOk, OnErr};
 ghost use Rattle.flow_net.specs.Nets.{flag_at};
@@ -30,7 +30,7 @@ pub struct Augmenting {
     pub end: usize,
 }
 
-/// A fixed node from which a sink with room can be reached, if there is one.
+/// Returns a fixed node from which a sink with residual capacity can be reached, if there is one.
 pub fn found_fixed<N: FlowNetwork>(net: &N, marked: &[bool]) -> Option<usize>
     requires { length marked.now ≡ (N.numbered net.now).node_count }
     ensures node { IfSome result (λ v. v < (N.numbered net.now).node_count) }
@@ -46,7 +46,7 @@ pub fn found_fixed<N: FlowNetwork>(net: &N, marked: &[bool]) -> Option<usize>
     None
 }
 
-/// The path from a found fixed node to a sink with room.
+/// Returns the path from a found fixed node to a sink with residual capacity.
 pub fn path_from<N: FlowNetwork>(
     alloc: Global,
     net: &N,
@@ -70,7 +70,7 @@ pub fn path_from<N: FlowNetwork>(
     Ok(Augmenting { path, end: node })
 }
 
-/// Makes one round: raises the value of a flow and answers true, or answers false where no flow has a larger one.
+/// Makes one round: raises the value of a flow and answers true, or answers false if no flow has a larger one.
 ///
 /// Without memory the flow stays as it was.
 fn improve<N: FlowNetwork>(
@@ -125,7 +125,7 @@ pub fn finish<N: FlowNetwork, W: Watch>(
     Ok(())
 }
 
-/// The flow of nothing.
+/// Returns the flow of nothing.
 pub fn zero_flow<N: FlowNetwork>(alloc: Global, net: &N) -> Result<Flow, NoMemory>
     ensures { IfOk result (λ flow. IsValidFlow (N.numbered net.now) flow) }
 {
@@ -135,8 +135,8 @@ pub fn zero_flow<N: FlowNetwork>(alloc: Global, net: &N) -> Result<Flow, NoMemor
     })
 }
 
-/// The least-inside labels that levels show beside a valid flow, or None where they show none. Where they show some, the flow is a
-/// largest one.
+/// Returns the minimum cut with the smallest inside that levels show beside a valid flow, or None where they show none. If they
+/// show some, the flow is a largest one.
 pub fn shown_by<N: FlowNetwork>(
     alloc: Global,
     net: &N,
@@ -163,8 +163,8 @@ pub fn shown_by<N: FlowNetwork>(
     }))
 }
 
-/// A valid flow to start from, and the least-inside labels where it is known to be a largest one: that of a hint, which mostly is,
-/// or the flow of nothing where the hint's is not valid.
+/// Returns a valid flow to start from, and the minimum cut with the smallest inside if it is known to be a largest one: that of
+/// a hint, which mostly is, or the flow of nothing where the hint's is not valid.
 fn first_flow<N: FlowNetwork>(
     alloc: Global,
     net: &N,
@@ -183,7 +183,7 @@ fn first_flow<N: FlowNetwork>(
     Ok((zero_flow(alloc, net)?, None))
 }
 
-/// A flow of the largest value, and the least-inside labels where a hint shows them.
+/// Returns a flow of the largest value, and the minimum cut with the smallest inside where a hint shows them.
 #[tactic(auto, using(crate::proofs::Cuts::shown_largest))]
 fn largest_flow<N: FlowNetwork, W: Watch>(
     alloc: Global,
@@ -204,7 +204,7 @@ fn largest_flow<N: FlowNetwork, W: Watch>(
     Ok((flow, None))
 }
 
-/// A flow of the largest value: it is valid, so 0 at the sinks of fixed nodes, and no valid flow has a larger value.
+/// Returns a flow of the largest value: it is valid, so 0 at the sinks of fixed nodes, and no valid flow has a larger value.
 pub fn solve<N: FlowNetwork>(alloc: Global, net: &N) -> Result<Flow, NoMemory>
     ensures valid { IfOk result (λ flow. IsValidFlow (N.numbered net.now) flow) }
     ensures largest { IfOk result (λ flow. IsLargest (N.numbered net.now) flow) }
@@ -214,7 +214,7 @@ pub fn solve<N: FlowNetwork>(alloc: Global, net: &N) -> Result<Flow, NoMemory>
     Ok(flow)
 }
 
-/// The least-inside labels that levels show, or None where they show none.
+/// Returns the minimum cut with the smallest inside that levels show, or None where they show none.
 pub fn shown_inside<N: FlowNetwork>(
     alloc: Global,
     net: &N,
@@ -230,7 +230,7 @@ pub fn shown_inside<N: FlowNetwork>(
     }
 }
 
-/// The least-inside labels by a search.
+/// Returns the minimum cut with the smallest inside by a search.
 fn searched_inside<N: FlowNetwork>(alloc: Global, net: &N, flow: &Flow) -> Result<Labels, NoMemory>
     requires { IsLargest (N.numbered net.now) flow.now }
     ensures least { IfOk result (λ labels. IsLeastInside (N.numbered net.now) labels) }
@@ -244,9 +244,9 @@ fn searched_inside<N: FlowNetwork>(alloc: Global, net: &N, flow: &Flow) -> Resul
     })
 }
 
-/// The least-inside labels of a network, of which a largest flow is known.
+/// Returns the minimum cut with the smallest inside of a network, of which a largest flow is known.
 ///
-/// They cost the value of the flow. A node is inside where a sink with room can be reached from it in the residual
+/// They cost the value of the flow. A node is inside where a sink with residual capacity can be reached from it in the residual
 /// network, so each labels of the least cost have it inside.
 pub fn least_inside<N: FlowNetwork>(alloc: Global, net: &N, flow: &Flow) -> Result<Labels, NoMemory>
     requires { IsLargest (N.numbered net.now) flow.now }
@@ -259,7 +259,7 @@ pub fn least_inside<N: FlowNetwork>(alloc: Global, net: &N, flow: &Flow) -> Resu
     searched_inside(alloc, net, flow)
 }
 
-/// A flow of the largest value from a hint, and the least-inside labels, which cost as much.
+/// Returns a flow of the largest value from a hint, and the minimum cut with the smallest inside, which cost as much.
 fn cut_by<N: FlowNetwork, W: Watch>(
     alloc: Global,
     net: &N,
@@ -279,8 +279,8 @@ fn cut_by<N: FlowNetwork, W: Watch>(
     Ok((flow, labels))
 }
 
-/// A flow of the largest value, and the least-inside labels, which cost as much. It takes less time than `solve` and
-/// `least_inside` one after the other.
+/// Returns a flow of the largest value, and the minimum cut with the smallest inside, which cost as much. It takes less time
+/// than `solve` and `least_inside` one after the other.
 pub fn minimum_cut<N: FlowNetwork>(alloc: Global, net: &N) -> Result<(Flow, Labels), NoMemory>
     ensures valid { IfOk result (λ cut. IsValidFlow (N.numbered net.now) cut.0) }
     ensures largest { IfOk result (λ cut. IsLargest (N.numbered net.now) cut.0) }
@@ -290,8 +290,8 @@ pub fn minimum_cut<N: FlowNetwork>(alloc: Global, net: &N) -> Result<(Flow, Labe
     minimum_cut_watched(alloc, net, &mut Silent)
 }
 
-/// The same, where a watch is told of the stage, and from how many nodes the hint moved amounts on; and where it has to be gone on
-/// from the hint, of the stage of rounds, and how many are made.
+/// Returns the same, where a watch is told of the stage, and from how many nodes the hint moved amounts on; and if it has to be
+/// gone on from the hint, of the stage of rounds, and how many are made.
 pub fn minimum_cut_watched<N: FlowNetwork, W: Watch>(
     alloc: Global,
     net: &N,
@@ -307,7 +307,7 @@ pub fn minimum_cut_watched<N: FlowNetwork, W: Watch>(
     cut_by(alloc, net, hint, watch)
 }
 
-/// What `minimum_cut` answers, and the preflow of its hint, if there is one, for `minimum_cut_above` to go on from.
+/// Returns what `minimum_cut` answers, and the preflow of its hint, if there is one, for `minimum_cut_above` to go on from.
 pub fn minimum_cut_and_preflow<N: FlowNetwork>(
     alloc: Global,
     net: &N,
@@ -320,7 +320,7 @@ pub fn minimum_cut_and_preflow<N: FlowNetwork>(
     minimum_cut_and_preflow_watched(alloc, net, &mut Silent)
 }
 
-/// The same, where a watch is told as by `minimum_cut_watched`.
+/// Returns the same, where a watch is told as by `minimum_cut_watched`.
 pub fn minimum_cut_and_preflow_watched<N: FlowNetwork, W: Watch>(
     alloc: Global,
     net: &N,

@@ -5,10 +5,10 @@
 --   TakesPoint r         a point may come: begun, and fewer points than are due
 --   TakesFace f r        the face may come: begun, all points there, fewer faces than are due
 --   HasAllDue r          begun, and all that is due was received
---   begun, with_point, with_face, with_end   what the calls of a form make of it
+--   begun, with_point, with_face, with_end   what the calls of a writer make of it
 --   HasPoints k r points, HasFaces k r points faces   begun, so many of the points and no faces; all points and so many faces
 --   HasAll r points faces      ended, with exactly these points and faces
---   HasPrefix r points faces   a front of the points, and behind all of them a front of the faces; not ended
+--   HasPrefix r points faces   a prefix of the points, and after all of them a prefix of the faces; not ended
 --   HasFront r points faces    such a front, or all of it
 --   IsReceived           what a receipt keeps
 --   once_ended stage t   the text t at the stage Ended, else nothing
@@ -18,7 +18,7 @@ use Rattle.mesh_ply.specs.Meshes.{IsFace}
 use Rattle.mesh_form.specs.declared.stage.Stage.{Stage}
 use Rattle.mesh_form.specs.declared.stage.Stage.TheVariants.{Fresh, Begun, Ended}
 
--- what a form has received
+-- what a writer has received
 pub record Received : Type 0 where
   pub stage : Stage
   pub points_due : ℕ
@@ -97,14 +97,14 @@ pub record HasAll (r : Received) (points : List Point) (faces : List (List ℕ))
   pub points_due : r.points_due ≡ length points
   pub faces_due : r.faces_due ≡ length faces
 
--- a front of the points, and a front of the faces behind all points; not ended
+-- a prefix of the points, and a prefix of the faces after all points; not ended
 pub record HasPrefix (r : Received) (points : List Point) (faces : List (List ℕ)) : Type 0 where
   pub stage : r.stage ≢ Ended
   pub front_points : r.points ≡ take (length r.points) points
   pub front_faces : r.faces ≡ take (length r.faces) faces
   pub in_turn : 0 < length r.faces → r.points ≡ points
 
--- a front of the mesh, the whole included
+-- a prefix of the mesh, the whole included
 abbrev pub HasFront : Received → List Point → List (List ℕ) → Type 0
 HasFront r points faces = HasPrefix r points faces ⊎ HasAll r points faces
 

@@ -1,8 +1,8 @@
 //! What a form of a mesh is.
 //!
-//! A form is seen as what it has received, one `Received`: its stage, the numbers of points and faces that are due, and
-//! the points and faces themselves. Each call is one equation on the whole of it, so what its contract does not name
-//! stays as it was.
+//! A writer is seen as what it has received, one `Received`: its stage, the numbers of points and faces that are due, and the
+//! points and faces themselves. Each call is one equation on the whole of it, so what its contract does not name stays as it
+//! was.
 ghost use Rattle.std.specs.Prelude.{◌≡◌, ℕ, List, OnOk, OnErr};
 ghost use Rattle.mesh_form.specs.Received.{Received, IsFresh, TakesPoint, TakesFace, HasAllDue, begun, with_point, with_face, with_end};
 ghost use Rattle.mesh_form.specs.declared.stage.Stage.TheVariants.{Ended};
@@ -12,8 +12,8 @@ use mesh_ply::NoMemory;
 
 /// A form of a mesh: points first, then faces, and a text in the end.
 ///
-/// A call that answers `Ok` does what its clause says. After `NoMemory` the stage, the numbers due and what was received
-/// are as before. A form keeps the allocator that it was made with.
+/// A call that answers `Ok` does what its clause says. After `NoMemory` the stage, the numbers due and what was received are as
+/// before. A writer keeps the allocator that it was made with.
 pub trait Form: Drop {
     ghost received: { Self → Received };
 
@@ -44,7 +44,7 @@ pub trait Form: Drop {
         ensures ended { OnOk result (received self.new ≡ with_end (received self.old)) }
         ensures kept { OnErr result (received self.new ≡ received self.old) };
 
-    /// The text of an ended form.
+    /// Returns the text of an ended form.
     fn text(&self) -> &[u8]
         requires { (received self.now).stage ≡ Ended }
         ensures { result.now ≡ text_of self.now };

@@ -1,4 +1,4 @@
-//! Wavefront OBJ as a form.
+//! Wavefront OBJ as a writer.
 ghost use Rattle.std.specs.Prelude.{◌≡◌, ◌++◌, [], ◌∷◌, OnOk, OnErr, length, take};
 ghost use Rattle.std.specs.List.{flat_map};
 ghost use Rattle.mesh_form.specs.Texts.{v_word, f_word, obj_vertex_line, triangle_line, obj_text};
@@ -85,7 +85,7 @@ impl FileFormat for Obj {
     }
 }
 
-/// The form whose text is Wavefront OBJ. Contracts see it as what it has received.
+/// The writer whose text is Wavefront OBJ. Contracts see it as what it has received.
 #[derive(Drop)]
 pub struct ObjForm {
     form: TextForm<Obj>,

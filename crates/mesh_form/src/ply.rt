@@ -1,4 +1,4 @@
-//! The mesh text of `mesh_ply` as a form.
+//! The mesh text of `mesh_ply` as a writer.
 ghost use Rattle.mesh_ply.specs.Texts.{mesh_text};
 
 use crate::form::Form;
@@ -19,7 +19,7 @@ impl FileFormat for Ply {
     }
 }
 
-/// The form whose text is the mesh text of `mesh_ply`. Contracts see it as what it has received.
+/// The writer whose text is the mesh text of `mesh_ply`. Contracts see it as what it has received.
 #[derive(Drop)]
 pub struct PlyForm {
     form: TextForm<Ply>,

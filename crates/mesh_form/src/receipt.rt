@@ -1,11 +1,11 @@
-//! What a form has received, kept.
+//! What a writer has received, kept.
 use crate::stage::Stage;
 use geo_sign::Point;
 use mesh_ply::{Mesh, NoMemory};
 use std::alloc::Global;
 use std::marker::Model;
 
-/// What a form has received so far, as a form keeps it. Contracts see it as a `Received`.
+/// What a writer has received so far, as a writer keeps it. Contracts see it as a `Received`.
 #[derive(Drop)]
 pub struct Receipt {
     stage: Stage,
@@ -82,7 +82,7 @@ impl Receipt {
         self.stage = Stage::Ended;
     }
 
-    /// The points and faces received, a valid mesh once all are.
+    /// Returns the points and faces received, a valid mesh once all are.
     pub fn mesh(&self) -> &Mesh
         ensures points { result.now.points.items ≡ self.now.points }
         ensures faces { result.now.faces.items ≡ self.now.faces }

@@ -1,4 +1,4 @@
-//! A form whose text is that of a file format.
+//! A writer whose text is that of a file format.
 ghost use Rattle.std.specs.Prelude.{◌≡◌, ◌++◌, ℕ, List, OnOk, OnErr, length, take};
 ghost use Rattle.geo_sign.specs.Point.{Point};
 ghost use Rattle.mesh_ply.specs.Meshes.{IsMesh};
@@ -17,7 +17,7 @@ pub trait FileFormat {
 
     /// Adds the text of a valid mesh at the end of `out`.
     ///
-    /// After `NoMemory` the bytes that `out` held are still at its front, and more may follow.
+    /// After `NoMemory` the bytes that `out` held are still at its start, and more may follow.
     fn push_text(out: &mut Vec<u8>, mesh: &Mesh) -> Result<(), NoMemory>
         requires { IsMesh mesh.now.points.items mesh.now.faces.items }
         ensures ok { OnOk result (out.new.items ≡ out.old.items ++ text mesh.now.points.items mesh.now.faces.items) }
@@ -38,7 +38,7 @@ fn push_whole<F: FileFormat>(out: &mut Vec<u8>, mesh: &Mesh) -> Result<(), NoMem
     pushed
 }
 
-/// The form whose text is that of a file format. Contracts see it as what it has received.
+/// The writer whose text is that of a file format. Contracts see it as what it has received.
 #[derive(Drop)]
 pub struct TextForm<F: FileFormat> {
     receipt: Receipt,
@@ -61,7 +61,7 @@ impl<F: FileFormat> TextForm<F> {
     ghost use Rattle.std.specs.Prelude.{◌≡◌};
     ghost use Rattle.mesh_form.specs.Received.{fresh};
 
-    /// A fresh form with nothing received. It takes no memory.
+    /// Returns a fresh form with nothing received. It takes no memory.
     pub fn new(alloc: Global) -> TextForm<F>
         ensures { result ≡ fresh }
     {

@@ -18,10 +18,10 @@ real_state host = record {
   writing = is_some host.writing;
 }
 
--- the bytes that are left of the file that is read, where there is one and files tell them
+-- the bytes that are left of the file that is read, if there is one and files tell them
 abbrev pub left_of : {R F A : Type 0} → (F → Option (List ℕ)) → RealHost R F A → Option (List ℕ)
 left_of remaining host = option_and_then remaining host.reading
 
--- the bytes of the file that is written, where there is one and files tell them
+-- the bytes of the file that is written, if there is one and files tell them
 abbrev pub held_of : {R F A : Type 0} → (F → Option (List ℕ)) → RealHost R F A → Option (List ℕ)
 held_of contents host = option_and_then contents host.writing

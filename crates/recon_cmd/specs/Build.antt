@@ -61,7 +61,7 @@ pub record WritesSurface (names : SurfaceNames) (options : Options) (bytes : Lis
   pub stamped : claim.stamp ≡ Some (stamp_for options bytes)
   pub is : Shows names.mesh names.cert mesh claim answer
 
--- it reads the scan, and writes its best surface or refuses it
+-- it reads the scan, and writes its best surface or rejects it
 abbrev pub build_task : SurfaceNames → Options → Task
 build_task names options =
     record { Denies = ⊥; Refuses = ⊤; most = 1; Answers = λ limit. ToScan limit names.input options (WritesSurface names options) }

@@ -54,7 +54,7 @@ pub record WritesCells (output : List ℕ) (scan : Shown) (answer : Answer) : Ty
     line = cells_line (length (points_of scan)) (length rows);
   }
 
--- it reads the scan, and writes its cells or refuses it
+-- it reads the scan, and writes its cells or rejects it
 abbrev pub cells_task : Names → Options → Task
 cells_task names options =
     record {

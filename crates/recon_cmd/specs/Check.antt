@@ -1,15 +1,15 @@
--- `check IN MESH CERT`: whether a mesh is the best surface of a scan, and a certificate shows it best. And
--- `upgrade IN MESH CERT OUT`: where it is so, the certificate with the stamp of this run.
+-- `check IN MESH CERT`: whether a mesh is the best surface of a scan, and a certificate shows it best. And `upgrade IN MESH
+-- CERT OUT`: if it is so, the certificate with the fingerprint of this run.
 --
--- Yes says what was found; each reason against a mesh and a certificate has a number and a word of its own, and says where it is
--- and what was compared. Rows are counted from 0 in their list.
+-- Yes says what was found; each reason against a mesh and a certificate has a number and a argument of its own, and says if it
+-- is and what was compared. Rows are counted from 0 in their list.
 --
 --   check_names, output_of names       the first three names that the program holds, and the file that is written, if one is
 --   too_long_cert_line                 the line where the certificate's file is too long
 --   upgraded_line cost                 the line of `upgrade` where it says yes
---   which_word which                   a number that a certificate states, in a word
+--   which_word which                   a number that a certificate states, in a argument
 --   line_with_numbers text numbers     a line of a text and numbers
---   amounts_line text a b              a line of a text and two amounts behind their labels
+--   amounts_line text a b              a line of a text and two amounts after their labels
 --   digests_line text a b              a line of a text, and two digests that are stated and here
 --   scanner_text p                     a fixed scanner, or `none`
 --   scanners_line text a b             a line of a text, and two fixed scanners that are stated and here
@@ -17,14 +17,14 @@
 --   yes_line inside faces cost         the line of yes
 --   verdict_line verdict               the line of a verdict
 --   verdict_status verdict             its status
---   restamped stamp claim              a certificate with this stamp
+--   restamped stamp claim              a certificate with this fingerprint
 --   IsConcluded output ..              what follows from a verdict: it is said, or a certificate is written
 --   HasVerdict output options ..       the verdict on a mesh and a certificate, and what follows from it
 --   CertAnswer, MeshAnswer limit ..    the answer to the bytes of a certificate, and to those of a mesh
 --   CheckAnswer limit names ..         the answer to a scan
---   check_task names output options    the command: `upgrade` where there is a file to write, and `check` where there is none
+--   check_task names output options    the command: `upgrade` if there is a file to write, and `check` if there is none
 --   task_for asked                     the command that the program was asked for
---   HasVerdictFor asked held ..        the verdict, for what it was asked for and the scan that it holds with its stamp
+--   HasVerdictFor asked held ..        the verdict, for what it was asked for and the scan that it holds with its fingerprint
 --   CertAnswerFor, MeshAnswerFor       the answers to the bytes of a certificate, and to those of a mesh, for the same
 use Rattle.std.specs.Fmt.{signed_decimal}
 use Rattle.std.specs.Option.{option_map}
@@ -77,7 +77,7 @@ too_long_cert_line = codes "refused 19 too_long cert\n"
 unfoldable pub upgraded_line : (cost : ℕ) → List ℕ
 upgraded_line cost = labelled (codes "upgraded cost ") cost ++ (10 ∷ [])
 
--- a number that a certificate states, in a word
+-- a number that a certificate states, in a argument
 abbrev pub which_word : Which → List ℕ
 which_word Points = codes "points"
 which_word Scanners = codes "scanners"
@@ -85,11 +85,11 @@ which_word Sights = codes "sights"
 which_word Vote = codes "vote"
 which_word Smooth = codes "smooth"
 
--- a text, and numbers behind it
+-- a text, and numbers after it
 unfoldable pub line_with_numbers : (text numbers : List ℕ) → List ℕ
 line_with_numbers text numbers = text ++ (spaced numbers ++ (10 ∷ []))
 
--- a text, and two amounts behind it, each behind its label
+-- a text, and two amounts after it, each after its label
 unfoldable pub amounts_line : (text first second : List ℕ) → (a b : ℕ) → List ℕ
 amounts_line text first second a b = text ++ (labelled first a ++ (labelled second b ++ (10 ∷ [])))
 
@@ -148,12 +148,12 @@ abbrev pub verdict_status : Verdict → Status
 verdict_status (verdicts.Yes inside faces cost) = Done
 verdict_status (verdicts.No reason) = No
 
--- the certificate with this stamp, whichever it had
+-- the certificate with this fingerprint, whichever it had
 abbrev pub restamped : StampView → Claim → Claim
 restamped stamp claim = record claim { stamp = Some stamp }
 
--- The verdict is said. Where it is yes and there is a file to write, the certificate is written there with this stamp, and its
--- cost is said.
+-- The verdict is said. If it is yes and there is a file to write, the certificate is written there with this fingerprint, and
+-- its cost is said.
 abbrev pub IsConcluded : (output : Option (List ℕ)) → StampView → (cert : List ℕ) → Verdict → Answer → Type 0
 IsConcluded (Some output) stamp cert (verdicts.Yes inside faces cost) answer =
     HasCertificate cert
@@ -166,8 +166,8 @@ IsConcluded (Some output) stamp cert (verdicts.Yes inside faces cost) answer =
 IsConcluded output stamp cert verdict answer =
     answer ≡ record { status = verdict_status verdict; reads = 3; writes = []; line = verdict_line verdict }
 
--- the mesh and the certificate are the best surface of the scan at the weights of these options and the certificate that
--- shows it best, without a stamp or with this one, or the first reason why they are not is said
+-- the mesh and the certificate are the best surface of the scan at the weights of these options and the certificate that shows
+-- it best, without a fingerprint or with this one, or the first reason why they are not is said
 pub record HasVerdict (output : Option (List ℕ)) (options : Options) (stamp : StampView) (scan : Shown) (mesh cert : List ℕ)
     (answer : Answer) : Type 0 where
   pub settings : Settings
@@ -199,8 +199,8 @@ abbrev pub CheckAnswer : (limit : ℕ) → SurfaceNames → (output : Option (Li
 CheckAnswer limit names output options files bytes scan =
     MeshAnswer limit names (HasVerdict output options (stamp_for options bytes) scan) files
 
--- It reads the scan, then the mesh where the scan is not refused, then the certificate where the mesh is not too long. It says yes,
--- or no, or refuses what is not readable.
+-- It reads the scan, then the mesh where the scan is not rejected, then the certificate where the mesh is not too long. It says
+-- yes, or no, or rejects what is not readable.
 abbrev pub check_task : SurfaceNames → (output : Option (List ℕ)) → Options → Task
 check_task names output options =
     record {
@@ -214,8 +214,8 @@ check_task names output options =
 abbrev pub task_for : CheckAsked → Task
 task_for asked = check_task (check_names asked.names.now) (output_of asked.names.now) (options_view asked.options.now)
 
--- the verdict on a mesh and a certificate, and what follows from it, for what the program was asked for and the scan that it holds
--- with its stamp
+-- the verdict on a mesh and a certificate, and what follows from it, for what the program was asked for and the scan that it
+-- holds with its fingerprint
 abbrev pub HasVerdictFor : CheckAsked → StampedScan → (mesh cert : List ℕ) → Answer → Type 0
 HasVerdictFor asked held =
     HasVerdict (output_of asked.names.now) (options_view asked.options.now) (stamp_view held.stamp) (shown_of held.scan)

@@ -1,14 +1,15 @@
--- The commands: the words of each, and what it is.
+-- The commands: the arguments of each, and what it is.
 --
 --   Asked                               a command with its names and options
---   asked_by make words                 what is made of names and options, if the words are such
+--   asked_by make words                 what is made of names and options, if the arguments are such
 --   cells_of, build_of, check_of, upgrade_of, ask_of    what names and options ask each command for
---   slice_of, demo_of                   what other words ask each command for
---   command_of words                    the command that the words are, if they are one
+--   slice_of, demo_of                   what other arguments ask each command for
+--   command_of words                    the command that the arguments are, if they are one
 --   asked command                       what a command of the program is
---   task_of asked                       what it is beside its words
---   bad_words_answer                    the answer of words that are no command
---   AnswerWithin limit asked ..         the answer of a command, or of words that are none, where a file may have so many bytes
+--   task_of asked                       what it is beside its arguments
+--   bad_words_answer                    the answer of arguments that are no command
+--   AnswerWithin limit asked ..         the answer of a command, or of arguments that are none, where a file may have so many
+--                                       bytes
 --   AnswerOf asked files answer         the same with the limit of `run`
 --   most_reads asked                    how many files a command reads at most
 --   StatusFits status asked             the statuses that a command may end with at all
@@ -51,7 +52,7 @@ use Rattle.recon_cmd.specs.declared.commands.Command.TheVariants as commands
 pub data Asked : Type 0 where
   cells : Names → Options → Asked
   build : SurfaceNames → Options → Asked
-  -- `upgrade` where there is a file to write, and `check` where there is none
+  -- `upgrade` if there is a file to write, and `check` if there is none
   check : SurfaceNames → (output : Option (List ℕ)) → Options → Asked
   -- the plane that cuts the mesh is half a unit above this height
   slice : Names → (height : ℤ) → Asked
@@ -105,7 +106,7 @@ demo_of (count ∷ seed ∷ []) = do
   Some (demo rows start)
 demo_of words = None
 
--- the command that the words are, if they are one
+-- the command that the arguments are, if they are one
 abbrev pub command_of : List (List ℕ) → Option Asked
 command_of [] = None
 command_of (word ∷ words) =
@@ -127,7 +128,7 @@ asked (commands.Slice words) = slice (slice_names words) words.height
 asked (commands.Ask names options) = ask (ask_names names) (options_view options)
 asked (commands.Demo made) = demo made.count made.seed
 
--- what it is beside its words
+-- what it is beside its arguments
 abbrev pub task_of : Asked → Task
 task_of (cells names options) = cells_task names options
 task_of (build names options) = build_task names options
@@ -136,12 +137,12 @@ task_of (slice names height) = slice_task names height
 task_of (ask names options) = ask_task names options
 task_of (demo count seed) = demo_task count seed
 
--- words that are no command read and write nothing
+-- arguments that are no command read and write nothing
 abbrev pub bad_words_answer : Answer
 bad_words_answer = record { status = BadWords; reads = 0; writes = []; line = bad_words_line }
 
--- the answer of a command, or of words that are none, where a file that is read may have as many bytes as the limit, and the files
--- are these
+-- the answer of a command, or of arguments that are none, where a file that is read may have as many bytes as the limit, and
+-- the files are these
 abbrev pub AnswerWithin : (limit : ℕ) → Option Asked → Files → Answer → Type 0
 AnswerWithin limit None = λ files answer. answer ≡ bad_words_answer
 AnswerWithin limit (Some asked) = (task_of asked).Answers limit
@@ -163,7 +164,7 @@ EndsWith asked = EndsBy (AnswerOf asked)
 abbrev pub Tells : Option Asked → Status → Told → Told → Type 0
 Tells asked = TellsBy (AnswerOf asked)
 
--- the statuses that a command may end with at all; words that are none are refused as such, or a call fails
+-- the statuses that a command may end with at all; arguments that are none are rejected as such, or a call fails
 abbrev pub StatusFits : Status → Option Asked → Type 0
 StatusFits status (Some asked) = MayEnd (task_of asked) status
 StatusFits Done None = ⊥
@@ -173,7 +174,8 @@ StatusFits Refused None = ⊥
 StatusFits Failed None = ⊤
 StatusFits NoMemory None = ⊥
 
--- what a run of a command, or on words that are none, does to its host, where a file that is read may have as many bytes as the limit
+-- what a run of a command, or on arguments that are none, does to its host, where a file that is read may have as many bytes as
+-- the limit
 abbrev pub OutcomeWithin : (limit : ℕ) → Option Asked → Status → State → State → Type 0
 OutcomeWithin limit asked = Run (λ status. StatusFits status asked) (most_reads asked) (AnswerWithin limit asked)
 

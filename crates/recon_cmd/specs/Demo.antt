@@ -29,7 +29,7 @@ demo_line count seed line = labelled (codes "demo ") count ++ (labelled (codes "
 abbrev pub generated_text : (count seed : ℕ) → List ℕ
 generated_text count seed = scan_text (shown_by (generated count seed))
 
--- What `build` at these options says of the text of the generated scan, where it is done. No file is written.
+-- What `build` at these options says of the text of the generated scan, if it is done. No file is written.
 pub record Demonstrates (count seed : ℕ) (answer : Answer) : Type 0 where
   pub names : SurfaceNames
   pub built : Answer
@@ -37,6 +37,6 @@ pub record Demonstrates (count seed : ℕ) (answer : Answer) : Type 0 where
   pub done : built.status ≡ Done
   pub is : answer ≡ record { status = Done; reads = 0; writes = []; line = demo_line count seed built.line }
 
--- it reads nothing, and refuses nothing
+-- it reads nothing, and rejects nothing
 abbrev pub demo_task : (count seed : ℕ) → Task
 demo_task count seed = record { Denies = ⊥; Refuses = ⊥; most = 0; Answers = λ limit files. Demonstrates count seed }

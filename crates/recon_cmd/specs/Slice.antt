@@ -1,6 +1,6 @@
 -- `slice MESH H OUT`: the closed loops in which a level plane cuts a mesh.
 --
---   behind_minus text                what stands behind a minus sign, if there is one
+--   behind_minus text                what stands after a minus sign, if there is one
 --   height_of text                   the height that a text is, if it is one
 --   slice_names words                the names that the program holds
 --   unbalanced_line from to m n      the line where an edge occurs m times, and its reverse n times
@@ -26,12 +26,12 @@ use Rattle.recon_cmd.specs.Words.{Names}
 use Rattle.recon_cmd.specs.declared.commands.slice.words.SliceWords.{SliceWords}
 use Rattle.recon_cmd.specs.declared.status.Status.TheVariants.{Done}
 
--- what stands behind a minus sign, if there is one
+-- what stands after a minus sign, if there is one
 abbrev pub behind_minus : List ℕ → List ℕ
 behind_minus [] = []
 behind_minus (byte ∷ bytes) = if byte == 45 then bytes else byte ∷ bytes
 
--- the number that 1 to 7 digits behind an optional minus sign are, if it is no further from 0 than the walls of the box
+-- the number that 1 to 7 digits after an optional minus sign are, if it is no further from 0 than the walls of the box
 abbrev pub height_of : List ℕ → Option ℤ
 height_of text = option_map (signed (is_minus text)) (number_of_digits 7 (behind_minus text) >>= within 0 BOX_LIMIT)
 
@@ -79,7 +79,7 @@ pub record WritesSlice (output : List ℕ) (height : ℤ) (mesh : Surface) (answ
 abbrev pub SliceAnswer : (output : List ℕ) → (height : ℤ) → Surface → Answer → Type 0
 SliceAnswer output height mesh answer = RefusesSlice mesh answer ⊎ WritesSlice output height mesh answer
 
--- it reads the mesh, and writes its loops or refuses it
+-- it reads the mesh, and writes its loops or rejects it
 abbrev pub slice_task : Names → (height : ℤ) → Task
 slice_task names height =
     record { Denies = ⊥; Refuses = ⊤; most = 1; Answers = λ limit. ToMesh limit names.input (SliceAnswer names.output height) }

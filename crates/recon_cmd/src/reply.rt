@@ -1,4 +1,4 @@
-//! What a command comes to, in memory. It stands on nothing.
+//! What a command comes to, in memory. Depends on nothing.
 ghost use Rattle.std.specs.Prelude.{◌≡◌, ℕ};
 ghost use Rattle.recon_cmd.specs.Answers.{refusal as refused};
 ghost use Rattle.recon_cmd.specs.Replies.{line_bytes, answer_of};
@@ -17,7 +17,7 @@ pub enum Line {
 }
 
 impl Line {
-    /// The bytes of the line.
+    /// Returns the bytes of the line.
     pub fn as_bytes(&self) -> &[u8]
         ensures { result.now ≡ line_bytes self.now }
     {
@@ -60,7 +60,7 @@ impl From<AllocError> for Stop {
     }
 }
 
-/// A refusal writes no file, and says this line.
+/// Returns an error writes no file, and says this line.
 pub fn refusal<'a>(alloc: Global, line: Line) -> Reply<'a>
     ensures { (reads : ℕ) → answer_of reads result ≡ refused reads (line_bytes line) }
 {

@@ -1,11 +1,11 @@
 //! What a person is told on standard error beside the line that is promised: how a command is used, and how to mend what was
-//! refused. No clause speaks of these texts. How to mend a refusal is the table of `docs/using.md`, and a test of `tools/tests`
+//! rejected. No clause speaks of these texts. How to mend an error is the table of `docs/using.md`, and a test of `tools/tests`
 //! compares the two.
 
 use real_host::Advice;
 use std::rt::Env;
 
-/// The commands, each with the words behind it.
+/// The commands, each with the arguments after it.
 pub const USES: [(&str, &str); 9] = [
     (
         "build",
@@ -40,7 +40,7 @@ const COMMAND_LIMIT: usize = 16;
 pub const NO_FACE: &str =
     "no face: are all points one place at this unit (unit=1000 makes millimetres of metres), or is smooth= large beside vote=?";
 
-/// What a refusal begins with, behind its first word, and how to mend it.
+/// What an error begins with, after its first argument, and how to mend it.
 const CURES: [(&[&str], &str); 31] = [
     (
         &["1 not_ply"],
@@ -175,7 +175,7 @@ const CURES: [(&[&str], &str); 31] = [
     ),
 ];
 
-/// The place among [`USES`] of the command that the words behind the program's name begin with, if it is one.
+/// Returns the place among [`USES`] of the command that the arguments after the program's name begin with, if it is one.
 pub fn command_begun<R: Env>(rt: &R) -> Option<usize> {
     let mut word = [0; COMMAND_LIMIT];
     let Ok(length) = rt.arg(1, &mut word) else {
@@ -190,7 +190,7 @@ pub fn command_begun<R: Env>(rt: &R) -> Option<usize> {
     None
 }
 
-/// How to mend what was refused, if the line is a refusal of a file.
+/// Returns how to mend what was rejected, if the line is an error of a file.
 pub fn cure_of(line: &[u8]) -> Option<&'static str> {
     let reason = line.strip_prefix(b"refused ")?;
     for (fronts, cure) in &CURES {
@@ -201,7 +201,7 @@ pub fn cure_of(line: &[u8]) -> Option<&'static str> {
     None
 }
 
-/// Whether the reason begins with these words.
+/// Returns whether the reason begins with these arguments.
 fn is_behind(reason: &[u8], front: &str) -> bool {
     match reason.strip_prefix(front.as_bytes()) {
         Some([b' ' | b'\n', ..]) => true,
@@ -209,7 +209,7 @@ fn is_behind(reason: &[u8], front: &str) -> bool {
     }
 }
 
-/// Whether the line is that of a surface without a face.
+/// Returns whether the line is that of a surface without a face.
 pub fn has_no_face(line: &[u8]) -> bool {
     line.starts_with(b"points ")
         && line
@@ -217,14 +217,14 @@ pub fn has_no_face(line: &[u8]) -> bool {
             .any(|front| front == b" faces 0 ".as_slice())
 }
 
-/// What `recon` tells a person, by the command that the words begin with, at its place among [`USES`].
+/// What `recon` tells a person, by the command that the arguments begin with, at its place among [`USES`].
 #[derive(Drop)]
 pub struct Hints {
     pub command: Option<usize>,
 }
 
 impl Hints {
-    /// Tells how the command is used, or where the words begin with none how all are.
+    /// Tells how the command is used, or where the arguments begin with none how all are.
     fn tell_uses<R: Eprint>(&self, rt: &R) {
         for (place, (name, words)) in USES.iter().enumerate() {
             if self.command.unwrap_or(place) == place {

@@ -1,9 +1,9 @@
-//! How far the work is, for a person at a terminal: a line that is written over, and taken off in the end. It stands on the trait of
-//! `watch`, and on std's clock and standard error.
+//! How far the work is, for a person at a terminal: a line that is written over, and taken off in the end. Depends on the trait
+//! of `watch`, and on std's clock and standard error.
 //!
-//! No clause speaks of the line, and nothing hangs on it: where a write of it is refused, or the clock tells no time, all goes on
-//! without. The start of each stage is written, of which a run has six, and counts four times a second at most: so no more than
-//! eleven lines are written in a second.
+//! No clause speaks of the line, and nothing hangs on it: where a write of it is rejected, or the clock tells no time, all goes
+//! on without. The start of each stage is written, of which a run has six, and counts four times a second at most: so no more
+//! than eleven lines are written in a second.
 
 use std::fmt;
 use std::fmt::{Display, Formatter};
@@ -48,7 +48,7 @@ impl Display for Grouped {
     }
 }
 
-/// The name of a stage, as the line has it.
+/// Returns the name of a stage, as the line has it.
 fn name_of(stage: Stage) -> &'static str {
     match stage {
         Stage::Cells => "cells",
@@ -61,7 +61,7 @@ fn name_of(stage: Stage) -> &'static str {
     }
 }
 
-/// Whether the terminal says of itself that it takes characters alone.
+/// Returns whether the terminal says of itself that it takes characters alone.
 pub fn is_dumb<R: Env>(rt: &R) -> bool {
     let mut word = [0; 8];
     match rt.var("TERM", &mut word) {
@@ -88,7 +88,7 @@ impl<R: Clock + Eprint + Drop> Progress<R> {
         }
     }
 
-    /// How many milliseconds have passed, if a line is to be written.
+    /// Returns how many milliseconds have passed, if a line is to be written.
     fn passed(&self) -> Option<u64> {
         let passed = self.began?.elapsed(&self.rt).ok()?;
         let seconds = passed.as_secs().saturating_mul(1000);

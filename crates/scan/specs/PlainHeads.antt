@@ -3,8 +3,8 @@
 --
 --   int_property name     a property of one whole number of four bytes
 --   axis_properties       the properties of a scanner row: its coordinates
---   seen_properties w     what a vertex row has behind its coordinates: in the plain form the number of its scanner, in the
---                         wide form its weight and the list of its scanners
+--   seen_properties w     what a vertex row has after its coordinates: in the plain form the number of its scanner, in the wide
+--                         form its weight and the list of its scanners
 --   vertex_properties w   those of a vertex row
 --   vertex_element, scanner_element   the elements with so many rows
 --   printed_head w v s    a text's header with v vertex rows and s scanner rows, in the wide form or in the plain one
@@ -32,7 +32,7 @@ list_property = record { name = codes "scanner"; shape = Many Uint Int }
 abbrev pub axis_properties : List Property
 axis_properties = int_property (codes "x") ∷ int_property (codes "y") ∷ int_property (codes "z") ∷ []
 
--- what a vertex row has behind its coordinates, in the wide form or in the plain one
+-- what a vertex row has after its coordinates, in the wide form or in the plain one
 abbrev pub seen_properties : Bool → List Property
 seen_properties false = int_property (codes "scanner") ∷ []
 seen_properties true = weight_property ∷ list_property ∷ []

@@ -1,4 +1,4 @@
-//! The type of scans, and what each of them keeps. It stands on the points of `geo_sign`.
+//! The type of scans, and what each of them keeps. Depends on the points of `geo_sign`.
 
 ghost use Rattle.std.specs.Prelude.{◌≤◌, length, All, AllPairs};
 ghost use Rattle.geo_sign.specs.Point.{IsWithin};

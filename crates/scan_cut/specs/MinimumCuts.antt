@@ -1,7 +1,7 @@
 -- The labels of a scene's cells that cost least, and the flow that shows it.
 --
---   IsCutOf s slots cut      by the numbers of cells and sides: the least-inside labels of the scene, and a valid flow that is worth
---                            what they cost
+--   IsCutOf s slots cut      by the numbers of cells and sides: the minimum cut with the smallest inside of the scene, and a
+--                            valid flow that is worth what they cost
 use Rattle.std.specs.Prelude.{ℕ, ◌≡◌, ◌≤◌, ◌*◌, Bool, Option, List, length, slice_index}
 use Rattle.flow_net.specs.Nets.{flag_at}
 use Rattle.tetra_store.specs.declared.link.Cell.{Cell}

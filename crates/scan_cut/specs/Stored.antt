@@ -1,6 +1,6 @@
 -- The linked cells of a scan.
 --
---   AreRowsOf slots cells          the list has the rising row of each live cell, and no other rows
+--   AreRowsOf slots cells          the list has the ascending row of each live cell, and no other rows
 --   IsStoreOf scan settings s      the Delaunay cells of the scan's points, all inserted, of which a solution speaks
 use Rattle.std.specs.Prelude.{ℕ, ◌≡◌, ◌<◌, ◌++◌, true, false, List, Option, length, slice_index_or, Contains}
 use Rattle.delaunay.specs.Partition.{IsPartition}
@@ -16,7 +16,7 @@ use Rattle.tetra_store.specs.declared.link.Cell.{Cell}
 use Rattle.visibility.specs.Complexes.{Complex}
 use Rattle.visibility.specs.Votes.{IsComplexOf}
 
--- each live cell's numbers, rising, are in the list, and each row of the list is that of a live cell
+-- each live cell's numbers, ascending, are in the list, and each row of the list is that of a live cell
 pub record AreRowsOf (slots : List (Option Cell)) (cells : List (List ℕ)) : Type 0 where
   pub row : (id : ℕ) → IsLive (links_of slots) id → (row : List ℕ) × IsRowOf ((links_of slots).at id) row × Contains cells row
   pub cell : (row : List ℕ) → Contains cells row → (id : ℕ) × IsLive (links_of slots) id × IsRowOf ((links_of slots).at id) row

@@ -1,4 +1,4 @@
-//! The minimum cut over linked cells and counts. It stands on these as a network, and on `max_flow`.
+//! The minimum cut over linked cells and counts. Depends on these as a network, and on `max_flow`.
 
 ghost use Rattle.std.specs.Prelude.{◌<◌, ◌^◌, IfOk, length};
 ghost use Rattle.scan.specs.Views.{shown_of};
@@ -20,7 +20,7 @@ use watch::Watch;
 /// over side k of it flows what the flow has at 4 * v + k.
 #[derive(Drop)]
 pub struct MinimumCut {
-    /// The least-inside labels of least cost.
+    /// The minimum cut with the smallest inside.
     pub labels: Labels,
     /// A flow that is worth what they cost.
     pub flow: Flow,
@@ -28,8 +28,8 @@ pub struct MinimumCut {
     pub cost: u64,
 }
 
-/// The minimum cut of a scan's cells. What is counted of them is let go of before it returns. A
-/// watch is told of the stage. The only error is want of memory.
+/// Returns the minimum cut of a scan's cells. What is counted of them is freed of before it returns. A watch is told of the
+/// stage. The only error is out of memory.
 ///
 /// The cost fits, since it is no more than to have all cells outside, and that is below 2^47: each sight has one cell behind it.
 pub fn minimum_cut_of<W: Watch>(

@@ -3,7 +3,7 @@
 --   LabelsAreUnique     points have no two lists of labels
 --   PointsHaveLabels    among labelled cells each data point has a label, and no two
 --   HasPoint scan cells q    the displaced point lies in one of these cells
---   LabelsAreCertified  a point is inside exactly where an inside cell of the scan's certificate has it
+--   LabelsAreCertified  a point is inside exactly if an inside cell of the scan's certificate has it
 use Rattle.std.specs.Prelude.{ℕ, ◌≡◌, ◌<◌, ◌↔◌, Bool, true, List, length, slice_index_or}
 use Rattle.std.specs.List.{Any}
 use Rattle.cert_text.specs.Certificates.{Claim}

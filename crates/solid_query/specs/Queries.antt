@@ -3,8 +3,8 @@
 --   tokens_of bytes          the runs of bytes other than white space
 --   units_or_refusal n number   the number of units that token n is, or why it is none
 --   token_coordinate unit n token  the same, of the token
---   point_or_refusal x y z   the point of three coordinates, or the first refusal among them
---   points_from unit n ..    the points of these tokens, the first of which is token n, or the first refusal among them
+--   point_or_refusal x y z   the point of three coordinates, or the first error among them
+--   points_from unit n ..    the points of these tokens, the first of which is token n, or the first error among them
 --   points_in bytes unit     the points that a text is, or why it is none
 --   Gives                    what a call returned is what a definition says, unless memory ran out
 use Rattle.std.specs.Prelude.{ℕ, ℤ, ◌≡◌, ◌+◌, ◌%◌, ◌==◌, nat_lt, not, List, [], ◌∷◌, length, filter, Result, Ok, Err}
@@ -33,14 +33,14 @@ units_or_refusal n (Err numbers.OutOfRange) = Err (OutOfRange n)
 abbrev pub token_coordinate : (unit n : ℕ) → List ℕ → Result ℤ QueryRefusal
 token_coordinate unit n token = units_or_refusal n (scaled_of token unit)
 
--- the point of three coordinates, or the first refusal among them
+-- the point of three coordinates, or the first error among them
 abbrev pub point_or_refusal : (x y z : Result ℤ QueryRefusal) → Result Point QueryRefusal
 point_or_refusal (Ok x) (Ok y) (Ok z) = Ok (point x y z)
 point_or_refusal (Ok x) (Ok y) (Err why) = Err why
 point_or_refusal (Ok x) (Err why) z = Err why
 point_or_refusal (Err why) y z = Err why
 
--- a point, and the points behind it, or the first refusal
+-- a point, and the points after it, or the first error
 abbrev pub before : Result Point QueryRefusal → Result (List Point) QueryRefusal → Result (List Point) QueryRefusal
 before (Ok p) (Ok points) = Ok (p ∷ points)
 before (Ok p) (Err why) = Err why
@@ -64,7 +64,7 @@ points_among unit tokens =
 unfoldable pub points_in : List ℕ → (unit : ℕ) → Result (List Point) QueryRefusal
 points_in bytes unit = points_among unit (tokens_of bytes)
 
--- the refusal is what reading gives, unless memory ran out
+-- the error is what reading gives, unless memory ran out
 abbrev pub Fails : {Y : Type 0} → QueryRefusal → Result Y QueryRefusal → Type 0
 Fails NoMemory read = Unit {0}
 Fails why read = read ≡ Err why

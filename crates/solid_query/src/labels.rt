@@ -14,7 +14,7 @@ use geo_sign::Point;
 use tetra_store::{CellId, Tetra};
 use tetra_walk::locate_scanner;
 
-/// Where a number stands in a list.
+/// Returns where a number stands in a list.
 fn index_of(ids: &[CellId], id: CellId) -> usize
     requires { Contains ids.now id }
     ensures within { result < length ids.now }
@@ -29,8 +29,8 @@ fn index_of(ids: &[CellId], id: CellId) -> usize
     unreachable!()
 }
 
-/// Whether a data point is inside, by the label of the cell in which the displaced point lies. The cells have to be Delaunay, `ids` all
-/// live cells, each once, with one label for each.
+/// Returns whether a data point is inside, by the label of the cell in which the displaced point lies. The cells have to be
+/// Delaunay, `ids` all live cells, each once, with one label for each.
 ///
 /// It takes no memory and does not refuse. It goes through `ids` once: for many points of a scan there is [`ask`](crate::ask).
 pub fn label_at(t: &Tetra, ids: &[CellId], labels: &Labels, q: Point) -> bool

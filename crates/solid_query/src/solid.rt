@@ -1,4 +1,4 @@
-//! The linked cells of a scan, and which of them are inside by the least-inside labels of least cost.
+//! The linked cells of a scan, and which of them are inside by the minimum cut with the smallest inside.
 
 ghost use Rattle.std.specs.Prelude.{IfOk};
 ghost use Rattle.scan.specs.Views.{shown_of};
@@ -15,14 +15,14 @@ use watch::Watch;
 /// The linked Delaunay cells of a scan, and which of them are inside.
 #[derive(Drop)]
 pub(crate) struct Solid {
-    /// The cells of the box's corners and the scan's distinct points.
+    /// Returns the cells of the box's corners and the scan's distinct points.
     pub(crate) tetra: Tetra,
     /// For each cell, by its number in the store, whether it is inside.
     pub(crate) labels: Labels,
 }
 
-/// The linked cells of a scan, and which of them are inside by the least-inside labels of least cost at these settings. A watch is told
-/// of the stages.
+/// Returns the linked cells of a scan, and which of them are inside by the minimum cut with the smallest inside at these
+/// settings. A watch is told of the stages.
 pub(crate) fn solid_of<W: Watch>(
     alloc: Global,
     scan: &Scan,

@@ -4,7 +4,7 @@
 --   IsLoop points faces h ring    the ring's faces, each the next of the one before, round the ring, the smallest first
 --   the_face s, ring_faces r      the faces of a ring's steps
 --   AreLoops points faces h rings
---                                 each cut face in exactly one ring, once, and the rings by rising first faces
+--                                 each cut face in exactly one ring, once, and the rings by ascending first faces
 use Rattle.std.specs.Prelude.{ℕ, ◌≡◌, ◌+◌, ◌-◌, ◌<◌, ◌≤◌, ◌==◌, List, [], length, take, slice_index, slice_index_or, map, All}
 use Rattle.std.specs.Prelude.{count_by, if◌then◌else◌, ℤ}
 use Rattle.std.specs.List.{concat}

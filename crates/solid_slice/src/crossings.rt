@@ -35,7 +35,7 @@ fn push_crossing(list: &mut Vec<Crossing>, edge: Option<Pair>, face: u32) -> Res
     Ok(())
 }
 
-/// The crossings, in face order.
+/// Returns the crossings, in face order.
 fn crossings_of(alloc: Global, mesh: &Mesh, height: i32) -> Result<Crossings, NoMemory>
     requires { IsMesh mesh.now.points.items mesh.now.faces.items }
     ensures { IfOk result (λ c. AreCrossings mesh.now.points.items mesh.now.faces.items height (length mesh.now.faces.items) c.ups.items c.downs.items) }
@@ -60,8 +60,8 @@ fn sort_crossings(list: &mut Vec<Crossing>) -> Result<(), NoMemory>
     Ok(())
 }
 
-/// The crossings of a balanced mesh, so that at each position of the two lists stands the same edge: of a face's up edge and
-/// of the down edge of a face whose next face it is.
+/// Returns the crossings of a balanced mesh, so that at each position of the two lists stands the same edge: of a face's up
+/// edge and of the down edge of a face whose next face it is.
 pub(crate) fn matched_crossings(
     alloc: Global,
     mesh: &Mesh,

@@ -1,9 +1,9 @@
-//! Laws over the definitions, as the contracts of calls that do nothing.
+//! Theorems over the definitions, as the contracts of calls that do nothing.
 
 ghost use Rattle.solid_slice.specs.Laws.{SliceIsOne, RefusalIsOne, BalancedIsSliced, ClosedIsSliced};
 
-/// Two answers of `slice` for one mesh and height are the same, but for want of memory: two lists of loops that are its slice
-/// are equal, two edges told as unbalanced are one, with the same counts, and no mesh has both. So its slice has one text.
+/// Two answers of `slice` for one mesh and height are the same, except out of memory: two lists of loops that are its slice are
+/// equal, two edges told as unbalanced are one, with the same counts, and no mesh has both. So its slice has one text.
 pub fn slices_are_unique()
     ensures slice { SliceIsOne }
     ensures refusal { RefusalIsOne }

@@ -18,7 +18,7 @@ pub enum SliceRefusal {
         there: u32,
         back: u32,
     },
-    /// Want of memory.
+    /// Out of memory.
     #[error("out of memory")]
     NoMemory,
 }

@@ -1,4 +1,4 @@
-//! The text of a slice. It stands on `line_text`.
+//! The text of a slice. Depends on `line_text`.
 
 ghost use Rattle.std.specs.Prelude.{◌≡◌, ◌++◌, OnOk, OnErr, length, take, map};
 ghost use Rattle.std.specs.List.{flat_map};

@@ -14,8 +14,8 @@ use Rattle.visibility.specs.Complexes.{Complex}
 use Rattle.visibility.specs.Cuts.{cost, IsLeastCost}
 use Rattle.visibility.specs.Votes.{IsComplexOf}
 
--- one mesh, the same counts, weights and cost, and the same inside cells; the stamp, which says which file was read, is no part
--- of a solution
+-- one mesh, the same counts, weights and cost, and the same inside cells; the fingerprint, which says which file was read, is
+-- no part of a solution
 pub record IsSame (mesh : Surface) (claim : Claim) (other_mesh : Surface) (other : Claim) : Type 0 where
   pub mesh_is : mesh ≡ other_mesh
   pub counts_are : claim.counts ≡ other.counts

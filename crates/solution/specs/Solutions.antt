@@ -1,12 +1,12 @@
 -- The best surface of a scan, and the certificate that shows it best.
 --
---   stated about amount rows key    the amount in the row about a key, and 0 where none is about it
+--   stated about amount rows key    the amount in the row about a key, and 0 if none is about it
 --   flow_on claim, sink_at claim    the flow that a certificate's own rows state
 --   listed make keys amounts        a row for each key whose amount is not 0
 --   flow_rows, sink_rows            such rows for facets and for cells
 --   HasCounts                       a certificate has the scan's counts and weights
 --   IsCertificate                   a certificate states these labels and a flow worth their cost
---   IsSolution                      the surface and the certificate of the least-inside labels of least cost
+--   IsSolution                      the surface and the certificate of the minimum cut with the smallest inside
 --   surface_of mesh                 a mesh's points and faces
 use Rattle.std.specs.Prelude.{ℕ, ◌≡◌, ◌==◌, ◌++◌, not, Bool, List, [], ◌∷◌, length, map, filter, if◌then◌else◌}
 use Rattle.std.specs.Str.{bytes_eq}
@@ -25,7 +25,7 @@ use Rattle.visibility.specs.Cuts.{cost, cut_facets, IsLeastInside}
 use Rattle.visibility.specs.Flows.{value, IsValidFlow}
 use Rattle.solution.specs.Scans.{points_of, scene_of_scan}
 
--- the amount in the first row about a cell or facet, and 0 where no row is about it
+-- the amount in the first row about a cell or facet, and 0 if no row is about it
 abbrev pub stated : {Row : Type 0} → (Row → List ℕ) → (Row → ℕ) → List Row → List ℕ → ℕ
 stated about amount [] key = 0
 stated about amount (row ∷ rows) key = if bytes_eq (about row) key then amount row else stated about amount rows key
@@ -65,8 +65,8 @@ pub record HasCounts (claim : Claim) (scan : Shown) (settings : Settings) : Type
   pub vote : claim.counts.vote ≡ settings.vote
   pub smooth : claim.counts.smooth ≡ settings.smooth
 
--- The certificate states the cost of these labels and exactly the inside cells in rising order, and the amounts of its own
--- rows, 0 where there is no row, are a valid flow whose value is that cost. Its rows are exactly the amounts that are not 0.
+-- The certificate states the cost of these labels and exactly the inside cells in ascending order, and the amounts of its own
+-- rows, 0 if there is no row, are a valid flow whose value is that cost. Its rows are exactly the amounts that are not 0.
 pub record IsCertificate (s : Scene) (complex : Complex) (inside : List ℕ → Bool) (claim : Claim) : Type 0 where
   pub cost_is : claim.counts.cost ≡ cost s complex inside
   pub inside_is : claim.inside ≡ filter inside complex.cells

@@ -1,10 +1,10 @@
-//! Laws over the definitions, as the contracts of calls that do nothing.
+//! Theorems over the definitions, as the contracts of calls that do nothing.
 
 ghost use Rattle.solution.specs.Laws.{LeastCostLaw, SolutionLaw};
 
-/// Two solutions of one scan at the same settings have the same mesh, and their certificates state the same counts, cost and inside
-/// cells. The flows that they state may differ, and so may their stamps, which are no part of a solution.
-/// It is for whoever compares two builds of one scan.
+/// Two solutions of one scan at the same settings have the same mesh, and their certificates state the same counts, cost and
+/// inside cells. The flows that they state may differ, and so may their fingerprints, which are no part of a solution. It is
+/// for whoever compares two builds of one scan.
 pub fn solutions_differ_in_their_flows_alone()
     ensures { SolutionLaw }
 {}

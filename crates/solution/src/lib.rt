@@ -5,9 +5,9 @@
 //! numbers). `specs/Solutions` says what a solution is, over cells and directed facets alone, and `specs/Scans` what a scan
 //! shows. Whoever makes a solution and whoever checks one stand on it, and neither on the other.
 //!
-//! Of code it has what both need: the points and sights of a scan.
-//! The crate stands on `scan` and `merge` (what a scan shows, each point once), `visibility` and `flow_net` (cost and flows), `mesh_ply`
-//! and `cert_text` (what a mesh and a certificate are), and the laws of `cell_laws`.
+//! Of code it has what both need: the points and sights of a scan. The crate depends on `scan` and `merge` (what a scan shows,
+//! each point once), `visibility` and `flow_net` (cost and flows), `mesh_ply` and `cert_text` (what a mesh and a certificate
+//! are), and the theorems of `cell_laws`.
 #![tactic(auto)]
 
 mod laws;
@@ -17,5 +17,5 @@ pub use laws::{least_costs_fit, solutions_differ_in_their_flows_alone};
 pub use sights::{SeenPoints, seen_in};
 use std::alloc::AllocError;
 
-/// Want of memory: the one answer that any input may get.
+/// Out of memory: the one error that any input may cause.
 pub type NoMemory = AllocError;

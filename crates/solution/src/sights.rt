@@ -1,4 +1,4 @@
-//! The distinct points and the sights of a scan. It stands on `merge` and on `flow_net`, which holds the type of sights.
+//! The distinct points and the sights of a scan. Depends on `merge` and on `flow_net`, which holds the type of sights.
 
 ghost use Rattle.std.specs.Prelude.{◌≡◌, IfOk, map};
 ghost use Rattle.merge.specs.Merging.{index_among};
@@ -24,7 +24,7 @@ pub struct SeenPoints {
     pub sights: Vec<Sight>,
 }
 
-/// The sights of a scan. `of_row` has the index of each row's point among the distinct points.
+/// Returns the sights of a scan. `of_row` has the index of each row's point among the distinct points.
 fn sights_of(alloc: Global, scan: &Scan, of_row: &[u32]) -> Result<Vec<Sight>, NoMemory>
     requires { of_row.now ≡ map (index_among (points_of (shown_of scan.now))) scan.now.points.items }
     ensures { IfOk result (λ sights. sights.items ≡ sights_in (shown_of scan.now)) }
@@ -41,7 +41,7 @@ fn sights_of(alloc: Global, scan: &Scan, of_row: &[u32]) -> Result<Vec<Sight>, N
 }
 
 impl SeenPoints {
-    /// The scene of the scan whose points and sights these are.
+    /// Returns the scene of the scan whose points and sights these are.
     pub fn scene<'a>(&'a self, scan: &'a Scan, settings: Settings) -> Scene<'a>
         requires points { self.now.points.items ≡ points_of (shown_of scan.now) }
         requires sights { self.now.sights.items ≡ sights_in (shown_of scan.now) }
@@ -58,7 +58,7 @@ impl SeenPoints {
     }
 }
 
-/// The distinct points and the sights of a scan. The only error is want of memory.
+/// Returns the distinct points and the sights of a scan. The only error is out of memory.
 pub fn seen_in(alloc: Global, scan: &Scan) -> Result<SeenPoints, NoMemory>
     ensures points { IfOk result (λ seen. seen.points.items ≡ points_of (shown_of scan.now)) }
     ensures sights { IfOk result (λ seen. seen.sights.items ≡ sights_in (shown_of scan.now)) }

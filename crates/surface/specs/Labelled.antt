@@ -5,10 +5,11 @@
 --   listed_label ids labels id                the label of a cell where the labels are in the order of a list of cells
 --   NoneHasCorner slots inside                no cell inside has a corner of the box
 --   IsCutFacet slots inside facet             a facet of an outside cell with an inside cell across
---   AreCutFacets slots inside facets          all of these, rising
+--   AreCutFacets slots inside facets          all of these, ascending
 --   IsCutMesh points slots inside mesh        the mesh of these facets
 --   AreLabelsOver scene rising slots ..       the cells are those of the scene, labelled as by a test, and no fixed cell is inside
---   OverScenes slots inside claim             the claim is true of each scene, rising complex and test that the labels are over
+--   OverScenes slots inside claim             the claim is true of each scene, ascending complex and test that the labels are
+--                                             over
 --   mesh_over points scene rising test        the mesh of the scene's facets that the test cuts, among these points
 --   IsSortedCut slots outside facets          the facets, sorted, of the sides of cells with a flag whose neighbor has none
 use Rattle.std.specs.Prelude.{ℕ, ◌≡◌, ◌<◌, ◌==◌, Bool, true, false, List, Option, Some, map, length, slice_index, AllPairs, Contains}
@@ -43,7 +44,7 @@ pub record AreAllLive (slots : List (Option Cell)) (ids : List ℕ) : Type 0 whe
   pub all : (id : ℕ) → IsLive (links_of slots) id → Contains ids id
   pub once : AreDistinctNumbers ids
 
--- at the index of the cell; a cell that is not in the list is outside, where there are as many labels as cells
+-- at the index of the cell; a cell that is not in the list is outside, if there are as many labels as cells
 abbrev pub listed_label : List ℕ → List Bool → ℕ → Bool
 listed_label ids labels id = flag_at labels (position_or_len (λ other. other == id) ids)
 
@@ -86,7 +87,7 @@ pub record AreLabelsOver (s : Scene) (rising : Complex) (slots : List (Option Ce
   pub says : SaysOfCells slots inside test
   pub admissible : IsAdmissible s rising test
 
--- over each such scene, its rising complex and the test
+-- over each such scene, its ascending complex and the test
 abbrev pub OverScenes : List (Option Cell) → (ℕ → Bool) → (Scene → Complex → (List ℕ → Bool) → Type 0) → Type 0
 OverScenes slots inside claim =
     (scene : Scene) (rising : Complex) (test : List ℕ → Bool) → AreLabelsOver scene rising slots inside test

@@ -14,5 +14,5 @@ mod numbered;
 pub use mesh::{facets, facets_by_number};
 use std::alloc::AllocError;
 
-/// Want of memory: the one answer that any input may get.
+/// Out of memory: the one error that any input may cause.
 pub type NoMemory = AllocError;

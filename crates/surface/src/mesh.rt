@@ -16,7 +16,7 @@ use mesh_ply::{Mesh, mesh_of_facets};
 use std::alloc::Global;
 use tetra_store::{CellId, Tetra};
 
-/// Where the vertices are, in order of their numbers.
+/// If the vertices are, in order of their numbers.
 fn points_of(alloc: Global, t: &Tetra) -> Result<Vec<Point>, NoMemory>
     ensures { IfOk result (λ points. points.items ≡ t.now.points) }
 {

@@ -1,6 +1,6 @@
 -- What the best surface of a scene is and costs, and what forms receive of the surfaces of a sweep.
 --
---   AreBestLabels s complex inside   the least-inside labels of least cost, over all cells of the scene
+--   AreBestLabels s complex inside   the minimum cut with the smallest inside, over all cells of the scene
 --   CostsLeast s n                the number is what they cost
 --   IsSurfaceOf s points mesh     the mesh is that of the facets of outside cells with an inside cell across
 --   Given                         points, scanners and sights
@@ -9,8 +9,8 @@
 --   AreWeights settings v l       the settings of a vote and a smoothing
 --   IsSurfaceAt, CostsAt          the mesh and the cost of the best surface at a vote and a smoothing
 --   smoothing_of from step k      the smoothing of entry k of a sweep
---   HasEntry, HasEntryFront       what a form has received of the mesh of an entry
---   HaveEntries, HaveEntryFronts  what each form has of the mesh of its own entry
+--   HasEntry, HasEntryFront       what a writer has received of the mesh of an entry
+--   HaveEntries, HaveEntryFronts  what each writer has of the mesh of its own entry
 use Rattle.std.specs.Prelude.{ℕ, ◌≡◌, ◌⊎◌, ◌<◌, ◌+◌, ◌*◌, ◌++◌, Bool, List, length, slice_index_or}
 use Rattle.flow_net.specs.declared.votes.Settings.{Settings}
 use Rattle.flow_net.specs.declared.votes.Sight.{Sight}
@@ -77,27 +77,27 @@ pub record CostsAt (g : Given) (vote smooth n : ℕ) : Type 0 where
   pub weights : AreWeights settings vote smooth
   pub cost_is : CostsLeast (given_scene g settings) n
 
--- the smoothing of entry k of a sweep, of which the first is entry 0
+-- the smoothing of entry k of a sweep, whose first is entry 0
 abbrev pub smoothing_of : (from step k : ℕ) → ℕ
 smoothing_of from step k = from + k * step
 
--- a form has received exactly the mesh at these weights
+-- a writer has received exactly the mesh at these weights
 pub record HasEntry (g : Given) (vote smooth : ℕ) (r : Received) : Type 0 where
   pub mesh : Surface
   pub surface : IsSurfaceAt g vote smooth mesh
   pub all : HasAll r mesh.points mesh.faces
 
--- a form is fresh, or has received a front of the mesh at these weights, the whole included
+-- a writer is fresh, or has received a prefix of the mesh at these weights, the whole included
 abbrev pub HasEntryFront : (g : Given) → (vote smooth : ℕ) → Received → Type 0
 HasEntryFront g vote smooth r =
     IsFresh r ⊎ ((mesh : Surface) × IsSurfaceAt g vote smooth mesh × HasFront r mesh.points mesh.faces)
 
--- each form has received exactly the mesh of its entry
+-- each writer has received exactly the mesh of its entry
 abbrev pub HaveEntries : (g : Given) → (vote from step : ℕ) → List Received → Type 0
 HaveEntries g vote from step forms =
     (k : ℕ) (d : Received) → k < length forms → HasEntry g vote (smoothing_of from step k) (slice_index_or forms k d)
 
--- each form is fresh, or has received a front of the mesh of its entry
+-- each writer is fresh, or has received a prefix of the mesh of its entry
 abbrev pub HaveEntryFronts : (g : Given) → (vote from step : ℕ) → List Received → Type 0
 HaveEntryFronts g vote from step forms =
     (k : ℕ) (d : Received) → k < length forms → HasEntryFront g vote (smoothing_of from step k) (slice_index_or forms k d)

@@ -1,4 +1,4 @@
-//! The surfaces of a sweep, handed to forms. It stands on the sweep and on `mesh_form`.
+//! The surfaces of a sweep, passed to writers. Depends on the sweep and on `mesh_form`.
 
 ghost use Rattle.std.specs.Prelude.{◌≡◌, ◌≤◌, ◌+◌, ◌*◌, ◌-◌, IfOk, OnOk, OnErr, All, length, map};
 ghost use Rattle.flow_net.specs.declared.votes.TheConstants.{WEIGHT_LIMIT};
@@ -50,8 +50,8 @@ fn raise_to(sweep: &mut Sweep, smooth: u32) -> Result<(), NoMemory>
     Ok(())
 }
 
-/// Hands the surface of a sweep to the first of these fresh forms, and to each further one that at a smoothing larger by a step. A watch
-/// is told of the stage and of how many surfaces are handed on.
+/// Hands the surface of a sweep to the first of these fresh forms, and to each further one that at a smoothing larger by a
+/// step. A watch is told of the stage and of how many surfaces are passed on.
 fn hand_rising<W: Watch>(
     sweep: &mut Sweep,
     step: u32,
@@ -78,10 +78,10 @@ fn hand_rising<W: Watch>(
     Ok(())
 }
 
-/// Hands the best surface of a scan to the first of these fresh forms, and to each further one that at a smoothing larger by a step.
-/// Answers what the first and the last cost.
+/// Hands the best surface of a scan to the first of these fresh forms, and to each further one that at a smoothing larger by a
+/// step. Returns what the first and the last cost.
 ///
-/// After `NoMemory` each form is fresh, or has received a front of its surface, the whole included.
+/// After `NoMemory` each writer is fresh, or has received a prefix of its surface, the whole included.
 pub fn hand_surfaces(
     alloc: Global,
     scan: &Scan,
@@ -101,7 +101,7 @@ pub fn hand_surfaces(
     hand_surfaces_watched(alloc, scan, settings, step, forms, &mut Silent)
 }
 
-/// The same, where a watch is told of the stages of the work.
+/// Returns the same, where a watch is told of the stages of the work.
 pub fn hand_surfaces_watched<W: Watch>(
     alloc: Global,
     scan: &Scan,

@@ -1,4 +1,4 @@
-//! A sweep: a scan's best surface at one smoothing, which can be raised. It stands on the linked cells and counts of a scan as a
+//! A sweep: a scan's best surface at one smoothing, which can be raised. Depends on the linked cells and counts of a scan as a
 //! network, on `max_flow` and on `surface`.
 
 ghost use Rattle.std.specs.Prelude.{◌≡◌, ◌<◌, ◌≤◌, IfOk, OnOk, OnErr};
@@ -48,7 +48,7 @@ pub struct Sweep {
     votes: Votes,
     /// A largest flow, by the numbers of cells and sides.
     flow: Flow,
-    /// The least-inside labels, by the numbers of cells.
+    /// The minimum cut with the smallest inside, by the numbers of cells.
     labels: Labels,
     /// What the next raise goes on from, if there is anything: how long it takes hangs on it, and nothing else.
     kept: Option<KeptPreflow>,
@@ -65,7 +65,7 @@ impl Model for Sweep {
 }
 
 impl Sweep {
-    /// The best surface of a scan at these weights. The only error is want of memory.
+    /// Returns the best surface of a scan at these weights. The only error is out of memory.
     pub fn start(alloc: Global, scan: &Scan, settings: Settings) -> Result<Sweep, NoMemory>
         ensures scan { IfOk result (λ sweep. IsOf sweep (shown_of scan.now)) }
         ensures settings { IfOk result (λ sweep. sweep.settings ≡ settings) }
@@ -74,7 +74,7 @@ impl Sweep {
         Sweep::start_watched(alloc, scan, settings, &mut Silent)
     }
 
-    /// The same, where a watch is told of the stages of the work.
+    /// Returns the same, where a watch is told of the stages of the work.
     pub fn start_watched<W: Watch>(
         alloc: Global,
         scan: &Scan,
@@ -125,14 +125,14 @@ impl Sweep {
         Ok(())
     }
 
-    /// The smoothing that it is at.
+    /// Returns the smoothing that it is at.
     pub fn smooth(&self) -> u32
         ensures { result ≡ self.now.settings.smooth }
     {
         self.settings.smooth
     }
 
-    /// What the best surface costs: the least cost of labels of the scan's cells at these weights.
+    /// Returns what the best surface costs: the least cost of labels of the scan's cells at these weights.
     pub fn cost(&self) -> u64
         ensures { CostsLeast (scene_in self.now) result }
     {
@@ -140,8 +140,8 @@ impl Sweep {
         cost(&net, &self.labels) as u64
     }
 
-    /// The mesh of the best surface: that of the facets of outside cells with an inside cell across, by the labels of least cost whose
-    /// inside is smallest. It is closed. The only error is want of memory.
+    /// Returns the mesh of the best surface: that of the facets of outside cells with an inside cell across, by the labels of
+    /// least cost whose inside is smallest. It is closed. The only error is out of memory.
     pub fn mesh(&self) -> Result<Mesh, NoMemory>
         ensures surface { IfOk result (λ mesh. IsSurfaceOf (scene_in self.now) self.now.points (surface_of mesh)) }
         ensures valid { IfOk result (λ mesh. IsMesh mesh.points.items mesh.faces.items) }

@@ -39,7 +39,7 @@ pub struct Votes {
 }
 
 impl Votes {
-    /// What a network is made from.
+    /// Returns what a network is made from.
     pub fn store_counts(&self) -> StoreCounts<'_>
         ensures crossed { result.crossed.now ≡ self.now.crossed.items }
         ensures behind { result.behind.now ≡ self.now.behind.items }
@@ -53,7 +53,7 @@ impl Votes {
     }
 }
 
-/// The counts of the sights, which are walked in another order. That order is let go of before it returns.
+/// Returns the counts of the sights, which are walked in another order. That order is freed of before it returns.
 fn counts_of<W: Watch>(
     alloc: Global,
     t: &Tetra,
@@ -73,12 +73,12 @@ fn counts_of<W: Watch>(
     count_sights(alloc, t, scanners, cells, &walked, watch)
 }
 
-/// What a scene's sights vote for and which cells are fixed, by a walk along each sight. A watch is told of the stage and of how many
-/// sights are counted.
+/// Returns what a scene's sights vote for and which cells are fixed, by a walk along each sight. A watch is told of the stage
+/// and of how many sights are counted.
 ///
-/// All points have to be inserted, and the cells Delaunay, as `delaunay::build` leaves them. Equal sights count as often as they were
-/// seen, each by its weight, and a scanner that sees nothing fixes its cell as well. The only error is want of memory, which also stands
-/// for 2^32 numbers of cells and more. The cells of the scanners are let go of before it returns.
+/// All points have to be inserted, and the cells Delaunay, as `delaunay::build` leaves them. Equal sights count as often as
+/// they were seen, each by its weight, and a scanner that sees nothing fixes its cell as well. The only error is out of memory,
+/// which also stands for 2^32 numbers of cells and more. The cells of the scanners are freed of before it returns.
 pub fn counted<W: Watch>(
     alloc: Global,
     t: &Tetra,

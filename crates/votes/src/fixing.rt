@@ -16,7 +16,7 @@ use std::alloc::Global;
 use tetra_store::{CellId, Tetra};
 use tetra_walk::locate_scanner;
 
-/// The cell of each scanner.
+/// Returns the cell of each scanner.
 pub(crate) fn scanner_cells(
     alloc: Global,
     t: &Tetra,
@@ -33,7 +33,7 @@ pub(crate) fn scanner_cells(
     Ok(cells)
 }
 
-/// Whether a cell with these vertices has a corner of the box.
+/// Returns whether a cell with these vertices has a corner of the box.
 fn has_corner(v: [u32; 4]) -> bool
     ensures { result ≡ has_corner_in (tetrahedron_from v) }
 {

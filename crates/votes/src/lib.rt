@@ -21,5 +21,5 @@ pub use counting::{Votes, count_votes, counted};
 use std::alloc::AllocError;
 pub use vote_net::Counted;
 
-/// Want of memory: the one answer that any input may get.
+/// Out of memory: the one error that any input may cause.
 pub type NoMemory = AllocError;

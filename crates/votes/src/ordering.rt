@@ -22,7 +22,7 @@ struct Keyed {
     sight: Sight,
 }
 
-/// The 32 lowest bits of a number with a free place over each.
+/// Returns the 32 lowest bits of a number with a free place over each.
 fn spread(number: u64) -> u64 {
     let mut bits = number & 0xffff_ffff;
     bits = (bits | bits << 16) & 0x0000_ffff_0000_ffff;
@@ -32,7 +32,7 @@ fn spread(number: u64) -> u64 {
     (bits | bits << 1) & 0x5555_5555_5555_5555
 }
 
-/// A sight with its key: the bits of the numbers of its scanner's cell and of a cell at its vertex in turn.
+/// Returns a sight with its key: the bits of the numbers of its scanner's cell and of a cell at its vertex in turn.
 fn with_key(t: &Tetra, scanners: &[Point], cells: &[CellId], sight: Sight) -> Keyed
     requires sight { IsInRange (vertices_of t.now) scanners.now sight }
     requires cells { length cells.now ≡ length scanners.now }
@@ -47,7 +47,7 @@ fn with_key(t: &Tetra, scanners: &[Point], cells: &[CellId], sight: Sight) -> Ke
     }
 }
 
-/// The sights with their keys.
+/// Returns the sights with their keys.
 fn with_keys(
     alloc: Global,
     t: &Tetra,
@@ -73,7 +73,7 @@ fn sort(list: &mut [Keyed])
     list.sort_unstable_by_key(|item| item.key);
 }
 
-/// The sights with their keys, in the order of these.
+/// Returns the sights with their keys, in the order of these.
 fn sorted(
     alloc: Global,
     t: &Tetra,
@@ -90,7 +90,7 @@ fn sorted(
     Ok(list)
 }
 
-/// The sights alone.
+/// Returns the sights alone.
 fn without_keys(alloc: Global, list: &[Keyed]) -> Result<Vec<Sight>, NoMemory>
     ensures { IfOk result (λ sights. sights.items ≡ map the_sight list.now) }
 {
@@ -101,7 +101,7 @@ fn without_keys(alloc: Global, list: &[Keyed]) -> Result<Vec<Sight>, NoMemory>
     Ok(sights)
 }
 
-/// The sights in such an order. The keys are let go of before it returns.
+/// Returns the sights in such an order. The keys are freed of before it returns.
 pub(crate) fn ordered(
     alloc: Global,
     t: &Tetra,

@@ -26,7 +26,7 @@ pub(crate) struct Counts {
     pub behind: Vec<u32>,
 }
 
-/// What a sight adds to each facet that it crosses and to the cell behind it: its weight.
+/// Returns what a sight adds to each facet that it crosses and to the cell behind it: its weight.
 fn added_by(sight: Sight) -> u32
     ensures { result ≡ added_by_sight sight }
 {
@@ -42,7 +42,7 @@ struct Line {
     added: u32,
 }
 
-/// The line of a sight.
+/// Returns the line of a sight.
 fn line_of(scanners: &[Point], cells: &[CellId], sight: Sight) -> Line
     requires scanner { sight.scanner < length scanners.now }
     requires cell { sight.scanner < length cells.now }
@@ -56,7 +56,7 @@ fn line_of(scanners: &[Point], cells: &[CellId], sight: Sight) -> Line
     }
 }
 
-/// The index of the counter of the facet through which a walk came into the cell that it has reached.
+/// Returns the index of the counter of the facet through which a walk came into the cell that it has reached.
 fn counter_of(along: &SightWalk<'_>) -> usize
     requires { 4 * along.now.at + along.now.entered < 2 ^ 64 }
     ensures { result ≡ 4 * along.now.at + along.now.entered }
@@ -64,7 +64,7 @@ fn counter_of(along: &SightWalk<'_>) -> usize
     4 * along.end_cell().number() + along.entered()
 }
 
-/// Goes on along a sight by one facet and adds an amount for it. No exactly where none is left.
+/// Goes on along a sight by one facet and adds an amount for it. No exactly if none is left.
 fn count_next(t: &Tetra, along: &mut SightWalk<'_>, added: u32, crossed: &mut [u32]) -> bool
     requires store { along.old.store ≡ t.now }
     requires fits { 4 * length t.now.slots ≤ length crossed.old }

@@ -12,7 +12,7 @@ pub enum Stage {
     Flow,
     /// What that has found is gone on from in rounds, which are counted. Nobody knows how many there will be.
     Rounds,
-    /// The surfaces of a sweep are found and handed on.
+    /// The surfaces of a sweep are found and passed on.
     Surfaces,
     /// Points that were asked for are found among the cells.
     Answers,

@@ -23,7 +23,7 @@ pub fn all_free_inside(alloc: Global, net: &Net) -> Result<Labels, NoMemory>
     })
 }
 
-/// The mesh of four points whose one cell is inside.
+/// Returns the mesh of four points whose one cell is inside.
 fn mesh_of_four(alloc: Global) -> Result<Mesh, Fail> {
     let points = four_points()?;
     let scanners = five_scanners(point(2000, 2000, 2000)?)?;

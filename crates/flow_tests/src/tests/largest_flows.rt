@@ -21,7 +21,7 @@ const MIDDLE: Kind = Kind {
     times: 1,
 };
 
-/// No flow is worth more than any labels cost, so where a flow is worth as much as labels cost both are best.
+/// Returns no flow is worth more than any labels cost, so where a flow is worth as much as labels cost both are best.
 fn is_worth_its_cut(alloc: Global, net: &Net) -> Result<bool, Fail> {
     let (flow, labels) = minimum_cut(alloc, net)?;
     Ok(is_valid_flow(alloc, net, &flow)? && value(net, &flow) == cost(net, &labels))
@@ -79,7 +79,7 @@ const KINDS: [(&str, Kind); 7] = [
     ),
 ];
 
-/// Whether fifteen networks of a kind are.
+/// Returns whether fifteen networks of a kind are.
 fn are_worth_their_cuts(alloc: Global, state: &mut u64, kind: Kind) -> Result<bool, Fail> {
     for _ in 0..15u32 {
         let net = random_net(alloc, state, kind)?;
@@ -90,7 +90,7 @@ fn are_worth_their_cuts(alloc: Global, state: &mut u64, kind: Kind) -> Result<bo
     Ok(true)
 }
 
-/// Whether ten rows of this smoothing are.
+/// Returns whether ten rows of this smoothing are.
 fn are_rows_worth_their_cuts(alloc: Global, state: &mut u64, smooth: u64) -> Result<bool, Fail> {
     for _ in 0..10u32 {
         let net = row_with_sights(alloc, state, smooth)?;
@@ -117,8 +117,8 @@ fn as_much_flows_as_the_labels_cost(rt: HostRuntime) -> Result<(), Fail> {
     Ok(())
 }
 
-/// What a largest flow of one network is worth in another, where the same arcs have no less capacity: gone on from with what was kept
-/// of it, and without.
+/// Returns what a largest flow of one network is worth in another, where the same arcs have no less capacity: gone on from with
+/// what was kept of it, and without.
 fn gone_on(alloc: Global, before: &Net, net: &Net) -> Result<[u128; 2], Fail> {
     let (mut flow, _labels, mut kept) = minimum_cut_and_preflow(alloc, before)?;
     if !is_valid_flow(alloc, net, &flow)? {
@@ -129,7 +129,7 @@ fn gone_on(alloc: Global, before: &Net, net: &Net) -> Result<[u128; 2], Fail> {
     Ok([value(net, &above.0), value(net, &flow)])
 }
 
-/// Whether both are worth as much as a flow that is found anew, on a network whose capacities double.
+/// Returns whether both are worth as much as a flow that is found anew, on a network whose capacities double.
 fn goes_on(alloc: Global, state: &mut u64) -> Result<bool, Fail> {
     let mut again = *state;
     let before = random_net(alloc, state, MIDDLE)?;

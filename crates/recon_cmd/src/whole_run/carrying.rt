@@ -1,4 +1,4 @@
-//! The writing of texts and the saying of a line, of whichever command. It stands on `host`.
+//! The writing of texts and the saying of a line, of whichever command. Depends on `host`.
 ghost use Rattle.std.specs.Prelude.{◌≡◌, false};
 ghost use Rattle.recon_cmd.specs.Replies.{line_bytes, texts_of};
 ghost use Rattle.recon_cmd.specs.Steps.{CarriesOut};

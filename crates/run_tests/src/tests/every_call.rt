@@ -24,7 +24,7 @@ const CALLS: [HostCall; 6] = [
     HostCall::Say,
 ];
 
-/// A command: its words, and the files that it writes, in their order.
+/// A command: its arguments, and the files that it writes, in their order.
 #[derive(Clone, Copy)]
 struct Command {
     words: &'static [&'static str],
@@ -80,7 +80,7 @@ const DEMO: Command = Command {
     outputs: &[],
 };
 
-/// A command on files, in calls that move so many bytes at most, and what it leaves and says where no call fails.
+/// A command on files, in calls that move so many bytes at most, and what it leaves and says if no call fails.
 #[derive(Clone, Copy)]
 struct Case<'a> {
     command: Command,
@@ -90,7 +90,7 @@ struct Case<'a> {
     said: &'a str,
 }
 
-/// The calls of one kind, and how many there are of them where none fails.
+/// The calls of one kind, and how many there are of them if none fails.
 #[derive(Clone, Copy)]
 struct Calls {
     call: HostCall,
@@ -105,7 +105,8 @@ struct Left {
     said: usize,
 }
 
-/// What stands where a call that writes or says fails behind so many of its kind. None where there are no more of that kind.
+/// Returns what stands where a call that writes or says fails behind so many of its kind. None if there are no more of that
+/// kind.
 fn left_by(alloc: Global, case: Case, call: HostCall, behind: u32) -> Result<Option<Left>, Fail>
     requires { 0 < case.piece }
 {
@@ -140,7 +141,7 @@ fn left_by(alloc: Global, case: Case, call: HostCall, behind: u32) -> Result<Opt
     Ok(None)
 }
 
-/// Whether a run stopped so.
+/// Returns whether a run stopped so.
 fn is_left(host: &Watched, call: HostCall, left: &Left, said: &str) -> bool {
     let closed = if call == HostCall::Append { 1 } else { 0 };
     let front = said.as_bytes().get(..left.said).unwrap_or(b"");
@@ -151,7 +152,7 @@ fn is_left(host: &Watched, call: HostCall, left: &Left, said: &str) -> bool {
         && host.host.said() == front
 }
 
-/// Whether a run came to its end.
+/// Returns whether a run came to its end.
 fn is_whole(host: &Watched, whole: &Files, said: &str) -> bool {
     host.host.fault_count() == 0 && host.has(whole) && host.host.said() == said.as_bytes()
 }
@@ -216,7 +217,7 @@ fn fail_some(alloc: Global, case: Case, calls: Calls) -> Result<(), Fail>
     Ok(())
 }
 
-/// Calls of a command fail, each in turn where there are no more of a kind than `few`. The answer is what a run leaves in which
+/// Calls of a command fail, each in turn if there are no more of a kind than `few`. The answer is what a run leaves in which
 /// none fails.
 fn fail_in_turn(
     alloc: Global,
@@ -296,7 +297,7 @@ fn push_place(bytes: &mut Vec<u8>, place: &Point, is_big: bool) -> Result<(), Fa
     push_four(bytes, place.z().to_le_bytes(), is_big)
 }
 
-/// The binary form of a scan in a byte order.
+/// Returns the binary form of a scan in a byte order.
 fn binary(alloc: Global, scan: &Scan, is_big: bool) -> Result<Vec<u8>, Fail> {
     let order = if is_big { "big" } else { "little" };
     let points = scan.points.len();

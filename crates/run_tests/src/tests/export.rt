@@ -1,4 +1,4 @@
-//! Runs of `export`: a mesh in a form of the test's own, and the words that `run` alone does not know.
+//! Runs of `export`: a mesh in a writer of the test's own, and the arguments that `run` alone does not know.
 
 use super::fixtures::{PIECE, owned};
 use super::forms::{beginning, shows};

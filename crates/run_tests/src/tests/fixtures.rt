@@ -9,13 +9,13 @@ use recon_cmd::{NoMemory, run_forms};
 use std::alloc::Global;
 use std::test::Fail;
 
-/// How many bytes a host reads and takes at most in a call, where it is not told otherwise.
+/// How many bytes a host reads and takes at most in a call, if it is not told otherwise.
 pub const PIECE: usize = 65_536;
 
 /// How many bytes a host has room for in each file.
 const ROOM: usize = 65_536;
 
-/// The words of commands without options.
+/// The arguments of commands without options.
 pub const CELLS: [&str; 3] = ["cells", "in", "out"];
 
 pub const BUILD: [&str; 4] = ["build", "in", "mesh", "cert"];
@@ -57,7 +57,7 @@ pub const NO_FACE: &str =
 /// What `export` says of it in three forms.
 pub const FOUR_EXPORTED: &str = "exported 3 points 4 faces 4\n";
 
-/// The plain form of a scan with these lines.
+/// Returns the plain form of a scan with these lines.
 pub fn plain(alloc: Global, points: &[&str], scanners: &[&str]) -> Result<String, Fail> {
     let vertices = points.len();
     let count = scanners.len();
@@ -75,7 +75,7 @@ pub fn plain(alloc: Global, points: &[&str], scanners: &[&str]) -> Result<String
     Ok(text)
 }
 
-/// The words as a command line has them.
+/// Returns the arguments as a command line has them.
 pub fn owned(alloc: Global, words: &[&str]) -> Result<Vec<String>, NoMemory> {
     let mut owned = Vec::new(alloc);
     for word in words {
@@ -84,7 +84,7 @@ pub fn owned(alloc: Global, words: &[&str]) -> Result<Vec<String>, NoMemory> {
     Ok(owned)
 }
 
-/// The bytes, if there are any.
+/// Returns the bytes, if there are any.
 fn copied(alloc: Global, bytes: Option<&[u8]>) -> Result<Option<Vec<u8>>, NoMemory> {
     match bytes {
         Some(bytes) => Ok(Some(bytes.to_vec(alloc)?)),
@@ -92,7 +92,8 @@ fn copied(alloc: Global, bytes: Option<&[u8]>) -> Result<Option<Vec<u8>>, NoMemo
     }
 }
 
-/// The files `in`, `out`, `mesh` and `cert`, which have these bytes in this order or are not there, and `unit=3`, which is not.
+/// Returns the files `in`, `out`, `mesh` and `cert`, which have these bytes in this order or are not there, and `unit=3`, which
+/// is not.
 fn files_of(
     alloc: Global,
     held: [Option<&[u8]>; 4],
@@ -109,7 +110,7 @@ fn files_of(
     ]?)
 }
 
-/// A host with these files, whose calls move so many bytes at most, and some of them fail.
+/// Returns a host with these files, whose calls move so many bytes at most, and some of them fail.
 pub fn host_with(
     alloc: Global,
     held: [Option<&[u8]>; 4],
@@ -123,7 +124,7 @@ pub fn host_with(
     MemHost::new(alloc, files_of(alloc, held)?, piece, ROOM, failing)
 }
 
-/// Whether the same files have these texts or are not there, `unit=3` is not, and this was said.
+/// Returns whether the same files have these texts or are not there, `unit=3` is not, and this was said.
 pub fn leaves(host: &MemHost, held: [Option<&str>; 4], said: &str) -> bool {
     let [input, output, mesh, cert] = held;
     has(host, "in", input)
@@ -134,7 +135,7 @@ pub fn leaves(host: &MemHost, held: [Option<&str>; 4], said: &str) -> bool {
         && host.said() == said.as_bytes()
 }
 
-/// Whether the file of this name has this text, or is not there.
+/// Returns whether the file of this name has this text, or is not there.
 fn has(host: &MemHost, name: &str, text: Option<&str>) -> bool {
     match text {
         Some(text) => host.file(name) == Some(text.as_bytes()),
@@ -142,7 +143,8 @@ fn has(host: &MemHost, name: &str, text: Option<&str>) -> bool {
     }
 }
 
-/// The status of a run on these words, where `export` writes PLY, OFF and OBJ, and so does a `sweep` of three surfaces.
+/// Returns the status of a run on these arguments, where `export` writes PLY, OFF and OBJ, and so does a `sweep` of three
+/// surfaces.
 pub fn in_three_forms<H: Host>(
     alloc: Global,
     words: &[String],

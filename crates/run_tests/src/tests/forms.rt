@@ -7,7 +7,7 @@ use host::{HostCall, MemHost};
 use recon_cmd::NoMemory;
 use std::alloc::Global;
 
-/// The mesh of the four points, where `out` and `cert` are not there and `in` holds something.
+/// Returns the mesh of the four points, where `out` and `cert` are not there and `in` holds something.
 pub fn beginning(
     alloc: Global,
     piece: usize,
@@ -26,7 +26,8 @@ pub fn beginning(
     )
 }
 
-/// Whether `out`, `cert` and `in` hold these texts or are not there, beside the mesh of the four points, and this was said.
+/// Returns whether `out`, `cert` and `in` hold these texts or are not there, beside the mesh of the four points, and this was
+/// said.
 pub fn shows(host: &MemHost, texts: [Option<&str>; 3], said: &str) -> bool {
     let [output, cert, input] = texts;
     leaves(host, [input, output, Some(FOUR_MESH), cert], said)

@@ -11,7 +11,7 @@ use std::alloc::Global;
 /// four sights.
 pub const SWEPT: &str = "sweep 2 first_cost 0 last_cost 4\n";
 
-/// The four points, where `mesh` is not there and `out` holds something.
+/// Returns the four points, where `mesh` is not there and `out` holds something.
 pub fn beginning(
     alloc: Global,
     piece: usize,
@@ -30,7 +30,7 @@ pub fn beginning(
     )
 }
 
-/// Whether `out` and `mesh` hold these texts or are not there, beside the four points, and this was said.
+/// Returns whether `out` and `mesh` hold these texts or are not there, beside the four points, and this was said.
 pub fn shows(host: &MemHost, texts: [Option<&str>; 2], said: &str) -> bool {
     let [output, mesh] = texts;
     leaves(host, [Some(FOUR), output, mesh, None], said)

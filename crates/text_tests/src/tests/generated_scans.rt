@@ -9,7 +9,7 @@ use std::test::Fail;
 
 const SCANNERS: &str = "5000 0 0\n-5000 0 0\n0 5000 0\n0 -5000 0\n0 0 5000\n0 0 -5000\n";
 
-/// Whether the plain form of a generated scan ends with these lines and those of the six scanners.
+/// Returns whether the plain form of a generated scan ends with these lines and those of the six scanners.
 fn ends_with(alloc: Global, rows: u32, seed: u64, vertices: &str) -> Result<bool, Fail>
     requires some { 1 ≤ rows }
     requires few { rows ≤ 100 }
