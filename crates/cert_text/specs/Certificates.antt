@@ -1,9 +1,9 @@
--- What a certificate states, and when it is well formed.
+-- The content of a certificate, and when it is well formed.
 --
 --   stamp_view s    the digest, the scale and the fixed scanner of a fingerprint
 --   Claim           the fingerprint, the numbers and the rows of a certificate
 --   claim_of c      those that a certificate states
---   IsWellFormed c  the rows are of their forms and rise
+--   IsWellFormed c  the rows are valid and ascend
 use Rattle.std.specs.Prelude.{ℕ, ◌<◌, ◌^◌, List, Option, All, AllPairs, length, map}
 use Rattle.std.specs.Option.{option_map}
 use Rattle.geo_sign.specs.Rising.{IsBefore}
@@ -14,7 +14,7 @@ use Rattle.cert_text.specs.declared.stamp.Stamp.{Stamp}
 use Rattle.cert_text.specs.Stamps.{StampView, IsVersion}
 use Rattle.cert_text.specs.Rows.{IsCellRow, IsFlowRow, IsSinkRow}
 
--- what a fingerprint says
+-- the content of a fingerprint
 abbrev pub stamp_view : Stamp → StampView
 stamp_view s = record { digest = s.digest; unit = s.unit; fixed = s.fixed }
 
@@ -35,7 +35,7 @@ pub record Claim : Type 0 where
   pub flow : List FlowRow
   pub sink : List SinkRow
 
--- what a certificate states
+-- the content of a certificate
 abbrev pub claim_of : Certificate → Claim
 claim_of c =
     record {
@@ -53,7 +53,7 @@ claim_of c =
       sink = c.sink.items;
     }
 
--- five numbers of 32 bits and a cost of 64
+-- five 32-bit numbers and a 64-bit cost
 pub record FitCounts (c : Counts) : Type 0 where
   pub points : c.points < 2 ^ 32
   pub scanners : c.scanners < 2 ^ 32
@@ -80,7 +80,7 @@ pub record IsSinkList (rows : List SinkRow) : Type 0 where
   pub each : All IsSinkRow rows
   pub rising : AllPairs IsBefore (map (λ r. r.cell) rows)
 
--- the fingerprint is one, the numbers fit, the rows are of their forms, and the three lists rise strictly
+-- the fingerprint is valid, the numbers fit, the rows are valid, and the three lists ascend strictly
 pub record IsWellFormed (c : Claim) : Type 0 where
   pub stamp : IsVersion c.stamp
   pub counts : FitCounts c.counts

@@ -1,4 +1,4 @@
-//! The first line of a certificate and its fingerprint, read. Depends on `line_text`.
+//! Reads the first line of a certificate and its fingerprint. Depends on `line_text`.
 
 ghost use Rattle.std.specs.Prelude.{◌≡◌, ◌<◌, ◌++◌, IfOk, IfErr, IfSome, IfNone};
 ghost use Rattle.std.specs.Option.{option_map};
@@ -18,7 +18,7 @@ use geo_sign::{BOX_LIMIT, Point};
 use line_text::{LineRefusal, behind, cut_at, number_line, refusal_of, signed_first, word_line};
 use num_text::UNIT_LIMIT;
 
-/// Returns a coordinate of the box, and what stands after its end.
+/// Returns a coordinate of the box, and the text after its end.
 fn coordinate_first(text: &[u8], end: u8) -> Option<(i64, &[u8])>
     requires { end < 45 }
     ensures some { IfSome result (λ read. IsCoordinate read.0 × (text.now ≡ signed_ended read.0 end ++ read.1.now)) }
@@ -39,7 +39,7 @@ fn data_first(text: &[u8]) -> Option<(Point, &[u8])>
     Some((point, rest))
 }
 
-/// Returns a data point, or the word that there is none, and the end of the line.
+/// Returns a data point, or `None` for the word for none, and the text after the end of the line.
 fn place_first(text: &[u8]) -> Option<(Option<Point>, &[u8])>
     ensures some { IfSome result (λ read. IsFixed read.0 × (text.now ≡ place_line read.0 ++ read.1.now)) }
     ensures none { IfNone result (BeginsWithNone IsFixed place_line text.now) }
@@ -115,7 +115,7 @@ fn read_stamp(text: &[u8]) -> Result<(Stamp, &[u8]), LineRefusal>
     }
 }
 
-/// Returns the first line, and the fingerprint where the line says that there is one.
+/// Returns the first line, and the fingerprint if the line announces one.
 pub fn read_version(text: &[u8]) -> Result<(Option<Stamp>, &[u8]), LineRefusal>
     ensures ok { IfOk result (λ read. IsVersion (option_map stamp_view read.0) × (text.now ≡ version_text (option_map stamp_view read.0) ++ read.1.now)) }
     ensures refused { IfErr result (RefusedVersion text.now) }
@@ -130,7 +130,7 @@ pub fn read_version(text: &[u8]) -> Result<(Option<Stamp>, &[u8]), LineRefusal>
     }
 }
 
-/// Returns the line of the first count.
+/// Returns the number of the line of the first count.
 pub fn counts_line(stamp: &Option<Stamp>) -> u64
     ensures value { result ≡ line_of_counts (option_map stamp_view stamp.now) }
     ensures bound { result < 6 }

@@ -50,9 +50,9 @@ fn vertices(alloc: Global, count: u32, seed: u64) -> Result<(Vec<Point>, Vec<See
 
 /// Returns the scan of `n` rows that a seed generates.
 ///
-/// Six scanners stand 5,000 scaled units from the middle, two on each axis. Row `i` is a point of the face of a cube, 1,000 units
-/// from the middle, before which scanner `i % 6` stands, at two random numbers from -1,000 to 1,000 on the other two axes. The
-/// words come from `Pcg32` on stream 1, two a row.
+/// Six scanners stand 5,000 scaled units from the middle, two on each axis. Row `i` is a point of the face of a cube, 1,000
+/// units from the middle, before which scanner `i % 6` stands, at two random numbers from -1,000 to 1,000 on the other two
+/// axes. `Pcg32` on stream 1 gives two random words a row.
 pub fn gen_scan(alloc: Global, n: u32, seed: u64) -> Result<Scan, NoMemory>
     requires least { 1 ≤ n }
     requires most { n ≤ point_limit }

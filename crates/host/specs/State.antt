@@ -1,17 +1,17 @@
 -- The view of a host, and the effect of its six calls.
 --
---     Files, Told, State        the bytes of files by name; what a host may expose; a host as contracts see it
---     after_change change told  what is exposed after a change, if anything is exposed
---     IsCoherent state          no bytes are left of a file that is not open for reading, and no name is written to if none is
+--   Files, Told, State        the bytes of files by name; what a host may expose; a host as contracts see it
+--   after_change change told  what is exposed after a change, if anything is exposed
+--   IsCoherent state          no bytes are left of a file that is not open for reading, and no name is written to if none is
 --                               open
---     FailedFrom would after    as it would be, but the fault count rose
---     file_bytes files name     the bytes of a file, none if there is no such file
---     HasFile name state        if the host exposes its files, there is one of this name
---     with_file, with_more      the files with one replaced or created, or with more bytes at its end
---     opens_file, opens_none, takes, creates, stops_reading, appends, finishes, says
+--   FailedFrom would after    as it would be, but the fault count rose
+--   file_bytes files name     the bytes of a file, none if there is no such file
+--   HasFile name state        if the host exposes its files, there is one of this name
+--   with_file, with_more      the files with one replaced or created, or with more bytes at its end
+--   opens_file, opens_none, takes, creates, stops_reading, appends, finishes, says
 --                                  the state after a call, each named for what it does
---     IsNextPiece count buffer left  what a read puts into the buffer
---     IsFrontCount count bytes   the number of bytes that a call may take
+--   IsNextPiece count buffer left  what a read puts into the buffer
+--   IsFrontCount count bytes   the number of bytes that a call may take
 use Rattle.std.specs.Prelude.{◌≡◌, ℕ, ◌≤◌, ◌<◌, ◌↔◌, List, [], ◌++◌, length, take, drop, Bool, true, false, if◌then◌else◌}
 use Rattle.std.specs.Prelude.{Option, Some, None, IsSome, IfSome, unwrap_or}
 use Rattle.host.specs.Counts.{next, Rose}

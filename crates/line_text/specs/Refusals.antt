@@ -2,7 +2,7 @@
 --
 --   line_after n k               the number of the line k lines after line n, at most the greatest 64-bit number
 --   IsCutOrBad n text r          how an invalid line is rejected
---   RefusedWord, RefusedNumber   line n, a fixed text or a word and a number, is rejected
+--   RefusedWord, RefusedNumber   line n, a fixed text or a prefix and a number, is rejected
 --   Rise order rows              rows with strictly ascending keys, if they have to ascend
 --   RisesAbove order rows row    a row is above the last of these rows, if it has to be
 --   AreRows                      valid rows in ascending order
@@ -36,7 +36,7 @@ IsCutOrBad n text NoMemory = ⊥
 abbrev pub RefusedWord : List ℕ → ℕ → List ℕ → LineRefusal → Type 0
 RefusedWord word n text r = ((rest : List ℕ) → ¬ (text ≡ word ++ rest)) × IsCutOrBad n text r
 
--- line n is not the word and a number from the least to the greatest
+-- line n is not the prefix and a number from the least to the greatest
 abbrev pub RefusedNumber : List ℕ → (least greatest : ℕ) → ℕ → List ℕ → LineRefusal → Type 0
 RefusedNumber word least greatest n text r = BeginsWithNone (IsBetween least greatest) (counted word) text × IsCutOrBad n text r
 

@@ -1,6 +1,6 @@
 -- The text of a mesh: PLY 1.0 in its `ascii` format, with integer coordinates.
 --
---   ply_line, .., header_end          the fixed lines of the header, and the words of its two counts
+--   ply_line, .., header_end          the fixed lines of the header, and the prefixes of its two counts
 --   vertex_head, face_head, head_end  the header around its two counts
 --   IsCoordinate z                    a coordinate of the box
 --   point_line p                      the line of a point

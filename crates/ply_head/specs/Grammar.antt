@@ -15,7 +15,7 @@ use Rattle.ply_head.specs.Statements.{Statement, nothing, format, element, prope
 use Rattle.ply_head.specs.Headers.{has_property, has_element}
 use Rattle.ply_head.specs.Spelling.{joined}
 
--- the words of the line are those of the statement
+-- the tokens of the line are those of the statement
 abbrev pub Says : List ℕ → Statement → Type 0
 Says line statement = statement_of_words (words_of (line_text line)) ≡ Some statement
 

@@ -1,13 +1,13 @@
--- Header lines by their words, without regard to their position.
+-- Header lines by their tokens, without regard to their position.
 --
 -- Statement       the content of a line
--- either_word     a word is one of two
+-- either_word     a token is one of two
 -- is_name_byte    a visible ASCII character
 -- kind_of, scalar_of   the kind and the type that a word names
 -- whole_scalar    a type, if it is an integer type
 -- count_of, name_of    the number of rows, and the name, that a word states
--- format_line, element_line, property_line, finish_line   the content of the words after the first
--- statement_of_words   the content of a line with these words
+-- format_line, element_line, property_line, finish_line   the content of the tokens after the first
+-- statement_of_words   the content of a line with these tokens
 use Rattle.std.specs.Prelude.{ℕ, List, [], ◌∷◌, Bool, ◌||◌, ◌&&◌, nat_le, length, codes, Option, Some, None, if◌then◌else◌}
 use Rattle.std.specs.List.{list_all}
 use Rattle.std.specs.Char.{is_ascii_digit}
@@ -21,7 +21,7 @@ use Rattle.ply_head.specs.declared.header.Scalar.TheVariants.{Char, Uchar, Short
 use Rattle.ply_head.specs.declared.header.Shape.{Shape}
 use Rattle.ply_head.specs.declared.header.Shape.TheVariants.{One, Many}
 
--- the word is one of two
+-- the token is one of two
 abbrev pub either_word : List ℕ → List ℕ → List ℕ → Bool
 either_word word one other = bytes_eq word one || bytes_eq word other
 
@@ -105,7 +105,7 @@ unfoldable pub finish_line : List (List ℕ) → Option Statement
 finish_line [] = Some finish
 finish_line words = None
 
--- the content of a line with these words, if it is valid
+-- the content of a line with these tokens, if it is valid
 unfoldable pub statement_of_words : List (List ℕ) → Option Statement
 statement_of_words [] = Some nothing
 statement_of_words (word ∷ words) =

@@ -2,9 +2,8 @@
 //!
 //! The format is Greg Turk's PLY. A header is a sequence of lines, each ended by LF or CR LF. The first is `ply`, the next that
 //! is not skipped is `format KIND 1.0`, and the last is `end_header`. Between them are the elements, each an `element NAME
-//! COUNT` line with the `property` lines of its rows after it. Lines that begin with the word `comment` or `obj_info`, and
-//! blank lines, are skipped. Lines are counted from 1. A line has at most 1,000 bytes without its end, and a header at most
-//! 1,000 lines.
+//! COUNT` line with the `property` lines of its rows after it. Lines that begin with `comment` or `obj_info`, and blank lines,
+//! are skipped. Lines are counted from 1. A line has at most 1,000 bytes without its end, and a header at most 1,000 lines.
 //!
 //! The body begins with the byte after the header; this crate does not read it.
 //!

@@ -60,7 +60,7 @@ fn push_format(text: &mut Vec<u8>, kind: Kind) -> Result<(), NoMemory>
     push_last_word(text, b"1.0")
 }
 
-/// Appends the words of a property's line that state its shape.
+/// Appends the tokens of a property's line that state its shape.
 fn push_shape(text: &mut Vec<u8>, shape: Shape) -> Result<(), NoMemory>
     ensures { OnOk result (text.new.items ≡ text.old.items ++ (shape_text shape ++ 32 ∷ [])) }
 {

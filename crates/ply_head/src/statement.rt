@@ -89,7 +89,7 @@ fn is_name(word: &[u8]) -> bool
     word.iter().all(|byte| may_stand_in_name(*byte))
 }
 
-/// Returns the word, if it may be a name.
+/// Returns the token, if it is a valid name.
 #[tactic(auto, unfolding(crate::specs::Statements::name_of))]
 fn name_in(word: &[u8]) -> Option<&[u8]>
     ensures { option_map (λ name. name.now) result ≡ name_of word.now }

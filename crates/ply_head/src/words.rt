@@ -1,4 +1,4 @@
-//! The words of a line: its runs of bytes other than space and tab.
+//! The tokens of a line: its runs of bytes other than space and tab.
 
 ghost use Rattle.std.specs.Prelude.{◌≡◌, [], ◌∷◌, ◌||◌, IfSome, IfNone, false, length, slice_index, ◌<◌};
 ghost use Rattle.std.specs.Str.{bytes_eq};

@@ -5,7 +5,7 @@
 -- row_then          a row, if it has its fields, and the rows after it
 -- rows_of_element   a number of rows of an element, and what follows them
 -- ending            what has to follow the last row
--- rows_from         the rows of elements, some of which may have been read
+-- rows_from         the rows of elements, some already read
 -- rows_of           the rows of a body
 -- Ends              the result of a call says how the rows end
 use Rattle.std.specs.Prelude.{ℕ, zero, suc, ◌+◌, ◌-◌, ◌≡◌, List, [], ◌∷◌, Result, Ok, Err, Option, Some, None}

@@ -6,7 +6,7 @@ ghost use Rattle.num_text.specs.declared.decimal.TheConstants.{UNIT_LIMIT};
 use ply_head::Header;
 use ply_rows::{Field, RowAt};
 
-/// A body: the header before it, its bytes, and how many units make one of its numbers.
+/// A body: the header before it, its bytes, and the scale.
 #[derive(Clone, Copy)]
 pub(crate) struct Body<'a> {
     pub head: &'a Header,
@@ -16,7 +16,7 @@ pub(crate) struct Body<'a> {
     pub ghost at_most_a_million: { unit ≤ UNIT_LIMIT },
 }
 
-/// A row of a body: where it stands, and the fields of its properties.
+/// A row of a body: its position, and the fields of its properties.
 #[derive(Clone, Copy)]
 pub(crate) struct Row<'a> {
     pub body: Body<'a>,
