@@ -17,7 +17,7 @@ fn name_line() -> &'static [u8]
     b"OFF\n"
 }
 
-/// Returns the number of edges, which is left uncounted.
+/// Returns the number of edges, which is not counted.
 #[tactic(auto, unfolding(crate::specs::Texts::off_rest))]
 fn no_edges() -> &'static [u8]
     ensures { result.now ≡ off_rest }
@@ -68,7 +68,7 @@ impl OffForm {
     ghost use Rattle.std.specs.Prelude.{◌≡◌};
     ghost use Rattle.mesh_form.specs.Received.{fresh};
 
-    /// Returns a fresh form with nothing received. It takes no memory.
+    /// Returns a fresh writer. Allocates no memory.
     pub fn new(alloc: Global) -> OffForm
         ensures { result ≡ fresh }
     {

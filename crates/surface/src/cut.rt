@@ -1,4 +1,4 @@
-//! The directed facets of outside cells with an inside cell across.
+//! The facets between outside and inside cells, directed as in the outside cell.
 
 ghost use Rattle.std.specs.Prelude.{◌≡◌, ◌<◌, ℕ, IfOk, not, map};
 ghost use Rattle.flow_net.specs.Nets.{flag_at};
@@ -37,7 +37,7 @@ fn facets_of(alloc: Global, sides: &[Side]) -> Result<Vec<[u32; 3]>, NoMemory>
     Ok(facets)
 }
 
-/// Returns the facets of outside cells with an inside cell across, in ascending order.
+/// Returns the facets of outside cells whose adjacent cell is inside, in ascending order.
 pub(crate) fn cut_facets(
     alloc: Global,
     t: &Tetra,
