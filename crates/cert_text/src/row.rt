@@ -21,10 +21,10 @@ pub trait Row: Copy {
     // The numbers by which the rows of its list ascend.
     ghost key: { Self → List ℕ };
 
-    // The word before the length of its list.
+    // The text before the length of its list.
     ghost word: { List ℕ };
 
-    /// Returns that word.
+    /// Returns that text.
     fn word() -> &'static [u8]
         ensures { result.now ≡ word };
 

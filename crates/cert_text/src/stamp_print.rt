@@ -24,7 +24,7 @@ fn push_digest(out: &mut Vec<u8>, digest: &[u8; 32]) -> Result<(), NoMemory>
     Ok(())
 }
 
-/// Appends a point, or the word for none, and the end of the line.
+/// Appends a point, or `none`, and the end of the line.
 fn push_place(out: &mut Vec<u8>, place: Option<Point>) -> Result<(), NoMemory>
     ensures ok { OnOk result (out.new.items ≡ out.old.items ++ place_line place) }
     ensures kept { OnErr result (take (length out.old.items) out.new.items ≡ out.old.items) }

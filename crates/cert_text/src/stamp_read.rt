@@ -39,7 +39,7 @@ fn data_first(text: &[u8]) -> Option<(Point, &[u8])>
     Some((point, rest))
 }
 
-/// Returns a data point, or `None` for the word for none, and the text after the end of the line.
+/// Returns a data point, or `None` for `none`, and the text after the end of the line.
 fn place_first(text: &[u8]) -> Option<(Option<Point>, &[u8])>
     ensures some { IfSome result (λ read. IsFixed read.0 × (text.now ≡ place_line read.0 ++ read.1.now)) }
     ensures none { IfNone result (BeginsWithNone IsFixed place_line text.now) }

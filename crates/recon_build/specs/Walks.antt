@@ -1,9 +1,9 @@
--- Rows as a walk over the store's cells finds them.
+-- Rows in the order of a pass over the store's cells.
 --
 --   row_if_inside inside e               the row of a cell, if it is inside
---   flow_if_any amounts e k              the row of what flows over its side k, if that is not 0
+--   flow_if_any amounts e k              the row of the flow over its side k, if that is not 0
 --   flows_if_any amounts e               those of its four sides
---   sink_if_any amounts e                the row of what flows into its sink, if that is not 0
+--   sink_if_any amounts e                the row of the flow into its sink, if that is not 0
 --   all_inside, all_flows, all_sinks     those of all live cells, by ascending id
 use Rattle.std.specs.Prelude.{ℕ, ◌*◌, ◌+◌, ◌++◌, ◌==◌, Bool, not, Option, List, [], ◌∷◌, slice_index, if◌then◌else◌}
 use Rattle.std.specs.List.{flat_map}

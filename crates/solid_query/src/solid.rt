@@ -15,14 +15,14 @@ use watch::Watch;
 /// The linked Delaunay cells of a scan, and which of them are inside.
 #[derive(Drop)]
 pub(crate) struct Solid {
-    /// Returns the cells of the box's corners and the scan's distinct points.
+    /// The cells of the box's corners and the scan's distinct points.
     pub(crate) tetra: Tetra,
     /// For each cell, by its number in the store, whether it is inside.
     pub(crate) labels: Labels,
 }
 
 /// Returns the linked cells of a scan, and which of them are inside by the minimum cut with the smallest inside at these
-/// settings. A watch is told of the stages.
+/// settings. Reports the stages to a progress callback.
 pub(crate) fn solid_of<W: Watch>(
     alloc: Global,
     scan: &Scan,
