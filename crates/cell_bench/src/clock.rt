@@ -9,7 +9,7 @@ pub(crate) fn nanos_since(clock: &impl Clock, start: Instant) -> io::Result<u64>
     Ok((nanos % 18_446_744_073_709_551_616) as u64)
 }
 
-/// Returns the average time of a call in thousandths of a nanosecond.
+/// Returns the average time of a call, in nanoseconds.
 pub(crate) fn share(nanos: u64, calls: u64) -> u64 {
     if calls == 0 { 0 } else { nanos / calls }
 }

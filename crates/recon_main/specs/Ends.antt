@@ -1,16 +1,16 @@
--- How the program ends, by what the system passed as its arguments.
+-- How the program ends, given the arguments from the system.
 --
 --     WritesFormats outputs ..            the answer that writes a mesh as PLY, OFF and OBJ
 --     FormatsAnswer names ..              an error of the mesh, or this answer
 --     WritesMeshes asked scan ..          the answer that writes the best surface at each weight as PLY
 --     MeshesAnswer asked ..               an error of the scan, or this answer
---     sweep_in words                      what `sweep` asks for with as many outputs as its fifth argument says
---     RunsFor export sweep words ..       what a run on these arguments does to its host
+--     sweep_in words                      the request of `sweep` with as many outputs as its fifth argument states
+--     RunsFor export sweep words ..       the effect of a run on these arguments on its host
 --     RunsOn words status before after    a run on these arguments ended with this status
---     DoesNothing status before after     there was no memory for the arguments or for the writers
+--     DoesNothing status before after     memory ran out for the arguments or for the writers
 --     RunsOrIdles words status ..         one of the two
---     EndsOn args status before after     the program ended so on what the system passed as arguments
---     EndsAfterARun status                the program ended so on some arguments, over that host
+--     EndsOn args status before after     the program ended with this status on the arguments from the system
+--     EndsAfterARun status                the program ended with this status on some arguments, over that host
 use Rattle.std.specs.Prelude.{◌≡◌, ◌≢◌, ◌⊎◌, ℕ, ◌-◌, ◌<◌, List, [], ◌∷◌, length, map, slice_index_or, Result, Ok, Err, Option, Some}
 use Rattle.std.specs.Prelude.{None, unwrap_or}
 use Rattle.std.specs.IoError.{error_kind}
@@ -53,7 +53,7 @@ abbrev pub FormatsAnswer : ExportNames → Files → Answer → Type 0
 FormatsAnswer names files answer =
     (bytes : List ℕ) × (files names.mesh ≡ Some bytes) × MeshFileAnswer file_limit (WritesFormats names.outputs) bytes answer
 
--- the mesh of the best surface at each weight is written as PLY, in order, and what the first and the last cost is said
+-- the mesh of the best surface at each weight is written as PLY, in order, and the costs of the first and the last are printed
 pub record WritesMeshes (asked : SweepAsked) (scan : Shown) (answer : Answer) : Type 0 where
   pub meshes : List Surface
   pub count : length meshes ≡ length asked.outputs
@@ -76,11 +76,12 @@ abbrev pub MeshesAnswer : SweepAsked → Files → Answer → Type 0
 MeshesAnswer asked files answer =
     (bytes : List ℕ) × (files asked.input ≡ Some bytes) × ScanAnswer file_limit asked.options (λ _. WritesMeshes asked) bytes answer
 
--- what `sweep` asks for with as many outputs as its fifth argument says, if the arguments are `sweep`
+-- the request of `sweep` with as many outputs as its fifth argument states, if the arguments are `sweep`
 abbrev pub sweep_in : List (List ℕ) → Option SweepAsked
 sweep_in words = sweep_of (unwrap_or (entries_of words) 0) words
 
--- what a run on these arguments does that ends so: `export` with three outputs, `sweep`, or else a command of `run`
+-- the effect of a run on these arguments that ends with this status: `export` with three outputs, `sweep`, or else a command of
+-- `run`
 abbrev pub RunsFor : Option ExportNames → Option SweepAsked → List (List ℕ) → Status → State → State → Type 0
 RunsFor (Some names) sweep words status before after = Run MayRefuse 1 (FormatsAnswer names) status before after
 RunsFor None (Some asked) words status before after = Run MayRefuse 1 (MeshesAnswer asked) status before after
@@ -91,11 +92,11 @@ abbrev pub RunsOn : List (List ℕ) → ℕ → State → State → Type 0
 RunsOn words code before after =
     ExitsWith code (λ status. RunsFor (export_of 3 words) (sweep_in words) words status before after)
 
--- there was no memory for the arguments or for the writers, and nothing is done
+-- memory ran out for the arguments or for the writers, and nothing is done
 abbrev pub DoesNothing : ℕ → State → State → Type 0
 DoesNothing code before after = (code ≡ code_of NoMemory) × (after ≡ before)
 
--- a run on these arguments, or there was no memory for it
+-- a run on these arguments, or memory ran out for it
 abbrev pub RunsOrIdles : List (List ℕ) → ℕ → State → State → Type 0
 RunsOrIdles words code before after = RunsOn words code before after ⊎ DoesNothing code before after
 
@@ -107,7 +108,7 @@ EndsOn (Err error) code before after =
     ((error_kind error ≡ OutOfMemory) × DoesNothing code before after)
     ⊎ ((error_kind error ≢ OutOfMemory) × RunsOn [] code before after)
 
--- the system passed something as arguments, and the program ended so on it, over a fresh host
+-- the program ended with this status on some arguments from the system, over a fresh host
 abbrev pub EndsAfterARun : ℕ → Type 0
 EndsAfterARun code =
     (args : Result (IntoIter (String Global) Global) Error) × (after : State) × EndsOn args code fresh_state after

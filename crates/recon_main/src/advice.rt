@@ -1,11 +1,11 @@
-//! What a person is told on standard error beside the line that is promised: how a command is used, and how to mend what was
-//! rejected. No clause speaks of these texts. How to mend an error is the table of `docs/using.md`, and a test of `tools/tests`
-//! compares the two.
+//! Hints on standard error beside the specified line: the usage of a command, and how to fix an error of a file. No contract
+//! depends on these texts. The table of errors in the documentation has the same fixes, and a test of `tools/tests` compares
+//! the two.
 
 use real_host::Advice;
 use std::rt::Env;
 
-/// The commands, each with the arguments after it.
+/// The commands, each with its arguments.
 pub const USES: [(&str, &str); 9] = [
     (
         "build",
@@ -33,14 +33,14 @@ pub const USES: [(&str, &str); 9] = [
     ("demo", "N SEED"),
 ];
 
-/// The longest name of a command has fewer bytes.
+/// An upper bound of the lengths of the commands' names.
 const COMMAND_LIMIT: usize = 16;
 
-/// What is told of a surface without a face.
+/// The hint for a surface without a face.
 pub const NO_FACE: &str =
     "no face: are all points one place at this unit (unit=1000 makes millimetres of metres), or is smooth= large beside vote=?";
 
-/// What an error begins with, after its first argument, and how to mend it.
+/// The prefix of each error's reason, and how to fix it.
 const CURES: [(&[&str], &str); 31] = [
     (
         &["1 not_ply"],
@@ -175,7 +175,7 @@ const CURES: [(&[&str], &str); 31] = [
     ),
 ];
 
-/// Returns the place among [`USES`] of the command that the arguments after the program's name begin with, if it is one.
+/// Returns the index in [`USES`] of the command that the arguments after the program's name begin with, if it is one.
 pub fn command_begun<R: Env>(rt: &R) -> Option<usize> {
     let mut word = [0; COMMAND_LIMIT];
     let Ok(length) = rt.arg(1, &mut word) else {
@@ -190,7 +190,7 @@ pub fn command_begun<R: Env>(rt: &R) -> Option<usize> {
     None
 }
 
-/// Returns how to mend what was rejected, if the line is an error of a file.
+/// Returns how to fix the error, if the line is an error of a file.
 pub fn cure_of(line: &[u8]) -> Option<&'static str> {
     let reason = line.strip_prefix(b"refused ")?;
     for (fronts, cure) in &CURES {
@@ -201,7 +201,7 @@ pub fn cure_of(line: &[u8]) -> Option<&'static str> {
     None
 }
 
-/// Returns whether the reason begins with these arguments.
+/// Returns whether the reason begins with these words.
 fn is_behind(reason: &[u8], front: &str) -> bool {
     match reason.strip_prefix(front.as_bytes()) {
         Some([b' ' | b'\n', ..]) => true,
@@ -217,14 +217,14 @@ pub fn has_no_face(line: &[u8]) -> bool {
             .any(|front| front == b" faces 0 ".as_slice())
 }
 
-/// What `recon` tells a person, by the command that the arguments begin with, at its place among [`USES`].
+/// The hints of `recon` for the command with this index in [`USES`].
 #[derive(Drop)]
 pub struct Hints {
     pub command: Option<usize>,
 }
 
 impl Hints {
-    /// Tells how the command is used, or where the arguments begin with none how all are.
+    /// Prints the usage of the command, or of all commands if the arguments begin with none.
     fn tell_uses<R: Eprint>(&self, rt: &R) {
         for (place, (name, words)) in USES.iter().enumerate() {
             if self.command.unwrap_or(place) == place {

@@ -1,4 +1,4 @@
-//! How the program ends, by what the system passes as its arguments. Depends on `recon_cmd`, and on the writers of `mesh_form`.
+//! How the program ends, given the arguments from the system. Depends on `recon_cmd`, and on the writers of `mesh_form`.
 ghost use Rattle.std.specs.Prelude.{◌≡◌, false, map, string_bytes, IfOk, OnErr, Some, None};
 ghost use Rattle.std.specs.Process.{exit_status};
 ghost use Rattle.recon_cmd.specs.Sweep.{entries_of};
@@ -19,11 +19,11 @@ use std::rt::{Env, Files};
 use std::{env, io};
 use watch::Watch;
 
-/// Returns the whole program: it ends with what the system's arguments come to over the system's files and output.
+/// Runs the whole program: it ends with the status of a run on the system's arguments over the system's files and output.
 ///
-/// Nothing is known of what a system passes, so the clause names no arguments: it says that the status is one of [`ends_over`],
-/// whose host is dropped here. The program's name is left out of the arguments, whatever it is. A watch is told of the stages
-/// of the work.
+/// The arguments from the system are unspecified, so the contract does not name them: it states that the status is one of
+/// [`ends_over`], whose host is dropped here. The program's name is left out of the arguments. Reports the stages of the work
+/// to a progress callback.
 pub fn ends_on<R: Env + Files + Print + Eprint + AllocGlobal + Drop, W: Watch>(
     rt: R,
     watch: &mut W,
@@ -35,10 +35,10 @@ pub fn ends_on<R: Env + Files + Print + Eprint + AllocGlobal + Drop, W: Watch>(
     status
 }
 
-/// Runs on these arguments over the system's files and output, of which nothing was used before. Returns the status that the
-/// program ends with, and the host as the run left it.
+/// Runs on these arguments over the system's files and output, which were not used before. Returns the exit status of the
+/// program, and the host after the run.
 ///
-/// What the system itself passes as arguments decides only which lines of use a person is told.
+/// The arguments from the system itself decide only which lines of usage are printed as a hint.
 pub fn ends_over<R: Env + Files + Print + Eprint + AllocGlobal + Drop, W: Watch>(
     rt: R,
     args: io::Result<Args>,
@@ -53,10 +53,10 @@ pub fn ends_over<R: Env + Files + Print + Eprint + AllocGlobal + Drop, W: Watch>
     (status, host)
 }
 
-/// Returns the status that the program ends with, after a run on the arguments after the program's name.
+/// Returns the exit status of the program, after a run on the arguments after the program's name.
 ///
-/// Arguments of which one is no text are no command, as if there were none. Where there is no memory for the arguments or for
-/// the writers of `export` and `sweep`, the status is 5 and nothing is done.
+/// If some argument is not text, the arguments are invalid, as if there were none. If there is no memory for the arguments or
+/// for the writers of `export` and `sweep`, the status is 5 and nothing is done.
 pub fn ends<H: Host, W: Watch>(
     alloc: Global,
     args: io::Result<Args>,
@@ -77,8 +77,8 @@ pub fn ends<H: Host, W: Watch>(
     ExitCode::from(status)
 }
 
-/// Returns the status of a run on these arguments, where `export` writes PLY, OFF and OBJ, and `sweep` writes PLY. If there is
-/// no memory for the writers, nothing is done.
+/// Returns the status of a run on these arguments; `export` writes PLY, OFF and OBJ, and `sweep` writes PLY. If there is no
+/// memory for the writers, nothing is done.
 fn run_on<H: Host, W: Watch>(alloc: Global, words: &[String], host: &mut H, watch: &mut W) -> u8
     requires { (H.state host.old).writing ≡ false }
     ensures { RunsOrIdles (map string_bytes words.now) result (H.state host.old) (H.state host.new) }
@@ -106,7 +106,7 @@ fn run_in_forms<H: Host, W: Watch>(
     }
 }
 
-/// Returns the same of arguments of `sweep`, where each of so many surfaces is written as PLY.
+/// Returns the same for arguments of `sweep`, with each of this number of surfaces written as PLY.
 fn run_in_meshes<H: Host, W: Watch>(
     alloc: Global,
     words: &[String],
@@ -127,7 +127,7 @@ fn run_in_meshes<H: Host, W: Watch>(
     Ok(run_forms_within(alloc, words, host, &mut forms, FILE_LIMIT, watch))
 }
 
-/// Returns the same of other arguments, where `export` writes a mesh as PLY, OFF and OBJ.
+/// Returns the same for other arguments, with `export` writing a mesh as PLY, OFF and OBJ.
 fn run_in_formats<H: Host, W: Watch>(
     alloc: Global,
     words: &[String],

@@ -1,4 +1,4 @@
-//! What no contract says of plain networks: the mesh of four points.
+//! A property of the brute-force oracle that no contract states: the mesh of four points.
 
 ghost use Rattle.std.specs.Prelude.{IfOk};
 ghost use Rattle.flow_net.specs.Flows.{IsAdmissible};

@@ -1,4 +1,4 @@
-//! Points, scanners and scenes that the tests share, and the cells of a store.
+//! Fixtures: points, scanners and scenes, and the cells of a store.
 ghost use Rattle.std.specs.Prelude.{◌≡◌, ◌<◌, ℕ, IfOk, IsTrue, length, get_or};
 ghost use Rattle.geo_sign.specs.declared.point.TheConstants.{DATA_LIMIT};
 ghost use Rattle.geo_sign.specs.Point.{origin, IsWithin};
@@ -55,7 +55,7 @@ pub fn point(x: i64, y: i64, z: i64) -> Result<Point, Fail>
     Ok(Point::data(x, y, z).ok_or("a point")?)
 }
 
-/// Four points round the origin.
+/// Returns four points around the origin.
 pub fn four_points() -> Result<[Point; 4], Fail> {
     Ok([
         point(100, 100, 100)?,
@@ -76,7 +76,8 @@ pub fn five_scanners(fifth: Point) -> Result<[Point; 5], Fail> {
     ])
 }
 
-/// Returns the sights of the four points from the scanners beyond them, of weight 1, and one of the first point from a scanner.
+/// Returns the sights of the four points from the scanners beyond them, with weight 1, and one of the first point from another
+/// scanner.
 pub fn five_sights(scanner: u32, weight: u32) -> [Sight; 5] {
     let sight = |vertex, scanner, weight| Sight {
         vertex,
@@ -92,7 +93,7 @@ pub fn five_sights(scanner: u32, weight: u32) -> [Sight; 5] {
     ]
 }
 
-/// Returns the scene of these where a vote is 8 and smoothing 1.
+/// Returns the scene of these with visibility weight 8 and area weight 1.
 pub fn scene_of<'a>(
     points: &'a [Point],
     scanners: &'a [Point],
@@ -117,7 +118,7 @@ fn number(index: u64) -> i64 {
         % 2001).wrapping_sub(1000)
 }
 
-/// Points with numbers of no pattern as coordinates, from an index on, in the plane z = 0 if they are to be flat.
+/// Returns points with pseudo-random coordinates, from an index on, in the plane z = 0 if they are flat.
 pub fn scattered(alloc: Global, first: u64, count: u64, flat: bool) -> Result<Vec<Point>, Fail> {
     let mut points = Vec::new(alloc);
     for i in 0..count {
@@ -128,7 +129,7 @@ pub fn scattered(alloc: Global, first: u64, count: u64, flat: bool) -> Result<Ve
     Ok(points)
 }
 
-/// Returns the corners of a cube round the origin.
+/// Returns the corners of a cube around the origin.
 pub fn cube(alloc: Global, size: i64) -> Result<Vec<Point>, Fail> {
     let sides = [size.wrapping_neg(), size];
     let mut points = Vec::new(alloc);
@@ -142,7 +143,7 @@ pub fn cube(alloc: Global, size: i64) -> Result<Vec<Point>, Fail> {
     Ok(points)
 }
 
-/// Returns the vertices of each cell in ascending order, the rows in ascending order.
+/// Returns the sorted vertex tuple of each cell, in ascending order.
 pub fn rows(alloc: Global, store: &Tetra) -> Result<Vec<[u32; 4]>, AllocError> {
     let mut rows = Vec::new(alloc);
     let mut cells = store.cells();

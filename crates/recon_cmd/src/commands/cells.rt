@@ -37,13 +37,13 @@ const CELLS_KEYS: [Key; 2] = [Key::Unit, Key::Scanner];
 /// The names of `cells IN OUT`.
 #[derive(Clone, Copy, Debug)]
 pub struct CellsNames<'a> {
-    /// The scan that is read.
+    /// The input scan.
     pub input: &'a str,
-    /// The file that the cells are written to.
+    /// The output file for the cells.
     pub output: &'a str,
 }
 
-/// Returns what the arguments after `cells` ask for.
+/// Parses the arguments after `cells`.
 pub fn cells_command(words: &[String]) -> Option<Request<'_>>
     ensures { IsCommand result (asked_by cells_of (named 2 cells_keys (map string_bytes words.now))) }
 {
@@ -60,7 +60,7 @@ pub fn cells_command(words: &[String]) -> Option<Request<'_>>
     Some(Request::Command(Command::Cells(names, options)))
 }
 
-/// Reads the scan and makes the answer of `cells`. Nothing is written or said.
+/// Reads the scan and returns the answer of `cells`. Nothing is written or printed.
 pub fn reply_to_cells<'a, H: Host, W: Watch>(
     alloc: Global,
     host: &mut H,
@@ -105,7 +105,7 @@ fn reply_to_scan<'a, W: Watch>(
     })
 }
 
-/// Returns the cells of the distinct points of a scan, as ascending numbers in ascending order. The links between them are
+/// Returns the cells of the distinct points of a scan, as sorted vertex tuples in ascending order. The links between them are
 /// dropped.
 fn cells_of<W: Watch>(
     alloc: Global,
@@ -145,7 +145,7 @@ pub fn text_of_cells(alloc: Global, cells: &[[u32; 4]]) -> Result<Vec<u8>, NoMem
     Ok(text)
 }
 
-/// Adds a line for each cell.
+/// Appends a line for each cell.
 fn push_rows(text: &mut Vec<u8>, cells: &[[u32; 4]]) -> Result<(), NoMemory>
     ensures { OnOk result (text.new.items ≡ text.old.items ++ flat_map row_line cells.now) }
 {
@@ -155,7 +155,7 @@ fn push_rows(text: &mut Vec<u8>, cells: &[[u32; 4]]) -> Result<(), NoMemory>
     Ok(())
 }
 
-/// Adds the line of a cell.
+/// Appends the line of a cell.
 #[tactic(auto, unfolding(crate::specs::Cells::row_line))]
 fn push_row(text: &mut Vec<u8>, cell: [u32; 4]) -> Result<(), NoMemory>
     ensures { OnOk result (text.new.items ≡ text.old.items ++ row_line cell) }

@@ -1,4 +1,4 @@
-//! The generator against the rows that another program made from the same words.
+//! The generator, compared with the rows that another program generated from the same random words.
 
 ghost use Rattle.std.specs.Prelude.{◌≤◌};
 
