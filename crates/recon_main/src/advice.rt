@@ -1,5 +1,5 @@
 //! Hints on standard error beside the specified line: the usage of a command, and how to fix an error of a file. No contract
-//! depends on these texts. The table of errors in the documentation has the same fixes, and a test of `tools/tests` compares
+//! depends on these texts. The table of errors in `docs/howto/import.md` has the same fixes, and a test of `tools/tests` compares
 //! the two.
 
 use real_host::Advice;
