@@ -1,6 +1,6 @@
 -- The cavity of a vertex.
 --
---   IsCavity s p cells fan    the cells are exactly the live ones in conflict with p, each once, and the fan is the boundary of
+--   IsCavity s p cells fan    the cells are exactly the live ones in conflict with p, each once, and `fan` is the boundary of
 --                             this region, over which Delaunay cells with p are put; the store can replace the cells so
 use Rattle.std.specs.Prelude.{ℕ, ◌<◌, ◌≤◌, List, length, Contains}
 use Rattle.tetra_store.specs.declared.fan.Facet.{Facet}

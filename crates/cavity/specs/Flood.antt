@@ -1,5 +1,5 @@
 -- A flood fill over the links of cells, from cell to adjacent cell. Sides are counted through the list of cells that were
--- reached: side k of the cell at index j has the number 4 * j + k. The list fan has the boundary facets that were found.
+-- reached: side k of the cell at index j has the number 4 * j + k. The list `fan` has the boundary facets that were found.
 --
 --   AreMarked stamps round cells             exactly the cells reached are marked
 --   facet_on f across                        a facet with its adjacent cell

@@ -1,10 +1,10 @@
 -- The current file activity of a host in memory.
 --
---     is_reading, is_writing    whether a file is open for reading, for writing
---     bytes_left files activity   the bytes left of the file that is open for reading, none if none is
---     target_of files activity  the name of the file that is open for writing, empty if none is
---     told_by files activity said    what is exposed
---     coherent                  the invariant of hosts: what is exposed of an open file is empty if none is open
+--   is_reading, is_writing    whether a file is open for reading, for writing
+--   bytes_left files activity   the bytes left of the file that is open for reading, none if none is
+--   target_of files activity  the name of the file that is open for writing, empty if none is
+--   told_by files activity said    what is exposed
+--   coherent                  the invariant of hosts: what is exposed of an open file is empty if none is open
 use Rattle.std.specs.Prelude.{ℕ, List, [], drop, Bool, true, false, refl}
 use Rattle.host.specs.State.{Told, ClosedIsEmpty}
 use Rattle.host.specs.Files.{files_of, name_at, bytes_at}

@@ -1,11 +1,11 @@
 -- The view of the files of a host in memory.
 --
---     content file                           the bytes of a file, if it exists
---     files_of files                         the files by name
---     names_of_files files                   the names, in order, of files that exist and that do not exist yet
---     name_at, exists_at, bytes_at, room_at  the file at an index: its name, whether it exists, its bytes, its capacity
---     FilesApart files                       no two files have the same name
---     KeepsPlaces old new                    each index keeps its name and its capacity
+--   content file                           the bytes of a file, if it exists
+--   files_of files                         the files by name
+--   names_of_files files                   the names, in order, of files that exist and that do not exist yet
+--   name_at, exists_at, bytes_at, room_at  the file at an index: its name, whether it exists, its bytes, its capacity
+--   FilesApart files                       no two files have the same name
+--   KeepsPlaces old new                    each index keeps its name and its capacity
 use Rattle.std.specs.Prelude.{◌≡◌, ◌≢◌, ℕ, suc, zero, ◌<◌, List, [], ◌∷◌, length, map, Bool, false, if◌then◌else◌, Option, Some}
 use Rattle.std.specs.Prelude.{None, string_bytes}
 use Rattle.std.specs.Str.{bytes_eq}

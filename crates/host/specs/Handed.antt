@@ -1,10 +1,10 @@
 -- The initial files of a host in memory.
 --
---     Handed                       a name, and the bytes of its file if it exists
---     files_handed, names_handed   the files by name; the names, in order
---     state_handed files           a host that has these files, with none open and nothing printed
---     NamesApart files             no two names are equal
---     IsMadeOf room file handed    a file was made from what was passed
+--   Handed                       a name, and the bytes of its file if it exists
+--   files_handed, names_handed   the files by name; the names, in order
+--   state_handed files           a host that has these files, with none open and nothing printed
+--   NamesApart files             no two names are equal
+--   IsMadeOf room file handed    a file was made from what was passed
 use Rattle.std.specs.Prelude.{◌≡◌, ◌≢◌, ℕ, zero, suc, ◌<◌, List, [], ◌∷◌, length, map, Vec, String, Option, Some, None, string_bytes}
 use Rattle.std.specs.Prelude.{false, if◌then◌else◌}
 use Rattle.std.specs.Option.{option_map}

@@ -1,11 +1,11 @@
 -- The effect of the calls over any host: a file read or written whole, all bytes appended or printed.
 --
---     SaysFront, AppendsFront, WritesFront    the state after a failure: a prefix of the bytes was written
---     writes name bytes state                 the named file contains the bytes, and no file is open
---     reads_whole name state                  the named file was opened and read to its end
---     TakesFront, ReadFails                   the state after a read that ran out of memory, or in which a call failed
---     OnlyReads before after                  what a read does not change, and that it opens one file
---     HasCause result before after            the fault count, by the result of a read
+--   SaysFront, AppendsFront, WritesFront    the state after a failure: a prefix of the bytes was written
+--   writes name bytes state                 the named file contains the bytes, and no file is open
+--   reads_whole name state                  the named file was opened and read to its end
+--   TakesFront, ReadFails                   the state after a read that ran out of memory, or in which a call failed
+--   OnlyReads before after                  what a read does not change, and that it opens one file
+--   HasCause result before after            the fault count, by the result of a read
 use Rattle.std.specs.Prelude.{◌≡◌, ℕ, ◌≤◌, List, [], length, take, false, true, Option, Result, Ok, Err, ◌⊎◌}
 use Rattle.host.specs.Counts.{next, Rose}
 use Rattle.host.specs.State.{State, Told, after_change, FailedFrom, HasFile, with_file, opens_file, opens_none, takes}

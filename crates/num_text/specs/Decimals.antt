@@ -1,15 +1,15 @@
 -- Decimals as text, as numbers of scaled units.
 --
--- is_exponent_mark, is_point   the bytes `e` and `E`, and the byte `.`
--- DecimalParts    a decimal's sign, digits before and after the point, and exponent
--- decimal_parts   the parts of a token, split at its first `e` or `E` and its first point
--- is_decimal      the parts are those of a decimal
--- is_long         it has too many digits
--- exponent_of     the exponent without its sign
--- numerator, denominator   the absolute value as a fraction N / M
--- nearest         N / M in units, to the nearest whole number, halves upwards
--- in_range        a number with its sign, if it is within the limit
--- scaled_of       the number of units in a token, or its first error
+--   is_exponent_mark, is_point   the bytes `e` and `E`, and the byte `.`
+--   DecimalParts    a decimal's sign, digits before and after the point, and exponent
+--   decimal_parts   the parts of a token, split at its first `e` or `E` and its first point
+--   is_decimal      the parts are those of a decimal
+--   is_long         it has too many digits
+--   exponent_of     the exponent without its sign
+--   numerator, denominator   the absolute value as a fraction N / M
+--   nearest         N / M in units, to the nearest whole number, halves upwards
+--   in_range        a number with its sign, if it is within the limit
+--   scaled_of       the number of units in a token, or its first error
 use Rattle.std.specs.Prelude.{ℕ, ◌+◌, ◌*◌, ◌/◌, ◌^◌, ℤ, List, ◌++◌, Bool, not, ◌==◌, ◌||◌, ◌&&◌, nat_lt, length}
 use Rattle.std.specs.Prelude.{Result, Ok, Err, if◌then◌else◌}
 use Rattle.std.specs.List.{before_first, after_first, position_or_len}

@@ -1,11 +1,11 @@
 -- Whole numbers as text.
 --
--- is_minus      a text begins with a minus sign
--- behind_sign   the text after an optional sign
--- are_digits    a text is one or more digits
--- significant   digits without their leading zeros
--- signed        a number with its sign
--- whole_of      the whole number that a token is, or its error
+--   is_minus      a text begins with a minus sign
+--   behind_sign   the text after an optional sign
+--   are_digits    a text is one or more digits
+--   significant   digits without their leading zeros
+--   signed        a number with its sign
+--   whole_of      the whole number that a token is, or its error
 use Rattle.std.specs.Prelude.{ℕ, ℤ, pos, List, [], ◌∷◌, Bool, true, false, not, ◌==◌, ◌||◌, ◌&&◌, nat_le, nat_lt, length}
 use Rattle.std.specs.Prelude.{Result, Ok, Err, if◌then◌else◌}
 use Rattle.std.proofs.Common.{neg_ℤ}

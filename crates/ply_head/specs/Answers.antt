@@ -1,6 +1,6 @@
 -- Results of calls that may fail, one after another.
 --
--- ◌>>=◌   a value, and then another made from it, or the first error
+--   ◌>>=◌   a value, and then another made from it, or the first error
 use Rattle.std.specs.Prelude.{Result, Ok, Err}
 
 -- a value, and then another made from it, or the first error

@@ -1,11 +1,11 @@
 -- Which texts have a header: by cases on the content of each line.
 --
--- Says           a line without its LF states this
--- AddsElement, AddsProperty   the header with one more element, or one more property
--- Adds           the effect of a statement on the header so far
--- Leads          the effect of the statements of some lines, one after another
--- IsLine         bytes that may be a header's line
--- HasHeader      a text begins with a header, and the body follows
+--   Says           a line without its LF states this
+--   AddsElement, AddsProperty   the header with one more element, or one more property
+--   Adds           the effect of a statement on the header so far
+--   Leads          the effect of the statements of some lines, one after another
+--   IsLine         bytes that may be a header's line
+--   HasHeader      a text begins with a header, and the body follows
 use Rattle.std.specs.Prelude.{ℕ, ◌+◌, ◌≡◌, ◌≤◌, ◌⊎◌, false, List, [], ◌∷◌, ◌++◌, length, All, codes, Option, Some, None}
 use Rattle.ply_head.specs.declared.header.Header.{Header}
 use Rattle.ply_head.specs.declared.header.Element.{Element}

@@ -1,12 +1,12 @@
 -- The header of a text, or its first error.
 --
--- Gives, Fails    the result of a call is that of a definition, unless memory ran out
--- text_of_line    a line without its end, or its error
--- has_property, has_element   a name is one of those before
--- with_property   the elements, with one more property in the last
--- Step, step_of   the effect of a line on the header so far
--- header_from     the header from line n on, and the body
--- header_of       the header and the body of a text
+--   Gives, Fails    the result of a call is that of a definition, unless memory ran out
+--   text_of_line    a line without its end, or its error
+--   has_property, has_element   a name is one of those before
+--   with_property   the elements, with one more property in the last
+--   Step, step_of   the effect of a line on the header so far
+--   header_from     the header from line n on, and the body
+--   header_of       the header and the body of a text
 --
 -- These definitions give the errors in their order. specs/Grammar says in the format's own terms which texts have a header, and
 -- a theorem of the crate states that both agree.

@@ -1,7 +1,7 @@
 -- How a body encodes its values, by the kind that the header states.
 --
--- endian_of   the order of the bytes of a number, in a binary body
--- IsBinary    a kind of binary bodies
+--   endian_of   the order of the bytes of a number, in a binary body
+--   IsBinary    a kind of binary bodies
 use Rattle.std.specs.Prelude.{Option, Some, None}
 use Rattle.ply_head.specs.declared.header.Kind.{Kind}
 use Rattle.ply_head.specs.declared.header.Kind.TheVariants.{Ascii, BinaryLittle, BinaryBig}

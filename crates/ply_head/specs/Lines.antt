@@ -1,10 +1,10 @@
 -- The lines of a text, and the tokens of a line.
 --
--- is_line_feed, is_blank   the byte LF, and the bytes space and tab
--- parts_of     a text split at each LF; all parts but the last are lines
--- line_text    a line without its end
--- has_bytes    a list of bytes is not empty
--- words_of     the tokens of a line
+--   is_line_feed, is_blank   the byte LF, and the bytes space and tab
+--   parts_of     a text split at each LF; all parts but the last are lines
+--   line_text    a line without its end
+--   has_bytes    a list of bytes is not empty
+--   words_of     the tokens of a line
 use Rattle.std.specs.Prelude.{ℕ, List, [], ◌∷◌, Bool, true, false, ◌==◌, ◌||◌, filter, if◌then◌else◌}
 use Rattle.std.specs.List.{slice_split}
 

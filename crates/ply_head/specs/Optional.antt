@@ -1,6 +1,6 @@
 -- Optional values, one after another.
 --
--- ◌>>=◌   a value, and then another made from it, if both exist
+--   ◌>>=◌   a value, and then another made from it, if both exist
 use Rattle.std.specs.Prelude.{Option}
 use Rattle.std.specs.Option.{option_and_then}
 

@@ -1,9 +1,9 @@
 -- The headers that a text may have, and those that can be printed.
 --
--- IsName              a valid name of an element or a property
--- HasWholeCount       a list's count has an integer type
--- IsReadableProperty, IsReadableElement, IsReadable   the properties of each property, element and header that is read
--- KeepsLimits         the printed header keeps the limits on lines
+--   IsName              a valid name of an element or a property
+--   HasWholeCount       a list's count has an integer type
+--   IsReadableProperty, IsReadableElement, IsReadable   the properties of each property, element and header that is read
+--   KeepsLimits         the printed header keeps the limits on lines
 use Rattle.std.specs.Prelude.{ℕ, ◌≡◌, ◌≢◌, ◌≤◌, ◌<◌, true, List, length, All, AllPairs, Some}
 use Rattle.std.specs.List.{list_all}
 use Rattle.ply_head.specs.declared.header.Shape.{Shape}

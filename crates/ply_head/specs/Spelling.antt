@@ -1,12 +1,12 @@
 -- The canonical spelling of a header.
 --
--- joined          lines one after another, each ended by LF
--- kind_name, scalar_name   the first spelling of a kind and of a type
--- format_text, element_text, property_text   the lines that state them, without their ends
--- shape_text      the part of a `property` line between the first word and the name
--- element_lines   an element's line and those of its properties
--- header_lines    the lines of a header, the first and the last included
--- spelling        the printed header
+--   joined          lines one after another, each ended by LF
+--   kind_name, scalar_name   the first spelling of a kind and of a type
+--   format_text, element_text, property_text   the lines that state them, without their ends
+--   shape_text      the part of a `property` line between the first word and the name
+--   element_lines   an element's line and those of its properties
+--   header_lines    the lines of a header, the first and the last included
+--   spelling        the printed header
 use Rattle.std.specs.Prelude.{ℕ, List, [], ◌∷◌, ◌++◌, map, codes, decimal}
 use Rattle.std.specs.List.{flat_map}
 use Rattle.ply_head.specs.declared.header.Kind.{Kind}

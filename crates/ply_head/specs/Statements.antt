@@ -1,13 +1,13 @@
 -- Header lines by their tokens, without regard to their position.
 --
--- Statement       the content of a line
--- either_word     a token is one of two
--- is_name_byte    a visible ASCII character
--- kind_of, scalar_of   the kind and the type that a word names
--- whole_scalar    a type, if it is an integer type
--- count_of, name_of    the number of rows, and the name, that a word states
--- format_line, element_line, property_line, finish_line   the content of the tokens after the first
--- statement_of_words   the content of a line with these tokens
+--   Statement       the content of a line
+--   either_word     a token is one of two
+--   is_name_byte    a visible ASCII character
+--   kind_of, scalar_of   the kind and the type that a word names
+--   whole_scalar    a type, if it is an integer type
+--   count_of, name_of    the number of rows, and the name, that a word states
+--   format_line, element_line, property_line, finish_line   the content of the tokens after the first
+--   statement_of_words   the content of a line with these tokens
 use Rattle.std.specs.Prelude.{ℕ, List, [], ◌∷◌, Bool, ◌||◌, ◌&&◌, nat_le, length, codes, Option, Some, None, if◌then◌else◌}
 use Rattle.std.specs.List.{list_all}
 use Rattle.std.specs.Char.{is_ascii_digit}

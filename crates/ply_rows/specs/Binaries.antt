@@ -1,14 +1,14 @@
 -- The values of binary bodies, and their fields by size.
 --
--- size_of        the size of a value of a type, in bytes
--- IsWhole        an integer type
--- bits_of        the number with these bytes in a byte order
--- is_signed      a type of signed numbers
--- signed_if      a number of this many bytes, in two's complement if it is signed
--- number_of      the integer with a value's bytes
--- bytes_of       this number of bytes, and those after them
--- list_field     the field of a list
--- binary_field   the field of a property, and the bytes after it
+--   size_of        the size of a value of a type, in bytes
+--   IsWhole        an integer type
+--   bits_of        the number with these bytes in a byte order
+--   is_signed      a type of signed numbers
+--   signed_if      a number of this many bytes, in two's complement if it is signed
+--   number_of      the integer with a value's bytes
+--   bytes_of       this number of bytes, and those after them
+--   list_field     the field of a list
+--   binary_field   the field of a property, and the bytes after it
 use Rattle.std.specs.Prelude.{ℕ, ◌+◌, ◌*◌, ℤ, pos, List, Bool, true, false, nat_lt, length, take, drop, Result, Ok, Err}
 use Rattle.std.specs.Prelude.{if◌then◌else◌}
 use Rattle.byteorder.specs.Endian.{big_number, little_number, twos_complement}

@@ -1,13 +1,13 @@
 -- The rows of a body, and how they end.
 --
--- BodyRows          rows one after another, and why there are no more
--- row, ends, refused   the rows after one more; no rows, and no error; no rows, rejected
--- row_then          a row, if it has its fields, and the rows after it
--- rows_of_element   a number of rows of an element, and what follows them
--- ending            what has to follow the last row
--- rows_from         the rows of elements, some already read
--- rows_of           the rows of a body
--- Ends              the result of a call says how the rows end
+--   BodyRows          rows one after another, and why there are no more
+--   row, ends, refused   the rows after one more; no rows, and no error; no rows, rejected
+--   row_then          a row, if it has its fields, and the rows after it
+--   rows_of_element   a number of rows of an element, and what follows them
+--   ending            what has to follow the last row
+--   rows_from         the rows of elements, some already read
+--   rows_of           the rows of a body
+--   Ends              the result of a call says how the rows end
 use Rattle.std.specs.Prelude.{ℕ, zero, suc, ◌+◌, ◌-◌, ◌≡◌, List, [], ◌∷◌, Result, Ok, Err, Option, Some, None}
 use Rattle.ply_head.specs.declared.header.Header.{Header}
 use Rattle.ply_head.specs.declared.header.Element.{Element}

@@ -1,15 +1,15 @@
 -- Which bodies have which rows, in the format's own terms: the body is a sequence of pieces, one for each property of each row
 -- that the header announces, and nothing follows.
 --
--- IsGroup        tokens that encode a property in a text
--- group_field    the field of such tokens
--- IsPiece        bytes that encode a property in a binary body
--- piece_field    the field of such bytes
--- Begins         the rest of a body begins with a property
--- BeginsRow      it begins with the properties of a row
--- announced      the rows that elements announce, with their properties
--- Follows        the rest of a body is these rows, and nothing follows
--- HasRows        a body is these rows of the header
+--   IsGroup        tokens that encode a property in a text
+--   group_field    the field of such tokens
+--   IsPiece        bytes that encode a property in a binary body
+--   piece_field    the field of such bytes
+--   Begins         the rest of a body begins with a property
+--   BeginsRow      it begins with the properties of a row
+--   announced      the rows that elements announce, with their properties
+--   Follows        the rest of a body is these rows, and nothing follows
+--   HasRows        a body is these rows of the header
 use Rattle.std.specs.Prelude.{ℕ, zero, suc, ◌+◌, ◌-◌, ◌*◌, ◌≡◌, ◌≤◌, pos, List, [], ◌∷◌, ◌++◌, length, take, Ok}
 use Rattle.num_text.specs.WholeNumbers.{whole_of}
 use Rattle.ply_head.specs.declared.header.Header.{Header}

@@ -1,10 +1,10 @@
 -- The items of a list, in its field's bytes.
 --
--- pieces       this number of pieces of a size, one after another
--- items_from   the bytes of each of this number of items from an offset of a body on
--- items_in     the bytes of each item of a list's field
--- HasItems     this number of items follows, from an offset of a body on
--- IsValueOf    bytes of a value's size, in a binary body
+--   pieces       this number of pieces of a size, one after another
+--   items_from   the bytes of each of this number of items from an offset of a body on
+--   items_in     the bytes of each item of a list's field
+--   HasItems     this number of items follows, from an offset of a body on
+--   IsValueOf    bytes of a value's size, in a binary body
 use Rattle.std.specs.Prelude.{ℕ, zero, suc, ◌+◌, ◌*◌, ◌≡◌, ◌≤◌, List, [], ◌∷◌, length, map, take, drop}
 use Rattle.ply_head.specs.declared.header.Kind.{Kind}
 use Rattle.ply_head.specs.declared.header.Kind.TheVariants.{Ascii}

@@ -1,15 +1,15 @@
 -- The view of a reader of rows, and the invariants of its results.
 --
--- Reader         the header, the body, and the rows that are left
--- NextRow        the result of a call for the next row, and what it leaves
--- IsInside       a field is inside the body
--- IsSized        a field has the size of its value or its items
--- HasSize        in a binary body, a field has the size of its value or its items
--- HasTokens      a list's field has as many tokens as items from its offset on, in a text
--- IsFieldOf      a field is one of a property
--- AreFieldsOf    fields are those of properties, one for each
--- AreRowFields   fields are those of a row of the header
--- EndsInside     a trailing byte is one of the body
+--   Reader         the header, the body, and the rows that are left
+--   NextRow        the result of a call for the next row, and what it leaves
+--   IsInside       a field is inside the body
+--   IsSized        a field has the size of its value or its items
+--   HasSize        in a binary body, a field has the size of its value or its items
+--   HasTokens      a list's field has as many tokens as items from its offset on, in a text
+--   IsFieldOf      a field is one of a property
+--   AreFieldsOf    fields are those of properties, one for each
+--   AreRowFields   fields are those of a row of the header
+--   EndsInside     a trailing byte is one of the body
 use Rattle.std.specs.Prelude.{ℕ, ◌≡◌, ◌≤◌, ◌<◌, ◌+◌, ◌*◌, List, [], length, slice_index_or, Result, Ok, Err, Option, Some, None}
 use Rattle.ply_head.specs.declared.header.Header.{Header}
 use Rattle.ply_head.specs.declared.header.Element.{Element}

@@ -1,9 +1,9 @@
 -- The rest of a body, and the fields of a row in it.
 --
--- Rest        the rest of a body: tokens, or bytes from an offset on
--- rest_at     the rest of a body after an offset
--- field_of    the field of a property, and the rest after it
--- fields_of   the fields of a row's properties, and the rest after them
+--   Rest        the rest of a body: tokens, or bytes from an offset on
+--   rest_at     the rest of a body after an offset
+--   field_of    the field of a property, and the rest after it
+--   fields_of   the fields of a row's properties, and the rest after them
 use Rattle.std.specs.Prelude.{ℕ, ◌+◌, List, [], ◌∷◌, drop, Result, Ok}
 use Rattle.ply_head.specs.declared.header.Kind.{Kind}
 use Rattle.ply_head.specs.declared.header.Kind.TheVariants.{Ascii, BinaryLittle, BinaryBig}

@@ -1,13 +1,13 @@
 -- The fields of a text, in terms of its tokens.
 --
--- Gives, Fails      the result of a call is that of a definition, unless memory ran out
--- end_of_tokens     the end of the last of some tokens
--- field_of_items    the field of a list with these items
--- count_in          an integer, as a number of items
--- count_or_refusal   a token that was read as an integer, as a number of items
--- items_of          the field of this number of items, and the tokens after them
--- items_end         the end of this number of tokens, and the tokens after them
--- text_field        the field of a property, and the tokens after it
+--   Gives, Fails      the result of a call is that of a definition, unless memory ran out
+--   end_of_tokens     the end of the last of some tokens
+--   field_of_items    the field of a list with these items
+--   count_in          an integer, as a number of items
+--   count_or_refusal   a token that was read as an integer, as a number of items
+--   items_of          the field of this number of items, and the tokens after them
+--   items_end         the end of this number of tokens, and the tokens after them
+--   text_field        the field of a property, and the tokens after it
 use Rattle.std.specs.Prelude.{ℕ, ◌+◌, ◌-◌, ◌≡◌, ℤ, pos, negsuc, List, [], ◌∷◌, nat_lt, length, take, drop, Result, Ok, Err}
 use Rattle.std.specs.Prelude.{if◌then◌else◌}
 use Rattle.num_text.specs.WholeNumbers.{whole_of}

@@ -1,10 +1,10 @@
 -- The tokens of a text.
 --
--- is_white_space   space, tab, CR or LF
--- Token            a run of bytes, and its offset
--- placed           parts of a text with their offsets
--- tokens_from      the tokens of a text that begins at an offset
--- tokens_at        the tokens of a body from an offset on
+--   is_white_space   space, tab, CR or LF
+--   Token            a run of bytes, and its offset
+--   placed           parts of a text with their offsets
+--   tokens_from      the tokens of a text that begins at an offset
+--   tokens_at        the tokens of a body from an offset on
 use Rattle.std.specs.Prelude.{ℕ, ◌+◌, List, [], ◌∷◌, Bool, ◌==◌, ◌||◌, length, drop, filter}
 use Rattle.std.specs.List.{slice_split}
 use Rattle.ply_head.specs.Lines.{has_bytes}

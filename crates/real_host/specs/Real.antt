@@ -1,8 +1,8 @@
 -- The operating system as a host: it exposes no bytes except those that its open files expose.
 --
---     real_state host           its counts and whether files are open
---     left_of remaining host    the bytes left of the file that is open for reading, if these files expose them
---     held_of contents host     the bytes of the file that is open for writing, if these files expose them
+--   real_state host           its counts and whether files are open
+--   left_of remaining host    the bytes left of the file that is open for reading, if these files expose them
+--   held_of contents host     the bytes of the file that is open for writing, if these files expose them
 use Rattle.std.specs.Prelude.{ℕ, List, Option, None}
 use Rattle.std.specs.Option.{is_some, option_and_then}
 use Rattle.host.specs.State.{State}

@@ -1,6 +1,6 @@
 -- Rows in the order of a pass over the store's cells.
 --
---   row_if_inside inside e               the row of a cell, if it is inside
+--   row_if_inside inside e               the row for a cell, if it is inside
 --   flow_if_any amounts e k              the row of the flow over its side k, if that is not 0
 --   flows_if_any amounts e               those of its four sides
 --   sink_if_any amounts e                the row of the flow into its sink, if that is not 0

@@ -1,16 +1,16 @@
 -- How the program ends, given the arguments from the system.
 --
---     WritesFormats outputs ..            the answer that writes a mesh as PLY, OFF and OBJ
---     FormatsAnswer names ..              an error of the mesh, or this answer
---     WritesMeshes asked scan ..          the answer that writes the best surface at each weight as PLY
---     MeshesAnswer asked ..               an error of the scan, or this answer
---     sweep_in words                      the request of `sweep` with as many outputs as its fifth argument states
---     RunsFor export sweep words ..       the effect of a run on these arguments on its host
---     RunsOn words status before after    a run on these arguments ended with this status
---     DoesNothing status before after     memory ran out for the arguments or for the writers
---     RunsOrIdles words status ..         one of the two
---     EndsOn args status before after     the program ended with this status on the arguments from the system
---     EndsAfterARun status                the program ended with this status on some arguments, over that host
+--   WritesFormats outputs ..            the answer that writes a mesh as PLY, OFF and OBJ
+--   FormatsAnswer names ..              an error of the mesh, or this answer
+--   WritesMeshes asked scan ..          the answer that writes the best surface at each weight as PLY
+--   MeshesAnswer asked ..               an error of the scan, or this answer
+--   sweep_in words                      the request of `sweep` with as many outputs as its fifth argument states
+--   RunsFor export sweep words ..       the effect of a run on these arguments on its host
+--   RunsOn words status before after    a run on these arguments ended with this status
+--   DoesNothing status before after     memory ran out for the arguments or for the writers
+--   RunsOrIdles words status ..         one of the two
+--   EndsOn args status before after     the program ended with this status on the arguments from the system
+--   EndsAfterARun status                the program ended with this status on some arguments, over that host
 use Rattle.std.specs.Prelude.{◌≡◌, ◌≢◌, ◌⊎◌, ℕ, ◌-◌, ◌<◌, List, [], ◌∷◌, length, map, slice_index_or, Result, Ok, Err, Option, Some}
 use Rattle.std.specs.Prelude.{None, unwrap_or}
 use Rattle.std.specs.IoError.{error_kind}

@@ -199,7 +199,7 @@ fn is_beyond(t: &Tetra, v: [u32; 4], s: Point, side: usize) -> bool
     is_behind(t.point(a), t.point(b), t.point(c), s)
 }
 
-/// Returns how a sight can leave a cell: by three signs, two of which decide, or by none in the cell at its vertex.
+/// Returns how a sight can leave a cell: by three signs (two of them decide), or by none in the cell at its vertex.
 #[inline(always)]
 fn ahead(t: &Tetra, ray: &Ray, reached: &Reached) -> WayOut
     requires walking { IsWalking t.now ray.now reached.now }

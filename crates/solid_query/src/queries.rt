@@ -65,7 +65,7 @@ fn coordinate(unit: u32, number: u32, token: &[u8]) -> Result<i64, QueryRefusal>
     told(number, scaled(token, unit))
 }
 
-/// Returns the point of three tokens, the first of which has this number.
+/// Returns the point of three tokens, the first with this number.
 fn point_at(unit: u32, number: u32, x: &[u8], y: &[u8], z: &[u8]) -> Result<Point, QueryRefusal>
     requires at_least_one { 1 ≤ unit }
     requires at_most_a_million { unit ≤ UNIT_LIMIT }
