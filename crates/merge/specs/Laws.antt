@@ -1,14 +1,14 @@
--- What holds of the distinct points of rows.
+-- Properties of the distinct points of rows.
 --
---   StandsAt points p       a point stands at its index
---   EachRowHasAnIndex       each row's point stands at its index among the distinct points
+--   StandsAt points p       a point is at its index
+--   EachRowHasAnIndex       each row's point is at its index among the distinct points
 --   MergedPointsAreFew      there are no more distinct points than rows
---   MergedPointsAreWithin   no coordinate of a distinct point is over what none of a row's point is over
+--   MergedPointsAreWithin   no coordinate of a distinct point exceeds a bound that holds for all rows' points
 use Rattle.std.specs.Prelude.{ℕ, ◌≡◌, ◌<◌, ◌≤◌, Some, List, length, slice_get, All}
 use Rattle.geo_sign.specs.Point.{Point, IsWithin}
 use Rattle.merge.specs.Merging.{distinct_points, index_among}
 
--- the point is in the list, and stands at its index
+-- the point is in the list, at its index
 abbrev pub StandsAt : List Point → Point → Type 0
 StandsAt points p = (index_among points p < length points) × (slice_get points (index_among points p) ≡ Some p)
 
