@@ -1,4 +1,4 @@
-"""What the program tells a person on how to mend a refusal, beside the table of docs/howto/import.md."""
+"""The program's hints for errors of files, compared with the table of docs/howto/import.md."""
 from __future__ import annotations
 
 import os
@@ -16,7 +16,7 @@ def text_of(*path: str) -> str:
 
 
 def rows_of_page() -> list[tuple[list[str], str]]:
-    """The fronts of refusals and the cure of each row of the page, without its marks."""
+    """Returns the prefixes of errors and the hint of each row of the page, without its marks."""
     rows = []
     for line in text_of('docs', 'howto', 'import.md').split(HEADING)[1].split('\nPLACE is')[0].splitlines():
         if line.startswith('| `'):
@@ -32,7 +32,7 @@ def rows_of_page() -> list[tuple[list[str], str]]:
 
 
 def rows_of_program() -> list[tuple[list[str], str]]:
-    """The same of the program."""
+    """Returns the same for the program."""
     table = text_of('crates', 'recon_main', 'src', 'advice.rt').split('const CURES')[1].split('\n];')[0]
     rows = re.findall(r'\(\s*&\[([^]]*)\],\s*"([^"]*)",?\s*\)', table)
     return [(re.findall('"([^"]*)"', fronts), cure) for fronts, cure in rows]
