@@ -55,7 +55,7 @@ def copied(to: pathlib.Path, crates: list[str]) -> None:
 
 
 def takes_names(help_text: str) -> bool:
-    """Whether `rt ci` takes names of crates, and so keeps what it proved."""
+    """Returns whether `rt ci` takes names of crates, and so keeps what it proved."""
     return TAKES_NAMES.search(help_text) is not None
 
 

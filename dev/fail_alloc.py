@@ -71,7 +71,7 @@ def ran(folder: pathlib.Path, program: str, words: Sequence[str], number: int) -
 
 
 def held(folder: pathlib.Path) -> dict[str, bytes]:
-    """The bytes of each file."""
+    """Returns the bytes of each file."""
     return {name: (folder / name).read_bytes() for name in NAMES if (folder / name).exists()}
 
 
@@ -84,7 +84,7 @@ def put(folder: pathlib.Path, files: dict[str, bytes]) -> None:
 
 
 def ended(answer: Answer, files: dict[str, bytes], before: dict[str, bytes], done: Answer, whole: dict[str, bytes]) -> str:
-    """How a run ended, or why that is not as promised."""
+    """Returns how a run ended, or why that is not as promised."""
     if (answer, files) == (done, whole):
         return 'done'
     if answer == (5, b'') and files == before:
@@ -97,7 +97,7 @@ def ended(answer: Answer, files: dict[str, bytes], before: dict[str, bytes], don
 
 def tried(folder: pathlib.Path, program: str, words: Sequence[str],
           before: dict[str, bytes]) -> tuple[collections.Counter[str], dict[str, bytes]]:
-    """The ends of a command by their counts, and the files that it leaves with memory."""
+    """Returns the ends of a command by their counts, and the files that it leaves with memory."""
     put(folder, before)
     done, _ = ran(folder, program, words, 0)
     whole, ends, number = held(folder), collections.Counter(), 0

@@ -49,7 +49,7 @@ def number(text: str | None, key: str, otherwise: str, most: int) -> float:
 
 
 def placed(path: str) -> tuple[np.ndarray, np.ndarray]:
-    """The object about the origin, with the diagonal 1000."""
+    """Returns the object about the origin, with the diagonal 1000."""
     places, faces = joined(*read_object(path))
     low, high = places.min(axis=0), places.max(axis=0)
     return (places - (low + high) / 2) * (DIAGONAL / np.linalg.norm(high - low)), faces
@@ -112,7 +112,7 @@ def told(values: np.ndarray) -> str:
 
 
 def edges_of(faces: np.ndarray) -> tuple[int, int, np.ndarray, np.ndarray]:
-    """How many edges are open, how many have more than two faces, and pairs of faces with a common edge of two."""
+    """Returns how many edges are open, how many have more than two faces, and pairs of faces with a common edge of two."""
     corners = faces.ravel()
     keys = half_edges.edge_keys(corners, corners.max() + 1)
     order = np.argsort(keys, kind='stable')
@@ -123,7 +123,7 @@ def edges_of(faces: np.ndarray) -> tuple[int, int, np.ndarray, np.ndarray]:
 
 
 def piece_count(faces: np.ndarray, one: np.ndarray, other: np.ndarray) -> int:
-    """How many pieces hang together by edges of two faces."""
+    """Returns how many pieces hang together by edges of two faces."""
     piece = np.arange(len(faces))
     while True:
         least = piece.copy()
@@ -136,7 +136,7 @@ def piece_count(faces: np.ndarray, one: np.ndarray, other: np.ndarray) -> int:
 
 
 def crossing_pairs(places: np.ndarray, faces: np.ndarray) -> int:
-    """How many pairs of faces cross, of places rounded to a 2^36th of the box: coarser ones make neighbors cross."""
+    """Returns how many pairs of faces cross, of places rounded to a 2^36th of the box: coarser ones make neighbors cross."""
     scale = (1 << 36) / max(np.ptp(places, axis=0).max(), 1e-300)
     whole = np.round((places - places.min(axis=0)) * scale).astype(np.int64)
     low, high = triangles.boxes_of(whole, faces)
@@ -171,7 +171,7 @@ def compare(names: Sequence[str], options: Any) -> str:
 
 
 def make_room(names: Sequence[str], options: Any) -> str:
-    """The sides of the room and of what stands in it, each of two triangles, seen from where its scanners are."""
+    """Returns the sides of the room and of what stands in it, each of two triangles, seen from where its scanners are."""
     if len(names) != 1:
         raise Refusal('room takes the file to be written')
     places, faces = [], []
