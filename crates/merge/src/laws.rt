@@ -1,13 +1,6 @@
 //! Theorems over the definitions, as the contracts of calls that do nothing.
 
-ghost use Rattle.merge.specs.Laws.{PointsAreMerged, MergedPointsAreOne, EachRowHasAnIndex, MergedPointsAreFew, MergedPointsAreWithin};
-
-/// The merged points of rows are distinct, each is a row's point, each row's point is among them, and they are in the order of
-/// their first rows. No other list has all these properties. For callers that merge points by other means and compare.
-pub fn points_are_merged()
-    ensures merged { PointsAreMerged }
-    ensures one { MergedPointsAreOne }
-{}
+ghost use Rattle.merge.specs.Laws.{EachRowHasAnIndex, MergedPointsAreFew, MergedPointsAreWithin};
 
 /// At the index of a row's point among the merged points is this point. There are no more merged points than rows, and no
 /// coordinate of a merged point has a greater absolute value than those of the rows' points. For callers that map rows to

@@ -1,13 +1,13 @@
 //! Merges equal points of rows, and gives the index of each row's point among the distinct points.
 //!
-//! `specs/Merging` defines the distinct points of rows, and `specs/Laws` characterises them. `merging` finds them with one
-//! look-up a row. The crate depends on `geo_sign` (points) and on the kit's `indexmap`, a set in order of insertion.
+//! `specs/Merging` defines the distinct points of rows. `merging` finds them with one look-up a row. The crate depends on `geo_sign`
+//! (points) and on the kit's `indexmap`, a set in order of insertion.
 #![tactic(auto)]
 
 mod laws;
 mod merging;
 
-pub use laws::{each_row_has_its_point, points_are_merged};
+pub use laws::each_row_has_its_point;
 pub use merging::{Merged, merge};
 use std::alloc::AllocError;
 
