@@ -1,11 +1,11 @@
 #!/usr/bin/env python3
-"""Makes each allocation of the built program fail in turn, one a run, on a scan of four points, and says how the runs ended.
+"""Makes each allocation of the built program fail in turn, one a run, on a scan of four points, and prints how the runs ended.
 
-usage: dev/fail_alloc.py [PROGRAM]    (default ./recon; it needs a C compiler, and takes half a minute)
+usage: dev/fail_alloc.py [PROGRAM]    (default: ./recon; needs a C compiler, and takes half a minute)
 
-Behind an allocation that fails a command ends with status 5, says nothing and leaves all files as they were; or the call of the
-system that lacked memory failed, with status 4 and the files as they were or a front of what is written; or the command found
-another way and is done. In each case the same arguments with memory then do what they would have done at first.
+After an allocation that fails a command ends with status 5, prints nothing and leaves all files unchanged; or the call of the system that ran
+out of memory failed, with status 4 and the files unchanged or with a prefix of what is written; or the command found another way and is done.
+In each case the same arguments with memory then do what they would have done at first.
 """
 from __future__ import annotations
 
