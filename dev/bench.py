@@ -59,12 +59,12 @@ class Run:
 
 
 def least(runs: list[Run]) -> tuple[float, float, int]:
-    """The least processor and wall seconds of some runs and the largest peak."""
+    """Returns the least processor and wall seconds of some runs and the largest peak."""
     return min(r.processor for r in runs), min(r.wall for r in runs), max(r.peak for r in runs)
 
 
 def named(word: str) -> list[tuple[str, int]]:
-    """The scans of the option `scans`."""
+    """Returns the scans of the option `scans`."""
     if word == 'short':
         return list(SHORT)
     pairs = [scan.split('.') for scan in word.split(',')]
@@ -74,7 +74,7 @@ def named(word: str) -> list[tuple[str, int]]:
 
 
 def scan_of(folder: str, shape: str, size: int) -> str:
-    """The path of a scan, which is made where it is missing."""
+    """Returns the path of a scan, which is made where it is missing."""
     path = os.path.join(folder, f'{shape}.{size}.ply')
     if not os.path.exists(path):
         subprocess.run([sys.executable, PACKAGE, 'make-scan', shape, str(size), SEED, path], check=True,
@@ -83,7 +83,7 @@ def scan_of(folder: str, shape: str, size: int) -> str:
 
 
 def texts(program: str, folder: str, name: str) -> list[str]:
-    """Where a program writes its mesh and its certificate."""
+    """Returns where a program writes its mesh and its certificate."""
     label = os.path.basename(program)
     return [os.path.join(folder, f'{name}.{label}.{kind}') for kind in ('ply', 'cert')]
 
@@ -107,7 +107,7 @@ def compared(lines: list[str], meshes: list[str]) -> None:
 
 
 def measured(programs: list[str], folder: str, shape: str, size: int, count: int, check: bool) -> list[str]:
-    """A row of the table: each program's build, and where that is asked for the first one's check of its own files."""
+    """Returns a row of the table: each program's build, and where that is asked for the first one's check of its own files."""
     scan, name = scan_of(folder, shape, size), f'{shape}.{size}'
     built = {program: [] for program in programs}
     for _ in range(count):
@@ -128,7 +128,7 @@ def measured(programs: list[str], folder: str, shape: str, size: int, count: int
 
 
 def heading(programs: list[str], check: bool) -> str:
-    """The first two rows of the table."""
+    """Returns the first two rows of the table."""
     cells = ['scan', 'build s', 'wall s', 'peak MB']
     if len(programs) == 2:
         cells += ['reference s', 'wall s', 'peak MB', 'ratio']
