@@ -36,7 +36,7 @@ points 4
 
 
 def faults(text: str, source: str = 'if a < b {\n') -> list[str]:
-    """What is told of an edit of a crate with one file."""
+    """Returns the faults of an edit of a crate with one file."""
     os.makedirs('crates/low/src', exist_ok=True)
     os.makedirs('attack/low', exist_ok=True)
     write('crates/low/src/lib.rt', source)
