@@ -44,7 +44,8 @@ def pages() -> list[pathlib.Path]:
 
 def program(variable: str, *places: str) -> str:
     """Returns the path of a built program, or nothing."""
-    return next((str(path) for path in [os.environ.get(variable, ''), *(TOP / place for place in places)] if str(path) and os.access(path, os.X_OK)), '')
+    paths = [os.environ.get(variable, ''), *(str(TOP / place) for place in places)]
+    return next((path for path in paths if path and os.access(path, os.X_OK)), '')
 
 
 @dataclass
@@ -164,7 +165,8 @@ class Runs:
 def faults_of(page: pathlib.Path, programs: Programs) -> tuple[list[str], int, int]:
     """Runs the commands of a page; returns its faults, how many were run, and how many skipped."""
     with tempfile.TemporaryDirectory() as folder:
-        runs, faults, count, skipped = Runs(programs, pathlib.Path(folder)), [], 0, 0
+        runs, count, skipped = Runs(programs, pathlib.Path(folder)), 0, 0
+        faults: list[str] = []
         for it in (it for block in shown_in(page, page.read_text()) for it in block):
             lost = bool(programs.missing_of(it.command) or runs.lost & set(re.findall(r'[\w.-]+', it.command)))
             fault = runs.fault(it)
@@ -212,7 +214,8 @@ def is_understood(command: str, programs: Programs) -> bool:
 def main(words: list[str]) -> int:
     programs = Programs()
     names = [word for word in words if word != 'write']
-    faults, count, skipped, understood = [], 0, 0, 0
+    faults: list[str] = []
+    count = skipped = understood = 0
     for page in [TOP / name for name in names] or pages():
         if 'write' in words:
             page.write_text(written(page, programs))
