@@ -34,6 +34,7 @@ BLOCK = re.compile(r'(?ms)^```console\n(.*?)^```$')
 REFERENCE = TOP / 'dev/reference/target/release/recon-reference'
 OF_REFERENCE, OF_MODEL = ('build', 'check', 'cells', 'demo'), ('slice', 'export', 'ask examples/tetrahedron.ply')
 # What differs from run to run: seconds, and the names of temporary folders.
+FILE = re.compile(r'(?<![\w./-])[\w./-]+\.[a-z]\w*\b')
 DIFFERS = [(re.compile(r'(?m)^(recon-surface:) +\d+\.\d s'), r'\1 0.0 s'), (re.compile(r'\.recon-\w{8}'), '.recon-00000000')]
 
 
@@ -140,11 +141,14 @@ class Runs:
         (folder / 'examples').symlink_to(EXAMPLES)
         inputs(folder)
 
+    def is_skipped(self, command: str) -> bool:
+        """Returns whether a program is missing, or a file that a skipped command would have written."""
+        return bool(self.programs.missing_of(command) or self.lost & set(FILE.findall(command)))
+
     def printed(self, command: str) -> list[str] | None:
         """Runs a command and returns the lines that it prints, or None if it is skipped."""
-        words = re.findall(r'[\w.-]+', command)
-        if self.programs.missing_of(command) or self.lost & set(words):
-            self.lost |= {word for word in words if '.' in word and not (self.folder / word).exists() and not word.replace('.', '').isdigit()}
+        if self.is_skipped(command):
+            self.lost |= {name for name in FILE.findall(command) if not (self.folder / name).exists()}
             return None
         path = f'{self.folder / "bin"}:{os.path.dirname(sys.executable)}:{os.environ["PATH"]}'
         environ = {**os.environ, 'PATH': path, 'LC_ALL': 'C', 'RECON': self.programs.recon or self.programs.reference}
@@ -168,7 +172,7 @@ def faults_of(page: pathlib.Path, programs: Programs) -> tuple[list[str], int, i
         runs, count, skipped = Runs(programs, pathlib.Path(folder)), 0, 0
         faults: list[str] = []
         for it in (it for block in shown_in(page, page.read_text()) for it in block):
-            lost = bool(programs.missing_of(it.command) or runs.lost & set(re.findall(r'[\w.-]+', it.command)))
+            lost = runs.is_skipped(it.command)
             fault = runs.fault(it)
             faults += [fault] if fault else []
             count, skipped = count + (not lost), skipped + lost
