@@ -15,6 +15,7 @@ missing program, and those that need their outputs, are skipped with a message.
 """
 from __future__ import annotations
 
+import importlib.util
 import math
 import os
 import pathlib
@@ -237,4 +238,8 @@ def main(words: list[str]) -> int:
 
 if __name__ == '__main__':
     begun(__doc__)
+    if not (importlib.util.find_spec('numpy') and importlib.util.find_spec('scipy')):
+        # another interpreter has them, or it is said how to get them
+        found = subprocess.run(['sh', str(TOP / 'dev/python')], stdout=subprocess.PIPE, text=True).stdout.strip()
+        sys.exit(1) if not found else os.execv(found, [found, *sys.argv])
     sys.exit(main(sys.argv[1:]))
