@@ -22,9 +22,11 @@ from pathlib import Path
 from typing import Any, Sequence
 
 import numpy as np
+from scipy.spatial import cKDTree
 
+from recon.beside import Beside
 from recon.choices import Choices
-from recon.clouds import Spacing, frame, lone_points, spacing, surrounding, thinned, thinning_side
+from recon.clouds import Spacing, frame, lone_points, spacing, surrounding, thinned, thinning_side, tree_of
 from recon.finish import Wishes, finished, seen_path
 from recon.inputs import Cloud, Inputs, read_cloud
 from recon.library import Surface, build
@@ -63,8 +65,8 @@ def divided(cloud: Cloud, args: Any, choices: Choices) -> Cloud:
     return cloud
 
 
-def cleaned(cloud: Cloud, args: Any, choices: Choices) -> Cloud:
-    """The cloud without lone points."""
+def cleaned(cloud: Cloud, tree: cKDTree, args: Any, choices: Choices) -> Cloud:
+    """The cloud without lone points. `tree` is that of its points."""
     points = cloud.points
     middle = np.median(points, axis=0)
     away = np.abs(points - middle).max(axis=1)
@@ -73,7 +75,7 @@ def cleaned(cloud: Cloud, args: Any, choices: Choices) -> Cloud:
         choices.warn(f'{far} points lie over fifty times as far out as nearly all others: recon-scan with from= and to= leaves them out')
     if args.no_clean or cloud.is_made_up or len(points) <= 100:
         return cloud
-    lone = lone_points(points)
+    lone = lone_points(points, tree=tree)
     if not lone.any():
         return cloud
     choices.choose('lone points', int(lone.sum()), f'{lone.mean():.2%} are four times as far from others as those are, and left out (--no-clean)')
@@ -128,12 +130,13 @@ def prepared(inputs: Inputs) -> Scan:
     choices.timed('read')
     if not read:
         raise NoSurface('no point is left')
-    texture = spacing(cloud.points)
+    tree = tree_of(cloud.points)
+    texture = spacing(cloud.points, tree)
     if not texture.distance:
         raise NoSurface('most points stand at one place')
     choices.tell(f'{read:,} points, {len(cloud.scanners):,} positions; {texture.distance:.4g} apart, noise about {texture.noise:.2g}, '
                  f'{np.ptp(cloud.points, axis=0).max():.4g} across')
-    cloud = thin(cleaned(cloud, args, choices), texture, args, choices)
+    cloud = thin(cleaned(cloud, tree, args, choices), texture, args, choices)
     cloud, off = closed_around(cloud, texture, args, choices)
     origin, unit = framed(cloud, texture, args, choices)
     choices.timed('choose')
@@ -161,7 +164,7 @@ def plain(value: float) -> str:
 
 
 def built(scan: Scan, args: Any, folder: Path, choices: Choices) -> Surface:
-    """Builds the surface, with a smaller area weight where it vanishes, and checks it."""
+    """Builds the surface, with a smaller area weight where it vanishes."""
     cloud = scan.cloud
     usual = 1 if cloud.is_made_up else 3
     tried = [args.smooth] if args.smooth is not None else list(dict.fromkeys([usual, 1]))
@@ -178,10 +181,6 @@ def built(scan: Scan, args: Any, folder: Path, choices: Choices) -> Surface:
     choices.timed('build')
     if not surface.counts['faces']:
         raise NoSurface('the surface is empty: the points lie in a plane, or --smooth is too large')
-    if not args.no_check:
-        surface.check()
-        choices.tell('check: yes, mesh and certificate are those of the scan')
-    choices.timed('check')
     against = surface.votes_against_per_sight
     choices.tell(f'{against:.3f} votes against the surface for each line of sight')
     if against > LOOK:
@@ -246,18 +245,21 @@ def refuse_own_inputs(args: Any) -> None:
 
 
 def made(args: Any, choices: Choices, folder: Path) -> Made:
-    """The whole run but for its outputs. Scan, mesh and certificate are made in a folder."""
+    """The whole run. Scan, mesh and certificate are made in a folder, and while they are checked there the mesh is finished."""
     args.program = program_path(args.program)
     scan = prepared(Inputs(args, folder, choices))
     surface = built(scan, args, folder, choices)
-    wishes = wishes_for(surface, scan, args, choices)
-    choices.tell(f'finishing {len(surface.faces):,} faces')
-    mesh, report = finished(os.fspath(surface.mesh), wishes, mesh=surface.whole())
-    colors = colored(mesh, surface, scan.cloud)
-    choices.timed('finish')
-    sweep = surface.sweep(0, 1, args.sweep) if args.sweep else []
-    choices.timed('sweep')
-    return Made(args, Path(args.output), folder, scan.cloud, scan.read, scan.texture, surface, mesh, colors, report, sweep, choices)
+    with Beside(surface, is_checked=not args.no_check) as beside:
+        wishes = wishes_for(surface, scan, args, choices)
+        choices.tell(f'finishing {len(surface.faces):,} faces')
+        mesh, report = finished(os.fspath(surface.mesh), wishes, mesh=surface.whole())
+        colors = colored(mesh, surface, scan.cloud)
+        choices.timed('finish')
+        sweep = surface.sweep(0, 1, args.sweep) if args.sweep else []
+        choices.timed('sweep')
+        done = Made(args, Path(args.output), folder, scan.cloud, scan.read, scan.texture, surface, mesh, colors, report, sweep, choices)
+        write_outputs(done, beside)
+    return done
 
 
 def parser() -> argparse.ArgumentParser:
@@ -348,7 +350,6 @@ def run(words: Sequence[str]) -> int:
         refuse_own_inputs(args)
         with tempfile.TemporaryDirectory(prefix='.recon-', dir=os.path.dirname(args.output) or '.') as folder:
             result = made(args, choices, Path(folder))
-            write_outputs(result)
     except MemoryError:
         return failed(1, 'error: out of memory')
     except KeyboardInterrupt:
