@@ -1,5 +1,5 @@
 #!/usr/bin/env python3
-"""Times `recon build` and `recon check` on scans of growing size, and prints a table for docs/performance.md.
+"""Times `recon build` and `recon check` on scans of growing size, and prints a table for docs/explain/performance.md.
 
   bench.py RECON FOLDER [beside=PROGRAM] [sizes=N,N,..] [shapes=NAME,NAME,..] [scans=NAME.N,NAME.N,..] [check=no] [runs=N]
 

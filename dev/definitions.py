@@ -1,10 +1,10 @@
 #!/usr/bin/env python3
-"""Fails where docs/definitions.md is not what its source and the heads of specs/ come to, or where its source names what is not there.
+"""Fails where docs/verification/definitions.md is not what its source and the heads of specs/ come to, or where its source names what is not there.
 
 usage: dev/definitions.py           (compares, as the gate does)
        dev/definitions.py write     (writes the page)
 
-The source is docs/definitions.in.md: text, and tables of words by theme. Each word of a table has to be defined in a crate that the
+The source is docs/verification/definitions.in.md: text, and tables of words by theme. Each word of a table has to be defined in a crate that the
 heading over it names, or that its own cell names. The files are printed into each row. Where a second cell is empty, it becomes what the
 heads of these files say of the words, or the line over a definition that a head does not name, and words that stand there alone get the
 arguments that they have in the heads. {shared} becomes the words that more than one crate defines, and {others} what is said of the
@@ -212,12 +212,12 @@ class Page:
 
 def main(words: list[str]) -> int:
     known = Words(TOP)
-    page = Page(known, (TOP / 'docs/definitions.in.md').read_text())
-    path = TOP / 'docs/definitions.md'
+    page = Page(known, (TOP / 'docs/verification/definitions.in.md').read_text())
+    path = TOP / 'docs/verification/definitions.md'
     if words == ['write']:
         path.write_text(page.text())
     there, printed = path.read_text().splitlines(), page.text().splitlines()
-    differ = difflib.unified_diff(there, printed, 'docs/definitions.md', 'what `dev/definitions.py write` prints', lineterm='', n=0)
+    differ = difflib.unified_diff(there, printed, 'docs/verification/definitions.md', 'what `dev/definitions.py write` prints', lineterm='', n=0)
     faults = page.faults + [f'nothing is said of {word}' for word in known.bare()] + [line for line in differ if not line.startswith('@@')]
     count = sum(len(file.names) for file in known.files)
     return reported('definitions', faults, f'{count} in {len(known.files)} files, {len(page.tabled)} in tables by theme, '

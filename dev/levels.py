@@ -1,5 +1,5 @@
 #!/usr/bin/env python3
-"""Fails where a chain of crates is longer than docs/layers.md allows, or where that page has other levels, or other crates below one.
+"""Fails where a chain of crates is longer than docs/dev/architecture.md allows, or where that page has other levels, or other crates below one.
 
 usage: dev/levels.py            (compares, as the gate does)
        dev/levels.py write      (writes the second column of the page's table)
@@ -67,7 +67,7 @@ def cells_of(uses: dict[str, list[str]], crates: pathlib.Path) -> dict[str, str]
 
 
 def main(words: list[str]) -> int:
-    path = TOP / 'docs/layers.md'
+    path = TOP / 'docs/dev/architecture.md'
     uses = uses_of((TOP / 'crates.txt').read_text())
     levels, cells = levels_of(uses), cells_of(uses, TOP / 'crates')
     if words == ['write']:
@@ -76,9 +76,9 @@ def main(words: list[str]) -> int:
     most = int(re.findall(r'at most (\d+) levels', page)[0])
     told = dict(re.findall(r'(?m)^\| `(\w+)` \| ([^|]*) \|', page))
     faults = [f'{name} is at level {at}, above {most}' for name, at in levels.items() if at > most]
-    faults += [f'docs/layers.md has {told.get(name)} for {name}, and `dev/levels.py write` prints {cell}'
+    faults += [f'docs/dev/architecture.md has {told.get(name)} for {name}, and `dev/levels.py write` prints {cell}'
                for name, cell in cells.items() if told.get(name) != cell]
-    faults += [f'docs/layers.md names {name}, which crates.txt does not' for name in told if name not in levels]
+    faults += [f'docs/dev/architecture.md names {name}, which crates.txt does not' for name in told if name not in levels]
     return reported('levels', faults, f'{len(levels)} crates, {max(levels.values())} levels, at most {most}')
 
 

@@ -122,7 +122,7 @@ def table(by_crate: dict[tuple[str, str], float], whole: float | None, began: fl
     """Returns the table, crates that took most first."""
     crates = {name for name, _ in by_crate}
     sums = {name: [by_crate[name, kind] for kind in KINDS] for name in crates}
-    lines = ['| Crate | Proofs | Tests | Edits | All |', '|---|---|---|---|---|']
+    lines = ['| Crate | Proofs | Tests | Mutants | All |', '|---|---|---|---|---|']
     for name in sorted(crates, key=lambda it: (-sum(sums[it]), it)):
         lines.append(row(f'`{name}`', [*sums[name], sum(sums[name])]))
     each = [sum(by_crate[name, kind] for name in crates) for kind in KINDS]

@@ -5,7 +5,7 @@
 
   RECON              the built program
   FOLDER             where the pictures are written
-  PICTURE            inside, sight, torus, statue, room, smooth, unit, scanner, slice, finish, kitten; all of them where none
+  PICTURE            inside, sight, torus, statue, room, smooth, unit, scanner, slice, finish, kitten, figurine; all of them where none
                      is named
 
 Scans are made by recon-make-scan, and drawn by render.py: points on white, surfaces with their outer side warm and their
@@ -337,8 +337,19 @@ def kitten(folder: str, recon: str, work: str) -> None:
     side_by_side(images, ['5,210 points with normals', 'as built', 'after flips'], folder, 'kitten')
 
 
+def figurine(folder: str, recon: str, work: str) -> None:
+    """The scan in examples/, its surface as built, and the same after flips and smoothing."""
+    path, mesh, out = os.path.join(DEV, '..', 'examples', 'figurine.ply'), os.path.join(work, 'mesh.ply'), os.path.join(work, 'out.ply')
+    subprocess.run([recon, 'build', path, mesh, mesh + '.cert', 'unit=10000', 'smooth=3'], check=True)
+    meshes = [finished(mesh, out, 'unit=10000', 'pieces=1', *words) for words in (['flips=no'], ['smooth=3', 'within=0.0006'])]
+    view = render.View((0.5, 0.85, -0.25), (0.025, 0, 0.14), 0.165, 760)
+    images = [half(render.points_image(view, render.read_points(path)[0], (0.1, 0.15, 0.25)))]
+    images += [half(render.mesh_image(view, *each, is_flat=True)) for each in meshes]
+    side_by_side(images, ['8,000 points of 8 scanners', 'as built', 'after recon-finish'], folder, 'figurine')
+
+
 PICTURES = {'inside': inside, 'sight': sight, 'torus': torus, 'statue': statue, 'room': room, 'smooth': smooth, 'unit': unit,
-            'scanner': scanner, 'slice': sliced, 'finish': finish, 'kitten': kitten}
+            'scanner': scanner, 'slice': sliced, 'finish': finish, 'kitten': kitten, 'figurine': figurine}
 
 
 def main() -> None:

@@ -1,6 +1,6 @@
 """Scans: read from PLY files, printed in their one spelling, and the generated scan of `demo`.
 
-Of a file that is not a scan the first error is told, in the order of docs/formats.md.
+Of a file that is not a scan the first error is told, in the order of docs/reference/formats.md.
 """
 from __future__ import annotations
 

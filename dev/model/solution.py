@@ -62,7 +62,7 @@ def certificate_of(scan: Scan, vote: int, smooth: int, solution: Solution, stamp
                        [(rows[k], amount) for k, amount in enumerate(solution.flow.on_sink) if amount])
 
 
-# Whether a mesh and a certificate are those of a scan: the first reason why not is raised, in the order of docs/formats.md.
+# Whether a mesh and a certificate are those of a scan: the first reason why not is raised, in the order of docs/reference/formats.md.
 
 def check_stamp(stated: Stamp, here: Stamp) -> None:
     if stated.digest != here.digest:

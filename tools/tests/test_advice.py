@@ -1,4 +1,4 @@
-"""What the program tells a person on how to mend a refusal, beside the table of docs/using.md."""
+"""What the program tells a person on how to mend a refusal, beside the table of docs/howto/import.md."""
 from __future__ import annotations
 
 import os
@@ -18,7 +18,7 @@ def text_of(*path: str) -> str:
 def rows_of_page() -> list[tuple[list[str], str]]:
     """The fronts of refusals and the cure of each row of the page, without its marks."""
     rows = []
-    for line in text_of('docs', 'using.md').split(HEADING)[1].split('\nPLACE is')[0].splitlines():
+    for line in text_of('docs', 'howto', 'import.md').split(HEADING)[1].split('\nPLACE is')[0].splitlines():
         if line.startswith('| `'):
             says, cure = line[2:-2].split(' | ')
             fronts: list[str] = []
@@ -43,6 +43,6 @@ class Advice(unittest.TestCase):
         equal(rows_of_program(), rows_of_page())
 
     def test_each_refusal_has_a_cure(self) -> None:
-        names = set(re.findall('^\\| `refused ([0-9]+ [a-z_]+)', text_of('docs', 'formats.md'), re.MULTILINE))
+        names = set(re.findall('^\\| `refused ([0-9]+ [a-z_]+)', text_of('docs', 'reference', 'formats.md'), re.MULTILINE))
         fronts = [front for row in rows_of_program() for front in row[0]]
         equal(sorted(name for name in names if not any(front.startswith(name) for front in fronts)), [])

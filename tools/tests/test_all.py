@@ -175,7 +175,7 @@ class All(InFolder):
 
     def test_the_lines_of_the_guide_are_understood(self) -> None:
         # no file is there, so each program that reads one has to say so, and not that it does not know the words
-        with open(os.path.join(ROOT, 'docs', 'using.md'), encoding='utf-8') as file:
+        with open(os.path.join(ROOT, 'docs', 'howto', 'import.md'), encoding='utf-8') as file:
             lines = re.findall(r'(?:^    |^      |`)recon-([a-z-]+) ([^`\n]*(?:\.|[a-z]=)[^`\n]*)', file.read(), re.MULTILINE)
         equal(len(lines) > 15, True)
         for program, words in lines:

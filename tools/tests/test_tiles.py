@@ -510,8 +510,8 @@ class Tiles(InFolder):
     def test_the_lines_of_the_page_are_understood(self) -> None:
         # no file is there, so each has to say so, and not that it does not know the words
         lines = []
-        for page in ('large.md', 'using.md'):
-            with open(os.path.join(ROOT, 'docs', page), encoding='utf-8') as file:
+        for page in ('large.md', 'import.md'):
+            with open(os.path.join(ROOT, 'docs', 'howto', page), encoding='utf-8') as file:
                 lines += re.findall(r'recon-tiles ((?:split|join) [^`\n]+)', file.read())
         equal(len(lines) > 3, True)
         for words in lines:

@@ -1,5 +1,5 @@
 //! What a person is told on standard error beside the line that is promised: how a command is used, and how to mend what was
-//! refused. No clause speaks of these texts. How to mend a refusal is the table of `docs/using.md`, and a test of `tools/tests`
+//! refused. No clause speaks of these texts. How to mend a refusal is the table of `docs/howto/import.md`, and a test of `tools/tests`
 //! compares the two.
 
 use real_host::Advice;
