@@ -1,6 +1,6 @@
 """What `recon-surface` does while the mesh is finished: `recon check`, and the SHA-256 of scan, mesh and certificate.
 
-Names: Beside · FILES (the three files' names).
+Names: Beside.
 """
 from __future__ import annotations
 
@@ -12,8 +12,6 @@ from types import TracebackType
 from typing import Optional, Type
 
 from recon.library import Surface
-
-FILES = ('scan.ply', 'mesh.ply', 'scan.cert')
 
 
 def digest(path: Path) -> str:
@@ -31,7 +29,7 @@ class Beside:
     def __init__(self, surface: Surface, is_checked: bool) -> None:
         self.pool = ThreadPoolExecutor(2)
         self.check: Optional[Future[float]] = self.pool.submit(self.timed_check, surface) if is_checked else None
-        self.sums = self.pool.submit(lambda: {name: digest(surface.folder / name) for name in FILES})
+        self.sums = self.pool.submit(lambda: {name: digest(surface.folder / name) for name in surface.files()})
 
     @staticmethod
     def timed_check(surface: Surface) -> float:

@@ -15,7 +15,7 @@ from typing import Any, List, Optional
 
 import numpy as np
 
-from recon.beside import FILES, Beside
+from recon.beside import Beside
 from recon.choices import Choices
 from recon.clouds import Spacing
 from recon.finish import FinishReport, seen_path, write_seen
@@ -83,9 +83,9 @@ def write_outputs(made: Made, beside: Beside) -> None:
         choices.tell(f'check: yes, mesh and certificate are those of the scan ({passed:.1f} s, beside the steps since the build)')
         choices.beside['check'] = round(passed, 3)
     write_report(made, figures, digests, part)
-    made.kept().mkdir(parents=True, exist_ok=True)
-    files.update({made.folder / name: made.kept() / name for name in (*FILES, 'report.json', 'again.sh')})
+    files.update({made.folder / name: made.kept() / name for name in (*made.surface.files(), 'report.json', 'again.sh')})
     for start, end in files.items():
+        end.parent.mkdir(parents=True, exist_ok=True)
         shutil.move(os.fspath(start), os.fspath(end))
     choices.tell(f'wrote {made.out} ({len(made.mesh.faces):,} faces), {seen_path(os.fspath(made.out))}, {made.out.with_suffix(".html")} and '
                  f'{made.kept()}/')
@@ -121,8 +121,9 @@ def figures_of(made: Made, unseen: float) -> list[tuple[str, str]]:
 
 def verifying(made: Made) -> list[str]:
     """The commands that verify the surface again."""
-    names = ' '.join(shlex.quote(os.path.join(made.kept().name, name)) for name in FILES)
-    return [f'recon check {names} {" ".join(made.surface.options())}']
+    kept, options = made.kept().name, ' '.join(made.surface.options())
+    tiles = [[f'tiles/{name}.{ending}' for ending in ('ply', 'mesh.ply', 'cert')] for name in made.surface.tiles()]
+    return [f'recon check {" ".join(shlex.quote(os.path.join(kept, name)) for name in names)} {options}' for names in tiles or [made.surface.files()]]
 
 
 def write_report(made: Made, figures: list[tuple[str, str]], digests: dict[str, str], unseen: float) -> None:
@@ -132,8 +133,8 @@ def write_report(made: Made, figures: list[tuple[str, str]], digests: dict[str, 
               'choices': {name: {'value': it.value, 'why': it.why} for name, it in choices.chosen.items()},
               'figures': dict(figures), 'counts': surface.counts, 'votes_against_per_sight': round(surface.votes_against_per_sight, 4),
               'unit': surface.unit, 'origin': surface.origin.tolist(), 'unseen_area': round(unseen, 4),
-              'finish': made.finish.sentences(), 'warnings': choices.warnings, 'seconds': choices.seconds, 'seconds_beside': choices.beside, 'sha256': digests,
-              'commands': verifying(made)}
+              'finish': made.finish.sentences(), 'warnings': choices.warnings, 'seconds': choices.seconds, 'seconds_beside': choices.beside,
+              'sha256': digests, 'commands': verifying(made)}
     (made.folder / 'report.json').write_text(json.dumps(report, indent=1) + '\n')
 
 
@@ -145,7 +146,7 @@ def again_words(made: Made) -> list[str]:
         value = getattr(args, key)
         if value is not None:
             words.append(f'--{key}={os.path.abspath(value) if key in ("positions", "table", "images", "flight") else value}')
-    for key in ('normals', 'above', 'estimate_normals', 'no_clean', 'no_check'):
+    for key in ('normals', 'above', 'estimate_normals', 'no_clean', 'no_check', 'tiles'):
         words += ['--' + key.replace('_', '-')] if getattr(args, key) else []
     for key in ('divide', 'far', 'origin', 'unit', 'side', 'surround', 'smooth', 'pieces', 'steps', 'within'):
         words += [f'--{key}={chosen[key].value}'] if key in chosen else []

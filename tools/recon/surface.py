@@ -15,6 +15,7 @@ from __future__ import annotations
 
 import argparse
 import os
+import shutil
 import sys
 import tempfile
 from dataclasses import dataclass
@@ -33,10 +34,11 @@ from recon.library import Surface, build
 from recon.meshes import pieces
 from recon.outputs import Made, write_outputs
 from recon.program import Invalid, Refused, program_path
+from recon.tiled import build_tiles
 from recon.toolbox.mesh_files import Column, Finished, form_of
 from recon.toolbox.ply_text import IS_NUMBER, Refusal
 
-MOST = 1_000_000
+MOST, MOST_OF_A_TILE = 1_000_000, 800_000
 LOOK, WRONG = 0.1, 0.25
 FLIPS_A_SECOND = 8000
 ROOM = 0.8
@@ -85,9 +87,11 @@ def cleaned(cloud: Cloud, tree: cKDTree, args: Any, choices: Choices) -> Cloud:
 def thin(cloud: Cloud, texture: Spacing, args: Any, choices: Choices) -> Cloud:
     """The cloud with one point a cube, where there are too many points or they err more than they are apart."""
     side, apart = args.side, texture.distance
-    if side is None and len(cloud.points) > args.max_points:
+    if args.tiles and len(cloud.points) > args.max_points:
+        choices.choose('tiles', 'yes', f'given; {len(cloud.points):,} points are over {args.max_points:,}')
+    elif side is None and len(cloud.points) > args.max_points:
         side = thinning_side(cloud.points, args.max_points, apart)
-        choices.choose('side', f'{side:g}', f'{len(cloud.points):,} points are over {args.max_points:,}; recon-tiles keeps all')
+        choices.choose('side', f'{side:g}', f'{len(cloud.points):,} points are over {args.max_points:,}; --tiles keeps all')
     elif side is None and texture.noise > 0.8 * apart and not cloud.is_made_up:
         side = float(f'{1.5 * texture.noise:.3g}')
         choices.choose('side', f'{side:g}', 'points are nearer to each other than they err')
@@ -170,8 +174,7 @@ def built(scan: Scan, args: Any, folder: Path, choices: Choices) -> Surface:
     tried = [args.smooth] if args.smooth is not None else list(dict.fromkeys([usual, 1]))
     for smooth in tried:
         choices.tell(f'building at smooth={smooth}')
-        surface = build(cloud.points, cloud.scanners, lists_of(cloud), weights=cloud.weights, smooth=smooth, vote=args.vote, unit=scan.unit,
-                        origin=scan.origin, folder=folder, program=args.program, is_shown=sys.stderr.isatty() and not args.quiet)
+        surface = built_at(smooth, scan, args, folder, choices)
         if 2 * surface.counts['faces'] >= surface.counts['points']:
             break
         choices.warn(f'at smooth={smooth} there are only {surface.counts["faces"]:,} faces for {surface.counts["points"]:,} points')
@@ -186,6 +189,21 @@ def built(scan: Scan, args: Any, folder: Path, choices: Choices) -> Surface:
     if against > LOOK:
         choices.warn(f'{against:.2f} votes against the surface for each line of sight, over {LOOK}: look at '
                      + ('the normals' if cloud.is_made_up else 'the positions of the scanners'))
+    return surface
+
+
+def built_at(smooth: int, scan: Scan, args: Any, folder: Path, choices: Choices) -> Surface:
+    """The surface at an area weight, of tiles where there are too many points."""
+    cloud, given = scan.cloud, {'smooth': smooth, 'vote': args.vote, 'unit': scan.unit, 'origin': scan.origin, 'weights': scan.cloud.weights,
+                                'folder': folder, 'program': args.program}
+    if 'tiles' not in choices.chosen:
+        return build(cloud.points, cloud.scanners, lists_of(cloud), is_shown=sys.stderr.isatty() and not args.quiet, **given)
+    shutil.rmtree(folder / 'tiles', ignore_errors=True)
+    surface = build_tiles(cloud.points, cloud.scanners, cloud.sights, most=min(args.max_points, MOST_OF_A_TILE), tell=choices.tell, **given)
+    assert surface.joined is not None
+    choices.tell(str(surface.joined))
+    choices.choose('tiles', len(surface.names), f'{choices.chosen["tiles"].why}; each is built and checked, the whole is not: {surface.joined.open_edges} '
+                   f'edges at seams are open, filled by {(surface.joined.filled or (0, 0))[0]} faces')
     return surface
 
 
@@ -284,6 +302,7 @@ def parser() -> argparse.ArgumentParser:
     group.add_argument('--unit', type=within(1, 1_000_000), metavar='U', help='coordinates are rounded to 1/U')
     group.add_argument('--side', type=length, metavar='S', help='keep one point in each cube of this side')
     group.add_argument('--max-points', type=within(4, 1_048_576), default=MOST, metavar='N', help='thin above N points (default: %(default)s)')
+    group.add_argument('--tiles', action='store_true', help='above that keep all points: cut the scan into tiles, build and check each, join them')
     group.add_argument('--no-clean', action='store_true', help='keep lone points')
     group.add_argument('--surround', type=lambda word: 0.0 if word == '0' else length(word), metavar='D',
                        help='put eight points D outside of a scan from inside; 0 for none')
@@ -347,6 +366,8 @@ def run(words: Sequence[str]) -> int:
     choices = Choices(args.quiet)
     try:
         form_of(args.output)
+        if args.tiles and (args.sweep or args.side):
+            raise Refusal('--tiles goes without --sweep and --side')
         refuse_own_inputs(args)
         with tempfile.TemporaryDirectory(prefix='.recon-', dir=os.path.dirname(args.output) or '.') as folder:
             result = made(args, choices, Path(folder))

@@ -131,7 +131,7 @@ def wedges(order: list[int], there: set[int]) -> list[tuple[int, int]]:
             open_ones.append(h)
         elif open_ones:
             pairs.append((h, open_ones.pop()))
-    return list(dict(pairs[:len(order) // 2]).items())
+    return list(dict(pairs).items())
 
 
 def groups_of(count: int, one: np.ndarray, other: np.ndarray) -> np.ndarray:
