@@ -116,7 +116,8 @@ def figures_of(made: Made, unseen: float) -> list[tuple[str, str]]:
             ('sights', f'{counts["sights"]:,}'), ('faces as built', f'{counts["faces"]:,}'), ('faces', f'{len(made.mesh.faces):,}'),
             ('cost', f'{counts["cost"]:,}'), ('votes against a sight', f'{against:.3f} ({verdict})'),
             ('spacing', f'{made.texture.distance:.4g}'), ('noise', f'{made.texture.noise:.2g}'),
-            ('area that no scanner saw', f'{unseen:.0%}'), ('checked', 'no' if made.args.no_check else 'yes')]
+            ('area that no scanner saw', f'{unseen:.0%}'), *([('tiles', str(len(made.surface.tiles())))] if made.surface.tiles() else []),
+            ('checked', 'each tile' if made.surface.tiles() else 'no' if made.args.no_check else 'yes')]
 
 
 def verifying(made: Made) -> list[str]:
