@@ -58,7 +58,7 @@ def clouds(folder: Path) -> Iterator[Path]:
 
 def row_of(path: Path, recon: str, folder: Path, seconds: str) -> tuple[str, bool]:
     """The row of a cloud, and whether a surface came out."""
-    out = folder / (path.name + '.glb')
+    out = folder / (path.name + '.ply')
     words = [sys.executable, PACKAGE, 'surface', str(path), '-o', str(out), '-q', '--program', recon, '--patience', seconds]
     done = subprocess.run(words, capture_output=True, text=True)
     if done.returncode not in (0, 4):

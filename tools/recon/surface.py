@@ -31,6 +31,7 @@ from recon.clouds import Spacing, frame, lone_points, spacing, surrounding, thin
 from recon.finish import Wishes, finished, seen_path
 from recon.inputs import Cloud, Inputs, read_cloud
 from recon.library import Surface, build
+from recon.mesh_program import mesh_program_path
 from recon.meshes import pieces
 from recon.outputs import Made, write_outputs
 from recon.program import Invalid, Refused, program_path
@@ -40,7 +41,8 @@ from recon.toolbox.ply_text import IS_NUMBER, Refusal
 
 MOST, MOST_OF_A_TILE = 1_000_000, 800_000
 LOOK, WRONG = 0.1, 0.25
-FLIPS_A_SECOND = 8000
+# faces a second whose edges are flipped: by Python, which smooths too, and by recon-mesh
+FLIPS_A_SECOND, FLIPS_BY_PROGRAM = 8000, 150_000
 ROOM = 0.8
 
 
@@ -227,13 +229,14 @@ def wishes_for(surface: Surface, scan: Scan, args: Any, choices: Choices) -> Wis
     within = args.within if args.within is not None else float(f'{2 * noise:.2g}') if noise > 0.05 * apart else 0.0
     steps = args.steps if args.steps is not None else 6 if noise > 0.3 * apart else 3
     flipping = len(surface.faces) / FLIPS_A_SECOND
-    flips = not args.no_flips and (args.steps is not None or flipping <= args.patience)
+    quick = len(surface.faces) / FLIPS_BY_PROGRAM if mesh_program_path() else flipping
+    flips = not args.no_flips and (args.steps is not None or quick <= args.patience)
     steps = steps if within else 0
     if args.steps is None and steps and flipping * (1 + 0.65 * steps) > args.patience:
         choices.warn(f'not smoothed, which would take some {flipping * (1 + 0.65 * steps) / 60:.0f} minutes (--patience SECONDS)')
         steps = 0
     choices.choose('flips', 'yes' if flips else 'no', 'given' if args.no_flips else 'edges lie better' if flips else
-                   f'they would take some {flipping / 60:.0f} minutes (--patience SECONDS)')
+                   f'they would take some {quick / 60:.0f} minutes (--patience SECONDS)')
     if steps:
         choices.choose('steps', steps, 'given' if args.steps is not None else f'noise of {noise:.2g} at {apart:.2g} apart')
         choices.choose('within', f'{within:g}', 'given' if args.within is not None else 'twice the noise')
