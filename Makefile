@@ -7,7 +7,7 @@ MESH_PROGRAM = crates/mesh_main/out/mesh_main
 PYTHON = $(shell sh dev/python)
 MACHINE = $(shell uname -s | tr A-Z a-z)-$(shell uname -m)
 
-.PHONY: run recon recon-mesh python test attack fuzz try reference bench bench-short bench-others install dist clean
+.PHONY: run recon recon-mesh python test attack fuzz try reference docs bench bench-short bench-others install dist clean
 REFERENCE = dev/reference/target/release/recon-reference
 # (looked up when it is used, after it has been built)
 BESIDE ?= $(wildcard $(REFERENCE))
@@ -66,6 +66,12 @@ try:
 	@$(MAKE) --no-print-directory reference
 	$(PYTHON) dev/try.py $(REFERENCE)
 
+# Builds the documents as a site in site/, where there is mkdocs (a few seconds).
+docs:
+	@command -v mkdocs >/dev/null || { echo "make docs needs mkdocs (Debian: apt-get install mkdocs)"; exit 1; }
+	mkdocs build --quiet
+	@echo "site/index.html"
+
 # Times calls of linked cells and walks along sights at 100,000 points, then build and check on scans of 10,000 to 1,000,000 points, run by run
 # with the unverified reference program where there is cargo, or with BESIDE=PROGRAM, and prints a table like those of docs/explain/performance.md (some
 # tens of minutes; the scans are made the first time). Then what users would use instead.
@@ -101,12 +107,12 @@ install: recon recon-mesh
 dist: recon recon-mesh
 	rm -rf recon-$(MACHINE)
 	$(MAKE) install DESTDIR=$(CURDIR)/ PREFIX=recon-$(MACHINE)
-	cp README.md docs/howto/import.md recon-$(MACHINE)
+	cp -r README.md docs examples recon-$(MACHINE)
 	tar -czf recon-$(MACHINE).tar.gz --owner=0 --group=0 --sort=name recon-$(MACHINE)
 	rm -rf recon-$(MACHINE)
 	@echo "recon-$(MACHINE).tar.gz"
 
 # Removes what was built and what the proofs kept (a second; the next run proves from nothing). The scans of bench stay.
 clean:
-	rm -rf crates/*/out recon recon-mesh recon-*.tar.gz tetrahedron_mesh.ply tetrahedron_finished.ply tetrahedron.cert run.log run_mesh.log \
+	rm -rf crates/*/out recon recon-mesh recon-*.tar.gz site tetrahedron_mesh.ply tetrahedron_finished.ply tetrahedron.cert run.log run_mesh.log \
 	  try_mesh.ply try.cert test.log attack.log dev/reference/target

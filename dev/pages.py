@@ -6,11 +6,12 @@ usage: dev/pages.py [PAGE..]            (default: README.md, docs/tutorial.md an
 
 Two kinds of commands are found in a page. Those in a block ```console after `$ ` are run, in their order, in a folder of their own with
 examples/, and what they print has to be what follows, where a line `..` stands for any lines, and times and names of temporary files may
-differ. The lines of an indented block that begin with `recon` are run without any files: the program has to miss a file, and not to reject
-the arguments.
+differ. Commands in indented blocks and in the text that begin with `recon` are run without any files: the program has to miss a file, and not
+to reject the arguments.
 
 The programs are those of RECON and RECON_MESH, or built here. If `recon` is not built, the unverified reference program runs its commands
-`build`, `check`, `cells` and `demo`; other commands of a missing program, and those that need their outputs, are skipped with a message.
+`build`, `check`, `cells` and `demo`, and the model of dev/model runs `slice`, `export`, and `ask` on a small scan; other commands of a
+missing program, and those that need their outputs, are skipped with a message.
 """
 from __future__ import annotations
 
@@ -31,7 +32,7 @@ TOP = pathlib.Path(__file__).resolve().parent.parent
 PACKAGE, EXAMPLES = TOP / 'tools/recon', TOP / 'examples'
 BLOCK = re.compile(r'(?ms)^```console\n(.*?)^```$')
 REFERENCE = TOP / 'dev/reference/target/release/recon-reference'
-OF_REFERENCE = ('build', 'check', 'cells', 'demo')
+OF_REFERENCE, OF_MODEL = ('build', 'check', 'cells', 'demo'), ('slice', 'export', 'ask examples/tetrahedron.ply')
 # What differs from run to run: seconds, and the names of temporary folders.
 DIFFERS = [(re.compile(r'(?m)^(recon-surface:) +\d+\.\d s'), r'\1 0.0 s'), (re.compile(r'\.recon-\w{8}'), '.recon-00000000')]
 
@@ -56,7 +57,9 @@ class Programs:
     def put_into(self, folder: pathlib.Path) -> None:
         """Puts a command for each program into a folder, and into `folder/bin`."""
         (folder / 'bin').mkdir()
-        lines = {'recon': f'exec {shlex.quote(self.recon or self.reference)} "$@"', 'recon-mesh': f'exec {shlex.quote(self.mesh)} "$@"'}
+        model = f'case $1 in slice|export|ask) exec {shlex.quote(sys.executable)} {shlex.quote(str(TOP / "dev/model"))} "$@";; esac\n'
+        lines = {'recon': f'{"" if self.recon else model}exec {shlex.quote(self.recon or self.reference)} "$@"',
+                 'recon-mesh': f'exec {shlex.quote(self.mesh)} "$@"'}
         tools = [path.stem for path in PACKAGE.glob('*.py') if 'def main(' in path.read_text()]
         lines |= {'recon-' + name.replace('_', '-'): f'exec {shlex.quote(sys.executable)} {shlex.quote(str(PACKAGE))} {name} "$@"' for name in tools}
         for name, line in lines.items():
@@ -71,8 +74,9 @@ class Programs:
         """Returns which program a command needs that is missing, or nothing."""
         words = shlex.split(command, comments=True)
         name = words[0].removeprefix('./')
-        if name == 'recon' and not self.recon and (not self.reference or words[1] not in OF_REFERENCE):
-            return 'recon'
+        if name == 'recon' and not self.recon:
+            runs = OF_MODEL + (OF_REFERENCE if self.reference else ())
+            return '' if ' '.join(words[1:]).startswith(runs) else 'recon'
         if name == 'recon-mesh' and not self.mesh:
             return 'recon-mesh'
         uses_recon = name in ('recon-surface', 'make') or 'surface' in words[:3]
@@ -178,7 +182,8 @@ def written(page: pathlib.Path, programs: Programs) -> str:
             lines: list[str] = []
             for it in next(shown_in(page, found[0])):
                 got = runs.printed(it.command)
-                keeps = got is None or '..' in it.printed or not programs.recon and any(line.startswith('recon: ') for line in it.printed)
+                is_same = got is not None and plain('\n'.join(got)) == plain('\n'.join(it.printed))
+                keeps = is_same or '..' in it.printed or not programs.recon and any(line.startswith('recon: ') for line in it.printed)
                 lines += ['$ ' + it.command, *(it.printed if keeps or got is None else got)]
             return '```console\n' + '\n'.join(lines) + '\n```'
 
@@ -186,9 +191,11 @@ def written(page: pathlib.Path, programs: Programs) -> str:
 
 
 def commands_alone(page: pathlib.Path) -> list[tuple[int, str]]:
-    """Returns the lines of indented blocks that begin with `recon`, with their lines in the page."""
-    lines = enumerate(page.read_text().splitlines(), 1)
-    return [(at, line.strip()) for at, line in lines if re.match(r' {4,}recon', line) and '[' not in line and ' .. ' not in line]
+    """Returns the commands of indented blocks and of the text that begin with `recon`, without those in blocks that are run, with their lines."""
+    text = BLOCK.sub(lambda found: '\n' * found[0].count('\n'), page.read_text())
+    found = re.finditer(r'(?m)^ {4,}(recon\S* [^\n]+)$|`(recon-[a-z-]+ [^`\n]*[.=][^`\n]*)`', text)
+    commands = [(text.count('\n', 0, it.start()) + 1, (it[1] or it[2]).strip()) for it in found]
+    return [(at, line) for at, line in commands if '[' not in line and '..' not in line]
 
 
 def is_understood(command: str, programs: Programs) -> bool:

@@ -1,5 +1,5 @@
 #!/usr/bin/env python3
-"""Measures what cutting a scan into tiles costs its surface, and prints a table for docs/howto/large.md.
+"""Measures what cutting a scan into tiles costs its surface, and prints a table for docs/explain/tiles.md.
 
   seams.py RECON FOLDER [shapes=NAME,..] [count=N] [points=N] [spacings=K,..] [through=N] [whole=no]
            [jobs=N]

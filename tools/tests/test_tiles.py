@@ -10,7 +10,7 @@ import subprocess
 import unittest
 from typing import Any, Sequence
 
-from helpers import RECON, ROOT, SCAN, InFolder, call, equal, head, read, refuses, says, write
+from helpers import RECON, SCAN, InFolder, call, equal, head, read, refuses, says, write
 from recon.toolbox.tile_jobs import cksum
 from recon.toolbox import tile_boxes, tile_split
 from recon.toolbox.exact import differences
@@ -506,14 +506,3 @@ class Tiles(InFolder):
         equal((status, error, 'recon-tiles split FILE .. FOLDER' in said), (0, '', True))
         for words in ((), ('split',), ('split', 'a'), ('split', 'a', 'b', 'points=1', 'points=2'), ('join', 'a', 'b', 'c')):
             equal(call('tiles', *words)[0], 2)
-
-    def test_the_lines_of_the_page_are_understood(self) -> None:
-        # no file is there, so each has to say so, and not that it does not know the words
-        lines = []
-        for page in ('large.md', 'import.md'):
-            with open(os.path.join(ROOT, 'docs', 'howto', page), encoding='utf-8') as file:
-                lines += re.findall(r'recon-tiles ((?:split|join) [^`\n]+)', file.read())
-        equal(len(lines) > 3, True)
-        for words in lines:
-            status, _, error = call('tiles', *words.split())
-            equal((words, status, 'No such file' in error), (words, 1, True))
