@@ -4,8 +4,8 @@
 usage: dev/levels.py            (compares, as the gate does)
        dev/levels.py write      (writes the second column of the page's table)
 
-The level of a crate is that of crates.txt. It stands on those crates that its files name outside of comments and tests, and named are those
-of them on which no other of them stands. A crate of tests alone stands on all that it uses.
+The level of a crate is that of crates.txt. It depends on those crates that its files name outside of comments and tests; the table names those
+of them on which no other of them depends. A crate of tests alone depends on all that it uses.
 """
 from __future__ import annotations
 
@@ -48,7 +48,7 @@ def named_in(folder: pathlib.Path) -> set[str]:
 
 
 def below_each(uses: dict[str, list[str]]) -> dict[str, list[str]]:
-    """Returns for each crate those that it uses and that no other crate which it uses stands on, whether by itself or through others."""
+    """Returns for each crate those that it uses and on which no other crate that it uses depends, directly or through others."""
     below: dict[str, set[str]] = {}
 
     def all_below(name: str) -> set[str]:
@@ -60,7 +60,7 @@ def below_each(uses: dict[str, list[str]]) -> dict[str, list[str]]:
 
 
 def cells_of(uses: dict[str, list[str]], crates: pathlib.Path) -> dict[str, str]:
-    """Returns the level of each crate and what it stands on, as the page's table has them."""
+    """Returns the level of each crate and what it depends on, as in the page's table."""
     named = {name: [it for it in used if it in names] or used for name, used in uses.items() for names in [named_in(crates / name)]}
     below = below_each(named)
     return {name: ': '.join(filter(None, [str(level), ', '.join(below[name])])) for name, level in levels_of(uses).items()}

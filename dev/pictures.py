@@ -212,7 +212,7 @@ def room(folder: str, recon: str, work: str) -> None:
 
 
 def smooth(folder: str, recon: str, work: str) -> None:
-    """One scan with stray points at several weights, by one sweep."""
+    """One scan with outliers at several weights, by one sweep."""
     path, count = scan(work, 'statue', 'stray=0.02'), 5
     meshes = [f'{path}.{weight}' for weight in range(count)]
     done = subprocess.run([recon, 'sweep', path, '0', '1', str(count), *meshes], check=True, capture_output=True, text=True)

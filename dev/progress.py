@@ -4,8 +4,8 @@
 usage: dev/progress.py LOG COMMAND ..         as dev/progress.py test.log bash .ci/run, at the top or in the folder of a crate
 
 The first line says how long it takes here from nothing, by the table of docs/dev/contributing.md. Then a line for each crate as it is proved,
-with its number of all and the minutes so far (`proved votes, 22 of 37, 9 min`), one as its tests are proved and one as its wrong bodies begin to
-be tried. A crate that fails is told with the line of LOG where its text begins. Behind the gate's last line, and behind the line with which
+with its number of all and the minutes so far (`proved votes, 22 of 37, 9 min`), one as its tests are proved and one as its mutants begin to
+be tried. A crate that fails is reported with the line of LOG where its text begins. After the gate's last line, and after the line with which
 `rt run` starts the program, everything is printed as it comes. The status is the command's.
 """
 from __future__ import annotations
@@ -30,7 +30,7 @@ LAST_OF_THE_GATE = re.compile(r'\d+ passed, \d+ failed')
 PAGE = TOP / 'docs/dev/contributing.md'
 ROW_OF_PROOFS = re.compile(r'(?m)^\| `(\w+)` \| ([\d.]+) \| [\d.]+ \| [\d.]+ \| [\d.]+ \|')
 ROW_OF_ALL = re.compile(r'(?m)^\| `(\w+)` \| [\d.]+ \| [\d.]+ \| [\d.]+ \| ([\d.]+) \|')
-# `rt run` proves one crate after another, and keeps about so many processors busy; the gate keeps all busy.
+# `rt run` proves one crate after another, and keeps about this number of processors busy; the gate keeps all busy.
 BUSY_IN_TURN = 2
 # How many lines of the file are printed where the command fails and said no last word.
 TAIL = 20

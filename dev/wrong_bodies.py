@@ -1,11 +1,11 @@
 #!/usr/bin/env python3
-"""Fails where docs/verification/guarantees.md names a wrong body that no edit has, or where an edit cannot be applied to today's sources.
+"""Fails if docs/verification/guarantees.md names a mutant that no edit has, or where an edit cannot be applied to today's sources.
 
 The edits are those that the gate tries, crates/NAME/must-fail/, and those that only `make attack` tries, attack/NAME/. A body that the page
-names with its crate, as votes/equal_sights_counted_once, is to be one that the gate tries. Each text that an edit takes away has to stand in its
+names with its crate, as `votes/equal_sights_counted_once`, is to be one that the gate tries. Each text that an edit takes away has to stand in its
 file exactly once, after the pairs before it have been applied, and no name stands twice in a crate.
 
-usage: dev/wrong_bodies.py [list]      (list prints the wrong bodies of each crate)
+usage: dev/wrong_bodies.py [list]      (list prints the mutants of each crate)
 """
 from __future__ import annotations
 

@@ -402,7 +402,7 @@ class Part:
                 self.tally.fail('one file under two names', [self.context.recon, *words], files, f'{done}; wrong: {wrong}')
 
     def sixty_four(self, until: float) -> None:
-        """A sweep into 64 files, one of which cannot be written."""
+        """A sweep into 64 files; one of them cannot be written."""
         data, outputs = SCANS['text'].data, [f'y{k}' for k in range(64)]
         words = [self.context.recon, 'sweep', 'in', '0', '1', '64']
         self.folder.put({'in': data})

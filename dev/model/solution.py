@@ -43,7 +43,7 @@ class Model:
 
 
 def mesh_of(network: Network, inside: AbstractSet[int]) -> Mesh:
-    """The facets of outside cells with an inside cell across, their vertices numbered anew."""
+    """Returns the facets of outside cells whose adjacent cell is inside, with new vertex numbers."""
     cells = network.cells
     faces = [f for f, own in cells.owner.items() if own not in inside and cells.across(f) in inside]
     used = sorted({v for f in faces for v in f})
