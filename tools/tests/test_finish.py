@@ -246,7 +246,8 @@ class Finish(InFolder):
         with open('out.stl', 'rb') as file:
             data = file.read()
         equal((len(data), struct.unpack_from('<I', data, 80)[0]), (84 + 4 * 50, 4))
-        equal(struct.unpack_from('<3f', data, 84 + 12), (100, 100, 100))
+        corners = {struct.unpack_from('<3f', data, 84 + 50 * face + 12 * (k + 1)) for face in range(4) for k in range(3)}
+        equal((len(corners), (100, 100, 100) in corners), (4, True))
         equal(call('finish', 'in.ply', 'out.glb', 'unit=1000', 'scan=scan.ply')[0], 0)
         check_glb('out.glb')
         write('scan.ply', head(4, columns.replace('uchar', 'ushort')) + ''.join(

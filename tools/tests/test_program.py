@@ -15,11 +15,19 @@ import time
 import unittest
 from typing import Any
 
-from helpers import RECON, ROOT, InFolder, equal, says, write
+from helpers import RECON, ROOT, InFolder, equal, head, says, write
+from test_library import SCANNERS, nearest, sphere
 
 EXAMPLES = os.path.join(ROOT, 'examples')
 LIMIT = 64 * 2 ** 20
 STEP = 64 * 2 ** 10
+
+
+def scan_of_ball(points: Any, seen_by: Any) -> Any:
+    """A scan of points that six scanners around them see."""
+    rows = [f'{x:.6f} {y:.6f} {z:.6f} {k}\n' for (x, y, z), k in zip(points.tolist(), seen_by.tolist())]
+    return head(len(rows), 'float x, float y, float z, int scanner', len(SCANNERS)) + ''.join(rows) + ''.join(
+        ' '.join(map(str, place)) + '\n' for place in (SCANNERS * 1000).astype(int).tolist())
 
 
 def example(name: Any) -> Any:
@@ -385,7 +393,8 @@ class Program(InFolder):
         equal(files, [data('mesh2'), data('cert2')])
         # (the hint of so small a flow is not shown to be a largest one, so rounds follow it)
         flow = ['flow 0 · 0 s', 'flow rounds 0 · 0 s']
-        equal(shown.split(CLEAR), ['', 'cells 0 of 4 · 0 s', 'sights 0 of 4 · 0 s', *flow, ''])
+        votes = 'recon: 0.000 votes against the surface for each line of sight\r\n'
+        equal(shown.split(CLEAR), ['', 'cells 0 of 4 · 0 s', 'sights 0 of 4 · 0 s', *flow, votes])
         equal(at_terminal('cells', 'scan', 'out')[2].split(CLEAR), ['', 'cells 0 of 4 · 0 s', ''])
         for words in (('check', 'scan', 'mesh', 'cert'), ('upgrade', 'scan', 'mesh', 'cert', 'new')):
             equal(at_terminal(*words)[2].split(CLEAR), ['', 'cells 0 of 4 · 0 s', 'sights 0 of 4 · 0 s', ''])
@@ -401,6 +410,33 @@ class Program(InFolder):
         equal(at_terminal('build', 'scan', 'mesh', 'cert', 'vote=1')[2].split(CLEAR)[-1][:16], 'recon: no face: ')
         equal(at_terminal('build', 'cert', 'mesh', 'out')[2][:7], 'recon: ')
         equal(at_terminal('build', 'scan', 'mesh', 'cert', term='dumb')[2], '')
+        equal(told('build', 'scan', 'mesh', 'cert')[2], '')
+
+    def test_a_person_at_a_terminal_sees_how_well_the_surface_fits(self) -> None:
+        def hints(*words: Any) -> list[str]:
+            """What a terminal gets beside the progress of a build."""
+            return [line for line in at_terminal('build', 'scan', 'mesh', 'cert', *words)[2].split(CLEAR)[-1].split('\r\n') if line]
+
+        write('scan', example('tetrahedron.ply'))
+        # The surface is against no sight, and each face costs smooth.
+        for words in ((), ('smooth=0',), ('vote=16', 'smooth=2'), ('smooth=1', 'unit=1', 'vote=8')):
+            equal(hints(*words), ['recon: 0.000 votes against the surface for each line of sight'])
+        # Points of a ball that are said to be seen from behind: a surface is there, and sights are against it.
+        points = sphere(300)
+        write('scan', scan_of_ball(points * 1000, nearest(-points)))
+        status, said, _ = at_terminal('build', 'scan', 'mesh', 'cert')
+        numbers = {name: int(number) for name, number in re.findall('([a-z]+) ([0-9]+)', said)}
+        against = (numbers['cost'] - numbers['faces']) * 1000 // 8 // numbers['sights']
+        look = ': over 0.1, so look at the positions of the scanners, or at the normals'
+        equal((status, against > 100, hints()), (0, True, [f'recon: {against // 1000}.{against % 1000:03} votes against the surface for each line '
+                                                           f'of sight{look}']))
+        # Of points that become one at a unit it is said, too.
+        write('scan', scan_of_ball(points * 4, nearest(points)))
+        status, said, _ = at_terminal('build', 'scan', 'mesh', 'cert')
+        numbers = {name: int(number) for name, number in re.findall('([a-z]+) ([0-9]+)', said)}
+        equal((status, 2 * numbers['points'] < numbers['sights'], numbers['sights']), (0, True, 300))
+        equal(hints()[-1], f'recon: {numbers["points"]} points have 300 lines of sight: if each point was seen once, many have become one at this '
+              'unit (unit=1000 makes millimetres of metres)')
         equal(told('build', 'scan', 'mesh', 'cert')[2], '')
 
     def test_counts_at_a_terminal(self) -> None:
