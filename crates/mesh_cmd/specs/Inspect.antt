@@ -2,7 +2,7 @@
 --
 --   AreMeasuresOf mesh m         m are the measures of a mesh
 --   closed_text unbalanced       the part of the line on the first unbalanced edge
---   counts_text, volume_text, measures_text   its other parts
+--   sizes_text, volume_text, measures_text   its other parts
 --   inspected_line points faces m   the line
 --   IsInspection mesh answer     the answer says the measures of a mesh
 --   inspect_task name            the command
@@ -36,8 +36,8 @@ closed_text (Some e) =
     ++ (labelled (codes " ") e.to ++ (labelled (codes " there ") e.there ++ labelled (codes " back ") e.back))
 
 -- the numbers of points and faces
-unfoldable pub counts_text : (points faces : ℕ) → List ℕ
-counts_text points faces = labelled (codes "inspected points ") points ++ labelled (codes " faces ") faces
+unfoldable pub sizes_text : (points faces : ℕ) → List ℕ
+sizes_text points faces = labelled (codes "inspected points ") points ++ labelled (codes " faces ") faces
 
 -- the volume as a sixth of a whole number, and the end of the line
 unfoldable pub volume_text : ℤ → List ℕ
@@ -49,7 +49,7 @@ measures_text m = closed_text m.unbalanced ++ (labelled (codes " flat_faces ") m
 
 -- `inspected points N faces M closed yes flat_faces D volume V/6`
 unfoldable pub inspected_line : (points faces : ℕ) → Measures → List ℕ
-inspected_line points faces m = counts_text points faces ++ measures_text m
+inspected_line points faces m = sizes_text points faces ++ measures_text m
 
 -- the measures of the mesh are said
 pub record IsInspection (mesh : Surface) (answer : Answer) : Type 0 where

@@ -5,7 +5,7 @@ ghost use Rattle.mesh_ply.specs.Texts.{IsPrinted};
 ghost use Rattle.command_run.specs.Replies.{answer_of};
 ghost use Rattle.command_run.specs.Steps.{IsReplied, ReadsFor, CountsFaults, surface_of};
 ghost use Rattle.mesh_cmd.specs.Commands.{asked, inspect_of};
-ghost use Rattle.mesh_cmd.specs.Inspect.{inspect_task, inspected_line, closed_text, counts_text, volume_text, measures_text, IsInspection, AreMeasuresOf};
+ghost use Rattle.mesh_cmd.specs.Inspect.{inspect_task, inspected_line, closed_text, sizes_text, volume_text, measures_text, IsInspection, AreMeasuresOf};
 
 use crate::commands::Command;
 use command_run::{
@@ -124,9 +124,9 @@ fn push_closed(line: &mut Vec<u8>, unbalanced: Option<UnbalancedEdge>) -> Result
 }
 
 /// Appends the numbers of points and faces.
-#[tactic(auto, unfolding(crate::specs::Inspect::counts_text))]
+#[tactic(auto, unfolding(crate::specs::Inspect::sizes_text))]
 fn push_counts(line: &mut Vec<u8>, points: u64, faces: u64) -> Result<(), NoMemory>
-    ensures { OnOk result (line.new.items ≡ line.old.items ++ counts_text points faces) }
+    ensures { OnOk result (line.new.items ≡ line.old.items ++ sizes_text points faces) }
 {
     push_labelled(line, b"inspected points ", points)?;
     push_labelled(line, b" faces ", faces)?;
