@@ -2,7 +2,7 @@
 --
 --   start faces h          the vertex at which a half edge begins
 --   behind h               the half edge after it in its face
---   IsTwin faces twins h   the twin of a half edge is another one, of which it is the twin, and runs the other way
+--   IsTwin faces twins h   the twin of a half edge is another one, whose twin it is, and runs the other way
 --   ArePaired faces twins  each half edge has a twin
 use Rattle.std.specs.Prelude.{ℕ, ◌≡◌, ◌≢◌, ◌+◌, ◌-◌, ◌*◌, ◌/◌, ◌%◌, ◌<◌, ◌==◌, List, length, slice_index, if◌then◌else◌}
 use Rattle.mesh_edges.specs.Edges.{face_at}
@@ -15,7 +15,7 @@ start faces h = slice_index (face_at faces (h / 3)) (h % 3)
 abbrev pub behind : ℕ → ℕ
 behind h = if h % 3 == 2 then h - 2 else h + 1
 
--- Its twin is another half edge, of which it is the twin, and begins where it ends.
+-- Its twin is another half edge, whose twin it is, and begins where it ends.
 pub record IsTwin (faces : List (List ℕ)) (twins : List ℕ) (h : ℕ) : Type 0 where
   pub within : slice_index twins h < length twins
   pub other : slice_index twins h ≢ h

@@ -20,7 +20,7 @@ pub fn behind(h: usize) -> usize
     if h % 3 == 2 { h - 2 } else { h + 1 }
 }
 
-/// Returns whether the twin of a half edge is another one, of which it is the twin, and begins where it ends.
+/// Returns whether the twin of a half edge is another one, whose twin it is, and begins where it ends.
 fn is_twin(faces: &[[u32; 3]], twins: &[u32], h: usize) -> bool
     requires count { length twins.now ≡ 3 * length faces.now }
     requires within { h < length twins.now }

@@ -10,7 +10,7 @@ ghost use Rattle.mesh_split.specs.Splits.{AreSingle, CountsKeys, HasGainedKeys};
 use crate::NoMemory;
 use std::alloc::Global;
 
-/// Returns a number by which directed edges are told apart.
+/// Returns a number that is distinct for each directed edge.
 fn key_of(from: u32, to: u32) -> u64
     ensures { result ≡ key_of from to }
 {

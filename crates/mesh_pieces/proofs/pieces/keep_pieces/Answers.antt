@@ -10,7 +10,7 @@ pub returns-clause-pieces : goal.returns-clause-pieces
 returns-clause-pieces c =
     let new = c.in-Some.mesh in
     let kept : List Bool = c.in_ok-kept.kept.items in
-    let origin : List ℕ = c.in_ok-new.origin.items in
+    let origin : List ℕ = c.in_ok-new.field-0.origin.items in
     let copied : IsCopy c.deref-5.result.now c.deref-6.result.now new.points.items new.faces.items c.deref-7.result.now =
     subst (λ (o : Option Mesh).
     IfSome o (λ m. IsCopy c.deref-5.result.now c.deref-6.result.now m.points.items m.faces.items c.deref-7.result.now))
@@ -36,5 +36,5 @@ returns-clause-pieces c =
       used = λ w l.
           subst (λ (fs : List (List ℕ)). (f : ℕ) × IsCornerOf fs w f) c.deref-else-not-is_ascending.ensures.value
           (c.if-not-are_used.ensures w
-          (let size = c.in_ok-new.origin.ok.0 in omega (arith, c.len-else-not-is_ascending.ensures, size)));
+          (let size = c.in_ok-new.field-0.origin.ok.0 in omega (arith, c.len-else-not-is_ascending.ensures, size)));
     }

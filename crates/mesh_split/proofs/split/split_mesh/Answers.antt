@@ -1,6 +1,6 @@
 -- The mesh that was made is a copy, by what `copy_mesh` ensures, closed by its twins, and has no edge twice by its keys.
 use Rattle.std.proofs.Common.{ℕ, ◌≡◌, List, Option, IfSome, length, sym, subst, ◌∙◌}
-use Rattle.std.proofs.lemmas.Bool.{OnTrue_at, not-false}
+use Rattle.std.proofs.lemmas.Bool.{OnTrue_at}
 use Rattle.geo_sign.specs.Point.{Point}
 use Rattle.mesh_ply.specs.Meshes.{IsMesh}
 use Rattle.mesh_ply.specs.declared.mesh.Mesh.{Mesh}
@@ -34,6 +34,6 @@ returns-clause-split c =
           c.if-not-is_non_descending.ensures;
       once =
           subst (λ (fs : List (List ℕ)). AreSingle fs) c.deref-6.ensures.value
-          (OnTrue_at (not-false c.in_ok-are_edges_single.field-0 c.if-not-branch.false) c.in_ok-are_edges_single.ensures);
+          (OnTrue_at c.if-not-branch.false c.in_ok-are_edges_single.ensures);
       closed = paired_closed (length new.points.items) new.faces.items c.args.twins.now valid.each twins;
     }
