@@ -8,8 +8,10 @@
 #![tactic(auto)]
 
 mod commands;
+mod options;
 mod whole_run;
 
 pub use command_run::{NoMemory, Status};
-pub use commands::{Command, FinishOptions, FinishWords, understand};
+pub use commands::{Command, FinishWords, understand};
+pub use mesh_finish::FinishOptions;
 pub use whole_run::run;
