@@ -3,7 +3,7 @@
 
 usage: dev/believed.py [CRATE FILE CALL]        (a call, as recon_cmd src/whole_run.rt run)
        dev/believed.py [CRATE MODULE NAME..]    (definitions of a file, as recon_cmd CheckLaws CheckEnds)
-       dev/believed.py write                    (puts what it prints by default into docs/promises.md)
+       dev/believed.py write                    (puts what it prints by default into docs/verification/guarantees.md)
        dev/believed.py audit                    (compares docs/verification/audit.md with its source, as the gate does)
        dev/believed.py audit write              (writes that page)
 
@@ -29,7 +29,7 @@ from definitions import rows_of
 from report import begun, reported
 
 CRATES = pathlib.Path(__file__).resolve().parent.parent / 'crates'
-PROMISES = CRATES.parent / 'docs' / 'promises.md'
+PROMISES = CRATES.parent / 'docs' / 'verification' / 'guarantees.md'
 AUDIT = CRATES.parent / 'docs' / 'verification' / 'audit.md'
 PRINTED = '<!-- Printed by dev/believed.py from audit.in.md and specs/: change those, and run dev/believed.py audit write. -->'
 BY_DEFAULT = [
@@ -238,7 +238,7 @@ def told(crate: str, place: str, *names: str) -> str:
 
 
 def put(line: Any) -> None:
-    """Puts a line into docs/promises.md, in the place of the one that begins with the same name."""
+    """Puts a line into docs/verification/guarantees.md, in the place of the one that begins with the same name."""
     name = line.split(':')[0]
     text = PROMISES.read_text()
     PROMISES.write_text(re.sub(rf'(?m)^( *){re.escape(name)}: .*$', lambda old: old[1] + line, text))

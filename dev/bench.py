@@ -1,12 +1,12 @@
 #!/usr/bin/env python3
-"""Times `recon build` and `recon check` on scans of growing size, and prints a table for docs/performance.md.
+"""Times `recon build` and `recon check` on scans of growing size, and prints a table for docs/explain/performance.md.
 
   bench.py RECON FOLDER [beside=PROGRAM] [sizes=N,N,..] [shapes=NAME,NAME,..] [scans=NAME.N,NAME.N,..] [check=no] [runs=N]
 
   RECON              the built program
   FOLDER             where the scans are kept and the meshes and certificates are written; a scan that is there is not made
                      again
-  beside=PROGRAM     another program that takes the same words, timed run by run beside RECON, as the unverified reference program of
+  beside=PROGRAM     another program that takes the same arguments, timed run by run beside RECON, as the unverified reference program of
                      dev/reference; its lines and its meshes have to be the same, byte for byte
   sizes=N,N,..       without it 10000,100000,1000000
   shapes=NAME,..     shapes of recon-make-scan; without it cube,torus,room,statue. Where neither sizes nor shapes are given, the
@@ -14,7 +14,7 @@
   scans=NAME.N,..    these scans, each a shape with its own size, in the place of sizes and shapes; scans=short stands for the worst
                      shapes, and a cube, a room and a torus of 1000000
   check=no           times `build` alone
-  runs=N             runs of each, of which the least times and the largest peak count; without it 2
+  runs=N             runs of each; the least times and the largest peak count (default: 2)
 
 Seconds are of the processor (user and system) and of the wall; the peak is the largest resident memory, in units of 2^20
 bytes. Needs Python 3.9.
@@ -99,7 +99,7 @@ def same_bytes(one: str, other: str) -> bool:
 
 
 def compared(lines: list[str], meshes: list[str]) -> None:
-    """Refuses a line or a mesh that differs from that of the program beside."""
+    """Rejects a line or a mesh that differs from that of the other program."""
     if len(set(lines)) != 1:
         raise Refusal('the lines differ: ' + ' / '.join(line.strip() for line in lines))
     if not same_bytes(*meshes):

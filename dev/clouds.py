@@ -9,7 +9,7 @@
   seconds=N      how long finishing one of them may take (--patience); without it 2, so that large meshes stay as they were built
 
 Each row: points, how lines of sight are known, the spacing, the noise in spacings, unit, area weight, lone points, pieces that were kept,
-votes against a sight, and the part of the area that no scanner saw; or the error. The last line counts the clouds that came out.
+visibility weight against a sight, and the part of the area that no scanner saw; or the error. The last line counts the clouds that came out.
 """
 from __future__ import annotations
 

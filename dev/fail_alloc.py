@@ -5,7 +5,7 @@ usage: dev/fail_alloc.py [PROGRAM]    (default ./recon; it needs a C compiler, a
 
 Behind an allocation that fails a command ends with status 5, says nothing and leaves all files as they were; or the call of the
 system that lacked memory failed, with status 4 and the files as they were or a front of what is written; or the command found
-another way and is done. In each case the same words with memory then do what they would have done at first.
+another way and is done. In each case the same arguments with memory then do what they would have done at first.
 """
 from __future__ import annotations
 

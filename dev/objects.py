@@ -148,7 +148,7 @@ class Camera:
         return far @ self.right / depth / reach, far @ self.up / depth / reach, depth
 
     def draw(self, columns: tuple[np.ndarray, np.ndarray, np.ndarray], faces: np.ndarray, side: int) -> None:
-        """Keeps the least depth of the faces at each pixel, by places spread over them, so many along a side."""
+        """Keeps the least depth of the faces at each pixel, by points spread over them, a given number along a side."""
         x, y, depth = (column[faces] for column in columns)
         i, j = (part.ravel() for part in np.mgrid[0:side + 1, 0:side + 1])
         parts = np.stack([i, j, side - i - j], axis=1)[i + j <= side].T / side

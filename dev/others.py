@@ -10,7 +10,7 @@ usage: dev/others.py RECON FOLDER [objects=PATH,..] [points=N] [noise=F]
   noise        the error along the sights, as a part of the object's diagonal (default: 0.0005)
 
 CGAL makes the Delaunay tetrahedra alone, COLMAP a surface from the same lines of sight (delaunay_mesher, visibility_sigma 0.3, no thinning),
-Open3D surfaces from points with normals of 16 neighbors that are turned to the true scanner: screened Poisson at depth 9, of which the hundredth
+Open3D surfaces from points with normals of 16 neighbors that are turned to the true scanner: screened Poisson at depth 9, whose hundredth
 part with the least density is cut off, and ball pivoting with radii of 2, 4 and 8 spacings. What is not installed is named and left out (Debian:
 libcgal-dev, colmap, python3-open3d). Seconds are of the processor, the peak is the largest resident memory. Distances, mean / 95 of 100 /
 greatest, and edges are those of `dev/measure_surface.py compare`, in thousandths of the object's diagonal. Needs numpy.
@@ -70,7 +70,7 @@ class Cost(NamedTuple):
 
 
 def ran(*words: str) -> Optional[Cost]:
-    """Runs a program; None if it fails, which is told."""
+    """Runs a program; None if it fails, which is reported."""
     with tempfile.TemporaryFile() as out, tempfile.TemporaryFile() as err:
         child = subprocess.Popen(words, stdout=out, stderr=err, env={**os.environ, 'OMP_NUM_THREADS': '1'})
         _, status, usage = os.wait4(child.pid, 0)

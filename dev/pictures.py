@@ -5,7 +5,7 @@
 
   RECON              the built program
   FOLDER             where the pictures are written
-  PICTURE            inside, sight, torus, statue, room, smooth, unit, scanner, slice, finish, kitten; all of them where none
+  PICTURE            inside, sight, room, smooth, unit, scanner, slice, finish, kitten, figurine; all of them where none
                      is named
 
 Scans are made by recon-make-scan, and drawn by render.py: points on white, surfaces with their outer side warm and their
@@ -195,22 +195,6 @@ def surface(recon: str, path: str, *options: str) -> tuple[np.ndarray, np.ndarra
     return render.read_mesh(mesh)
 
 
-def beside(view: render.View, path: str, mesh: tuple[np.ndarray, np.ndarray], folder: str, name: str) -> None:
-    """Points and surface, side by side."""
-    images = [half(render.points_image(view, render.read_points(path)[0])), half(render.mesh_image(view, *mesh))]
-    side_by_side(images, ['100,000 points', 'surface'], folder, name)
-
-
-def torus(folder: str, recon: str, work: str) -> None:
-    path = scan(work, 'torus', 'stray=0')
-    beside(render.View(TORUS, (0, 0, 0), 520000, 720), path, surface(recon, path), folder, 'torus')
-
-
-def statue(folder: str, recon: str, work: str) -> None:
-    path = scan(work, 'statue', 'stray=0')
-    beside(render.View(STATUE, (30000, 0, -75000), 600000, 800), path, surface(recon, path), folder, 'statue')
-
-
 def is_near(middles: np.ndarray) -> np.ndarray:
     """What is left of a room without its ceiling and the wall that one looks from."""
     return (middles[:, 2] < 235000) & (middles[:, 1] > -385000)
@@ -228,7 +212,7 @@ def room(folder: str, recon: str, work: str) -> None:
 
 
 def smooth(folder: str, recon: str, work: str) -> None:
-    """One scan with stray points at several weights, by one sweep."""
+    """One scan with outliers at several weights, by one sweep."""
     path, count = scan(work, 'statue', 'stray=0.02'), 5
     meshes = [f'{path}.{weight}' for weight in range(count)]
     done = subprocess.run([recon, 'sweep', path, '0', '1', str(count), *meshes], check=True, capture_output=True, text=True)
@@ -337,8 +321,19 @@ def kitten(folder: str, recon: str, work: str) -> None:
     side_by_side(images, ['5,210 points with normals', 'as built', 'after flips'], folder, 'kitten')
 
 
-PICTURES = {'inside': inside, 'sight': sight, 'torus': torus, 'statue': statue, 'room': room, 'smooth': smooth, 'unit': unit,
-            'scanner': scanner, 'slice': sliced, 'finish': finish, 'kitten': kitten}
+def figurine(folder: str, recon: str, work: str) -> None:
+    """The scan in examples/, its surface as built, and the same after flips and smoothing."""
+    path, mesh, out = os.path.join(DEV, '..', 'examples', 'figurine.ply'), os.path.join(work, 'mesh.ply'), os.path.join(work, 'out.ply')
+    subprocess.run([recon, 'build', path, mesh, mesh + '.cert', 'unit=10000', 'smooth=3'], check=True)
+    meshes = [finished(mesh, out, 'unit=10000', 'pieces=1', *words) for words in (['flips=no'], ['smooth=3', 'within=0.0006'])]
+    view = render.View((0.5, 0.85, -0.25), (0.025, 0, 0.14), 0.165, 760)
+    images = [half(render.points_image(view, render.read_points(path)[0], (0.1, 0.15, 0.25)))]
+    images += [half(render.mesh_image(view, *each, is_flat=True)) for each in meshes]
+    side_by_side(images, ['8,000 points of 8 scanners', 'as built', 'after recon-finish'], folder, 'figurine')
+
+
+PICTURES = {'inside': inside, 'sight': sight, 'room': room, 'smooth': smooth, 'unit': unit,
+            'scanner': scanner, 'slice': sliced, 'finish': finish, 'kitten': kitten, 'figurine': figurine}
 
 
 def main() -> None:

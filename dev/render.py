@@ -106,7 +106,7 @@ def mesh_image(view: View, places: np.ndarray, faces: np.ndarray, keep: Callable
 
 
 def draw_faces(image: np.ndarray, deepest: np.ndarray, corners: np.ndarray, side: int) -> None:
-    """Triangles that each fit in a square of so many pixels. Of all that meet a pixel the nearest is kept."""
+    """Draws triangles that each fit in a square of a given number of pixels. Of all that meet a pixel the nearest is kept."""
     x, y, z, light = (corners[k][:, :, None] for k in range(4))
     offset = np.arange(side * side)
     px = np.floor(x.min(axis=1)) + offset % side + 0.5

@@ -57,7 +57,7 @@ def good_option(draw: Draw, key: str) -> str:
 
 
 def changed(draw: Draw, name: str, words: list[str]) -> list[str]:
-    """The words with one of them left out, put in, replaced or moved."""
+    """Returns the arguments with one of them left out, put in, replaced or moved."""
     how, at = draw.random(), draw.randrange(len(words) + 1)
     if how < 0.2:
         return words[:at] + words[at + 1:]

@@ -111,7 +111,7 @@ class Document:
 
 
 def document_of(draw: Draw, scan: Scan, unit: int, is_fixed: bool) -> Document:
-    """A scan as a document of some form. In a binary one the numbers are as they stand, to be multiplied by the unit."""
+    """Returns a scan as a document of some form. In a binary one the numbers are unscaled, to be multiplied by the scale."""
     form = draw.choice(['ascii', 'ascii', 'binary_little_endian', 'binary_big_endian'])
     if form != 'ascii' and unit > 1:
         def shrunk(p: Point) -> Point:

@@ -58,7 +58,7 @@ class Sheet:
         self.put(name, key, self.amount(name, key) + 1)
 
     def repeat(self, name: str, k: int, count: int) -> None:
-        """Has a row so many times."""
+        """Repeats a row."""
         self.lists[name][k:k + 1] = [list(row) for row in self.lists[name][k:k + 1] * count]
 
     def exchange(self, name: str, k: int) -> None:
@@ -102,7 +102,7 @@ class Change(NamedTuple):
 
 
 def largest_inside(network: Network) -> frozenset[int]:
-    """The largest set of inside cells of least cost: all that the fixed cells do not reach over a maximum flow."""
+    """The largest set of inside cells of least cost: all that the cells fixed outside do not reach over a maximum flow."""
     flow = by_levels(network)
     out: list[list[int]] = [[] for _ in network.sink]
     for arc, amount in zip(network.arcs, flow.on_arc):
@@ -152,7 +152,7 @@ class Changes:
             part()
 
     def add(self, name: str, apply: Callable[..., None], *words: Any) -> None:
-        """A change that calls `apply` with the certificate and these words."""
+        """A change that calls `apply` with the certificate and these arguments."""
         self.found.append(Change(name, lambda sheet: apply(sheet, *words)))
 
     def amounts(self) -> None:
@@ -217,7 +217,7 @@ class Changes:
             self.add('sink of any cell', Sheet.add_one, 'sink', row)
 
     def heads(self) -> None:
-        """Counts, cost and stamp."""
+        """Counts, cost and fingerprint."""
         for cost in (0, self.base.cost + 1, max(0, self.base.cost - 1), self.base.cost + 1000, U64):
             self.add('cost', Sheet.set_cost, cost)
         for k in range(5):

@@ -1,7 +1,7 @@
 """Faults of the system: calls that fail, limits, full disks, odd places for files, pipes, runs that are stopped and ended.
 
 After status 4 the first output that is not whole is as it was or a prefix of its text, those after it are as they were, and a prefix of the
-line is printed only if all are whole; after 1, 2, 3 and 5 all files are as they were; inputs never change (docs/promises.md)."""
+line is printed only if all are whole; after 1, 2, 3 and 5 all files are as they were; inputs never change (docs/verification/guarantees.md)."""
 from __future__ import annotations
 
 import os
@@ -402,7 +402,7 @@ class Part:
                 self.tally.fail('one file under two names', [self.context.recon, *words], files, f'{done}; wrong: {wrong}')
 
     def sixty_four(self, until: float) -> None:
-        """A sweep into 64 files, one of which cannot be written."""
+        """A sweep into 64 files; one of them cannot be written."""
         data, outputs = SCANS['text'].data, [f'y{k}' for k in range(64)]
         words = [self.context.recon, 'sweep', 'in', '0', '1', '64']
         self.folder.put({'in': data})

@@ -80,5 +80,5 @@ class Cells:
         return [f for f in self.owner if crosses(self.at(f), self.vertices[v], scanner)]
 
     def across(self, f: Facet) -> int | None:
-        """The cell across a directed facet, None on a wall of the box."""
+        """Returns the adjacent cell of a directed facet, None on a wall of the box."""
         return self.owner.get(opposite(f))

@@ -1,6 +1,6 @@
 """A maximum flow of a network by shortest augmenting paths (Edmonds and Karp 1972), and the minimum cut with the smallest inside.
 
-Flow comes from the cells that are fixed outside, goes over facets from the cell that a directed facet belongs to to the cell across, and
+Flow comes from the cells that are fixed outside, goes over facets from the cell of a directed facet to its adjacent cell, and
 leaves at the sinks. What cells that are fixed cost at their own sinks is paid by all labels, and counts as flow.
 """
 from __future__ import annotations

@@ -80,7 +80,7 @@ def rotated(a: int, b: int, c: int) -> Facet:
 
 
 def opposite(f: Facet) -> Facet:
-    """The same facet as the cell across it has it."""
+    """Returns the opposite facet, as the adjacent cell has it."""
     return rotated(f[0], f[2], f[1])
 
 

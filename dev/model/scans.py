@@ -1,6 +1,6 @@
 """Scans: read from PLY files, printed in their one spelling, and the generated scan of `demo`.
 
-Of a file that is not a scan the first error is told, in the order of docs/formats.md.
+For a file that is not a scan the first error is reported, in the order of docs/reference/formats.md.
 """
 from __future__ import annotations
 
@@ -97,7 +97,7 @@ class Header:
         return next((k for k, e in enumerate(self.elements) if e.name == name.encode()), None)
 
     def line(self, words: list[bytes]) -> str:
-        """Takes the words of a line; returns 'good', 'end', 'bad_line' or 'twice'."""
+        """Takes the tokens of a line; returns 'good', 'end', 'bad_line' or 'twice'."""
         if not words or words[0] in (b'comment', b'obj_info'):
             return 'good'
         if self.kind is None:
@@ -340,7 +340,7 @@ def push_scan(scan: Scan) -> bytes:
 # The generated scan.
 
 class Pcg32:
-    """The words of O'Neill's PCG generator (2014) with 64 bits of state."""
+    """Yields the numbers of O'Neill's PCG generator (2014) with 64 bits of state."""
 
     def __init__(self, seed: int, stream: int) -> None:
         self.increment = (2 * stream + 1) % 2 ** 64

@@ -43,7 +43,7 @@ class Model:
 
 
 def mesh_of(network: Network, inside: AbstractSet[int]) -> Mesh:
-    """The facets of outside cells with an inside cell across, their vertices numbered anew."""
+    """Returns the facets of outside cells whose adjacent cell is inside, with new vertex numbers."""
     cells = network.cells
     faces = [f for f, own in cells.owner.items() if own not in inside and cells.across(f) in inside]
     used = sorted({v for f in faces for v in f})
@@ -62,7 +62,7 @@ def certificate_of(scan: Scan, vote: int, smooth: int, solution: Solution, stamp
                        [(rows[k], amount) for k, amount in enumerate(solution.flow.on_sink) if amount])
 
 
-# Whether a mesh and a certificate are those of a scan: the first reason why not is raised, in the order of docs/formats.md.
+# Whether a mesh and a certificate are those of a scan: the first reason why not is raised, in the order of docs/reference/formats.md.
 
 def check_stamp(stated: Stamp, here: Stamp) -> None:
     if stated.digest != here.digest:

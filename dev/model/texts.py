@@ -119,7 +119,7 @@ def read_mesh(data: bytes) -> Mesh:
 # Certificates.
 
 class Stamp(NamedTuple):
-    """Which scan a certificate belongs to: the SHA-256 of its file, the unit, and the fixed scanner in units."""
+    """Which scan a certificate belongs to: the SHA-256 of its file, the scale, and the fixed scanner in scaled units."""
     digest: str
     unit: int
     fixed: Optional[Point]
@@ -138,7 +138,7 @@ class Certificate(NamedTuple):
 
 
 def certificate_head(cert: Certificate) -> list[str]:
-    """The lines before `flow F`, of which a solution has only one choice."""
+    """Returns the lines before `flow F`, which are the same for all solutions."""
     lines = ['recon certificate 1']
     if cert.stamp is not None:
         fixed = 'none' if cert.stamp.fixed is None else row(cert.stamp.fixed)

@@ -12,7 +12,7 @@ from typing import Any, Dict, List
 
 @dataclass
 class Choice:
-    """A value, in the words of the option that overrides it, and the reason."""
+    """A value, in the form of the option that overrides it, and the reason."""
     value: str
     why: str
 

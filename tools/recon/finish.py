@@ -1,13 +1,13 @@
-"""A mesh as `recon build` wrote it becomes one to look at, to print and to hand on: in the numbers of the scan, less rough,
+"""A mesh as `recon build` wrote it becomes one to view, print and exchange: in the numbers of the scan, less rough,
 without pieces that float, with the colors of its points. What comes out is no longer the surface that `recon check` confirms.
 
   recon-finish MESH OUT [unit=U] [origin=X,Y,Z] [pieces=N] [by=faces|volume] [flips=no] [smooth=N within=D] [manifold=yes]
                [seen=yes] [scan=SCAN] [cert=CERT]
 
   OUT                the mesh as binary PLY, STL, GLB or OBJ: its name ends in .ply, .stl, .glb or .obj
-  unit=U             the unit that the mesh was built with. Without it that of cert=, or of the one certificate (.cert, .cert.gz)
+  unit=U             the scale with which the mesh was built. Without it that of cert=, or of the one certificate (.cert, .cert.gz)
                      in the folder of MESH, which is said then; else 1
-  cert=CERT          the certificate of the mesh, which states its unit
+  cert=CERT          the certificate of the mesh, which states its scale
   origin=X,Y,Z       the place that was taken off the scan. Without it 0,0,0
   pieces=N           keep the N largest pieces of those that hang together by edges, and leave the others out. Without it all
   by=faces|volume    what is large: a piece of many faces, or of a large volume. Without it faces
@@ -73,7 +73,7 @@ class Progress:
 
 @dataclass
 class Wishes:
-    """What is asked for, in the words of the options; `unit` and `origin` are those of the scan, `within` a length of it. Of `scan`
+    """The request, by its options; `unit` and `origin` are those of the scan, `within` a length of it. Of `scan`
     the properties are brought back."""
     unit: int = 1
     origin: Sequence[float] = (0.0, 0.0, 0.0)
@@ -283,7 +283,7 @@ def write_seen(path: str, mesh: Finished) -> int:
 
 
 def stamped_unit(mesh: str, named: str | None) -> tuple[str, str] | None:
-    """The unit that the certificate states which is named, or the only one in the folder of the mesh, and its name."""
+    """Returns the scale that the named certificate states, or the only one in the folder of the mesh, and its name."""
     folder = glob.escape(os.path.dirname(mesh) or '.')
     found = [named] if named else glob.glob(folder + '/*.cert') + glob.glob(folder + '/*.cert.gz')
     if len(found) != 1:

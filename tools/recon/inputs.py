@@ -113,7 +113,7 @@ def load_scan(path: str) -> Table:
 
 
 def load_lists(body: bytes, names: list[str], count: int, scanner_count: int) -> Table:
-    """The same of points with lists, of which that of the scanners is the only one."""
+    """The same for points with lists, if that of the scanners is the only one."""
     lines = body.decode('ascii').split('\n')
     at = names.index('scanner')
     rows = [line.split() for line in lines[:count]]
@@ -248,7 +248,7 @@ def cloud_along(inputs: Inputs, points: np.ndarray, normals: np.ndarray, colors:
 
 
 def guessed(inputs: Inputs, table: Table) -> Cloud:
-    """A cloud of which nobody knows who saw it: from above where it lies so, else along estimated normals."""
+    """A cloud without scanners: seen from above if its shape allows it, else along estimated normals."""
     args, points, colors = inputs.args, table.points(), table.colors()
     rows = np.flatnonzero(np.isfinite(points).all(axis=1))
     points, colors = points[rows], None if colors is None else colors[rows]

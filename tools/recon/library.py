@@ -165,7 +165,7 @@ class Surface(Mesh):
 
     @property
     def votes_against_per_sight(self) -> float:
-        """The votes against the surface for each line of sight: 0.003 to 0.1 in scans whose scanners stand where they are said to, 0.25
+        """The visibility weight against the surface for each line of sight: 0.003 to 0.1 in scans whose scanners stand where they are said to, 0.25
         and more where positions or normals are wrong."""
         against = (self.cost - self.smooth * self.counts['faces']) / self.vote
         return against / max(self.counts['sights'], 1)
@@ -243,7 +243,7 @@ def build(points: Any, scanners: Any = None, seen_by: SeenBy | None = None, *, n
         scanners `far` off each point (default: one spacing).
     seen_by: the row of the scanner of each point (n,), one number for all points, or a list of rows for each point.
     weights (n,): how much each point's sights count, whole numbers from 1 to 255 (default: 1).
-    smooth, vote: the area weight of a face and the visibility weight of a sight.
+    `smooth`, `vote`: the area weight of a face and the visibility weight of a sight.
     unit, origin: coordinates become the whole numbers nearest to (x - origin) * unit (default: 100 to 1000 units between points, see
         `frame`). The surface is exact for these whole numbers; points at one place become one vertex.
     folder: where scan, mesh and certificate are kept (default: a folder that is removed with the surface).
@@ -286,7 +286,7 @@ def stations_of(points: np.ndarray, scanners: Any, seen_by: SeenBy | None, norma
 
 
 def chosen_frame(points: np.ndarray, scanners: np.ndarray, unit: int | None, origin: Any) -> tuple[np.ndarray, int]:
-    """The origin and the unit, as they were given or else as they fit."""
+    """Returns the origin and the scale, as given or else computed to fit."""
     if unit is not None and not 1 <= unit <= 1_000_000:
         raise Invalid(f'unit {unit} is not from 1 to 1,000,000')
     start = None if origin is None else points_of(origin, 'origin')[0]

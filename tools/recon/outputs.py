@@ -138,7 +138,7 @@ def write_report(made: Made, figures: list[tuple[str, str]], digests: dict[str, 
 
 
 def again_words(made: Made) -> list[str]:
-    """The words that repeat the run, with all choices stated."""
+    """Returns the arguments that repeat the run, with all choices stated."""
     args, chosen = made.args, made.choices.chosen
     words = [absolute(name) for name in map(os.fspath, args.input)]
     for key in ('scanner', 'positions', 'index', 'table', 'images', 'position', 'flight'):

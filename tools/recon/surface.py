@@ -141,7 +141,7 @@ def prepared(inputs: Inputs) -> Scan:
 
 
 def framed(cloud: Cloud, texture: Spacing, args: Any, choices: Choices) -> tuple[np.ndarray, int]:
-    """The origin and the unit."""
+    """The origin and the scale."""
     given = None if args.origin is None else np.array([float(word) for word in args.origin.split(',')])
     shift = np.zeros(3) if given is None else given
     fitting = frame(cloud.points - shift, cloud.scanners - shift, texture.distance)
@@ -324,7 +324,7 @@ def within(least: int, most: int) -> Any:
 
 
 def arguments(words: Sequence[str]) -> list[str]:
-    """The words, with a value that begins with a minus joined to its option, as in --scanner -1,2,3."""
+    """The arguments, with a value that begins with a minus joined to its option, as in --scanner -1,2,3."""
     joined: list[str] = []
     for word in words:
         if joined and joined[-1].startswith('--') and '=' not in joined[-1] and word[:1] == '-' and word[1:2].isdigit():

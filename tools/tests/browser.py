@@ -1,4 +1,4 @@
-"""Chromium without a window, told what to do over its pipe of debugging; and pictures as PNG.
+"""Headless Chromium, controlled over its debugging pipe; and pictures as PNG.
 
 Names: CHROMIUM (the program, or None) · Browser (one run of it: show, ask, click, key, drag, touch, picture) · pixels_of.
 """
@@ -59,7 +59,7 @@ def unfiltered(kind: int, row: bytearray, above: bytes, step: int) -> bytes:
 
 
 class Browser:
-    """One run of Chromium with one page. `errors` are what the page told the console as errors, and what it threw."""
+    """One run of Chromium with one page. `errors` are the page's console errors and exceptions."""
 
     def __init__(self, width: int = 640, height: int = 400) -> None:
         self.folder = tempfile.TemporaryDirectory()

@@ -51,7 +51,7 @@ def call(program: str, *words: str) -> Any:
 
 
 def command(program: str) -> list[str]:
-    """The words that run a program of tools/ or dev/, from any folder."""
+    """Returns the arguments that run a program of tools/ or dev/, from any folder."""
     return [sys.executable, PACKAGE, program] if is_packed(program) else [sys.executable, os.path.join(DEV, program + '.py')]
 
 

@@ -260,7 +260,7 @@ class Finish(InFolder):
         write('in.ply', mesh_text(places, faces))
         status, said, error = call('finish', 'in.ply', 'out.ply', '--seen', '--no-flips')
         equal((status, error, '0 faces of what no scanner saw' in said, os.path.exists('out-seen.ply')), (0, '', True, True))
-        # a square of small faces, closed below by a fan of long ones
+        # a square of small faces, closed below by a fan of triangles that are long
         side = 24
         places = [(100 * i, 100 * j, (i * j) % 7) for i in range(side) for j in range(side)]
         sheet = [face for i in range(side - 1) for j in range(side - 1) for k in [side * i + j]

@@ -49,7 +49,7 @@ def e57_of(columns: str, parts: list[bytes], stated: int, xml: str = XML) -> byt
 
 
 def flat(bits: int) -> str:
-    """Three columns whose values have so many bits."""
+    """Returns three columns whose values have this number of bits."""
     return ''.join(f'<cartesian{axis} type="Integer" minimum="0" maximum="{2 ** bits - 1}"/>' for axis in 'XYZ')
 
 

@@ -33,7 +33,7 @@ def data(name: Any) -> Any:
 
 
 def recon(*words: Any, limit: Any = None) -> Any:
-    """Status and line of a run, which ends by itself, with at most so many bytes of memory of its own."""
+    """Status and line of a run, which ends by itself, with a limit on its memory in bytes."""
     def limited() -> None:
         resource.setrlimit(resource.RLIMIT_DATA, (limit, limit))
     done = subprocess.run([RECON, *words], capture_output=True, timeout=10, preexec_fn=limited if limit else None)
@@ -61,7 +61,7 @@ def ends(words: Any, status: Any, line: Any, kept: Any = ()) -> None:
 
 
 def told(*words: Any, **more: Any) -> Any:
-    """Status, line and what a person is told."""
+    """Returns the status, the line and the hint."""
     done = subprocess.run([RECON, *words], capture_output=True, timeout=10, **more)
     return done.returncode, done.stdout.decode('ascii'), done.stderr.decode('utf-8')
 
@@ -397,7 +397,7 @@ class Program(InFolder):
         whole, labels = recon('ask', 'scan', 'points', 'labels2'), data('labels')
         equal((status, said, labels), (*whole, data('labels2')))
         equal(shown.split(CLEAR)[1:], ['cells 0 of 4 · 0 s', 'sights 0 of 4 · 0 s', *flow, 'answers 0 of 4 · 0 s', ''])
-        # A line is taken off before anything else is told, and what reads no scan, or no good one, shows none.
+        # The line is cleared before anything else is printed, and a run without a valid scan shows none.
         equal(at_terminal('build', 'scan', 'mesh', 'cert', 'vote=1')[2].split(CLEAR)[-1][:16], 'recon: no face: ')
         equal(at_terminal('build', 'cert', 'mesh', 'out')[2][:7], 'recon: ')
         equal(at_terminal('build', 'scan', 'mesh', 'cert', term='dumb')[2], '')

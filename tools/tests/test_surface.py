@@ -161,7 +161,7 @@ class Words(InFolder):
         status, said, error = call('surface', '--help')
         equal((status, error, all(word in said for word in ('--scanner', '--force', 'Status:'))), (0, '', True))
         options = {word for action in parser()._actions for word in action.option_strings}
-        with open(os.path.join(os.path.dirname(os.path.abspath(__file__)), '..', '..', 'docs', 'using.md'), encoding='utf-8') as file:
+        with open(os.path.join(os.path.dirname(os.path.abspath(__file__)), '..', '..', 'docs', 'reference', 'tools.md'), encoding='utf-8') as file:
             told = set(re.findall('`(--[a-z-]+)', file.read()))
         equal(sorted(told & {'--scanner', '--force', '--sweep'} | {word for word in told if word.startswith('--') and word in options}),
               sorted(word for word in told if word in options))

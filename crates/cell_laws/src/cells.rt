@@ -2,7 +2,7 @@
 //! tie rule. They suppose only the corners of the box in their places and in, other vertices at distinct data points, and the heights
 //! of the tie rule (`IsBoxed`).
 
-ghost use Rattle.cell_laws.specs.CellLaws.{ThreeTermsLaw, GenericLaw, ConvexLaw, EnvelopeLaw, AcrossLaw, FacetLaw, SomeLaw, PlaceLaw, OneLaw, JoinedLaw, CornerLaw};
+ghost use Rattle.cell_laws.specs.CellLaws.{ThreeTermsLaw, GenericLaw, EnvelopeLaw, AcrossLaw, FacetLaw, PlaceLaw, OneLaw, CornerLaw};
 ghost use Rattle.cell_laws.specs.EnvelopeLaws.{StrictEnvelopeLaw, ThreeLiftsLaw};
 ghost use Rattle.cell_laws.specs.TieLaws.{TieLaw};
 
@@ -34,13 +34,6 @@ pub fn generic_law()
     ensures { GenericLaw }
 {}
 
-/// A vertex that lies in a tetrahedron, its facets included, is inside its sphere, or one of its four. A ball is convex, and the
-/// heights keep that.
-/// It is for whoever begins to look for conflicts where a vertex lies.
-pub fn convex_law()
-    ensures { ConvexLaw }
-{}
-
 /// The lifted cells are an upper envelope: over a place, the plane of the cell that has the place is at least as high as that of each
 /// other cell. This is the lifting map, which takes the empty sphere to a supporting plane.
 /// It is for whoever goes from cell to cell towards a place: the heights over it tell which cell has it.
@@ -67,12 +60,6 @@ pub fn facet_law()
     ensures { FacetLaw }
 {}
 
-/// There is a cell, whatever data points are in.
-/// It is for whoever needs a cell to begin with.
-pub fn some_law()
-    ensures { SomeLaw }
-{}
-
 /// Cells cover the box: each place of it lies in a cell.
 /// It is for whoever looks for the cell of a place: there is an answer.
 pub fn place_law()
@@ -83,12 +70,6 @@ pub fn place_law()
 /// It is for whoever has found the cell of a place: there is no other answer.
 pub fn one_law()
     ensures { OneLaw }
-{}
-
-/// A list of cells that is not empty and has with each cell those across its facets has all cells.
-/// It is for whoever lists cells by going across their facets.
-pub fn joined_law()
-    ensures { JoinedLaw }
 {}
 
 /// With the corners alone in, the six cells of the box are exactly the cells, at every exponent.

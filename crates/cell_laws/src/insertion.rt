@@ -1,7 +1,7 @@
 //! Laws of one vertex more (Bowyer 1981 and Watson 1981): the cells in conflict with it are taken out, and over each facet at their
 //! rim, the fan, there is a cell with it as apex. They suppose vertices of the box and a data point that is not in yet (`IsNew`).
 
-ghost use Rattle.cell_laws.specs.InsertionLaws.{FanLaw, StayLaw, VertexLaw, FloodLaw, InsertLaw, EdgeLaw, SideLaw};
+ghost use Rattle.cell_laws.specs.InsertionLaws.{FanLaw, StayLaw, VertexLaw, FloodLaw, EdgeLaw};
 
 /// The new cells are those over the fan: four vertices with the new one as apex are a cell exactly where the other three are a facet
 /// of the fan. The new vertex is before each of these facets, each directed edge stands in one of them, and its reverse too. There is
@@ -30,21 +30,8 @@ pub fn flood_law()
     ensures { FloodLaw }
 {}
 
-/// Taking out of a list of all cells those in conflict and putting in those over the fan gives all cells with the new vertex.
-/// It is for whoever keeps a list of all cells, linked or not.
-pub fn insert_law()
-    ensures { InsertLaw }
-{}
-
 /// In a list of the fan's facets, each once, each directed edge stands in one facet, and its reverse in one.
 /// It is for whoever joins new cells by their edges: each has one partner.
 pub fn edge_law()
     ensures { EdgeLaw }
-{}
-
-/// Two new cells over facets with an edge and its reverse are neighbors across these sides, and new cells with a side in common
-/// stand over facets with a directed edge in common. This needs nothing of the vertices.
-/// It is for whoever names the neighbors of new cells: these are the sides to join.
-pub fn side_law()
-    ensures { SideLaw }
 {}

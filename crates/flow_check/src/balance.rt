@@ -2,7 +2,7 @@
 
 ghost use Rattle.std.specs.Prelude.{◌≡◌, length, IfSome, IfNone};
 ghost use Rattle.flow_net.specs.Flows.{amount_in};
-ghost use Rattle.flow_check.specs.Firsts.{IsFirst, NoneBelow};
+ghost use Rattle.flow_net.specs.Firsts.{IsFirst, NoneBelow};
 ghost use Rattle.flow_valid.specs.Totals.{AreTotals};
 ghost use Rattle.flow_net.specs.Flows.{numbered_of};
 ghost use Rattle.flow_check.specs.Verdicts.{IsUnbalanced, total_out};

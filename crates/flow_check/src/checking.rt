@@ -2,7 +2,7 @@
 
 ghost use Rattle.std.specs.Prelude.{◌≡◌, ◌↔◌, length, IfOk, IfSome, IfNone};
 ghost use Rattle.flow_net.specs.Flows.{IsValidFlow, IsLeastInside, value_of, cost_of};
-ghost use Rattle.flow_check.specs.Firsts.{IsFirst, NoneBelow};
+ghost use Rattle.flow_net.specs.Firsts.{IsFirst, NoneBelow};
 ghost use Rattle.flow_check.specs.Verdicts.{IsOptimalPair, IsInsideAlone, IsNotLeast, IsVerdict};
 
 use crate::balance::unbalanced;

@@ -24,10 +24,7 @@ mod votes;
 
 pub use builder::{NetBuilder, NetRefusal};
 pub use compact::Arcs;
-pub use laws::{
-    equal_value_and_cost_are_best, exactly_one_is_least_inside, numbers_may_stand_for_nothing,
-    value_is_at_most_cost,
-};
+pub use laws::{equal_value_and_cost_are_best, value_is_at_most_cost};
 pub use lists::Sequence;
 pub use network::FlowNetwork;
 pub use sums::{cost, value};

@@ -7,8 +7,7 @@
 --   IsNew v p                        p is a data point that is not in yet
 --   IsInConflict v p t               p is in conflict with t
 --   IsClearOf v p t                  it is not
---   Agree v w                        the same vertices are in, at the same points and heights
-use Rattle.std.specs.Prelude.{ℕ, ◌<◌, ◌≤◌, ◌≡◌, ◌↔◌, ◌+◌, ◌==◌, ◌||◌, Bool, false, pos, ◌<ℤ◌, ◌≤ℤ◌, List, length, get_or}
+use Rattle.std.specs.Prelude.{ℕ, ◌<◌, ◌≤◌, ◌≡◌, ◌+◌, ◌==◌, ◌||◌, Bool, false, pos, ◌<ℤ◌, ◌≤ℤ◌, List, length, get_or}
 use Rattle.geo_sign.specs.declared.point.TheConstants.{CORNERS, DATA_LIMIT}
 use Rattle.geo_sign.specs.Point.{Point, IsWithin, corner_point}
 use Rattle.geo_sign.specs.Tetrahedron.{Tetrahedron}
@@ -54,9 +53,3 @@ IsInConflict v p t = power_of v t.a t.b t.c t.d p <ℤ pos 0
 
 abbrev pub IsClearOf : Vertices → (p : ℕ) → Tetrahedron → Type 0
 IsClearOf v p t = pos 0 ≤ℤ power_of v t.a t.b t.c t.d p
-
--- The same vertices are in, at the same points and with the same heights. What the others are is left open.
-pub record Agree (v w : Vertices) : Type 0 where
-  pub in_is : (u : ℕ) → Has v u ↔ Has w u
-  pub at_is : (u : ℕ) → Has v u → v.at u ≡ w.at u
-  pub high_is : (u : ℕ) → Has v u → v.high u ≡ w.high u

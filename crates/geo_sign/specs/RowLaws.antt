@@ -11,9 +11,8 @@
 --   RowsTell             two positive tetrahedra with one row are one, written anew
 --   CellsAreRows         a cell's row is a rising cell, and a rising cell is the row of the cell that `written` makes of it
 --   WrittenFacets        the facets of what `written` makes of a rising row have their smallest number first
---   FacetsAreAmong       a facet of t from its smallest number on is one of these, as it stands
-use Rattle.std.specs.Prelude.{ℕ, ◌<◌, ◌≡◌, ◌⊎◌, true, pos, ◌<ℤ◌, List, [], ◌∷◌}
-use Rattle.geo_sign.specs.Tetrahedron.{Tetrahedron, tetrahedron, DirectedFacet, facet_of, IsRotated, is_among}
+use Rattle.std.specs.Prelude.{ℕ, ◌<◌, ◌≡◌, ◌⊎◌, pos, ◌<ℤ◌, List, [], ◌∷◌}
+use Rattle.geo_sign.specs.Tetrahedron.{Tetrahedron, tetrahedron, DirectedFacet, facet_of}
 use Rattle.geo_sign.specs.Vertices.{Vertices, orientation_of}
 use Rattle.geo_sign.specs.Cells.{IsCell, IsRisingCell, written}
 use Rattle.geo_sign.specs.Writings.{IsRewritten}
@@ -67,10 +66,3 @@ pub record CellsAreRows : Type 0 where
 abbrev pub WrittenFacets : Type 0
 WrittenFacets =
     (v : Vertices) (t : Tetrahedron) (row : List ℕ) → IsRowOf t row → (k : ℕ) → IsFirstLeast (facet_of (written v row) k)
-
--- a facet of t in any rotation that has its smallest number first
-abbrev pub FacetsAreAmong : Type 0
-FacetsAreAmong =
-    (v : Vertices) (t : Tetrahedron) (row : List ℕ) → IsPositive v t → IsRowOf t row → (k : ℕ) (g : DirectedFacet)
-    → IsRotated (facet_of t k) g → IsFirstLeast g
-    → is_among (written v row) g ≡ true

@@ -48,10 +48,7 @@ mod sign;
 mod sphere;
 mod vector;
 
-pub use laws::{
-    agreement_law, determinant_law, rising_list_law, rotated_facet_law, row_law, size_law,
-    writing_law,
-};
+pub use laws::{determinant_law, rising_list_law, rotated_facet_law, row_law, size_law};
 pub use orientation::{orient, orient_value};
 pub use point::{BOX_LIMIT, CORNERS, DATA_LIMIT, POINT_LIMIT, Point, corner};
 pub use polynomial::identity_law;

@@ -22,7 +22,7 @@ use Rattle.cert_text.specs.Certificates.{Claim, IsWellFormed}
 use Rattle.cert_text.specs.Refusals.{IsRefusedCertificate}
 use Rattle.cert_text.specs.Texts.{cert_text}
 use Rattle.cert_text.specs.declared.refusal.CertRefusal.TheVariants as refusals
-use Rattle.flow_check.specs.Firsts.{IsFirst}
+use Rattle.flow_net.specs.Firsts.{IsFirst}
 use Rattle.flow_net.specs.Faults.{IsFixedInside, IsOverCapacity, sink_limit, IsOverSink, total_out, IsUnbalanced, IsNotLeast}
 use Rattle.flow_net.specs.Networks.{amount_in as entering}
 use Rattle.flow_net.specs.declared.votes.Settings.{Settings}

@@ -14,7 +14,7 @@ use Rattle.std.specs.Str.{bytes_eq}
 use Rattle.cert_text.specs.Certificates.{Claim}
 use Rattle.cert_text.specs.declared.certificate.FlowRow.{FlowRow}
 use Rattle.cert_text.specs.declared.certificate.SinkRow.{SinkRow}
-use Rattle.flow_check.specs.Firsts.{IsFirst}
+use Rattle.flow_net.specs.Firsts.{IsFirst}
 use Rattle.visibility.specs.Complexes.{Complex}
 
 -- the row is one of the list

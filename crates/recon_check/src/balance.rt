@@ -1,7 +1,7 @@
 //! Cells at which a flow is not balanced. It stands on the totals of `flow_valid`.
 
 ghost use Rattle.std.specs.Prelude.{◌≡◌, ◌<◌, ◌≤◌, ◌⊎◌, Some, IfOk, IfSome, IfNone, length};
-ghost use Rattle.flow_check.specs.Firsts.{NoneBelow};
+ghost use Rattle.flow_net.specs.Firsts.{NoneBelow};
 ghost use Rattle.flow_valid.specs.Totals.{AreTotals};
 ghost use Rattle.vote_net.specs.Gathered.{row_key};
 ghost use Rattle.recon_check.specs.ByRows.{numbers, IsUnbalanced, IsUnbalanceAt, IsLeastUnbalance};

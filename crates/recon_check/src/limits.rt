@@ -1,7 +1,7 @@
 //! Rows that state what must not be, by the numbers of the cells and sides that they are about. It stands on networks by numbers.
 
 ghost use Rattle.std.specs.Prelude.{◌≡◌, ◌<◌, EachIndex, IfSome, IfNone, length, slice_index};
-ghost use Rattle.flow_check.specs.Firsts.{IsFirst, NoneBelow};
+ghost use Rattle.flow_net.specs.Firsts.{IsFirst, NoneBelow};
 ghost use Rattle.flow_net.specs.Faults.{sink_limit};
 ghost use Rattle.flow_net.specs.Numbered.{network_by};
 ghost use Rattle.recon_check.specs.ByRows.{IsFixedAt, IsOverAt, IsOverSinkAt, IsOutsideAt};

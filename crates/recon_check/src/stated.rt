@@ -7,7 +7,7 @@
 ghost use Rattle.std.specs.Prelude.{◌≡◌, ◌≢◌, ◌<◌, ◌≤◌, ◌+◌, ◌*◌, ◌/◌, ◌%◌, ◌^◌, ℕ, true, false, IfOk, IfErr, IfSome, IfNone, AllPairs, OnOk, length, map, slice_index};
 ghost use Rattle.cell_net.specs.Arcs.{across, is_free};
 ghost use Rattle.cert_text.specs.Certificates.{claim_of, IsWellFormed};
-ghost use Rattle.flow_check.specs.Firsts.{IsFirst};
+ghost use Rattle.flow_net.specs.Firsts.{IsFirst};
 ghost use Rattle.flow_net.specs.Nets.{flag_at};
 ghost use Rattle.geo_sign.specs.Rising.{IsBefore};
 ghost use Rattle.visibility.specs.Complexes.{Complex};

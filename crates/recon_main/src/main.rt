@@ -1,6 +1,7 @@
-//! `recon`, the program: it passes the words of its command line, mesh writers and the system to
-//! `recon_cmd::run_forms_within`, and ends with the status that this returns (`ends_over`). What the system passes as words is not
-//! proved: that is one line of `ends_on`. Where standard error is a terminal, a person sees there how far the work is (`progress`).
+//! `recon`, the program: it passes the arguments of its command line, mesh writers and the system to
+//! `recon_cmd::run_forms_within`, and ends with the status that this returns (`ends_over`). That the system passes the right
+//! arguments is trusted: that is one line of `ends_on`. If standard error is a terminal, the progress is shown there
+//! (`progress`).
 #![tactic(auto)]
 
 mod advice;

@@ -37,7 +37,7 @@ def commented(line: bytes) -> bytes:
 
 
 def of_lines(count: int) -> bytes:
-    """The tetrahedron with so many comments that its header has this many lines."""
+    """Returns the tetrahedron with comments up to this number of lines in its header."""
     return TETRAHEDRON.replace(b'1.0\n', b'1.0\n' + b'comment\n' * (count - 12), 1)
 
 

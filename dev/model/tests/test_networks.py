@@ -1,4 +1,4 @@
-"""Cells, lines of sight, votes and cuts on small degenerate scans: what the definitions say of each other, and what wrong ones would answer."""
+"""Cells, lines of sight, visibility weights and cuts on small degenerate scans: what the definitions say of each other, and what wrong ones would answer."""
 from __future__ import annotations
 
 import random
@@ -115,7 +115,7 @@ class Networks(unittest.TestCase):
             self.assertEqual(sorted(new), Cells(points).rows)
 
     def test_wrong_definitions_answer_otherwise(self) -> None:
-        """Votes on the opposite facets, or on the cell before the point; a sphere through eight points, all of them in conflict."""
+        """Visibility weights on the opposite facets, or on the cell before the point; a sphere through eight points, all of them in conflict."""
         def cost(network: Network) -> int:
             return network.cost(least_inside(network, maximum(network)))
 

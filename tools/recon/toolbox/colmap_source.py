@@ -38,7 +38,7 @@ def place_of(turn: Sequence[float], shift: Sequence[float]) -> list[float]:
 
 
 def text_pictures(file: BinaryIO) -> Iterator[Picture]:
-    """The pictures of a text: two lines each, of which the second, its points, may be empty."""
+    """The pictures of a text: two lines each; the second, its points, may be empty."""
     is_picture = True
     for number, line in enumerate(file, 1):
         if line.startswith(b'#'):

@@ -17,7 +17,7 @@ def text(value: Decimal) -> str:
 
 
 def differences(words: Sequence[str], origin: Sequence[Decimal]) -> list[str]:
-    """The words less the origin's, one by one."""
+    """Returns the numbers minus the origin's, one by one."""
     return [text(WIDE.subtract(Decimal(word), place)) for word, place in zip(words, origin)]
 
 
@@ -65,5 +65,5 @@ def shifted(value: int, places: int) -> str | None:
 
 
 def quotients(words: list[str], unit: Decimal, origin: list[Decimal]) -> list[str]:
-    """The words divided by the unit, and the origin added, one by one."""
+    """Returns the numbers divided by the scale, plus the origin's, one by one."""
     return [text(WIDE.add(WIDE.divide(Decimal(word), unit), place)) for word, place in zip(words, origin)]

@@ -1,4 +1,4 @@
-"""Positions of airborne scans, of which LAS and lists of points have none: along a flight of which times and positions are known,
+"""Positions of airborne scans, since LAS and lists of points have none: along a flight with known times and positions,
 or made up, far above the points.
 
 Names: Flight (a table of times and positions) · Above (the made-up position).

@@ -66,7 +66,7 @@ def last_of(h: int) -> int:
 
 
 def pairs_around(places: Places, corners: Any, around: list[int]) -> list[tuple[int, int]]:
-    """The half edges of one edge in pairs, each of which bounds a wedge of the solid."""
+    """Returns the half edges of one edge in pairs; each pair bounds a wedge of the solid."""
     low = min(corners[around[0]], corners[next_of(around[0])])
     there = [h for h in around if corners[h] == low]
     back = [h for h in around if corners[h] != low]
@@ -130,8 +130,8 @@ def pieces_of(twins: np.ndarray) -> np.ndarray:
 
 
 def fans_of(corners: np.ndarray, twins: np.ndarray) -> tuple[np.ndarray, np.ndarray]:
-    """For each corner the number of its vertex after vertices are split where sheets only touch: the first fan of a vertex
-    keeps its number, others come behind the last. Also the vertex that each new one is a copy of."""
+    """For each corner the number of its vertex after vertices are split where sheets only touch: the first fan of triangles of a vertex
+    keeps its number, others follow the last. Also the vertex that each new one is a copy of."""
     halves = np.arange(len(corners))
     fan = groups_of(len(corners), halves, twins[before(halves)])
     vertex_of = np.zeros(fan.max(initial=-1) + 1, np.int64)

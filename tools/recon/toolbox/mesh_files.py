@@ -162,7 +162,7 @@ def glb_parts(mesh: Finished) -> Iterator[bytes]:
 
 
 def obj_parts(mesh: Finished) -> Iterator[bytes]:
-    """A Wavefront OBJ, in pieces. Colors stand behind the coordinates, from 0 to 1, as MeshLab, Blender and CloudCompare read
+    """A Wavefront OBJ, in pieces. Colors follow the coordinates, from 0 to 1, as MeshLab, Blender and CloudCompare read
     them."""
     yield b'# made by finish\n'
     colors = mesh.colors()

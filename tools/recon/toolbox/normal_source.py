@@ -1,4 +1,4 @@
-"""Points with normals, of which nobody knows from where they were seen: each is seen by a scanner of its own that stands a little
+"""Points with normals, without known scanners: each is seen by a scanner of its own that stands a little
 way off along its normal.
 
 The normals are believed: a wrong one is a wrong sight. A scanner that stands too far off is behind another part of the object,

@@ -1,9 +1,9 @@
 """PLY files read and written row by row, for the programs of tools/.
 
-Rows are lists of words: a text body's own, digit by digit, and the numbers of a binary body by repr, which reads back as
+Rows are lists of tokens: a text body's own, digit by digit, and the numbers of a binary body by repr, which reads back as
 the same number. Nothing is held but a part of the file, and each output stands only when it is whole.
 
-Names: Refusal (why a file is not taken) · Property, Element (what a header says) · Reader (a file's header and its rows,
+Names: `Refusal` (why a file is rejected) · Property, Element (what a header says) · Reader (a file's header and its rows,
 text or binary) · plain_names (columns under names that every reader takes) · whole_file, Writer (a text PLY whose count is
 known at the end) · decimals (whether three words are a point) · index_text (the number of a scanner, written as a whole
 number) · read_positions (a table of scanner positions).
@@ -76,7 +76,7 @@ class Element:
         return folded.index(name.lower()) if folded.count(name.lower()) == 1 else None
 
     def values(self, words: Sequence[str]) -> list[Sequence[str]]:
-        """The values of each property in the words of a row; of a list without their count."""
+        """Returns the values of each property in the tokens of a row; for a list without their count."""
         at, found = 0, []
         for p in self.properties:
             count = 1
@@ -156,7 +156,7 @@ def read_property(words: list[str], bad: Refusal) -> Property:
 
 
 class TextBody:
-    """The words of a text body, some at a time. Line ends have no meaning, but the last line has to have one."""
+    """Yields the tokens of a text body, some at a time. Line ends have no meaning, but the last line has to have one."""
 
     def __init__(self, file: BinaryIO, open_end: bool) -> None:
         self.file, self.open_end = file, open_end
@@ -311,7 +311,7 @@ class Reader:
         return found[0] if found else None
 
     def rows(self, element: Element) -> Iterator[list[str]]:
-        """The rows of the next element, each a list of words."""
+        """Yields the rows of the next element, each a list of tokens."""
         return self.body.rows(element)
 
     def finish(self) -> None:
@@ -368,7 +368,7 @@ class Writer:
         return '\n'.join(lines + ['end_header', ''])
 
     def begin(self, has_scanners: bool) -> None:
-        """Writes the header with its counts to be mended."""
+        """Writes the header with provisional counts."""
         self.scanners = 0 if has_scanners else None
         text = self.head(0)
         self.head_length = len(text)
@@ -379,7 +379,7 @@ class Writer:
         self.count += 1
 
     def finish(self, positions: Sequence[Sequence[str]]) -> None:
-        """Writes the scanners' rows and mends the counts."""
+        """Writes the scanners' rows and corrects the counts."""
         for position in positions:
             self.file.write(' '.join(position) + '\n')
         text = self.head(len(positions))

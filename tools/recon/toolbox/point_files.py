@@ -1,7 +1,7 @@
-"""Files of points of other programs, read as if they were PLY: PCD, LAS and E57, told by their first bytes.
+"""Files of points of other programs, read as if they were PLY: PCD, LAS and E57, recognised by their first bytes.
 
 Each reader has `elements`, whose first is `vertex`, and then perhaps `scanner`, as ply_text.Reader has them, and their rows
-as lists of words. Names: open_points · FileReader (what readers share) · PcdReader, LasReader.
+as lists of tokens. Names: open_points · FileReader (what readers share) · PcdReader, LasReader.
 """
 from __future__ import annotations
 

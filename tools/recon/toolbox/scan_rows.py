@@ -17,7 +17,7 @@ PLAIN = re.compile(r'([+-]?)([0-9]+)(?:\.([0-9]*))?').fullmatch
 
 
 def scaled(word: str, unit: int) -> int:
-    """The number times the unit, rounded to the nearest whole number, halves away from zero; OUTSIDE where that has over 60 digits."""
+    """Returns the number times the scale, rounded to the nearest whole number, halves away from zero; OUTSIDE where that has over 60 digits."""
     plain = PLAIN(word)
     if plain is None or len(word) > LONG:
         if not IS_NUMBER(word):

@@ -1,4 +1,4 @@
-"""Which source the words of a program name, told by the options and the first bytes of the file."""
+"""Which source the arguments of a program name, by the options and the first bytes of the file."""
 from __future__ import annotations
 
 import os

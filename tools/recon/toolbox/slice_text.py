@@ -44,7 +44,7 @@ def read_loops(path: str) -> Iterator[list[tuple[str, ...]]]:
 
 
 class Frame:
-    """The unit and the origin of the scan. `word` is a coordinate in the scan's own numbers, exact but for a last digit."""
+    """The scale and the origin of the scan. `word` is a coordinate in the scan's own numbers, exact but for a last digit."""
 
     def __init__(self, options: Any) -> None:
         self.unit = whole(options.unit or '1', 'unit', 1, 1000000)

@@ -3,7 +3,7 @@
 In a step each face takes the mean direction of itself and the three faces across its edges, by their areas, twice; a face
 that looks elsewhere by over 120 degrees counts for nothing, and one by 90 degrees for a third. Then, twice, each vertex moves
 along the directions of its faces toward their planes, never further than `within` from where it was at first.
-A vertex stands on a whole number of parts of a unit after each step. Where faces cross after it that did not, the corners of
+After each step the coordinates of a vertex are whole numbers of parts of a unit. Where faces cross after it that did not, the corners of
 these faces go back to where they were before the step.
 
 Names: Smoother (a mesh whose vertices move).

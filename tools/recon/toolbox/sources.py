@@ -1,6 +1,6 @@
 """Points on their way out of files, whatever these are: what all sources of points have in common.
 
-A source hands rows of words to a receiver (sieve.Passage), one a point. Names: Source · scan_columns (those of points that have a
+A source passes rows of tokens to a receiver (sieve.Passage), one a point. Names: Source · scan_columns (those of points that have a
 place and a scanner alone) · READING (the options that say how files are read) · refuse_others.
 """
 from __future__ import annotations
@@ -38,7 +38,7 @@ class Source:
         self.counts: dict[str, int] = {'not finite': 0}
 
     def run(self, receiver: Passage) -> None:
-        """Hands on all rows."""
+        """Passes on all rows."""
         raise NotImplementedError
 
     def read(self) -> str:

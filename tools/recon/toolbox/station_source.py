@@ -109,7 +109,7 @@ def points_of(path: str, open_end: bool, counts: dict[str, int]) -> Iterator[Poi
 
 
 def station_of(name: str) -> Station:
-    """A file and its position: that of the words, or of the file itself; None where each point says it."""
+    """A file and its position: that of the arguments, or of the file itself; None if each point has its own."""
     path, equals, position = name.rpartition('=')
     if equals and path and not os.path.exists(name):
         if ',' not in position and not os.path.exists(path):
@@ -189,7 +189,7 @@ class Stations(Source):
         return number
 
     def pass_viewed(self, path: str, receiver: Passage) -> None:
-        """Passes on the points of a PCD each of which says where it was seen from."""
+        """Passes on the points of a PCD in which each point has the position from which it was seen."""
         reader = PcdReader(path, self.open_end)
         try:
             vertex, row = reader.elements[0], 0

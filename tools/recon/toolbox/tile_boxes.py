@@ -70,8 +70,8 @@ class Grid:
 
 
 def mean_spacing(points: list[Place], share: float) -> float:
-    """The side of the square of the surface that a point has, as the median of distances tells it; each of the points stands
-    for so many."""
+    """Returns the side of the square of the surface that a point has, by the median of distances; each of the points stands for
+    `share` points."""
     low, high = ([end(p[k] for p in points) for k in range(3)] for end in (min, max))
     grid = Grid(points, 2 * math.dist(low, high) / math.sqrt(len(points)) or 1.0)
     found = sorted(map(grid.nearest, points[::max(1, len(points) // ASKED)]))
@@ -152,8 +152,8 @@ def best_cut(core: Core, points: list[Place], overlap: float) -> tuple[int, floa
 
 
 def divide(core: Core, points: list[Place], share: float, overlap: float, limit: int) -> Core | Cut:
-    """Halves a box until each tile has at most so many points, by the points of a sample in its box and the overlap, each of
-    which stands for so many. What a sample errs by is allowed for."""
+    """Halves a box until each tile has at most the given number of points, by a sample of points in its box and the overlap; each of
+    these stands for several. The sampling error is allowed for."""
     expected = share * len(points) + (4 * share * math.sqrt(len(points)) if share > 1 else 0)
     if expected <= limit:
         return core

@@ -22,7 +22,7 @@ class Gaps:
         self.longest = 0
 
     def add(self, start: int, end: int, places: tuple[tuple[int, int, int], tuple[int, int, int]], count: int) -> None:
-        """Takes in an edge between two vertices that is missing so many times."""
+        """Adds an edge between two vertices that is missing the given number of times."""
         self.ends.setdefault(start, []).extend([end] * count)
         self.places[start], self.places[end] = places
 

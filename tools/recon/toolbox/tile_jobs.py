@@ -31,7 +31,7 @@ $(TILES:%=%.done): %.done: %.ply
 
 
 def write(folder: str, names: list[str], options: Any) -> None:
-    """Writes `jobs.txt` and `Makefile` into a folder; `options` are the words behind the files."""
+    """Writes `jobs.txt` and `Makefile` into a folder; `options` are the arguments after the files."""
     more = ''.join(' ' + option for option in options)
     with open(os.path.join(folder, 'jobs.txt'), 'w', encoding='ascii') as file:
         for name in names:

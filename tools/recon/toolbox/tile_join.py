@@ -56,7 +56,7 @@ class Tile:
             raise ValueError
         low, high = scaled(row['low'], unit, -FAR), scaled(row['high'], unit, FAR)
         self.low, self.high = [math.ceil(3 * end) for end in low], [math.ceil(3 * end) for end in high]
-        # A point is rounded by half a unit, and whether it is near enough was told in floating point: a unit has room for both.
+        # A point is rounded by half a unit, and whether it is near enough was computed in floating point: a unit covers both errors.
         far = math.ceil(Fraction(repr(overlap)) * unit) + 1
         self.inner = [(math.ceil(a) + far, math.floor(b) - far) for a, b in zip(low, high)]
         self.reach = [(math.floor(a) - far, math.ceil(b) + far) for a, b in zip(low, high)]
@@ -79,7 +79,7 @@ class Tile:
 
 
 def read_handed(folder: str, unit: int) -> set[int]:
-    """The places, in scaled units, of the points that were handed in to tiles from outside."""
+    """The places, in scaled units, of the points that were passed to tiles from outside."""
     found = set()
     with open(os.path.join(folder, 'handed.txt'), encoding='ascii') as file:
         for line in file:
@@ -228,7 +228,7 @@ class Seams:
         return min(first, last), max(first, last)
 
     def settle(self, tile: Tile, number_of_place: Callable[..., Any]) -> None:
-        """Counts the edges that no later tile has, and lets go of them."""
+        """Counts the edges that no later tile has, and frees them."""
         for key, (there, back, first, last) in self.edges.pop(tile.number, {}).items():
             if there == back:
                 continue
@@ -292,7 +292,7 @@ class Joined:
         return numbers, shared
 
     def add_edges(self, tile: Tile, corners: tuple[int, int, int], shared: dict[int, tuple[int, int]]) -> None:
-        """Hands on the edges of a face that another face may be missing at."""
+        """Passes on the edges of a face that another face may be missing at."""
         for start, end in zip(corners, corners[1:] + corners[:1]):
             if start in shared and end in shared:
                 (one, first), (other, second) = shared[start], shared[end]

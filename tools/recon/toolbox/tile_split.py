@@ -1,6 +1,6 @@
 """A scan of any size cut into tiles, row by row, so that only a sample and some rows of each tile are held.
 
-The scan is read twice: for a sample, and to hand out its rows. A tile that has more points than the sample let expect is cut
+The scan is read twice: for a sample, and to distribute its rows. A tile that has more points than the sample let expect is cut
 again by its own file.
 
 Names: Wanted (what a split is asked for) · split (cuts a scan into a folder's files) · Tile (a tile that was written).
@@ -61,8 +61,8 @@ class LateFile:
 
 
 class Wanted:
-    """What a split is asked for: the most points of a tile and how many of them are handed in, the overlap (or None, and as
-    many mean spacings), the unit, and how the scan is read."""
+    """The request for a split: the most points of a tile and how many of them may come from outside, the overlap (or None, and as
+    many mean spacings), the scale, and how the scan is read."""
 
     def __init__(self, points: int, through: int, overlap: float | None, spacings: float, unit: int, reading: Any) -> None:
         self.points, self.through, self.given, self.spacings = points, through, overlap, spacings
@@ -129,7 +129,7 @@ class Tile:
         self.row(words)
 
     def feed(self, receive: Callable[[Sequence[str]], None]) -> None:
-        """Hands on the tile's own rows again, as they came."""
+        """Passes on the tile's own rows again, unchanged."""
         scanners, left = list(self.scanners), self.own
 
         def row(words: Sequence[str]) -> None:
@@ -154,7 +154,7 @@ class AsItStands:
 
 
 class Splitter:
-    """A scan that was looked at, and is cut. `handed` are the rows that were handed in to some tile from outside."""
+    """A scan that was looked at, and is cut. `handed` are the rows that were passed to some tile from outside."""
 
     def __init__(self, wanted: Wanted, fed: Fed, look: Look) -> None:
         self.wanted, self.fed, self.look = wanted, fed, look
@@ -258,7 +258,7 @@ def looked_at(scan: list[str], wanted: Wanted) -> tuple[Fed, Look]:
 
 
 def write_folder(scan: list[str], folder: str, wanted: Wanted, options: Any) -> tuple[Fed, dict[str, Any]]:
-    """Writes the tiles of a scan, `tiles.json`, the points handed in, and the jobs into a folder, and answers what was read
+    """Writes the tiles of a scan, `tiles.json`, the points from outside, and the jobs into a folder, and returns what was read
     and what `tiles.json` says."""
     fed, look = looked_at(scan, wanted)
     spacing = mean_spacing([point for point, _ in look.sample.rows], look.sample.share())

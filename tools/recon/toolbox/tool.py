@@ -1,8 +1,8 @@
 """What the programs of tools/ share on the command line.
 
-The words are names first and then options `key=value`, as those of `recon`; --help prints the head of the program's file.
+The arguments are names first and then options `key=value`, as those of `recon`; --help prints the head of the program's file.
 A program says one line and ends with 0 (3 where it wrote no point), or says on standard error why not and ends with 1 (2 where
-the words are wrong).
+the arguments are invalid).
 """
 from __future__ import annotations
 
@@ -24,7 +24,7 @@ def field(key: str) -> str:
 
 
 class NotUnderstood(Exception):
-    """The words are none of the program's."""
+    """Invalid arguments."""
 
 
 class Report:
@@ -44,7 +44,7 @@ class Options:
 
 
 def with_equals(words: Sequence[str], keys: tuple[str, ...]) -> Iterator[tuple[str, bool]]:
-    """The words, with `--unit 1000`, `--unit=1000`, `--seen` and `--no-flips` as unit=1000, seen=yes and flips=no, and whether each was
+    """Returns the arguments, with `--unit 1000`, `--unit=1000`, `--seen` and `--no-flips` as unit=1000, seen=yes and flips=no, and whether each was
     written so."""
     rest = iter(words)
     for word in rest:
@@ -65,7 +65,7 @@ def with_equals(words: Sequence[str], keys: tuple[str, ...]) -> Iterator[tuple[s
 
 
 def read_words(words: list[str], name_count: int | None, keys: tuple[str, ...]) -> tuple[list[str], Options]:
-    """The names, and the options behind them. Without a count all words that are no option are names."""
+    """Returns the names, and the options after them. Without a count all arguments that are no option are names."""
     names: list[str] = []
     options = Options(keys)
     for word, is_option in with_equals(words, keys):
