@@ -1,5 +1,5 @@
 -- The twins say that the mesh is closed, before the flips and, by what these keep, after them.
-use Rattle.std.proofs.Common.{length, sym, subst, List}
+use Rattle.std.proofs.Common.{rules, length, sym, subst, List}
 use Rattle.std.specs.List.{All}
 use Rattle.geo_sign.specs.Point.{Point, IsWithin}
 use Rattle.geo_sign.specs.declared.point.TheConstants.{BOX_LIMIT}
@@ -25,3 +25,9 @@ pub returns-clause-boxed : goal.returns-clause-boxed
 returns-clause-boxed c = λ boxed.
     subst (λ (ps : List Point). All (IsWithin BOX_LIMIT) ps) (sym c.in_ok-new.ensures.points)
     (c.in_ok-split.ensures.boxed (c.in_ok-kept.ensures.boxed boxed))
+
+pub returns-in_err-kept-clause-why : goal.returns-in_err-kept-clause-why
+returns-in_err-kept-clause-why c = search (rules, c.in_err-kept.ensures.why c.args.mesh.faces.items)
+
+pub returns-in_err-split-clause-why : goal.returns-in_err-split-clause-why
+returns-in_err-split-clause-why c = search (rules, c.in_err-split.ensures.why c.args.mesh.faces.items)
