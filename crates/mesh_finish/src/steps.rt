@@ -31,12 +31,7 @@ pub(crate) fn paired(alloc: Global, mesh: &Mesh) -> Result<Vec<u32>, FinishError
 }
 
 /// Returns the largest pieces of a mesh.
-fn keep(
-    alloc: Global,
-    mesh: &Mesh,
-    twins: &[u32],
-    most: u32,
-) -> Result<PairedMesh, FinishError>
+fn keep(alloc: Global, mesh: &Mesh, twins: &[u32], most: u32) -> Result<PairedMesh, FinishError>
     requires valid { IsMesh mesh.now.points.items mesh.now.faces.items }
     requires paired { ArePaired mesh.now.faces.items twins.now }
     ensures pieces { IfOk result (λ new. ArePieces mesh.now.points.items mesh.now.faces.items new.mesh.points.items new.mesh.faces.items) }
@@ -93,7 +88,11 @@ fn split_all(alloc: Global, mesh: &Mesh, twins: &[u32]) -> Result<Mesh, FinishEr
 }
 
 /// Returns the mesh with its vertices split, if the option asks for it, or as it is.
-pub(crate) fn split(alloc: Global, kept: PairedMesh, manifold: bool) -> Result<PairedMesh, FinishError>
+pub(crate) fn split(
+    alloc: Global,
+    kept: PairedMesh,
+    manifold: bool,
+) -> Result<PairedMesh, FinishError>
     requires valid { IsMesh kept.mesh.points.items kept.mesh.faces.items }
     requires paired { ArePaired kept.mesh.faces.items kept.twins.items }
     ensures split { IfOk result (λ new. IsSplitIf manifold kept.mesh.points.items kept.mesh.faces.items new.mesh.points.items new.mesh.faces.items) }

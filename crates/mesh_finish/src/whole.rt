@@ -74,11 +74,7 @@ fn flipped(alloc: Global, mesh: Mesh, flips: bool) -> Result<Mesh, NoMemory>
 ///
 /// Half edges are paired first, so a mesh that is not closed is an error in any case. Then pieces are kept, vertices split and edges
 /// flipped.
-pub fn finish_mesh(
-    alloc: Global,
-    mesh: Mesh,
-    options: FinishOptions,
-) -> Result<Mesh, FinishError>
+pub fn finish_mesh(alloc: Global, mesh: Mesh, options: FinishOptions) -> Result<Mesh, FinishError>
     requires { IsMesh mesh.points.items mesh.faces.items }
     ensures finished { IfOk result (λ new. AreFinished options mesh.points.items mesh.faces.items new.points.items new.faces.items) }
     ensures valid { IfOk result (λ new. IsMesh new.points.items new.faces.items) }

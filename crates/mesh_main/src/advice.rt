@@ -4,10 +4,7 @@
 use real_host::Advice;
 
 /// The commands, each with its arguments.
-const USES: [(&str, &str); 1] = [(
-    "finish",
-    "MESH OUT [pieces=N] [manifold=yes] [flips=no]",
-)];
+const USES: [(&str, &str); 1] = [("finish", "MESH OUT [pieces=N] [manifold=yes] [flips=no]")];
 
 /// How the line of an error begins, and how to fix what caused it.
 const CURES: [(&[u8], &str); 5] = [

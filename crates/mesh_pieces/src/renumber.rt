@@ -106,7 +106,11 @@ pub(crate) fn without_unused(
 }
 
 /// Returns the twins of the half edges of kept faces, by their new numbers.
-pub(crate) fn kept_twins(alloc: Global, twins: &[u32], kept: &[bool]) -> Result<Vec<u32>, NoMemory> {
+pub(crate) fn kept_twins(
+    alloc: Global,
+    twins: &[u32],
+    kept: &[bool],
+) -> Result<Vec<u32>, NoMemory> {
     let numbers = numbers_of(alloc, kept)?;
     let mut new = Vec::new(alloc);
     for (h, twin) in twins.iter().enumerate() {

@@ -14,7 +14,12 @@ struct Pieces {
 const UNKNOWN: u32 = u32::MAX;
 
 /// Gives a face its piece, if it has none yet, and lists it to be visited.
-fn reach(pieces: &mut Pieces, waiting: &mut Vec<u32>, face: u32, piece: u32) -> Result<(), NoMemory> {
+fn reach(
+    pieces: &mut Pieces,
+    waiting: &mut Vec<u32>,
+    face: u32,
+    piece: u32,
+) -> Result<(), NoMemory> {
     let at = face as usize;
     if at < pieces.numbers.len() && pieces.numbers[at] == UNKNOWN {
         pieces.numbers[at] = piece;

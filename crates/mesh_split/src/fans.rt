@@ -81,11 +81,7 @@ fn sorted_fans(alloc: Global, vertices: &[u32]) -> Result<Vec<u64>, NoMemory> {
 }
 
 /// Returns the faces with a vertex for each umbrella, which are numbered in the order of the old vertices.
-pub(crate) fn fans_of(
-    alloc: Global,
-    faces: &[[u32; 3]],
-    twins: &[u32],
-) -> Result<Fans, NoMemory> {
+pub(crate) fn fans_of(alloc: Global, faces: &[[u32; 3]], twins: &[u32]) -> Result<Fans, NoMemory> {
     let found = found_fans(alloc, faces, twins)?;
     let order = sorted_fans(alloc, &found.vertices)?;
     let mut numbers = vec![in alloc; UNKNOWN; order.len()]?;
