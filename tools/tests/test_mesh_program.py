@@ -14,6 +14,9 @@ import numpy as np
 from helpers import RECON_MESH, InFolder, equal, read, write
 from test_finish import ball, crossing_pairs, flat, mesh_text, total_angle
 
+Place = tuple[int, int, int]
+Solid = tuple[list[Place], list[tuple[int, ...]]]
+
 POINTS = [(100, 100, 100), (100, -100, -100), (-100, 100, -100), (-100, -100, 100)]
 FACES = [(0, 1, 2), (0, 2, 3), (0, 3, 1), (1, 3, 2)]
 CUBE = [(x, y, z) for x in (0, 1) for y in (0, 1) for z in (0, 1)]
@@ -22,7 +25,7 @@ CUBE_FACES = [face for a, b, c, d in SIDES for face in ((a, b, c), (a, c, d))]
 
 
 def moved(points: Sequence[Any], by: Sequence[int]) -> list[tuple[int, ...]]:
-    """The points, moved by a vector."""
+    """Returns the points, moved by a vector."""
     return [tuple(x + y for x, y in zip(point, by)) for point in points]
 
 
@@ -76,13 +79,16 @@ class MeshProgram(InFolder):
     def test_invalid_arguments(self) -> None:
         for words in ((), ('--help',), ('finish',), ('finish', 'mesh.ply'), ('finish', 'mesh.ply', 'mesh.ply'), ('finish', '', 'out.ply'),
                       ('finish', 'mesh.ply', ''), ('finish', 'mesh.ply', 'out.ply', 'flips=yes'), ('finish', 'mesh.ply', 'out.ply', ''),
-                      ('finish', 'mesh.ply', 'out.ply', 'flips=no', 'flips=no'), ('finish', 'mesh.ply', 'out.ply', 'pieces=1'),
-                      ('finish', 'mesh.ply', 'out.ply', 'smooth=1', 'within=1'), ('finish', 'mesh.ply', 'out.ply', 'manifold=yes'),
+                      ('finish', 'mesh.ply', 'out.ply', 'flips=no', 'flips=no'), ('finish', 'mesh.ply', 'out.ply', 'pieces='),
+                      ('finish', 'mesh.ply', 'out.ply', 'pieces=0'), ('finish', 'mesh.ply', 'out.ply', 'pieces=-1'),
+                      ('finish', 'mesh.ply', 'out.ply', 'pieces=4294967296'), ('finish', 'mesh.ply', 'out.ply', 'pieces=1', 'pieces=1'),
+                      ('finish', 'mesh.ply', 'out.ply', 'manifold=no'), ('finish', 'mesh.ply', 'out.ply', 'manifold=yes', 'manifold=yes'),
+                      ('finish', 'mesh.ply', 'out.ply', 'smooth=1', 'within=1'),
                       ('Finish', 'mesh.ply', 'out.ply'), ('check', 'mesh.ply', 'out.ply'), ('inspect',), ('inspect', ''),
                       ('inspect', 'mesh.ply', 'out.ply')):
             status, line, error = mesh_program(*words)
             equal((status, line), (2, 'refused words\n'))
-            equal('usage: recon-mesh finish MESH OUT [flips=no]\nusage: recon-mesh inspect MESH\n' in error, True)
+            equal('usage: recon-mesh finish MESH OUT [pieces=N] [manifold=yes] [flips=no]\nusage: recon-mesh inspect MESH\n' in error, True)
         equal(os.listdir('.'), ['mesh.ply'])
 
     def test_invalid_meshes(self) -> None:
@@ -140,6 +146,74 @@ class MeshProgram(InFolder):
             before, after = np.array(flat(faces)), np.array(flat(finished))
             equal(len(crossing_pairs(places, after)) <= len(crossing_pairs(places, before)), True)
             equal(total_angle(places, after) < 0.9 * total_angle(places, before), True)
+
+    def test_a_mesh_that_is_not_closed(self) -> None:
+        write('mesh.ply', mesh_text(POINTS, FACES[1:]))
+        write('out.ply', 'as it was')
+        for options in ((), ('flips=no',), ('pieces=1',), ('manifold=yes', 'pieces=2')):
+            status, said, _ = mesh_program('finish', 'mesh.ply', 'out.ply', *options)
+            equal((status, said, read('out.ply')), (3, 'refused 28 unbalanced from 0 to 1 there 0 back 1\n', 'as it was'))
+
+    def test_pieces_by_size(self) -> None:
+        corners: Solid = ([(x, y, z) for x, y, z in POINTS], FACES)
+        points, faces = joined(cube(0, 0, 0), shifted(corners, 1000), cube(200, 0, 0), shifted(rough_ball(), 2000))
+        for count, sizes in ((1, [48]), (2, [48, 12]), (3, [48, 12, 12]), (4, [48, 12, 12, 4]), (5, [48, 12, 12, 4])):
+            kept, new = self.finish(points, faces, f'pieces={count}', 'flips=no')
+            equal((len(new), len(kept)), (sum(sizes), sum({48: 26, 12: 8, 4: 4}[size] for size in sizes)))
+            equal([[kept[v] for v in face] for face in new],
+                  [[points[v] for v in face] for face in faces if any(points[face[0]] == place for place in kept)])
+            equal([place for place in points if place in kept], kept)
+
+    def test_cubes_that_touch(self) -> None:
+        for name, points, faces in (('edge', *joined(cube(0, 0, 0), cube(100, 100, 0))), ('vertex', *joined(cube(0, 0, 0), cube(100, 100, 100)))):
+            twice = [edge for edge, count in edges_of(faces).items() if count > 1]
+            equal((len(points), len(twice)), (14, 2) if name == 'edge' else (15, 0))
+            kept, one = self.finish(points, faces, 'pieces=1')
+            equal((len(kept), len(one)), (8, 12))
+            split, new = self.finish(points, faces, 'manifold=yes', 'flips=no')
+            equal((len(split), sorted(set(split)), split), (16, sorted(points), sorted(split, key=points.index)))
+            equal([[split[v] for v in face] for face in new], [[points[v] for v in face] for face in faces])
+            for options in (('manifold=yes',), ('manifold=yes', 'flips=no'), ('pieces=2', 'manifold=yes')):
+                split, new = self.finish(points, faces, *options)
+                equal((len(split), set(edges_of(new).values())), (16, {1}))
+                equal(edges_of(new), Counter((b, a) for a, b in edges_of(new).elements()))
+
+    def finish(self, points: list[Place], faces: Sequence[Any], *options: str) -> Solid:
+        """The points and faces that `finish` writes of this mesh."""
+        write('mesh.ply', mesh_text(points, [turned(face) for face in faces]))
+        status, _, error = mesh_program('finish', 'mesh.ply', 'out.ply', *options)
+        equal((status, error), (0, ''))
+        kept, new = rows_of(read('out.ply'))
+        return [(x, y, z) for x, y, z in kept], new
+
+
+def cube(x: int, y: int, z: int) -> Solid:
+    """A cube of side 100 with this corner, faces from outside counterclockwise."""
+    places = [(x + 100 * (k & 1), y + 100 * (k >> 1 & 1), z + 100 * (k >> 2)) for k in range(8)]
+    quads = ((0, 2, 3, 1), (4, 5, 7, 6), (0, 1, 5, 4), (2, 6, 7, 3), (0, 4, 6, 2), (1, 3, 7, 5))
+    return places, [face for a, b, c, d in quads for face in ((a, b, c), (a, c, d))]
+
+
+def rough_ball() -> Solid:
+    """A ball of 48 faces and 26 points."""
+    places, faces = ball(2, 300)
+    return [(int(x), int(y), int(z)) for x, y, z in places], [tuple(map(int, face)) for face in faces]
+
+
+def shifted(solid: Solid, by: int) -> Solid:
+    """A solid that is moved along the first axis."""
+    places, faces = solid
+    return [(x + by, y, z) for x, y, z in places], faces
+
+
+def joined(*solids: Solid) -> Solid:
+    """One mesh of these, in which equal places are one point."""
+    points: list[Place] = []
+    faces: list[tuple[int, ...]] = []
+    for places, more in solids:
+        points += [place for place in places if place not in points]
+        faces += [turned([points.index(places[v]) for v in face]) for face in more]
+    return points, faces
 
 
 def inspected(points: Sequence[Any], faces: Sequence[Any]) -> str:

@@ -21,11 +21,12 @@ use Rattle.command_run.specs.Outcome.{Run}
 use Rattle.command_run.specs.Words.{Names, are_names}
 use Rattle.command_run.specs.declared.status.Status.{Status}
 use Rattle.command_run.specs.declared.status.Status.TheVariants.{Done, No, BadArguments, Refused, Failed, NoMemory}
-use Rattle.mesh_cmd.specs.Finish.{finish_names, finish_task, finish_options}
+use Rattle.mesh_cmd.specs.Finish.{finish_names, finish_task}
 use Rattle.mesh_cmd.specs.Inspect.{inspect_task}
+use Rattle.mesh_cmd.specs.Options.{finish_options}
 use Rattle.mesh_cmd.specs.declared.commands.Command.{Command}
 use Rattle.mesh_cmd.specs.declared.commands.Command.TheVariants as commands
-use Rattle.mesh_cmd.specs.declared.commands.finish.FinishOptions.{FinishOptions}
+use Rattle.mesh_finish.specs.declared.options.FinishOptions.{FinishOptions}
 
 -- a command with its names and options
 pub data Asked : Type 0 where

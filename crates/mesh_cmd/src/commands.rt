@@ -9,7 +9,7 @@ mod inspect;
 
 use command_run::{Reply, Stop};
 use finish::{finish_command, reply_to_finish};
-pub use finish::{FinishOptions, FinishWords};
+pub use finish::FinishWords;
 use host::Host;
 use inspect::{inspect_command, reply_to_inspect};
 pub use inspect::{InspectWords, Measures};
@@ -18,7 +18,8 @@ use std::alloc::Global;
 /// What a run is asked for.
 #[derive(Clone, Copy, Debug)]
 pub enum Command<'a> {
-    /// `finish MESH OUT [flips=no]`: reads the mesh, flips its edges where the angles between faces fall, and writes the result.
+    /// `finish MESH OUT [pieces=N] [manifold=yes] [flips=no]`: reads the mesh, keeps its N largest pieces, splits vertices so that each
+    /// edge has two faces, flips edges where the angles between faces fall, and writes the result.
     Finish(FinishWords<'a>),
     /// `inspect MESH`: reads the mesh and says its measures.
     Inspect(InspectWords<'a>),

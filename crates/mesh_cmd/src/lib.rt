@@ -9,8 +9,10 @@
 #![tactic(auto)]
 
 mod commands;
+mod options;
 mod whole_run;
 
 pub use command_run::{NoMemory, Status};
-pub use commands::{Command, FinishOptions, FinishWords, InspectWords, Measures, understand};
+pub use commands::{Command, FinishWords, InspectWords, Measures, understand};
+pub use mesh_finish::FinishOptions;
 pub use whole_run::run;
