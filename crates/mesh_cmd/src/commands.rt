@@ -7,8 +7,8 @@ ghost use Rattle.mesh_cmd.specs.Commands.{command_of, asked, task_of};
 mod finish;
 
 use command_run::{Reply, Stop};
-use finish::{finish_command, reply_to_finish};
 pub use finish::FinishWords;
+use finish::{finish_command, reply_to_finish};
 use host::Host;
 use std::alloc::Global;
 
