@@ -15,6 +15,7 @@ missing program, and those that need their outputs, are skipped with a message.
 """
 from __future__ import annotations
 
+import importlib.util
 import math
 import os
 import pathlib
@@ -34,6 +35,7 @@ BLOCK = re.compile(r'(?ms)^```console\n(.*?)^```$')
 REFERENCE = TOP / 'dev/reference/target/release/recon-reference'
 OF_REFERENCE, OF_MODEL = ('build', 'check', 'cells', 'demo'), ('slice', 'export', 'ask examples/tetrahedron.ply')
 # What differs from run to run: seconds, and the names of temporary folders.
+FILE = re.compile(r'(?<![\w./-])[\w./-]+\.[a-z]\w*\b')
 DIFFERS = [(re.compile(r'(?m)^(recon-surface:) +\d+\.\d s'), r'\1 0.0 s'), (re.compile(r'\.recon-\w{8}'), '.recon-00000000')]
 
 
@@ -44,7 +46,8 @@ def pages() -> list[pathlib.Path]:
 
 def program(variable: str, *places: str) -> str:
     """Returns the path of a built program, or nothing."""
-    return next((str(path) for path in [os.environ.get(variable, ''), *(TOP / place for place in places)] if str(path) and os.access(path, os.X_OK)), '')
+    paths = [os.environ.get(variable, ''), *(str(TOP / place) for place in places)]
+    return next((path for path in paths if path and os.access(path, os.X_OK)), '')
 
 
 @dataclass
@@ -139,11 +142,14 @@ class Runs:
         (folder / 'examples').symlink_to(EXAMPLES)
         inputs(folder)
 
+    def is_skipped(self, command: str) -> bool:
+        """Returns whether a program is missing, or a file that a skipped command would have written."""
+        return bool(self.programs.missing_of(command) or self.lost & set(FILE.findall(command)))
+
     def printed(self, command: str) -> list[str] | None:
         """Runs a command and returns the lines that it prints, or None if it is skipped."""
-        words = re.findall(r'[\w.-]+', command)
-        if self.programs.missing_of(command) or self.lost & set(words):
-            self.lost |= {word for word in words if '.' in word and not (self.folder / word).exists() and not word.replace('.', '').isdigit()}
+        if self.is_skipped(command):
+            self.lost |= {name for name in FILE.findall(command) if not (self.folder / name).exists()}
             return None
         path = f'{self.folder / "bin"}:{os.path.dirname(sys.executable)}:{os.environ["PATH"]}'
         environ = {**os.environ, 'PATH': path, 'LC_ALL': 'C', 'RECON': self.programs.recon or self.programs.reference}
@@ -164,9 +170,10 @@ class Runs:
 def faults_of(page: pathlib.Path, programs: Programs) -> tuple[list[str], int, int]:
     """Runs the commands of a page; returns its faults, how many were run, and how many skipped."""
     with tempfile.TemporaryDirectory() as folder:
-        runs, faults, count, skipped = Runs(programs, pathlib.Path(folder)), [], 0, 0
+        runs, count, skipped = Runs(programs, pathlib.Path(folder)), 0, 0
+        faults: list[str] = []
         for it in (it for block in shown_in(page, page.read_text()) for it in block):
-            lost = bool(programs.missing_of(it.command) or runs.lost & set(re.findall(r'[\w.-]+', it.command)))
+            lost = runs.is_skipped(it.command)
             fault = runs.fault(it)
             faults += [fault] if fault else []
             count, skipped = count + (not lost), skipped + lost
@@ -212,7 +219,8 @@ def is_understood(command: str, programs: Programs) -> bool:
 def main(words: list[str]) -> int:
     programs = Programs()
     names = [word for word in words if word != 'write']
-    faults, count, skipped, understood = [], 0, 0, 0
+    faults: list[str] = []
+    count = skipped = understood = 0
     for page in [TOP / name for name in names] or pages():
         if 'write' in words:
             page.write_text(written(page, programs))
@@ -230,4 +238,8 @@ def main(words: list[str]) -> int:
 
 if __name__ == '__main__':
     begun(__doc__)
+    if not (importlib.util.find_spec('numpy') and importlib.util.find_spec('scipy')):
+        # another interpreter has them, or it is said how to get them
+        found = subprocess.run(['sh', str(TOP / 'dev/python')], stdout=subprocess.PIPE, text=True).stdout.strip()
+        sys.exit(1) if not found else os.execv(found, [found, *sys.argv])
     sys.exit(main(sys.argv[1:]))

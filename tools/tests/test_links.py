@@ -7,6 +7,7 @@ import pathlib
 from helpers import InFolder, call, equal, write
 import crates
 import links
+import manual
 
 PAGE = '''# A page
 
@@ -54,4 +55,15 @@ class Crates(InFolder):
 
     def test_the_page_has_the_table(self) -> None:
         status, said, error = call('crates')
+        equal((status, len(said.splitlines()), error), (0, 1, ''))
+
+
+class Manual(InFolder):
+    def test_blocks_become_those_of_a_manual_page(self) -> None:
+        text = 'A `b-c` and [d `e`](f.md).\n\n    g h\n\n| A | See |\n|---|---|\n| `i` | j |\n\n- .k'
+        equal('\n'.join(manual.body(text)).splitlines(),
+              ['.PP', r'A \fBb\-c\fP and d \fBe\fP.', '.PP', '.nf', 'g h', '.fi', '.TP', r'\fBi\fP', '', r'.IP \(bu 2', r'\&.k'])
+
+    def test_the_manual_page_is_printed(self) -> None:
+        status, said, error = call('manual')
         equal((status, len(said.splitlines()), error), (0, 1, ''))

@@ -45,7 +45,7 @@ class Pages(unittest.TestCase):
     def test_commands_of_pages_are_understood(self) -> None:
         programs = pages.Programs()
         commands = [(page.name, at, command) for page in pages.pages() for at, command in pages.commands_alone(page)]
-        equal(len(commands) > 40, True)
+        equal(len(commands) > 30, True)
         equal([it for it in commands if not programs.missing_of(it[2]) and not pages.is_understood(it[2], programs)], [])
 
 
