@@ -13,7 +13,7 @@ use Rattle.mesh_cmd.specs.Finish.{FinishAnswer, not_closed_line, unverified_line
 pub answer_ends : (output : List ℕ) (options : FinishOptions) (mesh : Surface) (answer : Answer)
     → FinishAnswer output options mesh answer → (answer.status ≡ Done) ⊎ (answer.status ≡ Refused)
 answer_ends output options mesh answer (inl writes) = inl (ap (λ (a : Answer). a.status) writes.is)
-answer_ends output options mesh answer (inr (inl open)) = inr (ap (λ (a : Answer). a.status) open.is)
+answer_ends output options mesh answer (inr (inl edge)) = inr (ap (λ (a : Answer). a.status) edge.is)
 answer_ends output options mesh answer (inr (inr step)) = inr (ap (λ (a : Answer). a.status) step.1)
 
 pub done_or_refused : (P : Status → Type 0) (s : Status) → P Done → P Refused → (s ≡ Done) ⊎ (s ≡ Refused) → P s

@@ -10,6 +10,7 @@ use Rattle.std.specs.Prelude.{ℕ, List, [], ◌∷◌, if◌then◌else◌, Boo
 use Rattle.std.specs.Prelude.{ℤ, Result, Ok, Err, unsigned_abs}
 use Rattle.std.specs.Char.{is_ascii_digit}
 use Rattle.std.specs.List.{starts_with, list_all}
+use Rattle.std.specs.Option.{option_and_then}
 use Rattle.std.specs.Str.{bytes_eq}
 use Rattle.num_text.specs.WholeNumbers.{whole_of}
 use Rattle.num_text.specs.declared.refusal.NumRefusal.{NumRefusal}
@@ -49,16 +50,12 @@ abbrev pub with_option : FinishOptions → List ℕ → Option FinishOptions
 with_option o word =
     if bytes_eq word (codes "flips=no") then without_flips o
     else if bytes_eq word (codes "manifold=yes") then with_split o
-    else do
-      count ← pieces_in word
-      with_pieces o count
+    else option_and_then (with_pieces o) (pieces_in word)
 
 -- the options with those of all arguments, each at most once
 abbrev pub with_options : FinishOptions → List (List ℕ) → Option FinishOptions
 with_options o [] = Some o
-with_options o (word ∷ words) = do
-  more ← with_option o word
-  with_options more words
+with_options o (word ∷ words) = option_and_then (λ more. with_options more words) (with_option o word)
 
 -- the options that the arguments after the names are
 abbrev pub finish_options : List (List ℕ) → Option FinishOptions

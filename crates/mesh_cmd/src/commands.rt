@@ -8,8 +8,8 @@ mod finish;
 mod inspect;
 
 use command_run::{Reply, Stop};
-use finish::{finish_command, reply_to_finish};
 pub use finish::FinishWords;
+use finish::{finish_command, reply_to_finish};
 use host::Host;
 use inspect::{inspect_command, reply_to_inspect};
 pub use inspect::{InspectWords, Measures};
